@@ -1,0 +1,41 @@
+//! The calls of a device in memory, and which of them fail.
+ghost use Rattle.std.specs.Prelude.{◌≡◌, if◌then◌else◌};
+ghost use Rattle.ferry_disk.specs.Device.{counted};
+ghost use Rattle.ferry_disk.specs.Calls.{fails};
+
+/// How many calls a device has had, how many have failed, and the numbers, from 1, of those that fail.
+#[derive(Drop)]
+pub(crate) struct Calls {
+    pub failing: Vec<u64>,
+    pub calls: u64,
+    pub faults: u64,
+}
+
+impl Calls {
+    pub fn new(failing: Vec<u64>) -> Calls
+        ensures failing { result.failing.items ≡ failing.items }
+        ensures none { (result.calls ≡ 0) × (result.faults ≡ 0) }
+    {
+        Calls {
+            failing,
+            calls: 0,
+            faults: 0,
+        }
+    }
+
+    /// Counts one more call, and answers whether it fails.
+    pub fn next_fails(&mut self) -> bool
+        ensures fails { result ≡ fails self.old.failing.items self.old.calls }
+        ensures counted { self.new.calls ≡ counted self.old.calls }
+        ensures faults { self.new.faults ≡ (if result then counted self.old.faults else self.old.faults) }
+        ensures failing { self.new.failing.items ≡ self.old.failing.items }
+    {
+        self.calls = self.calls.saturating_add(1);
+        let number = self.calls;
+        let fails = self.failing.iter().any(|failing| *failing == number);
+        if fails {
+            self.faults = self.faults.saturating_add(1);
+        }
+        fails
+    }
+}

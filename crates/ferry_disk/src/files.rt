@@ -1,0 +1,103 @@
+//! Files in memory.
+ghost use Rattle.std.specs.Prelude.{◌≡◌, ◌+◌, ◌-◌, ◌++◌, ℕ, min, map, length, take, drop, IfOk, OnOk, OnErr, option_map, unwrap_or, []};
+ghost use Rattle.std.specs.Ordering.{nat_cmp};
+ghost use Rattle.std.specs.List.Sorted.{IsStrictlyIncreasing};
+ghost use Rattle.std.specs.BTreeMap.{keys, IsOrdered};
+ghost use Rattle.ferry_disk.specs.Files.{no_files, file_at, with_file, segment_numbers};
+ghost use Rattle.ferry_disk.specs.Memory.{files_of, files_given};
+
+use crate::name::Name;
+use std::alloc::{AllocError, Global};
+use std::collections::BTreeMap;
+
+/// The files of a repository, their bytes in memory.
+#[derive(Drop)]
+pub(crate) struct MemoryFiles {
+    pub config: Option<Vec<u8>>,
+    pub nonce: Option<Vec<u8>>,
+    pub readme: Option<Vec<u8>>,
+    pub segments: BTreeMap<u64, Vec<u8>>,
+}
+
+impl MemoryFiles {
+    /// No files.
+    pub fn new(alloc: Global) -> MemoryFiles
+        ensures { files_of result ≡ no_files }
+    {
+        MemoryFiles {
+            config: None,
+            nonce: None,
+            readme: None,
+            segments: BTreeMap::new(alloc),
+        }
+    }
+
+    /// The files of a list.
+    pub fn of(alloc: Global, files: Vec<(Name, Vec<u8>)>) -> Result<MemoryFiles, AllocError>
+        ensures { IfOk result (λ all. files_of all ≡ files_given (map (λ e. (e.0, e.1.items)) files.items)) }
+    {
+        let mut all = MemoryFiles::new(alloc);
+        for (name, bytes) in files {
+            all.put(name, bytes)?;
+        }
+        Ok(all)
+    }
+
+    /// Puts a file in the place of what had its name.
+    fn put(&mut self, name: Name, bytes: Vec<u8>) -> Result<(), AllocError>
+        ensures { OnOk result (files_of self.new ≡ with_file (files_of self.old) name bytes.items) }
+    {
+        match name {
+            Name::Config => self.config = Some(bytes),
+            Name::Nonce => self.nonce = Some(bytes),
+            Name::Readme => self.readme = Some(bytes),
+            Name::Segment(number) => {
+                self.segments.insert(number, bytes)?;
+            }
+        }
+        Ok(())
+    }
+
+    /// A file's bytes.
+    pub fn get(&self, name: Name) -> Option<&Vec<u8>>
+        ensures { option_map (λ v. v.now.items) result ≡ file_at (files_of self.now) name }
+    {
+        match name {
+            Name::Config => self.config.as_ref(),
+            Name::Nonce => self.nonce.as_ref(),
+            Name::Readme => self.readme.as_ref(),
+            Name::Segment(number) => self.segments.get(&number),
+        }
+    }
+
+    /// The numbers of the segments, increasing.
+    pub fn numbers(&self, alloc: Global) -> Result<Vec<u64>, AllocError>
+        ensures numbers { IfOk result (λ numbers. numbers.items ≡ segment_numbers (files_of self.now)) }
+        ensures increasing { IfOk result (λ numbers. IsStrictlyIncreasing numbers.items) }
+    {
+        keys_of(alloc, &self.segments)
+    }
+}
+
+/// The keys of a map, in order.
+fn keys_of(alloc: Global, map: &BTreeMap<u64, Vec<u8>>) -> Result<Vec<u64>, AllocError>
+    ensures keys { IfOk result (λ numbers. numbers.items ≡ keys map.now) }
+    ensures ordered { IsOrdered nat_cmp map.now }
+{
+    map.keys().copied().collect(alloc)
+}
+
+/// Copies bytes from `at` on to the front of `into`, and answers how many.
+pub(crate) fn copy_from(bytes: &[u8], at: u64, into: &mut [u8]) -> usize
+    ensures count { result ≡ min (length into.old) (length bytes.now - at) }
+    ensures copied { into.new ≡ take result (drop at bytes.now) ++ drop result into.old }
+{
+    let Ok(start) = usize::try_from(at) else {
+        return 0;
+    };
+    let start = start.min(bytes.len());
+    let rest = &bytes[start..];
+    let count = rest.len().min(into.len());
+    into[..count].copy_from_slice(&rest[..count]);
+    count
+}

@@ -1,0 +1,150 @@
+//! A repository's files as they are read.
+ghost use Rattle.std.specs.Prelude.{◌≡◌, ◌≤◌, ◌↔◌, ℕ, Option, Some, map, length, IsTrue, IfOk, IfSome, IsErrOf, option_map};
+ghost use Rattle.std.specs.List.Sorted.{IsStrictlyIncreasing};
+ghost use Rattle.ferry_disk.specs.Files.{Files, file_at, segment_numbers};
+ghost use Rattle.ferry_disk.specs.Device.{Told, called, HasStoreCause, ReadsAt};
+ghost use Rattle.ferry_disk.specs.Calls.{Device, told_by, after_call, will_fail};
+
+use crate::calls::Calls;
+use crate::files::{MemoryFiles, copy_from};
+use crate::name::Name;
+use std::alloc::{AllocError, Global};
+use std::marker::Model;
+use thiserror::Error;
+
+/// Why a device gave no answer.
+#[derive(Clone, Copy, Debug, PartialEq, Eq, Error)]
+pub enum StoreFault {
+    /// The device failed.
+    #[error("the device failed")]
+    Failed,
+    /// Memory was refused.
+    #[error("out of memory")]
+    Memory,
+}
+
+/// A repository's files, which may fail to be read.
+///
+/// `told` is what a device over memory tells; a device over a folder tells nothing. `faults` counts the calls that
+/// failed. A call that answers `Memory` changes neither.
+pub trait Shelf {
+    ghost told: { Self → Option Told };
+
+    ghost faults: { Self → ℕ };
+
+    /// The numbers of the segments that are there, increasing.
+    fn segments(&mut self, alloc: Global) -> Result<Vec<u64>, StoreFault>
+        ensures increasing { IfOk result (λ numbers. IsStrictlyIncreasing numbers.items) }
+        ensures numbers { IfOk result (λ numbers. IfSome (told self.old) (λ t. numbers.items ≡ segment_numbers t.files)) }
+        ensures same { told self.new ≡ option_map called (told self.old) }
+        ensures cause { HasStoreCause (faults self.old) (faults self.new) result };
+
+    /// A file's length in bytes, `None` where it is absent.
+    fn size(&mut self, name: Name) -> Result<Option<u64>, StoreFault>
+        ensures size { IfOk result (λ size. IfSome (told self.old) (λ t. size ≡ option_map length (file_at t.files name))) }
+        ensures same { told self.new ≡ option_map called (told self.old) }
+        ensures cause { HasStoreCause (faults self.old) (faults self.new) result };
+
+    /// Fills the front of `into` with the file's bytes from byte `at` on, and answers how many: none at the file's end, or
+    /// where it is absent. Takes no memory of the caller's.
+    fn read_at(&mut self, name: Name, at: u64, into: &mut [u8]) -> Result<usize, StoreFault>
+        ensures within { IfOk result (λ count. count ≤ length into.old) }
+        ensures bytes { IfOk result (λ count. IfSome (told self.old) (λ t. ReadsAt t.files name at into.old into.new count)) }
+        ensures same { told self.new ≡ option_map called (told self.old) }
+        ensures cause { HasStoreCause (faults self.old) (faults self.new) result };
+}
+
+/// A shelf in memory. Its calls are numbered from 1; those whose numbers are listed fail, no other.
+#[derive(Drop)]
+pub struct MemoryShelf {
+    files: MemoryFiles,
+    calls: Calls,
+}
+
+impl Model for MemoryShelf {
+    ghost use Rattle.ferry_disk.specs.Calls.{Device, coded_device};
+
+    ghost Value = { Device };
+
+    ghost coded = { coded_device };
+
+    ghost use Rattle.ferry_disk.specs.Memory.{files_of};
+
+    ghost view = { λ s. record {
+      files = files_of s.files;
+      failing = s.calls.failing.items;
+      calls = s.calls.calls;
+      faults = s.calls.faults;
+    } };
+}
+
+impl MemoryShelf {
+    ghost use Rattle.ferry_disk.specs.Memory.{files_given};
+
+    /// A shelf of these files; of two with one name the later counts. `failing` has the numbers of the calls that fail.
+    pub fn new(
+        alloc: Global,
+        files: Vec<(Name, Vec<u8>)>,
+        failing: Vec<u64>,
+    ) -> Result<MemoryShelf, AllocError>
+        ensures files { IfOk result (λ shelf. shelf.files ≡ files_given (map (λ e. (e.0, e.1.items)) files.items)) }
+        ensures failing { IfOk result (λ shelf. shelf.failing ≡ failing.items) }
+        ensures unused { IfOk result (λ shelf. (shelf.calls ≡ 0) × (shelf.faults ≡ 0)) }
+    {
+        let files = MemoryFiles::of(alloc, files)?;
+        let calls = Calls::new(failing);
+        Ok(MemoryShelf { files, calls })
+    }
+}
+
+impl Shelf for MemoryShelf {
+    ghost told = { λ s. Some (told_by s) };
+
+    ghost faults = { λ s. s.faults };
+
+    fn segments(&mut self, alloc: Global) -> Result<Vec<u64>, StoreFault>
+        ensures increasing { IfOk result (λ numbers. IsStrictlyIncreasing numbers.items) }
+        ensures numbers { IfOk result (λ numbers. numbers.items ≡ segment_numbers self.old.files) }
+        ensures after { self.new ≡ after_call self.old }
+        ensures cause { HasStoreCause self.old.faults self.new.faults result }
+        ensures failed { IsErrOf result StoreFault.Failed ↔ IsTrue (will_fail self.old) }
+    {
+        if self.calls.next_fails() {
+            return Err(StoreFault::Failed);
+        }
+        match self.files.numbers(alloc) {
+            Ok(numbers) => Ok(numbers),
+            Err(_) => Err(StoreFault::Memory),
+        }
+    }
+
+    fn size(&mut self, name: Name) -> Result<Option<u64>, StoreFault>
+        ensures size { IfOk result (λ size. size ≡ option_map length (file_at self.old.files name)) }
+        ensures after { self.new ≡ after_call self.old }
+        ensures cause { HasStoreCause self.old.faults self.new.faults result }
+        ensures failed { IsErrOf result StoreFault.Failed ↔ IsTrue (will_fail self.old) }
+    {
+        if self.calls.next_fails() {
+            return Err(StoreFault::Failed);
+        }
+        match self.files.get(name) {
+            Some(bytes) => Ok(Some(bytes.len() as u64)),
+            None => Ok(None),
+        }
+    }
+
+    fn read_at(&mut self, name: Name, at: u64, into: &mut [u8]) -> Result<usize, StoreFault>
+        ensures bytes { IfOk result (λ count. ReadsAt self.old.files name at into.old into.new count) }
+        ensures after { self.new ≡ after_call self.old }
+        ensures cause { HasStoreCause self.old.faults self.new.faults result }
+        ensures failed { IsErrOf result StoreFault.Failed ↔ IsTrue (will_fail self.old) }
+    {
+        if self.calls.next_fails() {
+            return Err(StoreFault::Failed);
+        }
+        match self.files.get(name) {
+            Some(bytes) => Ok(copy_from(bytes, at, into)),
+            None => Ok(0),
+        }
+    }
+}

@@ -1,0 +1,3 @@
+mod CrcLemmas
+pub mod EntryLemmas
+pub mod SegmentLemmas

@@ -1,0 +1,4 @@
+pub mod Crc
+pub mod Entry
+pub mod Reading
+pub mod Segment
