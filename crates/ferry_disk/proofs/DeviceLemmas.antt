@@ -28,3 +28,8 @@ told_then (Some a) P Q step p = step a.files p
 pub told_called : (a b : Option Told) → b ≡ option_map called a → files_told b ≡ files_told a
 told_called None b e = ap files_told e
 told_called (Some a) b e = ap files_told e
+
+-- what holds of any files
+pub told_any : (a : Option Told) (P : Files → Type 0) → ((f : Files) → P f) → IfSome a (λ t. P t.files)
+told_any None P p = tt
+told_any (Some a) P p = p a.files

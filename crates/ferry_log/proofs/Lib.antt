@@ -1,0 +1,7 @@
+mod WholeLemmas
+mod PairsLemmas
+mod LiveLemmas
+mod LeastLemmas
+mod OpeningLemmas
+mod ExtentsLemmas
+mod StateLemmas

@@ -1,0 +1,7 @@
+pub mod Fault
+pub mod Live
+pub mod Log
+pub mod Opening
+pub mod Pairs
+pub mod State
+pub mod Whole

@@ -1,0 +1,33 @@
+//! Why a log can't be read.
+ghost use Rattle.std.specs.Prelude.{◌≡◌};
+ghost use Rattle.ferry_log.specs.Fault.{store_fault};
+
+use ferry_disk::StoreFault;
+use thiserror::Error;
+
+/// Why a log can't be read, in the order of their numbers.
+#[derive(Clone, Copy, Debug, PartialEq, Eq, Error)]
+pub enum LogFault {
+    /// No segment is committed.
+    #[error("no segment is committed")]
+    NoCommit,
+    /// The first segment that doesn't read, and the place of its first entry that doesn't, 0 for a wrong magic.
+    #[error("segment {segment} is damaged at {at}")]
+    Damaged { segment: u64, at: u64 },
+    /// The device failed.
+    #[error("the device failed")]
+    Device,
+    /// Memory was refused.
+    #[error("out of memory")]
+    Memory,
+}
+
+/// The same fault as one of the log.
+pub(crate) fn of_store(fault: StoreFault) -> LogFault
+    ensures { result ≡ store_fault fault }
+{
+    match fault {
+        StoreFault::Failed => LogFault::Device,
+        StoreFault::Memory => LogFault::Memory,
+    }
+}

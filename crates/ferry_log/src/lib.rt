@@ -1,0 +1,20 @@
+//! The committed log of a repository, and where the live objects lie in it.
+//!
+//! A layer above may rely on an opened log to have exactly the live keys of the committed log, each with the place of its
+//! blob, and on a refusal to name the first thing that doesn't read. Source: BorgBackup 1.2, Internals, Repository.
+#![tactic(auto)]
+
+mod extents;
+mod fault;
+mod live;
+mod log;
+mod opening;
+mod place;
+#[cfg(test)]
+mod tests;
+mod whole;
+
+pub use fault::LogFault;
+pub use ferry_segment::Id;
+pub use log::{Log, open_log};
+pub use place::{Extent, Head, Place};
