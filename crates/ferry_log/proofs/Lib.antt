@@ -1,5 +1,5 @@
 mod WholeLemmas
-mod PairsLemmas
+pub mod PairsLemmas
 mod LiveLemmas
 mod LeastLemmas
 mod OpeningLemmas
