@@ -18,12 +18,14 @@ formed_lines (Some all) = if has_forms all then Some all else None
 -- the assignments of the section `repository`, where there is one and its lines have their forms.
 -- A line ends with LF or CR LF, the last one perhaps without
 unfoldable pub assignments_of : List ℕ → Option (List Assignment)
-assignments_of text = option_map assignments (formed_lines (repository_lines (map line_of (lines text))))
+assignments_of text =
+    option_map assignments (formed_lines (repository_lines (map line_of (lines text))))
 
 -- the names that mean something, others are ignored
 abbrev pub known_names : List (List ℕ)
 known_names =
-    codes "version" ∷ codes "id" ∷ codes "key" ∷ codes "segments_per_dir" ∷ codes "max_segment_size" ∷ []
+    codes "version" ∷ codes "id" ∷ codes "key"
+    ∷ codes "segments_per_dir" ∷ codes "max_segment_size" ∷ []
 
 -- whether a known name stands twice
 abbrev pub repeats_known_name : List Assignment → Bool

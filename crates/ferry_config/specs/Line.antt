@@ -32,12 +32,14 @@ pub data Line : Type 0 where
 
 -- blank, or a comment, which begins with `#` or `;`
 abbrev pub is_passed : List ℕ → Bool
-is_passed text = list_all is_space text || ((slice_index text 0 == 35) || (slice_index text 0 == 59))
+is_passed text =
+    list_all is_space text || ((slice_index text 0 == 35) || (slice_index text 0 == 59))
 
 -- the name in a line that is `[`, a name without `]`, and `]`
 abbrev pub header_name : List ℕ → Option (List ℕ)
 header_name text =
-    if (slice_index text 0 == 91) && (nat_le 2 (length text) && ((slice_index text (length text - 1) == 93)
+    if (slice_index text 0 == 91) && (nat_le 2 (length text)
+    && ((slice_index text (length text - 1) == 93)
     && not (list_any (λ byte. byte == 93) (slice_range text 1 (length text - 1)))))
     then Some (slice_range text 1 (length text - 1)) else None
 

@@ -53,7 +53,8 @@ pub record Section : Type 0 where
 -- section belong to none
 unfoldable pub sections : List Line → List Section
 sections [] = []
-sections (header name ∷ rest) = record { name = name; lines = before_first is_header rest } ∷ sections rest
+sections (header name ∷ rest) =
+    record { name = name; lines = before_first is_header rest } ∷ sections rest
 sections (passed ∷ rest) = sections rest
 sections (continued piece ∷ rest) = sections rest
 sections (assigned name value ∷ rest) = sections rest
@@ -65,7 +66,8 @@ is_repository section = bytes_eq section.name (codes "repository")
 
 -- the lines of each section `repository`, in order
 unfoldable pub repository_sections : List Line → List (List Line)
-repository_sections all = map (λ (section : Section). section.lines) (filter is_repository (sections all))
+repository_sections all =
+    map (λ (section : Section). section.lines) (filter is_repository (sections all))
 
 -- the one element of a list that has one
 abbrev pub only_one : List (List Line) → Option (List Line)
@@ -79,7 +81,8 @@ repository_lines all = only_one (repository_sections all)
 
 -- each line has one of the forms, and none continues a value where none stands before it
 unfoldable pub has_forms : List Line → Bool
-has_forms all = not (list_any is_formless all) && not (list_any is_continued (before_first is_assigned all))
+has_forms all =
+    not (list_any is_formless all) && not (list_any is_continued (before_first is_assigned all))
 
 -- a name and its whole value
 pub record Assignment : Type 0 where
@@ -93,7 +96,8 @@ continuation rest = flat_map piece_of (before_first is_assigned rest)
 -- the names of a section in order, each with its value and the pieces that continue it
 unfoldable pub assignments : List Line → List Assignment
 assignments [] = []
-assignments (assigned name value ∷ rest) = record { name = name; value = value ++ continuation rest } ∷ assignments rest
+assignments (assigned name value ∷ rest) =
+    record { name = name; value = value ++ continuation rest } ∷ assignments rest
 assignments (passed ∷ rest) = assignments rest
 assignments (header name ∷ rest) = assignments rest
 assignments (continued piece ∷ rest) = assignments rest

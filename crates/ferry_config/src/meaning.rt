@@ -13,15 +13,18 @@ ghost use Rattle.ferry_config.specs.declared.fault.ConfigFault.{ConfigFault};
 /// always holds. The clauses say what each of them is apart from the order of tests.
 pub fn one_meaning()
     // A text means a config exactly where it says so: `Says` has each condition by itself.
-    ensures config { (text : List ℕ) → (config : Config) → (config_of text ≡ Ok config) ↔ Says text config }
+    ensures config { (text : List ℕ) (config : Config)
+        → (config_of text ≡ Ok config) ↔ Says text config }
 
     // It means a fault exactly where that is the first one.
-    ensures fault { (text : List ℕ) → (fault : ConfigFault) → (config_of text ≡ Err fault) ↔ (first_fault text ≡ Some fault) }
+    ensures fault { (text : List ℕ) (fault : ConfigFault)
+        → (config_of text ≡ Err fault) ↔ (first_fault text ≡ Some fault) }
 
     // No text means that memory ran out.
     ensures memory { (text : List ℕ) → config_of text ≢ Err ConfigFault.Memory }
 
     // A number is read exactly from the text that is printed for it.
-    ensures number { (text : List ℕ) → (number : ℕ) → (number_of text ≡ Some number)
+    ensures number { (text : List ℕ) (number : ℕ)
+        → (number_of text ≡ Some number)
         ↔ ((text ≡ decimal number) × (1 ≤ number) × (number ≤ greatest)) }
 {}

@@ -54,7 +54,8 @@ fn append_head(
     id: &[u8],
 ) -> Result<(), AllocError>
     requires { id.now ≡ encode_lower config.now.id }
-    ensures ok { OnOk result (text.new.items ≡ text.old.items ++ flat_map ended (head_lines config.now)) }
+    ensures ok { OnOk result (
+        text.new.items ≡ text.old.items ++ flat_map ended (head_lines config.now)) }
 {
     let per_dir = config.per_dir.to_string(alloc)?;
     let limit = config.limit.to_string(alloc)?;
@@ -71,7 +72,8 @@ fn append_head(
 /// Appends the lines of the key text.
 fn append_key(text: &mut Vec<u8>, key: &[u8]) -> Result<(), AllocError>
     requires { 0 < length key.now }
-    ensures ok { OnOk result (text.new.items ≡ text.old.items ++ flat_map ended (key_lines key.now)) }
+    ensures ok { OnOk result (
+        text.new.items ≡ text.old.items ++ flat_map ended (key_lines key.now)) }
 {
     append_line(text, b"key = ", piece(key, 0))?;
     for number in 0..(key.len() - 1) / WIDTH {

@@ -28,7 +28,8 @@ const LIMIT: u64 = 524_288_000;
 #[tactic(auto, unfolding(crate::specs::Config::assignments_of, crate::specs::Config::config_of, crate::specs::Config::first_fault))]
 pub fn read_config(alloc: Global, bytes: &[u8]) -> Result<Config, ConfigFault>
     ensures config { IfOk result (λ config. config_of bytes.now ≡ Ok config) }
-    ensures fault { IfErr result (λ fault. fault ≢ ConfigFault.Memory → config_of bytes.now ≡ Err fault) }
+    ensures fault { IfErr result (λ fault.
+        fault ≢ ConfigFault.Memory → config_of bytes.now ≡ Err fault) }
 {
     let lines = lines_of(alloc, bytes)?;
     let Some(section) = repository_lines(lines.as_slice()) else {
@@ -86,7 +87,8 @@ fn repeats_known_name(section: &[Line<'_>]) -> bool
 
 /// Whether `version` is 1.
 fn has_version_1(alloc: Global, section: &[Line<'_>]) -> Result<bool, AllocError>
-    ensures version { IfOk result (λ right. right ≡ has_version_1 (assignments (map shown section.now))) }
+    ensures version { IfOk result (λ right.
+        right ≡ has_version_1 (assignments (map shown section.now))) }
 {
     match value_of(alloc, section, b"version")? {
         Some(text) => Ok(text.as_slice() == b"1".as_slice()),
@@ -121,7 +123,8 @@ fn number_in(
     name: &[u8],
     default: u64,
 ) -> Result<Option<u64>, AllocError>
-    ensures number { IfOk result (λ number. number ≡ number_in name.now default (assignments (map shown section.now))) }
+    ensures number { IfOk result (λ number.
+        number ≡ number_in name.now default (assignments (map shown section.now))) }
 {
     match value_of(alloc, section, name)? {
         Some(text) => Ok(read_number(text.as_slice())),

@@ -12,7 +12,8 @@ use std::alloc::{AllocError, Global};
 
 /// The lines of the section `repository`, where there is one and no other.
 pub(crate) fn repository_lines<'b, 'a>(lines: &'b [Line<'a>]) -> Option<&'b [Line<'a>]>
-    ensures lines { option_map (λ found. map shown found.now) result ≡ repository_lines (map shown lines.now) }
+    ensures lines { option_map (λ found. map shown found.now) result
+        ≡ repository_lines (map shown lines.now) }
 {
     let behind = behind_repository(lines)?;
     match behind_repository(behind) {
@@ -24,7 +25,8 @@ pub(crate) fn repository_lines<'b, 'a>(lines: &'b [Line<'a>]) -> Option<&'b [Lin
 /// The lines behind the first that begins a section `repository`.
 fn behind_repository<'b, 'a>(lines: &'b [Line<'a>]) -> Option<&'b [Line<'a>]>
     ensures found { IfSome result (λ behind. repository_sections (map shown lines.now)
-        ≡ before_first is_header (map shown behind.now) ∷ repository_sections (map shown behind.now)) }
+        ≡ before_first is_header (map shown behind.now)
+        ∷ repository_sections (map shown behind.now)) }
     ensures none { IfNone result (repository_sections (map shown lines.now) ≡ []) }
 {
     for place in 0..lines.len() {
@@ -61,7 +63,7 @@ fn before_assigned<'b, 'a>(lines: &'b [Line<'a>]) -> &'b [Line<'a>]
     lines
 }
 
-/// Whether each line of a section has one of the forms, and none continues a value that isn't there.
+/// Whether each line of a section has one of the forms, and none continues a value where none is.
 #[tactic(auto, unfolding(crate::specs::Section::has_forms))]
 pub(crate) fn has_forms(lines: &[Line<'_>]) -> bool
     ensures forms { result ≡ has_forms (map shown lines.now) }
@@ -147,7 +149,8 @@ pub(crate) fn value_of(
 
 /// Appends the pieces that continue a value, which are those before the next value.
 fn append_pieces(value: &mut Vec<u8>, lines: &[Line<'_>]) -> Result<(), AllocError>
-    ensures ok { OnOk result (value.new.items ≡ value.old.items ++ continuation (map shown lines.now)) }
+    ensures ok { OnOk result (
+        value.new.items ≡ value.old.items ++ continuation (map shown lines.now)) }
 {
     for place in 0..lines.len() {
         match lines[place] {

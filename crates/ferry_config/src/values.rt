@@ -55,7 +55,8 @@ pub(crate) fn read_number(text: &[u8]) -> Option<u64>
 
 /// The number that decimal digits spell, where it is at most the greatest.
 fn spelled(text: &[u8]) -> Option<u64>
-    ensures number { result ≡ (if all_ascii_digits text.now && nat_le (number_from 0 text.now) greatest
+    ensures number { result ≡ (
+        if all_ascii_digits text.now && nat_le (number_from 0 text.now) greatest
         then Some (number_from 0 text.now) else None) }
 {
     let mut number = 0u64;

@@ -12,8 +12,8 @@ block_number i = to_be_bytes w32 i
 abbrev pub xor_of : List ℕ → List ℕ → List ℕ
 xor_of xs ys = zip2 bit_xor xs ys
 
--- U_n of the first block for n from 1 on, at n - 1: U_1 is PRF(P, S || INT(1)), and each next one is
--- the PRF of the one before (step 3)
+-- U_n, at n - 1 for n from 1 on: U_1 is PRF(P, S || INT(1)), and each next one is the PRF of the
+-- one before (step 3)
 unfoldable pub iterate : List ℕ → List ℕ → ℕ → List ℕ
 iterate passphrase salt zero = hmac256 passphrase (salt ++ block_number 1)
 iterate passphrase salt (suc n) = hmac256 passphrase (iterate passphrase salt n)

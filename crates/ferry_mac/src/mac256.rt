@@ -24,8 +24,8 @@ pub fn hmac256(key: &[u8], bytes: &[u8]) -> [u8; 32]
     Keyed256::new(key).mac(bytes)
 }
 
-/// The running digests of a key: the inner and the outer one, each of which has taken the block
-/// that the key makes. A copy of them starts a MAC without a compression for the key.
+/// The running digests of a key, the inner and the outer one. Each has taken the block that the key
+/// makes, so that a copy of them starts a MAC without a compression for the key.
 #[derive(Drop)]
 pub(crate) struct Keyed256 {
     inner: Sha256,
@@ -69,7 +69,8 @@ impl Keyed256 {
 
     /// The MAC of `first` and `second` as one text, under the key.
     pub(crate) fn mac_of_parts(self, first: &[u8], second: &[u8]) -> [u8; 32]
-        ensures mac { (key : List ℕ) → IsKeyed256 self key → result ≡ hmac256 key (first.now ++ second.now) }
+        ensures mac { (key : List ℕ) → IsKeyed256 self key
+            → result ≡ hmac256 key (first.now ++ second.now) }
     {
         let Keyed256 { inner, outer } = self;
         let begun = inner.chain_update(first);

@@ -24,8 +24,8 @@ pub fn hmac512(key: &[u8], bytes: &[u8]) -> [u8; 64]
     Keyed512::new(key).mac(bytes)
 }
 
-/// The running digests of a key: the inner and the outer one, each of which has taken the block
-/// that the key makes. A copy of them starts a MAC without a compression for the key.
+/// The running digests of a key, the inner and the outer one. Each has taken the block that the key
+/// makes, so that a copy of them starts a MAC without a compression for the key.
 #[derive(Drop)]
 pub(crate) struct Keyed512 {
     inner: Sha512,
@@ -69,7 +69,8 @@ impl Keyed512 {
 
     /// The MAC of `first` and `second` as one text, under the key.
     pub(crate) fn mac_of_parts(self, first: &[u8], second: &[u8]) -> [u8; 64]
-        ensures mac { (key : List ℕ) → IsKeyed512 self key → result ≡ hmac512 key (first.now ++ second.now) }
+        ensures mac { (key : List ℕ) → IsKeyed512 self key
+            → result ≡ hmac512 key (first.now ++ second.now) }
     {
         let Keyed512 { inner, outer } = self;
         let begun = inner.chain_update(first);

@@ -14,7 +14,8 @@ use std::alloc::{AllocError, Global};
 /// `key`, filled with zeros up to `size` bytes and xored with `pad`, and `text` behind it.
 fn side(alloc: Global, size: usize, key: &[u8], pad: u8, text: &[u8]) -> Result<Vec<u8>, AllocError>
     requires { length key.now ≤ size }
-    ensures side { IfOk result (λ side. side.items ≡ xored_with pad (filled size key.now) ++ text.now) }
+    ensures side { IfOk result (λ side.
+        side.items ≡ xored_with pad (filled size key.now) ++ text.now) }
 {
     let mut block = Vec::from_slice(alloc, key)?;
     block.resize(size, 0)?;
@@ -111,7 +112,8 @@ pub(crate) fn plain_pbkdf2(
     salt: &[u8],
     iterations: u32,
 ) -> Result<[u8; 32], AllocError>
-    ensures derived { IfOk result (λ derived. derived ≡ pbkdf2 passphrase.now salt.now iterations) }
+    ensures derived { IfOk result (λ derived.
+        derived ≡ pbkdf2 passphrase.now salt.now iterations) }
 {
     let all = plain_iterates(alloc, passphrase, salt, iterations)?;
     Ok(plain_xor(all.as_slice()))
