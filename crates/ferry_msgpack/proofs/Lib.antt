@@ -5,3 +5,5 @@ pub mod Places
 pub mod Views
 pub mod Levels
 pub mod Loops
+pub mod Appending
+pub mod Fitting

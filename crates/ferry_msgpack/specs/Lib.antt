@@ -5,4 +5,7 @@ pub mod FirstView
 pub mod Spelling
 pub mod Faults
 pub mod Reading
+pub mod Shortest
+pub mod Writable
+pub mod Tests
 pub mod Calls

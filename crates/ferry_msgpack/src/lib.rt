@@ -3,10 +3,18 @@
 
 mod fault;
 mod first;
+mod heads;
 mod numbers;
 mod reading;
 mod value;
+mod writable;
+mod writing;
 
 pub use fault::PackFault;
 pub use reading::read;
 pub use value::Value;
+pub use writable::is_writable;
+pub use writing::write;
+
+#[cfg(test)]
+mod tests;

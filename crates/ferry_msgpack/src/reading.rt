@@ -13,7 +13,7 @@ ghost use Rattle.ferry_msgpack.specs.Reading.{Gives, value_at, flat_by, array_at
 use crate::fault::PackFault;
 use crate::first::{Count, First, first_of};
 use crate::numbers::{count_of, key_of, raw_of, signed_number, unsigned_number};
-use crate::value::Value;
+use crate::value::{DEPTH, Value};
 use std::alloc::{AllocError, Global};
 use std::collections::BTreeMap;
 
@@ -37,9 +37,6 @@ pub fn read(alloc: Global, bytes: &[u8], at: usize) -> Result<(Value, usize), Pa
     let (value, rest) = value_of(alloc, DEPTH, &bytes[at..])?;
     Ok((value, bytes.len() - rest.len()))
 }
-
-/// How many arrays and maps stand inside each other at most, the outermost one included.
-const DEPTH: usize = 64;
 
 /// The value at the front, in which at most `depth` arrays and maps stand inside each other, and what follows it.
 #[cycle(value)]

@@ -1,5 +1,8 @@
 //! A msgpack value in memory.
 
+/// How many arrays and maps stand inside each other at most, the outermost one included.
+pub(crate) const DEPTH: usize = 64;
+
 /// A value. The pairs of a `Table` stand in strictly increasing byte order of their keys.
 ///
 /// `Number` has what 64 bits hold, with or without a sign: -2^63 to 2^64-1. `Raw` is any bytes, text among them.
