@@ -108,6 +108,12 @@ with_pairs-more old now es fs i e same below found eq =
     ∙ ap (λ (s : List ℕ). old ++ (h ++ s)) (sym (shortest_pairs-push (take i es) e))
     ∙ ap (λ fs. old ++ (h ++ shortest_pairs (pairs_view fs))) (sym last)
 
+-- the same where the key and the value were written one after the other
+pub pair_written : (old now keyed new key : List ℕ) (es fs : List Entry) (i : ℕ) (e : Entry) → fs ≡ es → i < length fs → e ≡ get_or fs i e → now ≡ with_pairs old es i → key ≡ e.0.items
+    → keyed ≡ now ++ shortest_raw key → new ≡ keyed ++ shortest (view e.1) → new ≡ with_pairs old es (i + 1)
+pair_written old now keyed new key es fs i e same below found eq named put_key put_value =
+    put_value ∙ ap (λ (s : List ℕ). s ++ shortest (view e.1)) (put_key ∙ ap (λ (k : List ℕ). now ++ shortest_raw k) named) ∙ with_pairs-more old now es fs i e same below found eq
+
 pub with_items-all : (old now : List ℕ) (vs us : List Value) (i : ℕ) → us ≡ vs → length us ≤ i → now ≡ with_items old vs i → now ≡ old ++ shortest (array (items_view vs))
 with_items-all old now vs us i same past e =
     let le : length vs ≤ i = omega (arith, ap length same) in

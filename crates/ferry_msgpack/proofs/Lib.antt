@@ -6,4 +6,7 @@ pub mod Views
 pub mod Levels
 pub mod Loops
 pub mod Appending
+pub mod ShortestLemmas
+pub mod WritableLemmas
+pub mod CallerLemmas
 pub mod Fitting

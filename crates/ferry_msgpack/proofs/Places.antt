@@ -7,26 +7,28 @@ use Rattle.ferry_msgpack.specs.Tree.{Tree}
 use Rattle.ferry_msgpack.specs.Spelling.{SpellsWithin, Spells}
 use Rattle.ferry_msgpack.specs.Faults.{BreaksWithin, Breaks}
 use Rattle.ferry_msgpack.specs.Reading.{Fails, value_at}
+use Rattle.ferry_msgpack.specs.Writable.{IsWritable}
 use Rattle.ferry_msgpack.specs.Calls.Read.{StandsAt}
+use Rattle.ferry_msgpack.proofs.WritableLemmas.{AreBytes, AreBytes-left, spelled_writable}
 use Rattle.ferry_msgpack.proofs.Values.{Tells, value_tells, value_again, value_breaks}
 
 -- the bytes from a place on, as a slice of them gives them
 pub from_place : (bytes : List ℕ) (start : ℕ) → take (length bytes - start) (drop start bytes) ≡ drop start bytes
 from_place bytes start = take_all (length bytes - start) (drop start bytes) (omega (arith, length-drop start bytes))
 
-abbrev read_as : Tree × List ℕ → Result (Tree × List ℕ) PackFault
+abbrev pub read_as : Tree × List ℕ → Result (Tree × List ℕ) PackFault
 read_as x = Ok x
 
-same_reading : (x y : Tree × List ℕ) → read_as x ≡ read_as y → x ≡ y
+pub same_reading : (x y : Tree × List ℕ) → read_as x ≡ read_as y → x ≡ y
 same_reading x y e = cc
 
-no_reading : (x : Tree × List ℕ) (f : PackFault) → read_as x ≡ Err f → ⊥
+pub no_reading : (x : Tree × List ℕ) (f : PackFault) → read_as x ≡ Err f → ⊥
 no_reading x f e = cc
 
-abbrev refused_as : PackFault → Result (Tree × List ℕ) PackFault
+abbrev pub refused_as : PackFault → Result (Tree × List ℕ) PackFault
 refused_as f = Err f
 
-same_fault : (f g : PackFault) → refused_as f ≡ refused_as g → f ≡ g
+pub same_fault : (f g : PackFault) → refused_as f ≡ refused_as g → f ≡ g
 same_fault f g e = cc
 
 -- a call that failed ran out of memory, or has the fault of reading
@@ -86,3 +88,9 @@ breaks_failed bytes e failed fault broken =
 
 pub read_unbroken : (bytes : List ℕ) (t : Tree) (rest : List ℕ) → value_at 64 bytes ≡ Ok (t, rest) → (fault : PackFault) → Breaks bytes fault → ⊥
 read_unbroken bytes t rest e fault broken = no_reading (t, rest) fault (sym e ∙ value_breaks 64 bytes fault broken)
+
+-- what was read of bytes can be written
+pub read_writable : (bytes : List ℕ) (t : Tree) (rest : List ℕ) → AreBytes bytes → value_at 64 bytes ≡ Ok (t, rest) → IsWritable t
+read_writable bytes t rest h e =
+    let told = reading_tells 64 bytes t rest e in
+    spelled_writable t told.0 told.2 (AreBytes-left told.0 rest (subst AreBytes told.1 h))

@@ -4,6 +4,7 @@
 mod fault;
 mod first;
 mod heads;
+mod laws;
 mod numbers;
 mod reading;
 mod value;
@@ -11,6 +12,7 @@ mod writable;
 mod writing;
 
 pub use fault::PackFault;
+pub use laws::spelling_laws;
 pub use reading::read;
 pub use value::Value;
 pub use writable::is_writable;

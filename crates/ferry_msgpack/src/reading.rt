@@ -6,6 +6,7 @@ ghost use Rattle.ferry_msgpack.specs.declared.fault.PackFault.{PackFault};
 ghost use Rattle.ferry_msgpack.specs.Tree.{Tree, no_pairs};
 ghost use Rattle.ferry_msgpack.specs.Spelling.{Spells};
 ghost use Rattle.ferry_msgpack.specs.Faults.{Breaks};
+ghost use Rattle.ferry_msgpack.specs.Writable.{IsWritable};
 ghost use Rattle.ferry_msgpack.specs.Calls.Read.{StandsAt, IsValueUnlessMemory, IsFaultUnlessMemory};
 ghost use Rattle.ferry_msgpack.specs.View.{view, items_view, pairs_view};
 ghost use Rattle.ferry_msgpack.specs.Reading.{Gives, value_at, flat_by, array_at, table_at, items_at, pairs_at};
@@ -27,6 +28,8 @@ pub fn read(alloc: Global, bytes: &[u8], at: usize) -> Result<(Value, usize), Pa
     requires { at ≤ length bytes.now }
     // What is read is spelled by these bytes.
     ensures found { IfOk result (λ x. StandsAt bytes.now at (view x.0) x.1) }
+    // It can be written.
+    ensures writable { IfOk result (λ x. IsWritable (view x.0)) }
     // What is spelled is read, whatever follows it.
     ensures only { (t : Tree) (front rest : List ℕ) → Spells t front → drop at bytes.now ≡ front ++ rest
         → IsValueUnlessMemory result t (at + length front) }

@@ -3,7 +3,7 @@ use Rattle.std.proofs.lemmas.Result.{err_from_is_err_and}
 use Rattle.ferry_msgpack.specs.View.{view, items_view, pairs_view}
 use Rattle.ferry_msgpack.specs.Shortest.{shortest, array_head, map_head, shortest_raw, shortest_items, shortest_pairs}
 use Rattle.ferry_msgpack.specs.Calls.Write.{Begins}
-use Rattle.ferry_msgpack.proofs.Appending.{items_len, pairs_len, item_fits, pair_fits, item_depth, pair_depth, with_items-more, with_pairs-more, with_items-all, with_pairs-all, Begins-more, Begins-key}
+use Rattle.ferry_msgpack.proofs.Appending.{items_len, pairs_len, item_fits, pair_fits, item_depth, pair_depth, with_items-more, with_pairs-more, with_items-all, with_pairs-all, Begins-more, Begins-key, pair_written}
 use Rattle.ferry_msgpack.proofs.writing.+put.Goals as goal
 
 pub put_items-put_array_head-requires : goal.put_items-put_array_head-requires
@@ -54,10 +54,8 @@ put_pairs-returns-in_err-put_value-clause-err t c =
 
 pub put_pairs-loop-key-preserved : goal.put_pairs-loop-key-preserved
 put_pairs-loop-key-preserved t c =
-    let value = shortest (view c.loop-key-item.result.1) in
-    let key-is : c.put_raw.new.into.items ≡ c.loop-key.into.items ++ shortest_raw c.loop-key-item.result.0.items = c.in_ok-put_raw.ensures.ok ∙ ap (λ (k : List ℕ). c.loop-key.into.items ++ shortest_raw k) c.deref.ensures.value in
-    let wrote : c.put_value.new.into.items ≡ (c.loop-key.into.items ++ shortest_raw c.loop-key-item.result.0.items) ++ value = c.in_ok-put_value.ensures.ok ∙ ap (λ (s : List ℕ). s ++ value) key-is in
-    wrote ∙ with_pairs-more c.args.into.now.items c.loop-key.into.items c.args.pairs.now.items c.deref-key-items.result.now c.loop-key.key-index c.loop-key-item.result c.deref-key-items.ensures.value c.loop-key-test.true c.loop-key-item.is c.loop-key.invariant
+    pair_written c.args.into.now.items c.loop-key.into.items c.put_raw.new.into.items c.put_value.new.into.items c.deref.result.now c.args.pairs.now.items c.deref-key-items.result.now c.loop-key.key-index c.loop-key-item.result
+      c.deref-key-items.ensures.value c.loop-key-test.true c.loop-key-item.is c.loop-key.invariant c.deref.ensures.value c.in_ok-put_raw.ensures.ok c.in_ok-put_value.ensures.ok
 
 pub put_pairs-returns-clause-ok : goal.put_pairs-returns-clause-ok
 put_pairs-returns-clause-ok t c =
