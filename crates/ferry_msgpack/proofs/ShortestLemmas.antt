@@ -156,12 +156,12 @@ mutual
   value_spelled (suc d) (array items) deep fits =
       let head = head_spelled array_value 0x90 0x10 0xdc 0xdd (items_count items) rows.fixarray rows.array16 rows.array32 fits.0 in
       subst (SpellsWithin (suc d) (array items)) (sym (ap (λ (s : List ℕ). s ++ shortest_items items) head.parts))
-        (spells_array d head.first head.kind items head.count (shortest_items items) head.row head.counts (items_spelled d items (omega arith) fits.1))
+      (spells_array d head.first head.kind items head.count (shortest_items items) head.row head.counts (items_spelled d items (omega arith) fits.1))
   value_spelled zero (table pairs) deep fits = absurd (omega arith)
   value_spelled (suc d) (table pairs) deep fits =
       let head = head_spelled map_value 0x80 0x10 0xde 0xdf (pairs_count pairs) rows.fixmap rows.map16 rows.map32 fits.0 in
       subst (SpellsWithin (suc d) (table pairs)) (sym (ap (λ (s : List ℕ). s ++ shortest_pairs pairs) head.parts))
-        (spells_map d head.first head.kind (pairs_count pairs) pairs head.count (shortest_pairs pairs) head.row head.counts (pairs_spelled d no_pairs pairs (omega arith) fits.2 fits.1 (under_none pairs)))
+      (spells_map d head.first head.kind (pairs_count pairs) pairs head.count (shortest_pairs pairs) head.row head.counts (pairs_spelled d no_pairs pairs (omega arith) fits.2 fits.1 (under_none pairs)))
 
   items_spelled : (d : ℕ) (items : Items) → items_depth items ≤ d → ItemsFit items → SpellsItems d items (shortest_items items)
   items_spelled d no_items deep fits = spells_no_items d

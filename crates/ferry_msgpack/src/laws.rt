@@ -23,5 +23,4 @@ pub fn spelling_laws()
     // One rule is the first that is broken, and want of memory is none.
     ensures first { (bytes : List ℕ) (f g : PackFault) → Breaks bytes f → Breaks bytes g → f ≡ g }
     ensures rule { (bytes : List ℕ) (fault : PackFault) → Breaks bytes fault → fault ≢ PackFault.Memory }
-{
-}
+{}

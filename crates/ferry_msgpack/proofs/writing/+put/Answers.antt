@@ -55,7 +55,7 @@ put_pairs-returns-in_err-put_value-clause-err t c =
 pub put_pairs-loop-key-preserved : goal.put_pairs-loop-key-preserved
 put_pairs-loop-key-preserved t c =
     pair_written c.args.into.now.items c.loop-key.into.items c.put_raw.new.into.items c.put_value.new.into.items c.deref.result.now c.args.pairs.now.items c.deref-key-items.result.now c.loop-key.key-index c.loop-key-item.result
-      c.deref-key-items.ensures.value c.loop-key-test.true c.loop-key-item.is c.loop-key.invariant c.deref.ensures.value c.in_ok-put_raw.ensures.ok c.in_ok-put_value.ensures.ok
+    c.deref-key-items.ensures.value c.loop-key-test.true c.loop-key-item.is c.loop-key.invariant c.deref.ensures.value c.in_ok-put_raw.ensures.ok c.in_ok-put_value.ensures.ok
 
 pub put_pairs-returns-clause-ok : goal.put_pairs-returns-clause-ok
 put_pairs-returns-clause-ok t c =
