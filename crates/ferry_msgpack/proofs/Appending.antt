@@ -1,8 +1,8 @@
 -- Writing values and pairs one after the other, as a loop does.
-use Rattle.std.proofs.Common.{◌≡◌, ℕ, zero, suc, ◌+◌, ◌^◌, ◌≤◌, ◌<◌, List, [], ◌∷◌, ◌++◌, length, get_or, take, Vec, Global, refl, sym, ap, subst, ◌∙◌, append_assoc, add-one, arith}
+use Rattle.std.proofs.Common.{◌≡◌, ℕ, zero, suc, ◌+◌, ◌^◌, ◌≤◌, ◌<◌, List, [], ◌∷◌, ◌++◌, length, get_or, take, refl, sym, ap, subst, ◌∙◌, append_assoc, add-one, arith}
 use Rattle.std.proofs.lemmas.List.{append-nil, take_more, take_all}
 use Rattle.ferry_msgpack.specs.declared.value.Value.{Value}
-use Rattle.ferry_msgpack.specs.Tree.{Items, Pairs, array, table, items_count, pairs_count}
+use Rattle.ferry_msgpack.specs.Tree.{array, table, items_count, pairs_count}
 use Rattle.ferry_msgpack.specs.View.{view, items_view, pairs_view}
 use Rattle.ferry_msgpack.specs.Shortest.{shortest, shortest_raw, shortest_items, shortest_pairs, array_head, map_head}
 use Rattle.ferry_msgpack.specs.Writable.{depth, items_depth, pairs_depth, Fits, ItemsFit, PairsFit}

@@ -1,10 +1,10 @@
 -- The laws of spellings and faults, which the crates above cite.
-use Rattle.std.proofs.Common.{◌≡◌, ℕ, List, ◌++◌, ◌⊎◌, inl, inr, Result, Ok, Err, refl, sym, ap, ◌∙◌}
+use Rattle.std.proofs.Common.{◌≡◌, ℕ, List, ◌++◌, ◌⊎◌, inl, inr, Result, Ok, Err, sym, ap, ◌∙◌}
 use Rattle.std.proofs.lemmas.List.{append_cancel_right}
 use Rattle.ferry_msgpack.specs.declared.fault.PackFault.{PackFault}
 use Rattle.ferry_msgpack.specs.declared.fault.PackFault.TheVariants.{Memory}
 use Rattle.ferry_msgpack.specs.Tree.{Tree, Pairs, no_pairs, put}
-use Rattle.ferry_msgpack.specs.Spelling.{SpellsWithin, Spells}
+use Rattle.ferry_msgpack.specs.Spelling.{Spells}
 use Rattle.ferry_msgpack.specs.Faults.{BreaksKey, key_missing, key_refused, key_not_raw, key_ends, BreaksWithin, value_missing, value_refused, unsigned_ends, signed_ends, raw_ends, array_too_deep, map_too_deep, array_ends, map_ends, in_array, in_map, BreaksItems, in_first_item, in_later_item, BreaksPairs, in_key, key_stands_before, in_value, in_later_pair, Breaks}
 use Rattle.ferry_msgpack.specs.Reading.{value_at}
 use Rattle.ferry_msgpack.proofs.Values.{Tells, value_tells, value_again, value_breaks}

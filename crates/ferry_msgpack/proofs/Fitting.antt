@@ -1,14 +1,14 @@
 -- The test of what can be written, value by value and pair by pair, and what it says.
-use Rattle.std.proofs.Common.{◌≡◌, ℕ, zero, suc, ◌+◌, ◌-◌, ◌^◌, ◌≤◌, ◌<◌, max, Bool, true, false, ◌&&◌, ltb, List, [], ◌∷◌, length, get_or, drop, ℤ, pos, Ordering, Less, Equal, Greater, refl, sym, ap, subst, ◌∙◌, add-one, arith}
+use Rattle.std.proofs.Common.{◌≡◌, ℕ, ◌-◌, ◌^◌, ◌≤◌, ◌<◌, Bool, true, false, ◌&&◌, ltb, List, [], ◌∷◌, length, drop, ℤ, pos, Ordering, Less, Equal, Greater, refl, sym, ap, ◌∙◌, arith}
 use Rattle.std.proofs.lemmas.Bool.{ltb-true, le-ltb, lt-ltb, false≢true}
 use Rattle.std.proofs.lemmas.Int.{ints}
 use Rattle.std.specs.Prelude.{neg_ℤ, int_lt, int_le}
-use Rattle.std.proofs.lemmas.List.{drop_all, length-drop}
+use Rattle.std.proofs.lemmas.List.{length-drop}
 use Rattle.std.specs.Ordering.{nat_cmp, is_lt}
 use Rattle.std.specs.Cmp.Lexicographic.{slice_cmp}
 use Rattle.ferry_msgpack.specs.declared.value.Value.{Value}
 use Rattle.ferry_msgpack.specs.Tree.{Tree, nil, flag, number, raw, array, table, Items, no_items, item, items_count, Pairs, no_pairs, pair, pairs_count}
-use Rattle.ferry_msgpack.specs.View.{view, items_view, pairs_view}
+use Rattle.ferry_msgpack.specs.View.{items_view, pairs_view}
 use Rattle.ferry_msgpack.specs.Writable.{depth, items_depth, pairs_depth, IsNumber, IsBelow, IsIncreasing, Fits, ItemsFit, PairsFit, IsWritable}
 use Rattle.ferry_msgpack.specs.Tests.{number_fits, is_below, fits_within, items_fit, pairs_fit, keys_increase}
 use Rattle.ferry_msgpack.proofs.Views.{Entry}

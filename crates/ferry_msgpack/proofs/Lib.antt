@@ -5,6 +5,7 @@ pub mod Places
 pub mod Views
 pub mod Levels
 pub mod Loops
+pub mod Copying
 pub mod Appending
 pub mod ShortestLemmas
 pub mod WritableLemmas

@@ -1,13 +1,13 @@
 -- What is spelled by bytes can be written.
-use Rattle.std.proofs.Common.{◌≡◌, ℕ, zero, suc, ◌+◌, ◌-◌, ◌*◌, ◌^◌, ◌≤◌, ◌<◌, max, Bool, true, false, ◌||◌, List, [], ◌∷◌, ◌++◌, length, get_or, ℤ, pos, negsuc, Ordering, Less, Equal, Greater, nat_cmp, is_eq, refl, sym, ap, subst, ◌∙◌, add-one, arith, inl, inr}
-use Rattle.std.specs.Int.{Width, w8, w16, w32, w64, byte_len, from_be_bytes, cast_signed}
+use Rattle.std.proofs.Common.{◌≡◌, ℕ, zero, suc, ◌+◌, ◌-◌, ◌^◌, ◌≤◌, ◌<◌, Bool, true, false, ◌||◌, List, [], ◌∷◌, ◌++◌, length, get_or, ℤ, pos, negsuc, Ordering, Less, Equal, Greater, nat_cmp, is_eq, refl, sym, ap, subst, ◌∙◌, arith, inl, inr}
+use Rattle.std.specs.Int.{Width, w8, w16, w32, w64, from_be_bytes, cast_signed}
 use Rattle.std.specs.Ordering.{match_ordering, ordering_reverse}
 use Rattle.std.specs.Cmp.Lexicographic.{slice_cmp}
 use Rattle.std.proofs.lemmas.Bool.{cases_lt, le-ltb, lt-ltb, false≢true}
 use Rattle.std.proofs.lemmas.Cmp.{nat_list_cmp_total}
 use Rattle.std.proofs.lemmas.Int.{ints}
-use Rattle.ferry_msgpack.specs.Tree.{Tree, nil, flag, number, raw, array, table, Items, no_items, item, items_count, Pairs, no_pairs, pair, pairs_count, has_key, put}
-use Rattle.ferry_msgpack.specs.First.{Count, given, behind, First, small_number, unsigned_number, signed_number, raw_value, array_value, map_value, Row, positive_fixint, negative_fixint, fixmap, fixarray, fixstr, bin8, bin16, bin32, uint8, uint16, uint32, uint64, int8, int16, int32, int64, str8, str16, str32, array16, array32, map16, map32}
+use Rattle.ferry_msgpack.specs.Tree.{Tree, Items, items_count, Pairs, no_pairs, pair, pairs_count, has_key, put}
+use Rattle.ferry_msgpack.specs.First.{Count, small_number, unsigned_number, signed_number, raw_value, array_value, map_value, Row, positive_fixint, negative_fixint, fixmap, fixarray, fixstr, bin8, bin16, bin32, uint8, uint16, uint32, uint64, int8, int16, int32, int64, str8, str16, str32, array16, array32, map16, map32}
 use Rattle.ferry_msgpack.specs.Spelling.{Counts, SpellsRaw, spells_raw, SpellsWithin, spells_nil, spells_flag, spells_small, spells_unsigned, spells_signed, spells_bytes, spells_array, spells_map, SpellsItems, spells_no_items, spells_item, SpellsPairs, spells_no_pairs, spells_pair, Spells}
 use Rattle.ferry_msgpack.specs.Writable.{depth, items_depth, pairs_depth, IsNumber, IsBelow, IsIncreasing, Fits, ItemsFit, PairsFit, IsWritable}
 

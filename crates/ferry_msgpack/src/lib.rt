@@ -1,6 +1,7 @@
 //! msgpack values: every spelling is read, one is written.
 #![tactic(auto)]
 
+mod copy;
 mod fault;
 mod first;
 mod heads;

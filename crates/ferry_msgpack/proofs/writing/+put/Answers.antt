@@ -1,9 +1,7 @@
-use Rattle.std.proofs.Common.{◌≡◌, ◌<◌, ◌^◌, ◌++◌, List, ℕ, length, take, subst, sym, ap, ◌∙◌, arith, rules}
+use Rattle.std.proofs.Common.{List, ℕ, length, subst, ap, ◌∙◌, arith}
 use Rattle.std.proofs.lemmas.Result.{err_from_is_err_and}
-use Rattle.ferry_msgpack.specs.View.{view, items_view, pairs_view}
-use Rattle.ferry_msgpack.specs.Shortest.{shortest, array_head, map_head, shortest_raw, shortest_items, shortest_pairs}
 use Rattle.ferry_msgpack.specs.Calls.Write.{Begins}
-use Rattle.ferry_msgpack.proofs.Appending.{items_len, pairs_len, item_fits, pair_fits, item_depth, pair_depth, with_items-more, with_pairs-more, with_items-all, with_pairs-all, Begins-more, Begins-key, pair_written}
+use Rattle.ferry_msgpack.proofs.Appending.{items_len, pairs_len, item_fits, pair_fits, item_depth, pair_depth, with_items-more, with_items-all, with_pairs-all, Begins-more, Begins-key, pair_written}
 use Rattle.ferry_msgpack.proofs.writing.+put.Goals as goal
 
 pub put_items-put_array_head-requires : goal.put_items-put_array_head-requires
