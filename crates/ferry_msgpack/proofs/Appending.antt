@@ -7,7 +7,7 @@ use Rattle.ferry_msgpack.specs.View.{view, items_view, pairs_view}
 use Rattle.ferry_msgpack.specs.Shortest.{shortest, shortest_raw, shortest_items, shortest_pairs, array_head, map_head}
 use Rattle.ferry_msgpack.specs.Writable.{depth, items_depth, pairs_depth, Fits, ItemsFit, PairsFit}
 use Rattle.ferry_msgpack.specs.Calls.Write.{Begins}
-use Rattle.ferry_msgpack.proofs.Views.{Entry}
+use Rattle.ferry_msgpack.proofs.ViewLemmas.{Entry}
 
 pub items_count-view : (vs : List Value) → items_count (items_view vs) ≡ length vs
 items_count-view [] = refl

@@ -1,5 +1,5 @@
 -- The laws of spellings and faults, which the crates above cite.
-use Rattle.std.proofs.Common.{◌≡◌, ℕ, List, ◌++◌, ◌⊎◌, inl, inr, Result, Ok, Err, sym, ap, ◌∙◌}
+use Rattle.std.proofs.Common.{◌≡◌, ℕ, List, ◌++◌, ◌⊎◌, inl, inr, Result, Ok, Err, sym, ap, ◌∙◌, []}
 use Rattle.std.proofs.lemmas.List.{append_cancel_right}
 use Rattle.ferry_msgpack.specs.declared.fault.PackFault.{PackFault}
 use Rattle.ferry_msgpack.specs.declared.fault.PackFault.TheVariants.{Memory}
@@ -7,7 +7,10 @@ use Rattle.ferry_msgpack.specs.Tree.{Tree, Pairs, no_pairs, put}
 use Rattle.ferry_msgpack.specs.Spelling.{Spells}
 use Rattle.ferry_msgpack.specs.Faults.{BreaksKey, key_missing, key_refused, key_not_raw, key_ends, BreaksWithin, value_missing, value_refused, unsigned_ends, signed_ends, raw_ends, array_too_deep, map_too_deep, array_ends, map_ends, in_array, in_map, BreaksItems, in_first_item, in_later_item, BreaksPairs, in_key, key_stands_before, in_value, in_later_pair, Breaks}
 use Rattle.ferry_msgpack.specs.Reading.{value_at}
-use Rattle.ferry_msgpack.proofs.Values.{Tells, value_tells, value_again, value_breaks}
+use Rattle.ferry_msgpack.specs.Shortest.{shortest}
+use Rattle.ferry_msgpack.specs.Writable.{IsWritable}
+use Rattle.ferry_msgpack.proofs.ShortestLemmas.{shortest_spelled}
+use Rattle.ferry_msgpack.proofs.SpellingLemmas.{Tells, value_tells, value_again, value_breaks}
 use Rattle.ferry_msgpack.proofs.Places.{same_reading, no_reading, same_fault}
 
 -- no spelling begins another, and bytes spell one value at most
@@ -67,3 +70,8 @@ mutual
 -- want of memory is no rule of the bytes
 pub broken_rule : (bytes : List ℕ) (f : PackFault) → Breaks bytes f → f ≡ Memory → ⊥
 broken_rule bytes f broken = value_rule 64 bytes f broken
+
+-- two values that can be written are one where their spellings are
+pub same_spelling : (t u : Tree) → IsWritable t → IsWritable u → shortest t ≡ shortest u → t ≡ u
+same_spelling t u first second same =
+    (one_spelling t u (shortest t) (shortest u) [] [] (shortest_spelled t first) (shortest_spelled u second) (ap (λ (s : List ℕ). s ++ []) same)).1

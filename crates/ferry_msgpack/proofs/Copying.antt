@@ -5,7 +5,7 @@ use Rattle.ferry_msgpack.specs.declared.value.Value.{Value}
 use Rattle.ferry_msgpack.specs.Tree.{no_items, item, Tree, Pairs, no_pairs, pair}
 use Rattle.ferry_msgpack.specs.View.{view, items_view, pairs_view}
 use Rattle.ferry_msgpack.proofs.Loops.{append_items}
-use Rattle.ferry_msgpack.proofs.Views.{Entry, items_view-push}
+use Rattle.ferry_msgpack.proofs.ViewLemmas.{Entry, items_view-push}
 
 abbrev append_pair : Pairs → List ℕ → Tree → Pairs
 append_pair no_pairs k t = pair k t no_pairs

@@ -1,8 +1,9 @@
-pub mod Rows
-pub mod Fields
-pub mod Values
+pub mod TreeLemmas
+pub mod FirstLemmas
+pub mod FieldLemmas
+pub mod SpellingLemmas
 pub mod Places
-pub mod Views
+pub mod ViewLemmas
 pub mod Levels
 pub mod Loops
 pub mod Copying
@@ -10,4 +11,4 @@ pub mod Appending
 pub mod ShortestLemmas
 pub mod WritableLemmas
 pub mod CallerLemmas
-pub mod Fitting
+pub mod WritableTestLemmas

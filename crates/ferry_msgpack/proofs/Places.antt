@@ -10,7 +10,7 @@ use Rattle.ferry_msgpack.specs.Reading.{Fails, value_at}
 use Rattle.ferry_msgpack.specs.Writable.{IsWritable}
 use Rattle.ferry_msgpack.specs.Calls.Read.{StandsAt}
 use Rattle.ferry_msgpack.proofs.WritableLemmas.{AreBytes, AreBytes-left, spelled_writable}
-use Rattle.ferry_msgpack.proofs.Values.{Tells, value_tells, value_again, value_breaks}
+use Rattle.ferry_msgpack.proofs.SpellingLemmas.{Tells, value_tells, value_again, value_breaks}
 
 -- the bytes from a place on, as a slice of them gives them
 pub from_place : (bytes : List ℕ) (start : ℕ) → take (length bytes - start) (drop start bytes) ≡ drop start bytes

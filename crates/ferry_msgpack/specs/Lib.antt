@@ -7,5 +7,5 @@ pub mod Faults
 pub mod Reading
 pub mod Shortest
 pub mod Writable
-pub mod Tests
+pub mod WritableTest
 pub mod Calls

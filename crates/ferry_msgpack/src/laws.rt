@@ -2,7 +2,7 @@
 
 ghost use Rattle.std.specs.Prelude.{◌≡◌, ◌≢◌, ◌⊎◌, List, ℕ, ◌++◌};
 ghost use Rattle.ferry_msgpack.specs.declared.fault.PackFault.{PackFault};
-ghost use Rattle.ferry_msgpack.specs.Tree.{Tree};
+ghost use Rattle.ferry_msgpack.specs.Tree.{Tree, Pairs, put};
 ghost use Rattle.ferry_msgpack.specs.Spelling.{Spells};
 ghost use Rattle.ferry_msgpack.specs.Faults.{Breaks};
 ghost use Rattle.ferry_msgpack.specs.Shortest.{shortest};
@@ -14,6 +14,8 @@ pub fn spelling_laws()
     ensures prefix { (t u : Tree) (a b x y : List ℕ) → Spells t a → Spells u b → a ++ x ≡ b ++ y → (a ≡ b) × (t ≡ u) }
     // What is written is a spelling: by the law before, it is read again whatever follows.
     ensures written { (t : Tree) → IsWritable t → Spells t (shortest t) }
+    // The order in which the pairs of a map are spelled makes no difference.
+    ensures order { (k l : List ℕ) (t u : Tree) (pairs : Pairs) → k ≢ l → put k t (put l u pairs) ≡ put l u (put k t pairs) }
 
     // Where a value is spelled no rule is broken, and where none is spelled one is.
     ensures apart { (t : Tree) (front rest : List ℕ) (fault : PackFault) → Spells t front → ¬ Breaks (front ++ rest) fault }

@@ -1,4 +1,9 @@
 //! msgpack values: every spelling is read, one is written.
+//!
+//! The layer above may rely on this: what `read` answers is spelled by exactly the bytes that it names, what is spelled
+//! is read whatever follows it, a refusal is the first broken rule from the left, and `write` appends the one shortest
+//! spelling. The format is that of the msgpack specification, "Formats", without floats and extensions, with raw map
+//! keys of which none repeats, and with at most 64 arrays and maps inside each other.
 #![tactic(auto)]
 
 mod copy;

@@ -63,7 +63,7 @@ fn value_of(alloc: Global, depth: usize, bytes: &[u8]) -> Result<(Value, &[u8]),
 
 /// The array behind its first byte, and what follows it.
 #[cycle(value)]
-#[tactic(auto, using(crate::proofs::Views::view_array), unfolding(crate::specs::Reading::array_at))]
+#[tactic(auto, using(crate::proofs::ViewLemmas::view_array), unfolding(crate::specs::Reading::array_at))]
 fn array_of(
     alloc: Global,
     depth: usize,
@@ -79,7 +79,7 @@ fn array_of(
 
 /// The map behind its first byte, and what follows it.
 #[cycle(value)]
-#[tactic(auto, using(crate::proofs::Views::view_table), unfolding(crate::specs::Reading::table_at))]
+#[tactic(auto, using(crate::proofs::ViewLemmas::view_table), unfolding(crate::specs::Reading::table_at))]
 fn table_of(
     alloc: Global,
     depth: usize,

@@ -4,7 +4,7 @@ ghost use Rattle.std.specs.Prelude.{◌≡◌, ◌↔◌, IsTrue};
 ghost use Rattle.ferry_msgpack.specs.Tree.{array, table};
 ghost use Rattle.ferry_msgpack.specs.View.{view, items_view, pairs_view};
 ghost use Rattle.ferry_msgpack.specs.Writable.{IsWritable};
-ghost use Rattle.ferry_msgpack.specs.Tests.{fits_within, keys_increase};
+ghost use Rattle.ferry_msgpack.specs.WritableTest.{fits_within, keys_increase};
 
 use crate::value::{DEPTH, Value};
 

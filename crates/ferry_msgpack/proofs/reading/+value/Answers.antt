@@ -6,7 +6,7 @@ use Rattle.ferry_msgpack.specs.View.{view, items_view, pairs_view}
 use Rattle.ferry_msgpack.specs.Reading.{value_at, items_at, pairs_at}
 use Rattle.ferry_msgpack.proofs.Levels.{at_bottom, at_array, at_table, at_flat}
 use Rattle.ferry_msgpack.proofs.Loops.{items_go_on, items_fail, items_done, pairs_go_on, pairs_repeat, key_fails, pair_fails, pairs_done}
-use Rattle.ferry_msgpack.proofs.Views.{pairs_view-insert_entry, has_key-lookup, items_view-push}
+use Rattle.ferry_msgpack.proofs.ViewLemmas.{pairs_view-insert_entry, has_key-lookup, items_view-push}
 use Rattle.ferry_msgpack.proofs.reading.+value.Goals as goal
 
 pub value_of-returns-then-depth-eq0 : goal.value_of-returns-then-depth-eq0

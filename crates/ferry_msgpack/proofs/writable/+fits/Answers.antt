@@ -1,5 +1,5 @@
 use Rattle.std.proofs.Common.{sym, arith}
-use Rattle.ferry_msgpack.proofs.Fitting.{array_long, array_start, table_long, table_start}
+use Rattle.ferry_msgpack.proofs.WritableTestLemmas.{array_long, array_start, table_long, table_start}
 use Rattle.ferry_msgpack.proofs.writable.+fits.Goals as goal
 
 pub array_fits-returns-then-len-ge-LENGTHS_END : goal.array_fits-returns-then-len-ge-LENGTHS_END

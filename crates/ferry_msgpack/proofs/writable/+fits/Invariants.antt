@@ -1,8 +1,8 @@
 use Rattle.std.proofs.Common.{◌≡◌, ◌-◌}
 use Rattle.ferry_msgpack.specs.Tree.{array, table}
 use Rattle.ferry_msgpack.specs.View.{items_view, pairs_view}
-use Rattle.ferry_msgpack.specs.Tests.{fits_within}
-use Rattle.ferry_msgpack.proofs.Fitting.{items_from, pairs_from}
+use Rattle.ferry_msgpack.specs.WritableTest.{fits_within}
+use Rattle.ferry_msgpack.proofs.WritableTestLemmas.{items_from, pairs_from}
 use Rattle.ferry_msgpack.proofs.writable.+fits.Given as goal
 
 abbrev pub invariant-array_fits-loop-item : goal.invariant-array_fits-loop-item

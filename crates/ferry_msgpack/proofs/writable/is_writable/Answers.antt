@@ -1,6 +1,6 @@
 use Rattle.std.proofs.Common.{sym, ◌∙◌}
 use Rattle.ferry_msgpack.specs.View.{view}
-use Rattle.ferry_msgpack.proofs.Fitting.{writable_says, writable_passes}
+use Rattle.ferry_msgpack.proofs.WritableTestLemmas.{writable_says, writable_passes}
 use Rattle.ferry_msgpack.proofs.writable.is_writable.Goals as goal
 
 pub returns : goal.returns

@@ -1,7 +1,7 @@
 use Rattle.std.proofs.Common.{arith}
 use Rattle.ferry_msgpack.specs.View.{pairs_view}
-use Rattle.ferry_msgpack.specs.Tests.{keys_increase}
-use Rattle.ferry_msgpack.proofs.Fitting.{keys_end}
+use Rattle.ferry_msgpack.specs.WritableTest.{keys_increase}
+use Rattle.ferry_msgpack.proofs.WritableTestLemmas.{keys_end}
 use Rattle.ferry_msgpack.proofs.writable.keys_increase.Goals as goal
 
 pub returns : goal.returns

@@ -9,7 +9,7 @@ use Rattle.ferry_msgpack.specs.First.{Count, given, behind, First, no_value, nil
 use Rattle.ferry_msgpack.specs.Spelling.{Counts, SpellsRaw, spells_raw}
 use Rattle.ferry_msgpack.specs.Faults.{CountEnds, RawEnds, ends_in_length, ends_in_content, IsOtherValue, BreaksKey, key_missing, key_refused, key_not_raw, key_ends}
 use Rattle.ferry_msgpack.specs.Reading.{◌>>=◌, first_of, number_at, count_at, content_at, raw_at, key_by, key_at}
-use Rattle.ferry_msgpack.proofs.Rows.{first_of-Row, Row-first_of}
+use Rattle.ferry_msgpack.proofs.FirstLemmas.{first_of-Row, Row-first_of}
 
 -- ---- numbers of a width
 

@@ -8,8 +8,8 @@ use Rattle.ferry_msgpack.specs.First.{Count, First, no_value, nil_value, flag_va
 use Rattle.ferry_msgpack.specs.Spelling.{Counts, SpellsRaw, spells_raw, SpellsWithin, spells_nil, spells_flag, spells_small, spells_unsigned, spells_signed, spells_bytes, spells_array, spells_map, SpellsItems, spells_no_items, spells_item, SpellsPairs, spells_no_pairs, spells_pair}
 use Rattle.ferry_msgpack.specs.Faults.{BreaksWithin, value_missing, value_refused, unsigned_ends, signed_ends, raw_ends, array_too_deep, map_too_deep, array_ends, map_ends, in_array, in_map, BreaksItems, in_first_item, in_later_item, BreaksPairs, in_key, key_stands_before, in_value, in_later_pair}
 use Rattle.ferry_msgpack.specs.Reading.{◌>>=◌, first_of, number_at, signed_at, count_at, raw_at, key_at, Reader, items_at, pairs_at, array_at, table_at, value_by, flat_by, value_at}
-use Rattle.ferry_msgpack.proofs.Rows.{first_of-Row, Row-first_of}
-use Rattle.ferry_msgpack.proofs.Fields.{TellsNumber, number_tells, number_again, number_short, TellsCount, count_tells, count_again, count_short, TellsRaw, raw_tells, raw_again, raw_short, TellsKey, key_tells, key_again, key_breaks}
+use Rattle.ferry_msgpack.proofs.FirstLemmas.{first_of-Row, Row-first_of}
+use Rattle.ferry_msgpack.proofs.FieldLemmas.{TellsNumber, number_tells, number_again, number_short, TellsCount, count_tells, count_again, count_short, TellsRaw, raw_tells, raw_again, raw_short, TellsKey, key_tells, key_again, key_breaks}
 
 -- ---- what is read, or the first broken rule
 

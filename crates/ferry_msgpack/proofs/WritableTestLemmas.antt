@@ -10,8 +10,8 @@ use Rattle.ferry_msgpack.specs.declared.value.Value.{Value}
 use Rattle.ferry_msgpack.specs.Tree.{Tree, nil, flag, number, raw, array, table, Items, no_items, item, items_count, Pairs, no_pairs, pair, pairs_count}
 use Rattle.ferry_msgpack.specs.View.{items_view, pairs_view}
 use Rattle.ferry_msgpack.specs.Writable.{depth, items_depth, pairs_depth, IsNumber, IsBelow, IsIncreasing, Fits, ItemsFit, PairsFit, IsWritable}
-use Rattle.ferry_msgpack.specs.Tests.{number_fits, is_below, fits_within, items_fit, pairs_fit, keys_increase}
-use Rattle.ferry_msgpack.proofs.Views.{Entry}
+use Rattle.ferry_msgpack.specs.WritableTest.{number_fits, is_below, fits_within, items_fit, pairs_fit, keys_increase}
+use Rattle.ferry_msgpack.proofs.ViewLemmas.{Entry}
 use Rattle.ferry_msgpack.proofs.Appending.{items_count-view, pairs_count-view}
 
 and_false : (b : Bool) → (b && false) ≡ false

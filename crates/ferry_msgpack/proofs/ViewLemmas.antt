@@ -4,10 +4,10 @@ use Rattle.std.specs.Cmp.Lexicographic.{slice_cmp}
 use Rattle.std.specs.Ordering.{match_ordering}
 use Rattle.std.specs.Map.{lookup}
 use Rattle.std.specs.BTreeMap.{insert_entry, is_at}
-use Rattle.ferry_msgpack.specs.Tree.{nil, number, raw, array, table, no_items, item, has_key, put}
+use Rattle.ferry_msgpack.specs.Tree.{nil, flag, number, raw, array, table, no_items, item, has_key, put}
 use Rattle.ferry_msgpack.specs.View.{view, items_view, pairs_view}
 use Rattle.ferry_msgpack.proofs.Loops.{append_items}
-use Rattle.ferry_msgpack.specs.declared.value.Value.{Value, Nil, Number, Raw, Array, Table, the_lemmas}
+use Rattle.ferry_msgpack.specs.declared.value.Value.{Value, Nil, Flag, Number, Raw, Array, Table, the_lemmas}
 
 abbrev pub Entry : Type 0
 Entry = Vec ℕ Global × Value
@@ -23,6 +23,9 @@ view_raw v = search (rules, the_lemmas)
 
 pub view_nil : view Nil ≡ nil
 view_nil = search (rules, the_lemmas)
+
+pub view_flag : (b : Bool) → view (Flag b) ≡ flag b
+view_flag b = search (rules, the_lemmas)
 
 pub view_number : (z : _) → view (Number z) ≡ number z
 view_number z = search (rules, the_lemmas)
