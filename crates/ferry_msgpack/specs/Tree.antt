@@ -39,12 +39,3 @@ has_key k (pair l t ps) = is_eq (slice_cmp nat_cmp k l) || has_key k ps
 abbrev pub put : List ℕ → Tree → Pairs → Pairs
 put k t no_pairs = pair k t no_pairs
 put k t (pair l u ps) = match_ordering (slice_cmp nat_cmp k l) (pair k t (pair l u ps)) (pair l t ps) (pair l u (put k t ps))
-
--- each of the pairs put in its place among those that are there, the first one first
-abbrev pub put_each : Pairs → Pairs → Pairs
-put_each no_pairs there = there
-put_each (pair k t ps) there = put_each ps (put k t there)
-
--- the pairs in byte order of their keys
-abbrev pub in_order : Pairs → Pairs
-in_order ps = put_each ps no_pairs

@@ -151,7 +151,7 @@ fn each_format_is_read_and_its_shortest_spelling_is_written(rt: HostRuntime) -> 
     ];
     for (bytes, shortest) in table {
         let value = whole(rt.alloc(), bytes).ok_or("no value")?;
-        let spelling = written(&rt, rt.alloc(), &value)?;
+        let spelling = written(&rt, rt.alloc(), &value.clone()?)?;
         assert_eq!(rt; spelling.as_slice(), shortest, "at {bytes:?}");
     }
     Ok(())
