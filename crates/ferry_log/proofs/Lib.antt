@@ -1,3 +1,5 @@
+mod LawLemmas
+mod HeadLemmas
 mod WholeLemmas
 mod PairsLemmas
 mod LiveLemmas
