@@ -1,3 +1,5 @@
+mod LawLemmas
+mod HeadLemmas
 mod WholeLemmas
 pub mod PairsLemmas
 mod LiveLemmas
