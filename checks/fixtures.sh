@@ -1,0 +1,15 @@
+#!/usr/bin/env bash
+# Runs the built program on the repositories that BorgBackup wrote, where their folder lies beside this one, for each command
+# that is built, and compares output and status.
+set -eu
+cd "$(dirname "$0")/.."
+commands="keys"
+fixtures=../shared/fixtures
+if [ ! -e "$fixtures/run.py" ]; then
+    echo "skipped: there is no $fixtures"
+    exit 0
+fi
+./build
+# The words name the commands, one each.
+# shellcheck disable=SC2086
+python3 "$fixtures/run.py" target/borgferry $commands

@@ -1,0 +1,295 @@
+#!/usr/bin/env python3
+"""The program's own cases: program.py PROGRAM
+
+Each case makes a folder, runs the program in the folder above it with the words and variables given, and compares status and
+output. What a repository has to print stands in the case, or comes from segments.keys. Nothing may be written: the folder is
+compared before and after. One line for each case that differs, and at the end 'N passed, M failed'; status 1 where M isn't 0.
+"""
+import hashlib
+import os
+import random
+import resource
+import stat
+import struct
+import subprocess
+import sys
+import tempfile
+
+sys.dont_write_bytecode = True
+import segments
+from segments import COMMIT, COMMIT_SEGMENT, MAGIC, delete, put, sealed, segment
+
+PROGRAM = os.path.abspath(sys.argv[1])
+K, L = b"\x11" * 32, b"\x22" * 32
+NO_COMMIT = (8, b"source refused: no commit\n")
+DEVICE = (4, b"source device failed\n")
+USAGE = (2, b"usage\n")
+NOTHING = (0, b"")
+GREATEST = 2**64 - 1
+KEYS = ("source", "-", "keys")
+
+passed = failed = 0
+
+
+def line(*pairs):
+    return 0, b"".join(b"%s %d\n" % (key.hex().encode(), size) for key, size in pairs)
+
+
+def damaged(number, at):
+    return 8, b"source refused: damaged segment %d at %d\n" % (number, at)
+
+
+def wrong_word(number):
+    return 2, b"usage: word %d\n" % number
+
+
+def make(root, files):
+    """Makes files in a folder by name: bytes are a file, a text is a symbolic link, None a folder, and a number a special file."""
+    for name, content in files.items():
+        path = os.fsencode(root) + b"/" + os.fsencode(name)
+        os.makedirs(os.path.dirname(path), exist_ok=True)
+        if content is None:
+            os.makedirs(path, exist_ok=True)
+        elif isinstance(content, int):
+            os.mknod(path, content | 0o644)
+        elif isinstance(content, str):
+            os.symlink(content, path)
+        else:
+            with open(path, "wb") as file:
+                file.write(content)
+
+
+def state(root):
+    """All that a folder holds: names, kinds, times and contents."""
+    all_of_it = {}
+    for folder, folders, files in os.walk(os.fsencode(root)):
+        for name in folders + files:
+            path = folder + b"/" + name
+            of = os.lstat(path)
+            content = open(path, "rb").read() if stat.S_ISREG(of.st_mode) else b""
+            all_of_it[path] = (of.st_mode, of.st_mtime_ns, of.st_size, hashlib.sha256(content).digest())
+    return all_of_it
+
+
+def run(words, cwd, variables=None, stdout=subprocess.PIPE, limit=None):
+    """The status and the output of one run."""
+    env = {name: value for name, value in os.environb.items() if not name.startswith(b"BORG_")}
+    env.update(variables or {})
+    before = lambda: limit and resource.setrlimit(resource.RLIMIT_AS, (limit, limit))
+    try:
+        ran = subprocess.run([PROGRAM, *words], cwd=cwd, env=env, stdin=subprocess.DEVNULL, stdout=stdout, stderr=subprocess.PIPE, timeout=60, preexec_fn=before)
+    except subprocess.TimeoutExpired:
+        return "no answer", b""
+    return ran.returncode, (ran.stdout or b"") + ran.stderr
+
+
+def judge(name, got, want):
+    global passed, failed
+    if got == want:
+        passed += 1
+    else:
+        failed += 1
+        print(f"FAIL {name}: {got[0]} {got[1][:200]!r} for {want[0]} {want[1][:200]!r}")
+
+
+def case(name, files, want=None, words=KEYS, beside=None, **how):
+    """One run in a folder that holds a folder `source` of these files (none: no such folder), and others beside it.
+
+    Without `want` the run has to print what segments.keys says; with it, segments.keys has to say the same of a source that can
+    be read.
+    """
+    with tempfile.TemporaryDirectory() as root:
+        make(root, beside or {})
+        source = os.path.join(root, "source")
+        if files is not None:
+            os.makedirs(source)
+            make(source, files)
+        before = state(root)
+        got = run(words, root, **how)
+        plain = segments.keys(source)
+        judge(name, got, plain if want is None else want)
+        if want is not None and words == KEYS and not how and want != DEVICE:
+            judge(f"{name}: the plain reading", plain, want)
+        if state(root) != before:
+            judge(f"{name}: the folder", ("changed", b""), ("the same", b""))
+
+
+def log(*contents):
+    """The files of a repository with these segments, from 0 on, at their places."""
+    return {f"data/0/{number}": content for number, content in enumerate(contents)}
+
+
+def inside(folder, files):
+    """These files in a folder."""
+    return {f"{folder}/{name}": content for name, content in files.items()}
+
+
+def folders():
+    good = log(segment(put(K, b"abc")), COMMIT_SEGMENT)
+    case("a folder that isn't there", None, NO_COMMIT)
+    case("an empty folder", {}, NO_COMMIT)
+    case("a folder without data", {"config": b"", "README": b""}, NO_COMMIT)
+    case("an empty data", {"data": None}, NO_COMMIT)
+    case("an empty folder in data", {"data/0": None}, NO_COMMIT)
+    case("a file where the folder should be", None, DEVICE, beside={"source": b"text"})
+    case("a folder in a file", None, DEVICE, ("file/source", "-", "keys"), {"file": b"text"})
+    case("data is a file", {"data": b"text"}, DEVICE)
+    case("data leads to itself", {"data": "data"}, DEVICE)
+    case("data leads nowhere", {"data": "nowhere"}, NO_COMMIT)
+    case("data leads elsewhere", {"elsewhere/0/0": COMMIT_SEGMENT, "data": "elsewhere"}, NOTHING)
+    case("the source is a link", None, line((K, 3)), beside={**inside("there", good), "source": "there"})
+    case("a path with a slash at its end", good, line((K, 3)), ("source/", "-", "keys"))
+    case("a path that leaves and comes back", good, line((K, 3)), ("./source/../source/.", "-", "keys"))
+    case("a path of other letters", None, line((K, 3)), ("gr\u00fc\u00df e", "-", "keys"), inside("gr\u00fc\u00df e", good))
+    case("a path that is too long", good, DEVICE, ("s" * 5000, "-", "keys"))
+    case("no folder", good, NO_COMMIT, ("-", "source", "keys"))
+    case("no folder twice", good, NO_COMMIT, ("-", "-", "keys"))
+    case("an empty path", good, NO_COMMIT, ("", "-", "keys"), good)
+    case("a folder of the name -", None, line((K, 3)), ("./-", "-", "keys"), inside("-", good))
+    case("a target that isn't there", good, line((K, 3)), ("source", "target", "keys"))
+    case("a target that is a file", good, line((K, 3)), ("source", "target", "keys"), {"target": b"text"})
+
+
+def logs():
+    one, commit = segment(put(K, b"abc")), COMMIT_SEGMENT
+    case("a commit alone", log(commit), NOTHING)
+    case("one key", log(one, commit), line((K, 3)))
+    case("an empty blob", log(segment(put(K, b"")), commit), line((K, 0)))
+    case("put, deleted, put again", log(one, segment(delete(K)), segment(put(K, b"abcde")), commit), line((K, 5)))
+    case("put and deleted", log(one, segment(delete(K)), commit), NOTHING)
+    case("put, deleted and put without a commit", log(one, segment(delete(K)), segment(put(K, b"abcde"))), NO_COMMIT)
+    case("a put above the commit", log(one, commit, segment(put(K, b"abcde"))), line((K, 3)))
+    case("a segment that commits itself", log(segment(put(K, b"abc"), COMMIT)), line((K, 3)))
+    case("two commits at the end", log(segment(put(K, b"abc"), COMMIT, COMMIT)), line((K, 3)))
+    case("an entry behind a commit", log(segment(put(K, b"abc"), COMMIT, put(L, b"x"))), NO_COMMIT)
+    case("an entry between commits", log(segment(put(K, b"abc"), COMMIT, put(L, b"x"), COMMIT)), NO_COMMIT)
+    case("an entry between commits below the transaction", log(segment(put(K, b"abc"), COMMIT, put(L, b"x"), COMMIT), commit), line((K, 3), (L, 1)))
+    case("the magic alone", log(MAGIC, commit), NOTHING)
+    case("bytes like a commit in a blob", log(segment(put(K, COMMIT))), NO_COMMIT)
+    far = {"data/0/3": one, "data/1/1000": segment(put(L, b"x")), f"data/{GREATEST // 1000}/{GREATEST}": commit}
+    case("gaps up to the greatest number", far, line((K, 3), (L, 1)))
+    numbers = random.Random(4)
+    names = [bytes([numbers.randrange(256)]) + b"\x33" * 31 for _ in range(400)]
+    entries = [put(name, b"x" * numbers.randrange(300)) if numbers.randrange(3) else delete(name) for name in names * 2]
+    many = {f"data/{number // 10}/{number}": segment(*entries[number * 8 : number * 8 + 8]) for number in range(100)}
+    case("many keys", {**many, "data/10/100": commit})
+
+
+def damage():
+    one, two, commit = put(K, b"abc"), put(L, b"xyz"), COMMIT_SEGMENT
+    noise = random.Random(1).randbytes(500)
+    case("a segment of random bytes", log(noise), NO_COMMIT)
+    case("a segment of random bytes below a commit", log(noise, commit), damaged(0, 0))
+    case("random bytes behind the magic", log(MAGIC + noise, commit), damaged(0, 8))
+    case("random bytes behind an entry", log(segment(one) + noise, commit), damaged(0, 52))
+    case("an empty segment", log(b"", commit), damaged(0, 0))
+    case("the first of two damaged segments", log(segment(one), segment(two) + b"\0", noise, commit), damaged(1, 52))
+    case("a damaged segment in another folder", {"data/0/0": segment(one), "data/9/3": MAGIC + noise, "data/0/4": commit}, damaged(3, 8))
+    both = segment(one, two)
+    for cut in range(len(both)):
+        want = {8: NOTHING, 52: line((K, 3))}.get(cut, damaged(0, 0 if cut < 8 else 8 if cut < 52 else 52))
+        case(f"a segment cut after {cut} bytes", log(both[:cut], commit), want)
+    for cut in range(len(commit)):
+        case(f"a commit cut after {cut} bytes", log(segment(one), commit[:cut]), NO_COMMIT)
+    own = segment(one, COMMIT)
+    for at in range(len(own)):
+        case(f"a committed segment with byte {at} changed", log(own[:at] + bytes([own[at] ^ 0x40]) + own[at + 1 :]), NO_COMMIT)
+    for at in range(len(both)):
+        want = damaged(0, 0 if at < 8 else 8 if at < 52 else 52)
+        case(f"a segment with byte {at} changed", log(both[:at] + bytes([both[at] ^ 1]) + both[at + 1 :], commit), want)
+    for name, bad in {"random": noise, "empty": b"", "the magic alone": MAGIC, "cut": both[:60], "random behind the magic": MAGIC + noise}.items():
+        case(f"above the transaction: {name}", log(segment(one), commit, bad), line((K, 3)))
+    for name, bad in {
+        "size 8": sealed(8, 2, b""),
+        "a put of size 40": sealed(40, 0, b"x" * 31),
+        "a delete with a blob": sealed(42, 1, K + b"x"),
+        "a commit with a key": sealed(41, 2, K),
+        "tag 3": sealed(41, 3, K),
+        "size 2^32 - 1": sealed(2**32 - 1, 0, K),
+    }.items():
+        case(f"below a commit: {name}", log(segment(one, bad), commit), damaged(0, 52))
+    largest = b"\0" * (segments.LARGEST - 41)
+    case("an entry of the greatest size", log(segment(put(K, largest)), commit), line((K, len(largest))))
+    case("an entry that is too large", log(segment(put(K, largest + b"\0")), commit), damaged(0, 8))
+    case("want of memory", log(segment(put(K, largest)), commit), (3, b"memory\n"), limit=16 << 20)
+
+
+def names():
+    one, other, commit = segment(put(K, b"abc")), segment(put(K, b"abcde")), COMMIT_SEGMENT
+    wrong = [b"x", b"00", b"01", b"+1", b"-1", b" 1", b"1 ", b"1.tmp", b"0x1", b"1e1", "\uff11".encode(), b"18446744073709551616", b"99999999999999999999", b"\xff1", b"\xff"]
+    for name in wrong:
+        case(f"a segment named {name!r}", {b"data/0/0": one, b"data/0/1": commit, b"data/0/" + name: commit, b"data/" + name: b"text"}, line((K, 3)))
+        case(f"a folder named {name!r}", {b"data/0/0": one, b"data/0/1": commit, b"data/" + name + b"/2": segment(delete(K)), b"data/" + name + b"/3": commit}, line((K, 3)))
+    case("names all through a folder", {**{b"data/0/" + name: b"text" for name in wrong}, b"data/0/1": commit}, NOTHING)
+    case("a file beside data", {"data/0/0": one, "data/0/1": commit, "2": commit, "0": b"text"}, line((K, 3)))
+    case("a folder below a folder", {"data/0/0": one, "data/0/1": commit, "data/0/0x/2": commit, "data/0/5/2": other, "data/0/5/3": commit}, line((K, 3)))
+    case("a segment in a wrong folder", {"data/7/0": one, "data/3/1": commit}, line((K, 3)))
+    case("a segment right below data", {"data/0": one, "data/1": commit}, line((K, 3)))
+    case("right below data, beside its folder", {"data/0/0": one, "data/1": commit}, line((K, 3)))
+    case("its own place counts before a lower folder", {"data/1/1000": one, "data/0/1000": other, "data/0/1001": commit, "data/1000x": b"text"}, line((K, 3)))
+    case("its own place counts before a higher folder", {"data/0/0": one, "data/5/0": other, "data/0/1": commit}, line((K, 3)))
+    case("the lower of two wrong folders", {"data/2/0": one, "data/10/0": other, "data/0/1": commit}, line((K, 3)))
+    case("a wrong folder counts before data itself", {"data/2/5": one, "data/5": other, "data/0/6": commit}, line((K, 3)))
+    case("a folder where a segment should be", {"data/0/0": one, "data/0/1": commit, "data/0/2": None}, line((K, 3)))
+    case("a folder at its place and a file elsewhere", {"data/0/0": None, "data/7/0": one, "data/0/1": commit}, line((K, 3)))
+    case("a pipe where a segment should be", {"data/0/0": one, "data/0/1": commit, "data/0/2": stat.S_IFIFO, "data/3": stat.S_IFIFO}, line((K, 3)))
+    case("a link to a segment", {"elsewhere": one, "data/0/0": "../../elsewhere", "data/0/1": commit}, line((K, 3)))
+    case("a link to nowhere", {"data/0/0": one, "data/0/1": commit, "data/0/2": "nowhere"}, line((K, 3)))
+    case("a link to itself", {"data/0/0": one, "data/0/1": commit, "data/0/2": "2"}, DEVICE)
+    case("a link to a folder of segments", {"elsewhere/0": one, "data/0": "../elsewhere", "data/0/1": commit}, line((K, 3)))
+
+
+def words():
+    good = log(segment(put(K, b"abc")), COMMIT_SEGMENT)
+    for given in [[], ["source"], ["source", "-"], ["source", "source", "keys"], ["", "", "keys"], ["--help", "x"], ["--version", "--version"]]:
+        case(f"words {given}", good, USAGE, given)
+    for given, number in {
+        ("nothing",): 1, ("",): 1, ("KEYS",): 1, ("keys ",): 1, ("--help",): 1, ("--",): 1,
+        ("keys", "x"): 2, ("keys", ""): 2, ("keys", "--x"): 2, ("keys", "--help"): 2, ("keys", "-"): 2,
+        ("keys", "--", "x"): 3, ("keys", "--", "--"): 3,
+    }.items():
+        case(f"command {given}", good, wrong_word(number), ("source", "-", *given))
+    case("words come before the source", None, wrong_word(1), ("source", "-", "nothing"), {"source": b"text"})
+    case("keys --", good, line((K, 3)), ("source", "-", "keys", "--"))
+    case("--version", good, (0, b"borgferry 0.1.0\n"), ["--version"])
+    case("a source of the name --version", good, NO_COMMIT, ("--version", "-", "keys"))
+    status, out = run(["--help"], "/")
+    texts = [b"SOURCE TARGET COMMAND", b"  keys  ", b"BORG_OTHER_PASSPHRASE", b"BORG_PASSPHRASE", b"status", b"--version"]
+    judge("--help", (status, b" ".join(text for text in texts if text not in out)), (0, b""))
+    for at in range(3):
+        given = [b"source", b"-", b"keys"]
+        given[at] = b"\xff"
+        case(f"word {at + 1} isn't UTF-8", good, USAGE, given)
+    case("a further word isn't UTF-8", good, USAGE, [b"source", b"-", b"keys", b"\xc3"])
+
+
+def variables():
+    good = log(segment(put(K, b"abc")), COMMIT_SEGMENT)
+    bad, text = b"\xff\xfe", "gr\u00fc\u00df e".encode()
+    source, target = b"BORG_OTHER_PASSPHRASE", b"BORG_PASSPHRASE"
+    not_text = lambda name: (2, name + b" isn't UTF-8\n")
+    case("passphrases", good, line((K, 3)), variables={source: text, target: b"x" * 5000})
+    case("empty passphrases", good, line((K, 3)), variables={source: b"", target: b""})
+    case("the source's passphrase isn't UTF-8", good, not_text(source), variables={source: bad, target: bad})
+    case("the target's passphrase isn't UTF-8", good, not_text(target), variables={source: text, target: bad})
+    case("wrong words come before a passphrase", good, USAGE, ["source"], variables={source: bad})
+    case("--version needs no passphrase", good, (0, b"borgferry 0.1.0\n"), ["--version"], variables={source: bad})
+
+
+def outputs():
+    """Output that isn't taken: a full device, a closed one, and a pipe that nobody reads."""
+    with tempfile.TemporaryDirectory() as root:
+        make(root, inside("source", log(segment(put(K, b"abc")), COMMIT_SEGMENT)))
+        for words, want in {("source", "-", "keys"): 7, ("-", "-", "keys"): 8, ("source", "-", "nothing"): 2, ("source",): 2, ("--help",): 7}.items():
+            with open("/dev/full", "wb") as full:
+                judge(f"a full output: {words}", run(words, root, stdout=full), (want, b""))
+            read, write = os.pipe()
+            os.close(read)
+            judge(f"a pipe that nobody reads: {words}", run(words, root, stdout=write), (want, b""))
+            os.close(write)
+
+
+for cases in (folders, logs, damage, names, words, variables, outputs):
+    cases()
+print(f"{passed} passed, {failed} failed")
+sys.exit(1 if failed or not passed else 0)

@@ -1,0 +1,54 @@
+//! Counts of faults, and which errors of the system are want of memory.
+ghost use Rattle.std.specs.Prelude.{◌≡◌, ◌↔◌, if◌then◌else◌};
+ghost use Rattle.std.specs.IoError.{error_kind};
+ghost use Rattle.ferry_disk.specs.Device.{counted, HasStoreCause, HasSinkCause};
+ghost use Rattle.borgferry.specs.Count.{is_failed, is_refused};
+
+use ferry_disk::{SinkFault, StoreFault};
+use std::io::{Error, ErrorKind};
+
+/// Counts an answer of a shelf that is `Failed`, and no other.
+pub fn count_store<T>(faults: &mut u64, outcome: Result<T, StoreFault>) -> Result<T, StoreFault>
+    ensures outcome { result ≡ outcome }
+    ensures count { faults.new ≡ (if is_failed result then counted faults.old else faults.old) }
+    ensures cause { HasStoreCause faults.old faults.new result }
+{
+    if let Err(StoreFault::Failed) = &outcome {
+        *faults = faults.saturating_add(1);
+    }
+    outcome
+}
+
+/// Counts an answer of a sink that is `Failed`, and no other.
+pub fn count_sink(faults: &mut u64, outcome: Result<(), SinkFault>) -> Result<(), SinkFault>
+    ensures outcome { result ≡ outcome }
+    ensures count { faults.new ≡ (if is_refused result then counted faults.old else faults.old) }
+    ensures cause { HasSinkCause faults.old faults.new result }
+{
+    if let Err(SinkFault::Failed) = &outcome {
+        *faults = faults.saturating_add(1);
+    }
+    outcome
+}
+
+/// What an error of the system is to a shelf: each but want of memory is a fault.
+pub fn store_fault(error: &Error) -> StoreFault
+    ensures { (result ≡ StoreFault.Memory) ↔ (error_kind error.now ≡ ErrorKind.OutOfMemory) }
+{
+    if error.kind() == ErrorKind::OutOfMemory {
+        StoreFault::Memory
+    } else {
+        StoreFault::Failed
+    }
+}
+
+/// The same to a sink.
+pub fn sink_fault(error: &Error) -> SinkFault
+    ensures { (result ≡ SinkFault.Memory) ↔ (error_kind error.now ≡ ErrorKind.OutOfMemory) }
+{
+    if error.kind() == ErrorKind::OutOfMemory {
+        SinkFault::Memory
+    } else {
+        SinkFault::Failed
+    }
+}

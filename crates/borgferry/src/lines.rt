@@ -1,0 +1,30 @@
+//! What the program itself prints.
+
+/// The version, as `--version` prints it.
+pub const VERSION: &str = "borgferry 0.1.0\n";
+
+/// The help, which names every command that is built.
+pub const HELP: &str = "\
+borgferry reads one BorgBackup 1.2 repository, the source, and copies archives into another, the target.
+
+usage: borgferry SOURCE TARGET COMMAND ..
+       borgferry --help
+       borgferry --version
+
+SOURCE and TARGET are folders of repositories; the word - stands for no folder.
+
+commands:
+  keys    prints each live key of the source's committed log and the size of its blob
+
+variables:
+  BORG_OTHER_PASSPHRASE    the source's passphrase, empty where the variable is absent
+  BORG_PASSPHRASE          the target's passphrase, empty where the variable is absent
+
+status:
+  0    done
+  2    the words are no command
+  3    memory ran out
+  4    the source can't be read
+  7    standard output can't be written
+  8    the source is refused
+";

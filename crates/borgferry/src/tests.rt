@@ -1,0 +1,206 @@
+//! What no clause says: which files of a folder are read, and what the system's answers come to.
+
+use crate::read::read_file_at;
+use crate::shelf::FolderShelf;
+use crate::stdout::write_all;
+use ferry_disk::{Name, Shelf, SinkFault, StoreFault};
+use std::alloc::{AllocError, Global};
+use std::cell::Cell;
+use std::fmt::Display;
+use std::io::{Cursor, Error, ErrorKind, Read, Seek, SeekFrom};
+use std::test::Fail;
+use std::{env, fs, io, process};
+
+/// The files of a folder, each with its content, and below them the names and contents that the device has to see.
+const FILES: [(&str, &str); 9] = [
+    ("config", "settings"),
+    ("README", "readme"),
+    ("data/0/7", "at its place"),
+    ("data/5/7", "in another folder"),
+    ("data/3/1001", "in folder 3"),
+    ("data/12/1001", "in folder 12"),
+    ("data/1001", "below data"),
+    ("data/2", "below data"),
+    ("data/0/08", "no decimal name"),
+];
+
+const SEEN: [(Name, &str); 5] = [
+    (Name::Config, "settings"),
+    (Name::Readme, "readme"),
+    (Name::Segment(2), "below data"),
+    (Name::Segment(7), "at its place"),
+    (Name::Segment(1001), "in folder 3"),
+];
+
+/// Makes the files in a new folder, and answers its path.
+fn make_folder(rt: &HostRuntime) -> io::Result<String> {
+    let alloc = rt.alloc();
+    let temporary = env::temp_dir(rt)?;
+    let number = process::id(rt.process());
+    let place = format!(in alloc; "{}/borgferry-test-{number}", temporary.as_str())?;
+    for folder in ["data/0", "data/3/9", "data/5", "data/12", "data/x"] {
+        fs::create_dir_all(rt, format!(in alloc; "{place}/{folder}")?)?;
+    }
+    for (name, content) in FILES {
+        fs::write(rt, format!(in alloc; "{place}/{name}")?, content)?;
+    }
+    Ok(place)
+}
+
+#[test]
+fn a_folders_files_are_read_where_they_lie(rt: HostRuntime) -> Result<(), Fail> {
+    let place = make_folder(&rt)?;
+    let mut shelf = FolderShelf::new(rt.clone()?, rt.alloc(), place.as_str())?;
+    let mut early = [0u8; 3];
+    let count = shelf.read_at(Name::Segment(7), 3, &mut early)?;
+    assert_eq!(rt; (count, &early), (3, b"its"));
+    let numbers = shelf.segments(rt.alloc())?;
+    assert_eq!(rt; numbers.as_slice(), [2, 7, 1001].as_slice());
+    for (name, content) in SEEN {
+        let mut bytes = [0u8; 32];
+        let length = content.len();
+        assert_eq!(rt; shelf.size(name)?, Some(length as u64));
+        assert_eq!(rt; shelf.read_at(name, 0, &mut bytes)?, length);
+        assert!(rt; bytes.starts_with(content.as_bytes()));
+        assert_eq!(rt; shelf.read_at(name, length as u64, &mut bytes)?, 0);
+        assert_eq!(rt; shelf.read_at(name, u64::MAX, &mut bytes)?, 0);
+    }
+    assert_eq!(rt; shelf.size(Name::Nonce)?, None);
+    assert_eq!(rt; shelf.read_at(Name::Segment(9), 0, &mut early)?, 0);
+    fs::remove_dir_all(&rt, place.as_str())?;
+    Ok(())
+}
+
+/// A place that is no folder, or whose `data` is none, fails at each listing; one that isn't there has no files.
+#[test]
+fn what_is_no_folder_is_told_from_none(rt: HostRuntime) -> Result<(), Fail> {
+    let place = make_file(&rt)?;
+    for (end, fails) in [("", true), ("/data", true), ("-none", false)] {
+        let path = format!(in rt.alloc(); "{place}{end}")?;
+        let mut shelf = FolderShelf::new(rt.clone()?, rt.alloc(), path.as_str())?;
+        let failed = matches!(shelf.segments(rt.alloc()), Err(StoreFault::Failed));
+        assert_eq!(rt; failed, fails, "{end}");
+    }
+    fs::remove_file(&rt, place.as_str())?;
+    Ok(())
+}
+
+/// Makes a file that stands where a folder is looked for.
+fn make_file(rt: &HostRuntime) -> io::Result<String> {
+    let temporary = env::temp_dir(rt)?;
+    let number = process::id(rt.process());
+    let place = format!(in rt.alloc(); "{}/borgferry-file-{number}", temporary.as_str())?;
+    fs::write(rt, place.as_str(), "text")?;
+    Ok(place)
+}
+
+/// A file that gives at most two bytes a read, is interrupted at its second, and fails at the one that is told.
+#[derive(Drop)]
+struct SlowFile {
+    inside: Cursor<&'static [u8]>,
+    reads: u32,
+    fails_at: u32,
+}
+
+impl SlowFile {
+    fn new(fails_at: u32) -> SlowFile {
+        SlowFile {
+            inside: Cursor::new(b"0123456789".as_slice()),
+            reads: 0,
+            fails_at,
+        }
+    }
+}
+
+impl Read for SlowFile {
+    fn read(&mut self, buf: &mut [u8]) -> io::Result<usize> {
+        self.reads = self.reads.saturating_add(1);
+        if self.reads == self.fails_at {
+            return Err(Error::from(ErrorKind::Other));
+        }
+        if self.reads == 2 {
+            return Err(Error::from(ErrorKind::Interrupted));
+        }
+        let most = buf.len().min(2);
+        self.inside.read(&mut buf[..most])
+    }
+}
+
+impl Seek for SlowFile {
+    fn seek(&mut self, to: SeekFrom) -> io::Result<u64> {
+        self.inside.seek(to)
+    }
+}
+
+#[test]
+fn short_reads_are_joined_and_a_failed_one_is_told(rt: HostRuntime) {
+    let cases = [(0, Ok(5), b"34567"), (4, Err(StoreFault::Failed), b"3456.")];
+    for (fails_at, want, bytes) in cases {
+        let mut into = *b".....";
+        let got = read_file_at(&mut SlowFile::new(fails_at), 3, &mut into);
+        assert_eq!(rt; got, want);
+        assert_eq!(rt; &into, bytes);
+    }
+    let mut into = *b".....";
+    assert_eq!(rt; read_file_at(&mut SlowFile::new(0), 8, &mut into), Ok(2));
+}
+
+/// An output that takes at most two bytes a call, is interrupted at its second, and takes none from the one on that is told.
+#[derive(Drop)]
+struct SlowOutput {
+    /// The bytes that were taken, as the digits of a number of base 256.
+    taken: Cell<u64>,
+    calls: Cell<u32>,
+    stops_at: u32,
+}
+
+impl Print for SlowOutput {
+    fn print<D: Display + Drop>(&self, _value: D) -> io::Result<()> {
+        Ok(())
+    }
+
+    fn println<D: Display + Drop>(&self, _value: D) -> io::Result<()> {
+        Ok(())
+    }
+
+    fn write_all(&self, _bytes: &[u8]) -> io::Result<()> {
+        Ok(())
+    }
+
+    fn write_some(&self, bytes: &[u8]) -> io::Result<usize> {
+        self.calls.set(self.calls.get().saturating_add(1));
+        if self.calls.get() >= self.stops_at {
+            return Ok(0);
+        }
+        if self.calls.get() == 2 {
+            return Err(Error::from(ErrorKind::Interrupted));
+        }
+        let most = bytes.len().min(2);
+        for byte in &bytes[..most] {
+            self.taken.set(
+                self.taken
+                    .get()
+                    .wrapping_mul(256)
+                    .wrapping_add(u64::from(*byte)),
+            );
+        }
+        Ok(most)
+    }
+}
+
+#[test]
+fn a_piece_is_written_whole_or_the_write_fails(rt: HostRuntime) {
+    let cases = [
+        (9, Ok(()), *b"\0\0\0abcde"),
+        (4, Err(SinkFault::Failed), *b"\0\0\0\0abcd"),
+    ];
+    for (stops_at, want, taken) in cases {
+        let out = SlowOutput {
+            taken: Cell::new(0),
+            calls: Cell::new(0),
+            stops_at,
+        };
+        assert_eq!(rt; write_all(&out, b"abcde"), want);
+        assert_eq!(rt; out.taken.get().to_be_bytes(), taken);
+    }
+}
