@@ -1,5 +1,7 @@
+mod LawLemmas
+mod HeadLemmas
 mod WholeLemmas
-mod PairsLemmas
+pub mod PairsLemmas
 mod LiveLemmas
 mod LeastLemmas
 mod OpeningLemmas

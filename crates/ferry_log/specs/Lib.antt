@@ -1,4 +1,5 @@
 pub mod Fault
+pub mod Head
 pub mod Live
 pub mod Log
 pub mod Opening

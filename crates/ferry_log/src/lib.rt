@@ -6,6 +6,8 @@
 
 mod extents;
 mod fault;
+mod head;
+mod laws;
 mod live;
 mod log;
 mod opening;
@@ -16,5 +18,7 @@ mod whole;
 
 pub use fault::LogFault;
 pub use ferry_segment::Id;
+pub use head::head_at;
+pub use laws::{head_laws, log_laws};
 pub use log::{Log, open_log};
 pub use place::{Extent, Head, Place};

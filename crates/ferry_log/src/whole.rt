@@ -1,5 +1,5 @@
 //! Whole files in one buffer.
-ghost use Rattle.std.specs.Prelude.{◌≡◌, ◌≤◌, ◌<◌, ◌+◌, ◌^◌, OnOk, IfOk, IfSome, length, min, take};
+ghost use Rattle.std.specs.Prelude.{◌≡◌, ◌≤◌, ◌<◌, ◌+◌, ◌^◌, OnOk, IfOk, IfSome, length, min, take, drop};
 ghost use Rattle.ferry_disk.specs.Files.{contents_at};
 ghost use Rattle.ferry_disk.specs.Device.{HasStoreCause, files_told};
 ghost use Rattle.ferry_log.specs.Whole.{Fills};
@@ -16,17 +16,45 @@ pub(crate) fn read_whole<S: Shelf>(
     ensures same { files_told (S.told shelf.new) ≡ files_told (S.told shelf.old) }
     ensures cause { HasStoreCause (S.faults shelf.old) (S.faults shelf.new) result }
 {
-    let size = match shelf.size(name) {
-        Ok(size) => size.unwrap_or(0),
+    let size = match length_of(shelf, name) {
+        Ok(size) => size,
         Err(fault) => return Err(fault),
     };
     let Ok(size) = usize::try_from(size) else {
         return Err(StoreFault::Memory);
     };
-    if bytes.resize(size, 0).is_err() {
+    read_part(shelf, name, 0, size, bytes)
+}
+
+/// A file's length in bytes, 0 where it is absent.
+pub(crate) fn length_of<S: Shelf>(shelf: &mut S, name: Name) -> Result<u64, StoreFault>
+    ensures length { IfOk result (λ size. IfSome (S.told shelf.old) (λ t. size ≡ length (contents_at t.files name))) }
+    ensures same { files_told (S.told shelf.new) ≡ files_told (S.told shelf.old) }
+    ensures cause { HasStoreCause (S.faults shelf.old) (S.faults shelf.new) result }
+{
+    match shelf.size(name) {
+        Ok(size) => Ok(size.unwrap_or(0)),
+        Err(fault) => Err(fault),
+    }
+}
+
+/// Reads `count` bytes of a file from `at` on into `bytes`, whose memory is used again: fewer only at the file's end.
+pub(crate) fn read_part<S: Shelf>(
+    shelf: &mut S,
+    name: Name,
+    at: u64,
+    count: usize,
+    bytes: &mut Vec<u8>,
+) -> Result<(), StoreFault>
+    requires { at + count < 2 ^ 64 }
+    ensures bytes { OnOk result (IfSome (S.told shelf.old) (λ t. bytes.new.items ≡ take count (drop at (contents_at t.files name)))) }
+    ensures same { files_told (S.told shelf.new) ≡ files_told (S.told shelf.old) }
+    ensures cause { HasStoreCause (S.faults shelf.old) (S.faults shelf.new) result }
+{
+    if bytes.resize(count, 0).is_err() {
         return Err(StoreFault::Memory);
     }
-    match fill(shelf, name, 0, bytes) {
+    match fill(shelf, name, at, bytes) {
         Ok(filled) => bytes.truncate(filled),
         Err(fault) => return Err(fault),
     }

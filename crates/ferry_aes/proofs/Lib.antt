@@ -1,0 +1,7 @@
+pub mod Tables
+pub mod StateLemmas
+pub mod CipherLemmas
+pub mod KeyExpansionLemmas
+pub mod CounterModeLemmas
+pub mod FieldFacts
+pub mod CallerLemmas

@@ -1,0 +1,10 @@
+pub mod BoolLemmas
+pub mod LineLemmas
+pub mod LinesLemmas
+pub mod SectionLemmas
+pub mod ValueLemmas
+pub mod TextLemmas
+pub mod SolidLemmas
+pub mod PrintedLemmas
+pub mod RoundTripLemmas
+pub mod MeaningLemmas

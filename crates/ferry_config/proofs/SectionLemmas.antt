@@ -1,0 +1,118 @@
+-- Lemmas on the section `repository`, for the loops over its lines.
+use Rattle.std.proofs.Common.{◌≡◌, ℕ, suc, ◌+◌, ◌<◌, Bool, true, false, not, List, [], ◌∷◌, ◌++◌, length, map, drop, take, get_or, codes, Bor, refl, ap, arith, add-one, drop-cons, append_assoc}
+use Rattle.std.proofs.lemmas.List.{map_more}
+use Rattle.std.specs.List.{before_first, flat_map, prefix_len}
+use Rattle.std.specs.Str.{bytes_eq}
+use Rattle.ferry_config.specs.Line as spec
+use Rattle.ferry_config.specs.Section.{assignments, continuation, is_assigned, is_header, piece_of, repository_sections, sections, values_to}
+use Rattle.ferry_config.specs.Shown.{shown}
+use Rattle.ferry_config.specs.declared.line.Line.{Line}
+use Rattle.ferry_config.specs.declared.line.Line.TheVariants.{Passed, Header, Continued, Assigned, Formless}
+
+-- ---- the lines from place i on
+
+pub shown-drop : (lines : List Line) (i : ℕ) → i < length lines → map shown (drop i lines) ≡ shown (get_or lines i Passed) ∷ map shown (drop (i + 1) lines)
+shown-drop lines i within = rw (add-one i) (ap (map shown) (drop-cons lines i Passed within))
+
+pub is_header-shown : (line : Line) → ((name : Bor (List ℕ)) → line ≡ Header name → ⊥) → is_header (shown line) ≡ false
+is_header-shown Passed other = refl
+is_header-shown (Header name) other = absurd (other name refl)
+is_header-shown (Continued piece) other = refl
+is_header-shown (Assigned name value) other = refl
+is_header-shown Formless other = refl
+
+pub is_assigned-shown : (line : Line) → ((name value : Bor (List ℕ)) → line ≡ Assigned name value → ⊥) → is_assigned (shown line) ≡ false
+is_assigned-shown Passed other = refl
+is_assigned-shown (Header name) other = refl
+is_assigned-shown (Continued piece) other = refl
+is_assigned-shown (Assigned name value) other = absurd (other name value refl)
+is_assigned-shown Formless other = refl
+
+pub piece_of-shown : (line : Line) → ((piece : Bor (List ℕ)) → line ≡ Continued piece → ⊥) → piece_of (shown line) ≡ []
+piece_of-shown Passed other = refl
+piece_of-shown (Header name) other = refl
+piece_of-shown (Continued piece) other = absurd (other piece refl)
+piece_of-shown (Assigned name value) other = refl
+piece_of-shown Formless other = refl
+
+-- ---- before_first
+
+pub before_first-passes : {X : Type 0} (p : X → Bool) (x : X) (xs : List X) → p x ≡ true → before_first p (x ∷ xs) ≡ []
+before_first-passes p x xs passes = rw passes refl
+
+pub before_first-fails : {X : Type 0} (p : X → Bool) (x : X) (xs : List X) → p x ≡ false → before_first p (x ∷ xs) ≡ x ∷ before_first p xs
+before_first-fails p x xs fails =
+    let one_more : 1 + prefix_len (λ y. not (p y)) xs ≡ suc (prefix_len (λ y. not (p y)) xs) = omega arith in
+    rw (fails, one_more) refl
+
+-- one more line that doesn't pass
+pub before_first-drop : (p : spec.Line → Bool) (lines : List Line) (i : ℕ) → i < length lines → p (shown (get_or lines i Passed)) ≡ false
+    → map shown (take i lines) ++ before_first p (map shown (drop i lines)) ≡ map shown (take (i + 1) lines) ++ before_first p (map shown (drop (i + 1) lines))
+before_first-drop p lines i within fails =
+    let line = get_or lines i Passed in
+    let rest = map shown (drop (i + 1) lines) in
+    rw (shown-drop lines i within, before_first-fails p (shown line) rest fails, map_more shown lines i Passed within, append_assoc (map shown (take i lines)) (shown line ∷ []) (before_first p rest)) refl
+
+-- ---- repository_sections
+
+pub repository_sections-other : (line : spec.Line) (rest : List spec.Line) → is_header line ≡ false → repository_sections (line ∷ rest) ≡ repository_sections rest
+unfolding repository_sections sections
+repository_sections-other spec.passed rest other = refl
+repository_sections-other (spec.header name) rest other = cc
+repository_sections-other (spec.continued piece) rest other = refl
+repository_sections-other (spec.assigned name value) rest other = refl
+repository_sections-other spec.formless rest other = refl
+
+pub repository_sections-named : (name : List ℕ) (rest : List spec.Line) → bytes_eq name (codes "repository") ≡ true
+    → repository_sections (spec.header name ∷ rest) ≡ before_first is_header rest ∷ repository_sections rest
+unfolding repository_sections sections
+repository_sections-named name rest same = rw same refl
+
+pub repository_sections-unnamed : (name : List ℕ) (rest : List spec.Line) → bytes_eq name (codes "repository") ≡ false
+    → repository_sections (spec.header name ∷ rest) ≡ repository_sections rest
+unfolding repository_sections sections
+repository_sections-unnamed name rest other = rw other refl
+
+-- ---- values_to
+
+pub assignments-other : (line : spec.Line) (rest : List spec.Line) → is_assigned line ≡ false → assignments (line ∷ rest) ≡ assignments rest
+unfolding assignments
+assignments-other spec.passed rest other = refl
+assignments-other (spec.header name) rest other = refl
+assignments-other (spec.continued piece) rest other = refl
+assignments-other (spec.assigned name value) rest other = cc
+assignments-other spec.formless rest other = refl
+
+pub values_to-named : (name found value : List ℕ) (rest : List spec.Line) → bytes_eq found name ≡ true
+    → values_to name (assignments (spec.assigned found value ∷ rest)) ≡ (value ++ continuation rest) ∷ values_to name (assignments rest)
+unfolding assignments values_to
+values_to-named name found value rest same = rw same refl
+
+pub values_to-unnamed : (name found value : List ℕ) (rest : List spec.Line) → bytes_eq found name ≡ false
+    → values_to name (assignments (spec.assigned found value ∷ rest)) ≡ values_to name (assignments rest)
+unfolding assignments values_to
+values_to-unnamed name found value rest other = rw other refl
+
+-- ---- continuation
+
+pub continuation-assigned : (name value : List ℕ) (rest : List spec.Line) → continuation (spec.assigned name value ∷ rest) ≡ []
+unfolding continuation
+continuation-assigned name value rest = refl
+
+pub continuation-other : (line : spec.Line) (rest : List spec.Line) → is_assigned line ≡ false → continuation (line ∷ rest) ≡ piece_of line ++ continuation rest
+unfolding continuation
+continuation-other line rest other = ap (flat_map piece_of) (before_first-fails is_assigned line rest other)
+
+-- ---- no lines
+
+pub repository_sections-nil : repository_sections [] ≡ []
+unfolding repository_sections sections
+repository_sections-nil = refl
+
+pub values_to-nil : (name : List ℕ) → values_to name (assignments []) ≡ []
+unfolding assignments values_to
+values_to-nil name = refl
+
+pub continuation-nil : continuation [] ≡ []
+unfolding continuation
+continuation-nil = refl

@@ -1,0 +1,2 @@
+pub mod XorLemmas
+pub mod PbkdfLemmas

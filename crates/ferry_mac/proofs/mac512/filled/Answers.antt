@@ -1,0 +1,8 @@
+use Rattle.std.proofs.Common.{ℕ, length}
+use Rattle.std.proofs.lemmas.List.{drop-replicate}
+use Rattle.ferry_mac.proofs.mac512.filled.Goals as goal
+
+pub returns : goal.returns
+returns c = record {
+  filled = rw (c.copy_from_slice.ensures.after, drop-replicate {X = ℕ} (length c.args.key.now) 128 0);
+}

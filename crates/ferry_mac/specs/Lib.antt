@@ -1,0 +1,4 @@
+pub mod Hmac
+pub mod Keyed
+pub mod Hkdf
+pub mod Pbkdf2

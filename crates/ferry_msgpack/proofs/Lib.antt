@@ -1,0 +1,14 @@
+pub mod TreeLemmas
+pub mod FirstLemmas
+pub mod FieldLemmas
+pub mod SpellingLemmas
+pub mod Places
+pub mod ViewLemmas
+pub mod Levels
+pub mod Loops
+pub mod Copying
+pub mod Appending
+pub mod ShortestLemmas
+pub mod WritableLemmas
+pub mod CallerLemmas
+pub mod WritableTestLemmas

@@ -1,0 +1,6 @@
+-- What the functions that write leave of what stood there.
+use Rattle.std.specs.Prelude.{◌≡◌, List, ℕ, ◌++◌}
+
+-- the new bytes begin with the old ones
+abbrev pub Begins : List ℕ → List ℕ → Type 0
+Begins old new = (more : List ℕ) × (new ≡ old ++ more)

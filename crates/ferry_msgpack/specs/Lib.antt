@@ -1,0 +1,11 @@
+pub mod Tree
+pub mod View
+pub mod First
+pub mod FirstView
+pub mod Spelling
+pub mod Faults
+pub mod Reading
+pub mod Shortest
+pub mod Writable
+pub mod WritableTest
+pub mod Calls

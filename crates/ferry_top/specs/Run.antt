@@ -1,0 +1,64 @@
+-- What a run says of the source, of the output, and of their counts of faults.
+use Rattle.std.specs.Prelude.{◌≡◌, ◌⊎◌, ℕ, List, ◌++◌, Option, Some, None, IfSome, Result, OnOk, OnErr, option_map}
+use Rattle.ferry_disk.specs.Device.{Told, Rose, WritesSome, HasSinkCause}
+use Rattle.ferry_disk.specs.declared.sink.SinkFault.{SinkFault}
+use Rattle.ferry_top.specs.Keys.{IsListing}
+use Rattle.ferry_top.specs.Status.{fault_line, IsRefusal}
+use Rattle.ferry_top.specs.declared.status.Status.{Status}
+use Rattle.ferry_top.specs.declared.status.Status.TheVariants.{Done, Usage, Memory, SourceDevice, OutputDevice, SourceRefused}
+
+-- The source's count of faults rose where its device failed, and is the same at any other status.
+abbrev pub HasSourceCause : ℕ → ℕ → Status → Type 0
+HasSourceCause before now Done = now ≡ before
+HasSourceCause before now (Usage word) = now ≡ before
+HasSourceCause before now Memory = now ≡ before
+HasSourceCause before now SourceDevice = Rose before now
+HasSourceCause before now OutputDevice = now ≡ before
+HasSourceCause before now (SourceRefused refusal) = now ≡ before
+
+-- The text is the listing of the source, where it tells its files.
+abbrev pub Lists : Option Told → List ℕ → Type 0
+Lists source text = IfSome source (λ t. IsListing t.files text)
+
+-- no byte was written, and no write failed
+abbrev pub Unwritten : Option (List ℕ) → ℕ → Option (List ℕ) → ℕ → Type 0
+Unwritten written faults after_written after_faults = (after_written ≡ written) × (after_faults ≡ faults)
+
+-- What the listing has written when it ends with this status: all of it, nothing, or a front of it where the output or memory failed.
+abbrev pub KeysOut : Option Told → Option (List ℕ) → ℕ → Status → Option (List ℕ) → ℕ → Type 0
+KeysOut source written faults Done after_written after_faults =
+    (text : List ℕ) × Lists source text × (after_written ≡ option_map (λ w. w ++ text) written) × (after_faults ≡ faults)
+KeysOut source written faults (Usage word) after_written after_faults = ⊥
+KeysOut source written faults Memory after_written after_faults =
+    Unwritten written faults after_written after_faults
+    ⊎ ((text : List ℕ) × Lists source text × WritesSome written text after_written × (after_faults ≡ faults))
+KeysOut source written faults SourceDevice after_written after_faults = Unwritten written faults after_written after_faults
+KeysOut source written faults OutputDevice after_written after_faults =
+    (text : List ℕ) × Lists source text × WritesSome written text after_written × Rose faults after_faults
+KeysOut source written faults (SourceRefused refusal) after_written after_faults =
+    IfSome source (λ t. IsRefusal t.files refusal) × Unwritten written faults after_written after_faults
+
+-- A line went to the output in one write, whatever the write answered.
+pub record IsSent (line : List ℕ) (written : Option (List ℕ)) (faults : ℕ) (after_written : Option (List ℕ)) (after_faults : ℕ) : Type 0 where
+  pub answer : Result Unit SinkFault
+  pub ok : OnOk answer (after_written ≡ option_map (λ w. w ++ line) written)
+  pub err : OnErr answer (WritesSome written line after_written)
+  pub cause : HasSinkCause faults after_faults answer
+
+-- what the fault line has written
+abbrev pub Reports : Status → Option (List ℕ) → ℕ → Option (List ℕ) → ℕ → Type 0
+Reports Done written faults after_written after_faults = Unwritten written faults after_written after_faults
+Reports OutputDevice written faults after_written after_faults = Unwritten written faults after_written after_faults
+Reports status written faults after_written after_faults = IsSent (fault_line status) written faults after_written after_faults
+
+-- what the command has written: nothing where the words are no command
+abbrev pub CommandOut : Option ℕ → Option Told → Option (List ℕ) → ℕ → Status → Option (List ℕ) → ℕ → Type 0
+CommandOut None source written faults status after_written after_faults = KeysOut source written faults status after_written after_faults
+CommandOut (Some word) source written faults status after_written after_faults = Unwritten written faults after_written after_faults
+
+-- what a run has written: the command's lines, and then the fault line
+pub record RunOut (wrong : Option ℕ) (source : Option Told) (written : Option (List ℕ)) (faults : ℕ) (status : Status) (after_written : Option (List ℕ)) (after_faults : ℕ) : Type 0 where
+  pub between_written : Option (List ℕ)
+  pub between_faults : ℕ
+  pub command : CommandOut wrong source written faults status between_written between_faults
+  pub report : Reports status between_written between_faults after_written after_faults

@@ -1,0 +1,17 @@
+//! The commands of borgferry, over any devices.
+//!
+//! The program makes the devices and calls `run`; what `run` promises is what the program does. Its clauses say what each
+//! status means and what goes to the output.
+#![tactic(auto)]
+
+mod keys;
+mod report;
+mod status;
+#[cfg(test)]
+mod tests;
+mod top;
+mod words;
+
+pub use status::{Refusal, RepoFault, Secrets, Status};
+pub use top::run;
+pub use words::places_fit;

@@ -1,0 +1,75 @@
+//! How a run ends.
+ghost use Rattle.std.specs.Prelude.{◌≡◌};
+ghost use Rattle.ferry_top.specs.Status.{status_number, log_status};
+
+use ferry_log::LogFault;
+
+/// The passphrases of the source and of the target, as bytes. The caller owns them.
+#[derive(Drop)]
+pub struct Secrets {
+    pub source: Vec<u8>,
+    pub target: Vec<u8>,
+}
+
+/// How a run ended. A status other than `Done` and `OutputDevice` has a fault line, which goes to the output.
+#[derive(Clone, Copy, Debug, PartialEq, Eq)]
+pub enum Status {
+    /// The command is done, and all its lines are out.
+    Done,
+    /// The words are no command. The number, from 1, is that of the first wrong word, or one more than there are words.
+    Usage(u64),
+    /// Memory was refused.
+    Memory,
+    /// The source's device failed.
+    SourceDevice,
+    /// The output failed.
+    OutputDevice,
+    /// The source's files are refused.
+    SourceRefused(Refusal),
+}
+
+/// Why a repository's files are refused.
+#[derive(Clone, Copy, Debug, PartialEq, Eq)]
+pub enum Refusal {
+    /// The repository doesn't open.
+    Repo(RepoFault),
+}
+
+/// Why a repository doesn't open.
+#[derive(Clone, Copy, Debug, PartialEq, Eq)]
+pub enum RepoFault {
+    /// No segment is committed.
+    NoCommit,
+    /// The first segment that doesn't read, and the offset in bytes of its first entry that doesn't, 0 for a wrong magic.
+    Damaged { segment: u64, at: u64 },
+}
+
+impl Status {
+    /// The number that the program ends with.
+    pub fn number(&self) -> u8
+        ensures { result ≡ status_number self.now }
+    {
+        match self {
+            Status::Done => 0,
+            Status::Usage(_) => 2,
+            Status::Memory => 3,
+            Status::SourceDevice => 4,
+            Status::OutputDevice => 7,
+            Status::SourceRefused(_) => 8,
+        }
+    }
+}
+
+/// The status of a source whose log doesn't open.
+pub(crate) fn of_log(fault: LogFault) -> Status
+    ensures { result ≡ log_status fault }
+{
+    match fault {
+        LogFault::NoCommit => Status::SourceRefused(Refusal::Repo(RepoFault::NoCommit)),
+        LogFault::Damaged { segment, at } => {
+            Status::SourceRefused(Refusal::Repo(RepoFault::Damaged { segment, at }))
+        }
+        LogFault::Device => Status::SourceDevice,
+        LogFault::Memory => Status::Memory,
+    }
+}
