@@ -5,7 +5,7 @@ pub const VERSION: &str = "borgferry 0.1.0\n";
 
 /// The help, which names every command that is built.
 pub const HELP: &str = "\
-borgferry reads one BorgBackup 1.2 repository, the source, and copies archives into another, the target.
+borgferry reads a BorgBackup 1.2 repository, the source. No command of today reads or writes the target.
 
 usage: borgferry SOURCE TARGET COMMAND ..
        borgferry --help
