@@ -211,7 +211,16 @@ def damage():
     largest = b"\0" * (segments.LARGEST - 41)
     case("an entry of the greatest size", log(segment(put(K, largest)), commit), line((K, len(largest))))
     case("an entry that is too large", log(segment(put(K, largest + b"\0")), commit), damaged(0, 8))
-    case("want of memory", log(segment(put(K, largest)), commit), (3, b"memory\n"), limit=16 << 20)
+
+
+def memory():
+    """Less and less memory: each run prints what it should, or the line of want of memory; both come."""
+    with tempfile.TemporaryDirectory() as root:
+        blob = b"\0" * (segments.LARGEST - 41)
+        make(root, inside("source", log(segment(put(K, b"abc"), put(L, blob)), COMMIT_SEGMENT)))
+        want = segments.keys(os.path.join(root, "source"))
+        answers = {run(KEYS, root, limit=megabytes << 20) for megabytes in range(8, 120, 8)}
+        judge("want of memory", (sorted(answers), b""), (sorted([want, (3, b"memory\n")]), b""))
 
 
 def names():
@@ -289,7 +298,7 @@ def outputs():
             os.close(write)
 
 
-for cases in (folders, logs, damage, names, words, variables, outputs):
+for cases in (folders, logs, damage, memory, names, words, variables, outputs):
     cases()
 print(f"{passed} passed, {failed} failed")
 sys.exit(1 if failed or not passed else 0)

@@ -1,9 +1,11 @@
 //! The device over standard output.
-ghost use Rattle.std.specs.Prelude.{None};
+ghost use Rattle.std.specs.Prelude.{None, OnOk};
+ghost use Rattle.std.specs.Io.KnownBytes.{Appends};
 
 use crate::count::{count_sink, sink_fault};
 use ferry_disk::{Sink, SinkFault};
-use std::io::ErrorKind;
+use std::io;
+use std::io::{ErrorKind, Write};
 use std::rt::Runtime;
 
 /// Standard output. It tells nothing of what was written, keeps nothing back, and counts its faults.
@@ -26,19 +28,22 @@ impl<R: Runtime> Sink for StdSink<R> {
     ghost faults = { λ s. s.faults };
 
     fn write(&mut self, bytes: &[u8]) -> Result<(), SinkFault> {
-        let outcome = write_all(&self.rt, bytes);
+        let outcome = write_all(&mut io::writer(&self.rt), bytes);
         count_sink(&mut self.faults, outcome)
     }
 }
 
-/// Writes all bytes to standard output, in one call of the system where it takes them at once.
-pub fn write_all<P: Print>(rt: &P, bytes: &[u8]) -> Result<(), SinkFault> {
+/// Writes all bytes, in one call where the output takes them at once. A call that takes none has failed, and one that a signal
+/// interrupts is made again.
+pub fn write_all<W: Write>(out: &mut W, bytes: &[u8]) -> Result<(), SinkFault>
+    ensures ok { OnOk result (Appends (W.contents out.old) (W.contents out.new) bytes.now) }
+{
     let mut done = 0;
     for _ in 0..u64::MAX {
         if done == bytes.len() {
             return Ok(());
         }
-        match rt.write_some(&bytes[done..]) {
+        match out.write(&bytes[done..]) {
             Ok(0) => return Err(SinkFault::Failed),
             Ok(more) => done += more,
             Err(error) if error.kind() == ErrorKind::Interrupted => {}

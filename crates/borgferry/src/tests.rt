@@ -4,10 +4,7 @@ use crate::read::read_file_at;
 use crate::shelf::FolderShelf;
 use crate::stdout::write_all;
 use ferry_disk::{Name, Shelf, SinkFault, StoreFault};
-use std::alloc::{AllocError, Global};
-use std::cell::Cell;
-use std::fmt::Display;
-use std::io::{Cursor, Error, ErrorKind, Read, Seek, SeekFrom};
+use std::io::{Cursor, Error, ErrorKind, Read, Seek, SeekFrom, Write};
 use std::test::Fail;
 use std::{env, fs, io, process};
 
@@ -149,42 +146,29 @@ fn short_reads_are_joined_and_a_failed_one_is_told(rt: HostRuntime) {
 #[derive(Drop)]
 struct SlowOutput {
     /// The bytes that were taken, as the digits of a number of base 256.
-    taken: Cell<u64>,
-    calls: Cell<u32>,
+    taken: u64,
+    calls: u32,
     stops_at: u32,
 }
 
-impl Print for SlowOutput {
-    fn print<D: Display + Drop>(&self, _value: D) -> io::Result<()> {
-        Ok(())
-    }
-
-    fn println<D: Display + Drop>(&self, _value: D) -> io::Result<()> {
-        Ok(())
-    }
-
-    fn write_all(&self, _bytes: &[u8]) -> io::Result<()> {
-        Ok(())
-    }
-
-    fn write_some(&self, bytes: &[u8]) -> io::Result<usize> {
-        self.calls.set(self.calls.get().saturating_add(1));
-        if self.calls.get() >= self.stops_at {
+impl Write for SlowOutput {
+    fn write(&mut self, buf: &[u8]) -> io::Result<usize> {
+        self.calls = self.calls.saturating_add(1);
+        if self.calls >= self.stops_at {
             return Ok(0);
         }
-        if self.calls.get() == 2 {
+        if self.calls == 2 {
             return Err(Error::from(ErrorKind::Interrupted));
         }
-        let most = bytes.len().min(2);
-        for byte in &bytes[..most] {
-            self.taken.set(
-                self.taken
-                    .get()
-                    .wrapping_mul(256)
-                    .wrapping_add(u64::from(*byte)),
-            );
+        let most = buf.len().min(2);
+        for byte in &buf[..most] {
+            self.taken = self.taken.wrapping_mul(256).wrapping_add(u64::from(*byte));
         }
         Ok(most)
+    }
+
+    fn flush(&mut self) -> io::Result<()> {
+        Ok(())
     }
 }
 
@@ -195,12 +179,12 @@ fn a_piece_is_written_whole_or_the_write_fails(rt: HostRuntime) {
         (4, Err(SinkFault::Failed), *b"\0\0\0\0abcd"),
     ];
     for (stops_at, want, taken) in cases {
-        let out = SlowOutput {
-            taken: Cell::new(0),
-            calls: Cell::new(0),
+        let mut out = SlowOutput {
+            taken: 0,
+            calls: 0,
             stops_at,
         };
-        assert_eq!(rt; write_all(&out, b"abcde"), want);
-        assert_eq!(rt; out.taken.get().to_be_bytes(), taken);
+        assert_eq!(rt; write_all(&mut out, b"abcde"), want);
+        assert_eq!(rt; out.taken.to_be_bytes(), taken);
     }
 }
