@@ -1,0 +1,4 @@
+pub mod MapLemmas
+pub mod FieldLemmas
+pub mod OtherLemmas
+pub mod KeyLemmas
