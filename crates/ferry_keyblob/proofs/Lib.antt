@@ -2,3 +2,5 @@ pub mod MapLemmas
 pub mod FieldLemmas
 pub mod OtherLemmas
 pub mod KeyLemmas
+pub mod SealLemmas
+pub mod OpensLemmas
