@@ -4,3 +4,5 @@ pub mod OtherLemmas
 pub mod KeyLemmas
 pub mod SealLemmas
 pub mod OpensLemmas
+pub mod LawLemmas
+pub mod SampleLemmas

@@ -1,13 +1,13 @@
 -- The map that bytes spell with nothing behind it.
-use Rattle.std.proofs.Common.{◌≡◌, ◌≢◌, ℕ, ◌-◌, ◌<◌, List, [], ◌∷◌, length, take, drop, None, Ok, refl, sym, ap, subst, ◌∙◌, arith, append-nil}
+use Rattle.std.proofs.Common.{◌≡◌, ◌≢◌, ℕ, ◌-◌, ◌<◌, List, [], ◌∷◌, length, take, drop, Some, None, Result, Ok, Err, refl, sym, ap, subst, ◌∙◌, arith, append-nil}
 use Rattle.std.proofs.lemmas.List.{take-append-drop, length-drop, drop_all}
 use Rattle.ferry_msgpack.specs.declared.fault.PackFault.{PackFault}
-use Rattle.ferry_msgpack.specs.Tree.{Tree}
-use Rattle.ferry_msgpack.specs.Spelling.{Spells}
+use Rattle.ferry_msgpack.specs.Tree.{Tree, nil, flag, number, raw, array, table, Pairs}
+use Rattle.ferry_msgpack.specs.Spelling.{Spells, SpellsWithin}
 use Rattle.ferry_msgpack.specs.Faults.{Breaks}
 use Rattle.ferry_msgpack.specs.Reading.{value_at}
 use Rattle.ferry_msgpack.specs.Calls.Read.{StandsAt}
-use Rattle.ferry_msgpack.proofs.SpellingLemmas.{value_again, value_breaks}
+use Rattle.ferry_msgpack.proofs.SpellingLemmas.{Tells, value_tells, value_again, value_breaks}
 use Rattle.ferry_keyblob.specs.Fields.{map_of, only_map, pairs_in}
 
 -- what is spelled is read
@@ -43,3 +43,25 @@ map_of-behind bytes t stop stands part =
 pub map_of-broken : (bytes : List ℕ) (fault : PackFault) → Breaks bytes fault → map_of bytes ≡ None
 unfolding map_of
 map_of-broken bytes fault broken = ap only_map (value_breaks 64 bytes fault broken)
+
+only_pairs : (bytes : List ℕ) (pairs : Pairs) (t : Tree) → SpellsWithin 64 t bytes → pairs_in t ≡ Some pairs → Spells (table pairs) bytes
+only_pairs bytes pairs nil spelled e = cc
+only_pairs bytes pairs (flag b) spelled e = cc
+only_pairs bytes pairs (number z) spelled e = cc
+only_pairs bytes pairs (raw content) spelled e = cc
+only_pairs bytes pairs (array items) spelled e = cc
+only_pairs bytes pairs (table ps) spelled e =
+    let same : ps ≡ pairs = cc in
+    subst (λ (qs : Pairs). Spells (table qs) bytes) same spelled
+
+map_tells : (bytes : List ℕ) (pairs : Pairs) (r : Result (Tree × List ℕ) PackFault) → Tells 64 bytes r → only_map r ≡ Some pairs → Spells (table pairs) bytes
+map_tells bytes pairs (Err fault) told e = cc
+map_tells bytes pairs (Ok (t, [])) told e =
+    let whole : told.0 ≡ bytes = sym (told.1 ∙ append-nil told.0) in
+    only_pairs bytes pairs t (subst (λ (s : List ℕ). SpellsWithin 64 t s) whole told.2) e
+map_tells bytes pairs (Ok (t, b ∷ rest)) told e = cc
+
+-- what is read is spelled
+pub spelled-map_of : (bytes : List ℕ) (pairs : Pairs) → map_of bytes ≡ Some pairs → Spells (table pairs) bytes
+unfolding map_of
+spelled-map_of bytes pairs e = map_tells bytes pairs (value_at 64 bytes) (value_tells 64 bytes) e

@@ -48,18 +48,19 @@ unfoldable pub others : Pairs → Pairs
 others no_pairs = no_pairs
 others (pair name t pairs) = if is_field name then others pairs else pair name t (others pairs)
 
--- the first fault of a key's fields: one is missing, has another kind or length, or the version
--- isn't 1
+-- whether a field of a key is missing or has another kind or length, or the version isn't 1
+abbrev pub lacks_key_field : Pairs → Bool
+lacks_key_field pairs =
+    not (has_version_1 pairs)
+    || is_none (raw32_in (codes "repository_id") pairs)
+    || is_none (raw32_in (codes "enc_key") pairs)
+    || is_none (raw32_in (codes "enc_hmac_key") pairs)
+    || is_none (raw32_in (codes "id_key") pairs)
+    || is_none (number_in (codes "chunk_seed") pairs)
+
+-- the first fault of a key's fields
 abbrev pub key_fault : Pairs → Option KeyFault
-key_fault pairs =
-    if not (has_version_1 pairs)
-        || is_none (raw32_in (codes "repository_id") pairs)
-        || is_none (raw32_in (codes "enc_key") pairs)
-        || is_none (raw32_in (codes "enc_hmac_key") pairs)
-        || is_none (raw32_in (codes "id_key") pairs)
-        || is_none (number_in (codes "chunk_seed") pairs)
-    then Some Field
-    else None
+key_fault pairs = if lacks_key_field pairs then Some Field else None
 
 -- the secrets that the fields say
 abbrev pub keys_in : Pairs → Keys

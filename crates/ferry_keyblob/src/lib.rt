@@ -10,16 +10,17 @@ mod envelope;
 mod fault;
 mod fields;
 mod key_text;
+mod laws;
 mod opening;
 mod reading;
 mod sealing;
-
 #[cfg(test)]
 mod tests;
 
 pub use envelope::{Envelope, SealedBytes};
 pub use fault::KeyFault;
 pub use key_text::{Id, KeyText};
+pub use laws::key_laws;
 pub use opening::open_key;
 pub use reading::read_envelope;
 pub use sealing::seal_key;

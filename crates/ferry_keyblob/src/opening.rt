@@ -132,10 +132,7 @@ fn fields_in(pairs: &[(Vec<u8>, Value)]) -> Option<Fields>
 }
 
 /// The pairs whose names are no field's.
-fn others(
-    alloc: Global,
-    pairs: Vec<(Vec<u8>, Value)>,
-) -> Result<Vec<(Vec<u8>, Value)>, AllocError>
+fn others(alloc: Global, pairs: Vec<(Vec<u8>, Value)>) -> Result<Vec<(Vec<u8>, Value)>, AllocError>
     ensures others { IfOk result (λ kept. pairs_view kept.items ≡ others (pairs_view pairs.items)) }
 {
     let mut kept = Vec::new(alloc);

@@ -59,7 +59,12 @@ fn packed_pairs(alloc: Global, key: &KeyText) -> Result<BTreeMap<Vec<u8>, Value>
     ensures lengths { IfOk result (λ _. HasLengths (shown key.now)) }
 {
     let mut pairs = more_of(alloc, &key.more)?;
-    put(alloc, &mut pairs, b"chunk_seed", Value::Number(key.chunk_seed))?;
+    put(
+        alloc,
+        &mut pairs,
+        b"chunk_seed",
+        Value::Number(key.chunk_seed),
+    )?;
     put_raw(alloc, &mut pairs, b"id_key", &key.keys.id_key)?;
     put_raw(alloc, &mut pairs, b"enc_hmac_key", &key.keys.enc_hmac_key)?;
     put_raw(alloc, &mut pairs, b"enc_key", &key.keys.enc_key)?;
@@ -105,7 +110,12 @@ fn envelope_pairs(
     put(alloc, &mut pairs, b"data", Value::Raw(sealed))?;
     put_raw(alloc, &mut pairs, b"hash", &hash)?;
     put_raw(alloc, &mut pairs, b"salt", salt)?;
-    put(alloc, &mut pairs, b"iterations", Value::Number(i128::from(iterations)))?;
+    put(
+        alloc,
+        &mut pairs,
+        b"iterations",
+        Value::Number(i128::from(iterations)),
+    )?;
     put_raw(alloc, &mut pairs, b"algorithm", b"sha256")?;
     put(alloc, &mut pairs, b"version", Value::Number(1))?;
     Ok(pairs)
@@ -135,7 +145,12 @@ fn put_raw(
     ensures pairs { OnOk result (
         pairs_view pairs.new.entries ≡ put name.now (raw content.now) (pairs_view pairs.old.entries)) }
 {
-    put(alloc, pairs, name, Value::Raw(Vec::from_slice(alloc, content)?))
+    put(
+        alloc,
+        pairs,
+        name,
+        Value::Raw(Vec::from_slice(alloc, content)?),
+    )
 }
 
 /// A copy of the pairs of the other names.
@@ -152,10 +167,7 @@ fn more_of(alloc: Global, more: &Value) -> Result<BTreeMap<Vec<u8>, Value>, Allo
 }
 
 /// A copy of pairs whose names increase.
-fn copied(
-    alloc: Global,
-    pairs: &[(Vec<u8>, Value)],
-) -> Result<BTreeMap<Vec<u8>, Value>, AllocError>
+fn copied(alloc: Global, pairs: &[(Vec<u8>, Value)]) -> Result<BTreeMap<Vec<u8>, Value>, AllocError>
     requires { IsIncreasing (pairs_view pairs.now) }
     ensures pairs { IfOk result (λ copy. pairs_view copy.entries ≡ pairs_view pairs.now) }
 {
