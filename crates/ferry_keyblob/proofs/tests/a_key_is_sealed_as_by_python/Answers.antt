@@ -1,4 +1,4 @@
-use Rattle.std.proofs.Common.{◌≡◌, ◌≤◌, List, [], length, ap, ◌∙◌, sym, rules, arith}
+use Rattle.std.proofs.Common.{ap}
 use Rattle.ferry_keyblob.proofs.SampleLemmas.{sample_sealable}
 use Rattle.ferry_msgpack.specs.View.{pairs_view}
 use Rattle.ferry_keyblob.proofs.tests.a_key_is_sealed_as_by_python.Goals as goal
