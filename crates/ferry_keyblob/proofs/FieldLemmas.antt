@@ -1,0 +1,30 @@
+-- The value of a name among the pairs of a map.
+use Rattle.std.proofs.Common.{◌≡◌, ℕ, zero, suc, ◌+◌, ◌<◌, true, false, List, [], ◌∷◌, length, drop, get_or, Some, None, refl, ap, arith, add-one, drop-cons}
+use Rattle.std.specs.Str.{bytes_eq}
+use Rattle.ferry_msgpack.specs.Tree.{Tree, Pairs, no_pairs, pair}
+use Rattle.ferry_msgpack.specs.View.{view, pairs_view}
+use Rattle.ferry_msgpack.proofs.ViewLemmas.{Entry}
+use Rattle.ferry_keyblob.specs.Fields.{value_of}
+
+pub value_of-here : (name key : List ℕ) (t : Tree) (ps : Pairs) → bytes_eq key name ≡ true → value_of name (pair key t ps) ≡ Some t
+unfolding value_of
+value_of-here name key t ps e = rw e refl
+
+pub value_of-other : (name key : List ℕ) (t : Tree) (ps : Pairs) → bytes_eq key name ≡ false → value_of name (pair key t ps) ≡ value_of name ps
+unfolding value_of
+value_of-other name key t ps e = rw e refl
+
+pub value_of-none : (name : List ℕ) → value_of name no_pairs ≡ None
+unfolding value_of
+value_of-none name = refl
+
+-- the pairs from a place on are the one there and those behind it
+pub pairs-drop : (es : List Entry) (place : ℕ) (e : Entry) → place < length es
+    → pairs_view (drop place es) ≡ pair (get_or es place e).0.items (view (get_or es place e).1) (pairs_view (drop (place + 1) es))
+pairs-drop es place e lt = rw (add-one place) (ap pairs_view (drop-cons es place e lt))
+
+-- the pair at a place is one, whatever stands for a pair that isn't there
+pub same_get : (es : List Entry) (place : ℕ) (d e : Entry) → place < length es → get_or es place d ≡ get_or es place e
+same_get [] place d e lt = absurd (omega arith)
+same_get (f ∷ es) zero d e lt = refl
+same_get (f ∷ es) (suc place) d e lt = same_get es place d e (omega arith)

@@ -1,0 +1,8 @@
+pub mod MapLemmas
+pub mod FieldLemmas
+pub mod OtherLemmas
+pub mod KeyLemmas
+pub mod SealLemmas
+pub mod OpensLemmas
+pub mod LawLemmas
+pub mod SampleLemmas
