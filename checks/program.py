@@ -5,6 +5,7 @@ Each case makes a folder, runs the program in the folder above it with the words
 output. What a repository has to print stands in the case, or comes from segments.keys. Nothing may be written: the folder is
 compared before and after. One line for each case that differs, and at the end 'N passed, M failed'; status 1 where M isn't 0.
 """
+import base64
 import hashlib
 import os
 import random
@@ -263,13 +264,67 @@ def words():
     case("--version", good, (0, b"borgferry 0.1.0\n"), ["--version"])
     case("a source of the name --version", good, NO_COMMIT, ("--version", "-", "keys"))
     status, out = run(["--help"], "/")
-    texts = [b"SOURCE TARGET COMMAND", b"  keys  ", b"BORG_OTHER_PASSPHRASE", b"BORG_PASSPHRASE", b"status", b"--version"]
+    texts = [b"SOURCE TARGET COMMAND", b"  keys  ", b"  key   ", b"BORG_OTHER_PASSPHRASE", b"BORG_PASSPHRASE", b"status", b"--version"]
     judge("--help", (status, b" ".join(text for text in texts if text not in out)), (0, b""))
     for at in range(3):
         given = [b"source", b"-", b"keys"]
         given[at] = b"\xff"
         case(f"word {at + 1} isn't UTF-8", good, USAGE, given)
     case("a further word isn't UTF-8", good, USAGE, [b"source", b"-", b"keys", b"\xc3"])
+
+
+def raw(content):
+    """A msgpack raw, up to 255 bytes."""
+    return (bytes([0xA0 + len(content)]) if len(content) < 32 else b"\xd9" + bytes([len(content)])) + content
+
+
+def table(fields):
+    return bytes([0x80 + len(fields)]) + b"".join(raw(name.encode()) + value for name, value in fields.items())
+
+
+ENVELOPE = {
+    "version": b"\x01", "algorithm": raw(b"sha256"), "iterations": b"\x01",
+    "salt": raw(bytes(32)), "hash": raw(bytes(32)), "data": raw(b"sealed"),
+}
+
+
+def config(sealed, **lines):
+    """The text of a `config` with a key text."""
+    values = {"version": "1", "id": "00" * 32, "key": base64.b64encode(sealed).decode(), **lines}
+    return "[repository]\n" + "".join(f"{name} = {value}\n" for name, value in values.items() if value is not None)
+
+
+def keys_of_configs():
+    """What `key` says of a `config`: its faults come before those of the key, and each has its number."""
+    words = ("source", "-", "key")
+
+    def refused(name, text, part, number):
+        want = (8, b"source refused: %s %d\n" % (part.encode(), number))
+        case(f"key: {name}", None if text is None else {"config": text if isinstance(text, bytes) else text.encode()}, want, words)
+
+    good = table(ENVELOPE)
+    refused("no folder", None, "config", 1)
+    for text in [b"", b"\xff\xfe", b"[repository]", b"[repository]\nid\n", b"[repository]\n" * 2]:
+        refused(f"config {text!r}", text, "config", 2 if text == b"[repository]" else 1)
+    for name, changed, number in [("version", "2", 2), ("version", None, 2), ("id", "00", 3), ("id", None, 3), ("key", "", 4), ("key", "***", 4), ("segments_per_dir", "0", 5), ("max_segment_size", "2M", 5), ("max_segment_size", "4294967296", 5)]:
+        refused(f"{name} = {changed}", config(good, **{name: changed}), "config", number)
+    refused("an id twice", config(good) + "id = " + "00" * 32 + "\n", "config", 6)
+    refused("another passphrase", config(good), "key", 5)
+    refused("lines that end with CR LF", config(good).replace("\n", "\r\n"), "key", 5)
+    refused("bytes behind", config(good + b"\x01"), "key", 1)
+    refused("no map", config(raw(b"text")), "key", 1)
+    for front in range(1, len(good)):
+        refused(f"the first {front} bytes", config(good[:front]), "key", 1)
+    for name in ENVELOPE:
+        refused(f"{name} is missing", config(table({other: value for other, value in ENVELOPE.items() if other != name})), "key", 2)
+        refused(f"{name} of another kind", config(table({**ENVELOPE, name: b"\xc0"})), "key", 2)
+    for name, value, number in [("salt", raw(bytes(31)), 2), ("hash", raw(bytes(33)), 2), ("version", b"\x02", 2), ("algorithm", raw(b"sha1"), 3), ("iterations", b"\x00", 4), ("iterations", b"\xff", 4), ("iterations", b"\xce\x00\x98\x96\x81", 4)]:
+        refused(f"{name} {value.hex()}", config(table({**ENVELOPE, name: value})), "key", number)
+    with tempfile.TemporaryDirectory() as root:
+        make(root, {"source/config": config(good).encode()})
+        judge("key: words", run(("source", "-", "key", "x"), root), wrong_word(2))
+        judge("key: a passphrase that isn't UTF-8", run(words, root, {b"BORG_OTHER_PASSPHRASE": b"\xff"}), (2, b"BORG_OTHER_PASSPHRASE isn't UTF-8\n"))
+    case("key: a folder as config", {"config": None}, (8, b"source refused: config 1\n"), words)
 
 
 def variables():
@@ -298,7 +353,7 @@ def outputs():
             os.close(write)
 
 
-for cases in (folders, logs, damage, memory, names, words, variables, outputs):
+for cases in (folders, logs, damage, memory, names, words, keys_of_configs, variables, outputs):
     cases()
 print(f"{passed} passed, {failed} failed")
 sys.exit(1 if failed or not passed else 0)

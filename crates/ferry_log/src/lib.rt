@@ -22,3 +22,4 @@ pub use head::head_at;
 pub use laws::{head_laws, log_laws};
 pub use log::{Log, open_log};
 pub use place::{Extent, Head, Place};
+pub use whole::read_whole;

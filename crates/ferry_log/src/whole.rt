@@ -6,8 +6,9 @@ ghost use Rattle.ferry_log.specs.Whole.{Fills};
 
 use ferry_disk::{Name, Shelf, StoreFault};
 
-/// Reads a whole file into `bytes`, whose memory is used again. An absent file is empty.
-pub(crate) fn read_whole<S: Shelf>(
+/// Reads a whole file of a shelf into `bytes`, whose memory is used again. An absent file is empty. After an error `bytes` has
+/// anything.
+pub fn read_whole<S: Shelf>(
     shelf: &mut S,
     name: Name,
     bytes: &mut Vec<u8>,

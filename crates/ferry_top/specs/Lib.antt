@@ -1,3 +1,4 @@
+pub mod Key
 pub mod Keys
 pub mod Run
 pub mod Status

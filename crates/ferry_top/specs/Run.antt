@@ -1,9 +1,15 @@
 -- What a run says of the source, of the output, and of their counts of faults.
-use Rattle.std.specs.Prelude.{◌≡◌, ◌⊎◌, ℕ, List, ◌++◌, Option, Some, None, IfSome, Result, OnOk, OnErr, option_map}
+use Rattle.std.specs.Prelude.{◌≡◌, ◌⊎◌, ℕ, List, ◌++◌, Option, IfSome, Result, Ok, Err, OnOk, OnErr, option_map}
+use Rattle.ferry_disk.specs.Files.{Files, contents_at}
+use Rattle.ferry_disk.specs.declared.name.Name.TheVariants as Name
 use Rattle.ferry_disk.specs.Device.{Told, Rose, WritesSome, HasSinkCause}
 use Rattle.ferry_disk.specs.declared.sink.SinkFault.{SinkFault}
 use Rattle.ferry_top.specs.Keys.{IsListing}
-use Rattle.ferry_top.specs.Status.{fault_line, IsRefusal}
+use Rattle.ferry_top.specs.Key.{IsIdLine, RefusesConfig}
+use Rattle.ferry_top.specs.Status.{fault_line, RefusesKeys}
+use Rattle.ferry_top.specs.declared.words.Command.{Command}
+use Rattle.ferry_top.specs.declared.words.Command.TheVariants.{Keys, Key}
+use Rattle.ferry_top.specs.declared.status.Refusal.{Refusal}
 use Rattle.ferry_top.specs.declared.status.Status.{Status}
 use Rattle.ferry_top.specs.declared.status.Status.TheVariants.{Done, Usage, Memory, SourceDevice, OutputDevice, SourceRefused}
 
@@ -16,27 +22,32 @@ HasSourceCause before now SourceDevice = Rose before now
 HasSourceCause before now OutputDevice = now ≡ before
 HasSourceCause before now (SourceRefused refusal) = now ≡ before
 
--- The text is the listing of the source, where it tells its files.
-abbrev pub Lists : Option Told → List ℕ → Type 0
-Lists source text = IfSome source (λ t. IsListing t.files text)
-
 -- no byte was written, and no write failed
 abbrev pub Unwritten : Option (List ℕ) → ℕ → Option (List ℕ) → ℕ → Type 0
 Unwritten written faults after_written after_faults = (after_written ≡ written) × (after_faults ≡ faults)
 
--- What the listing has written when it ends with this status: all of it, nothing, or a front of it where the output or memory failed.
-abbrev pub KeysOut : Option Told → Option (List ℕ) → ℕ → Status → Option (List ℕ) → ℕ → Type 0
-KeysOut source written faults Done after_written after_faults =
-    (text : List ℕ) × Lists source text × (after_written ≡ option_map (λ w. w ++ text) written) × (after_faults ≡ faults)
-KeysOut source written faults (Usage word) after_written after_faults = ⊥
-KeysOut source written faults Memory after_written after_faults =
+-- What a command has written when it ends with a status, where it prints one of these texts and its refusals say this of the
+-- source's files: all of the text, nothing, or a front of it where the output or memory failed.
+abbrev pub TextOut : (Files → List ℕ → Type 0) → (Files → Refusal → Type 0) → Option Told → Option (List ℕ) → ℕ → Status → Option (List ℕ) → ℕ → Type 0
+TextOut Prints Refuses source written faults Done after_written after_faults =
+    (text : List ℕ) × IfSome source (λ t. Prints t.files text) × (after_written ≡ option_map (λ w. w ++ text) written) × (after_faults ≡ faults)
+TextOut Prints Refuses source written faults (Usage word) after_written after_faults = ⊥
+TextOut Prints Refuses source written faults Memory after_written after_faults =
     Unwritten written faults after_written after_faults
-    ⊎ ((text : List ℕ) × Lists source text × WritesSome written text after_written × (after_faults ≡ faults))
-KeysOut source written faults SourceDevice after_written after_faults = Unwritten written faults after_written after_faults
-KeysOut source written faults OutputDevice after_written after_faults =
-    (text : List ℕ) × Lists source text × WritesSome written text after_written × Rose faults after_faults
-KeysOut source written faults (SourceRefused refusal) after_written after_faults =
-    IfSome source (λ t. IsRefusal t.files refusal) × Unwritten written faults after_written after_faults
+    ⊎ ((text : List ℕ) × IfSome source (λ t. Prints t.files text) × WritesSome written text after_written × (after_faults ≡ faults))
+TextOut Prints Refuses source written faults SourceDevice after_written after_faults = Unwritten written faults after_written after_faults
+TextOut Prints Refuses source written faults OutputDevice after_written after_faults =
+    (text : List ℕ) × IfSome source (λ t. Prints t.files text) × WritesSome written text after_written × Rose faults after_faults
+TextOut Prints Refuses source written faults (SourceRefused refusal) after_written after_faults =
+    IfSome source (λ t. Refuses t.files refusal) × Unwritten written faults after_written after_faults
+
+-- what the listing of the live keys has written
+abbrev pub KeysOut : Option Told → Option (List ℕ) → ℕ → Status → Option (List ℕ) → ℕ → Type 0
+KeysOut source written faults status after_written after_faults = TextOut IsListing RefusesKeys source written faults status after_written after_faults
+
+-- what the command that opens the key has written
+abbrev pub KeyOut : List ℕ → Option Told → Option (List ℕ) → ℕ → Status → Option (List ℕ) → ℕ → Type 0
+KeyOut passphrase source written faults status after_written after_faults = TextOut (λ files text. IsIdLine passphrase (contents_at files Name.Config) text) (λ files refusal. RefusesConfig passphrase (contents_at files Name.Config) refusal) source written faults status after_written after_faults
 
 -- A line went to the output in one write, whatever the write answered.
 pub record IsSent (line : List ℕ) (written : Option (List ℕ)) (faults : ℕ) (after_written : Option (List ℕ)) (after_faults : ℕ) : Type 0 where
@@ -51,14 +62,15 @@ Reports Done written faults after_written after_faults = Unwritten written fault
 Reports OutputDevice written faults after_written after_faults = Unwritten written faults after_written after_faults
 Reports status written faults after_written after_faults = IsSent (fault_line status) written faults after_written after_faults
 
--- what the command has written: nothing where the words are no command
-abbrev pub CommandOut : Option ℕ → Option Told → Option (List ℕ) → ℕ → Status → Option (List ℕ) → ℕ → Type 0
-CommandOut None source written faults status after_written after_faults = KeysOut source written faults status after_written after_faults
-CommandOut (Some word) source written faults status after_written after_faults = Unwritten written faults after_written after_faults
+-- what the command has written: nothing where the words are none
+abbrev pub CommandOut : Result Command ℕ → List ℕ → Option Told → Option (List ℕ) → ℕ → Status → Option (List ℕ) → ℕ → Type 0
+CommandOut (Ok Keys) passphrase source written faults status after_written after_faults = KeysOut source written faults status after_written after_faults
+CommandOut (Ok Key) passphrase source written faults status after_written after_faults = KeyOut passphrase source written faults status after_written after_faults
+CommandOut (Err word) passphrase source written faults status after_written after_faults = Unwritten written faults after_written after_faults
 
 -- what a run has written: the command's lines, and then the fault line
-pub record RunOut (wrong : Option ℕ) (source : Option Told) (written : Option (List ℕ)) (faults : ℕ) (status : Status) (after_written : Option (List ℕ)) (after_faults : ℕ) : Type 0 where
+pub record RunOut (words : Result Command ℕ) (passphrase : List ℕ) (source : Option Told) (written : Option (List ℕ)) (faults : ℕ) (status : Status) (after_written : Option (List ℕ)) (after_faults : ℕ) : Type 0 where
   pub between_written : Option (List ℕ)
   pub between_faults : ℕ
-  pub command : CommandOut wrong source written faults status between_written between_faults
+  pub command : CommandOut words passphrase source written faults status between_written between_faults
   pub report : Reports status between_written between_faults after_written after_faults

@@ -1,5 +1,11 @@
 -- The numbers of the statuses, their fault lines, and what a refusal says of the source's files.
 use Rattle.std.specs.Prelude.{ℕ, List, [], ◌∷◌, ◌++◌, codes, decimal}
+use Rattle.ferry_config.specs.Fault.{number_of_fault}
+use Rattle.ferry_config.specs.declared.fault.ConfigFault.{ConfigFault}
+use Rattle.ferry_config.specs.declared.fault.ConfigFault.TheVariants as Config
+use Rattle.ferry_keyblob.specs.declared.fault.KeyFault.{KeyFault}
+use Rattle.ferry_keyblob.specs.declared.fault.KeyFault.TheVariants as Key
+use Rattle.ferry_keyblob.specs.Fault.{number_of_fault as key_number}
 use Rattle.ferry_disk.specs.Files.{Files}
 use Rattle.ferry_log.specs.Log.{IsUncommitted, IsDamaged}
 use Rattle.ferry_log.specs.declared.fault.LogFault.{LogFault}
@@ -9,7 +15,7 @@ use Rattle.ferry_top.specs.declared.status.Status.TheVariants.{Done, Usage, Memo
 use Rattle.ferry_top.specs.declared.status.Refusal.{Refusal}
 use Rattle.ferry_top.specs.declared.status.Refusal.TheVariants.{Repo}
 use Rattle.ferry_top.specs.declared.status.RepoFault.{RepoFault}
-use Rattle.ferry_top.specs.declared.status.RepoFault.TheVariants.{NoCommit, Damaged}
+use Rattle.ferry_top.specs.declared.status.RepoFault.TheVariants.{NoCommit, Damaged, Config, Key}
 
 -- the number that the program ends with
 abbrev pub status_number : Status → ℕ
@@ -27,6 +33,16 @@ log_status (Log.Damaged segment at) = SourceRefused (Repo (Damaged segment at))
 log_status Log.Device = SourceDevice
 log_status Log.Memory = Memory
 
+-- the status where the source's file `config` doesn't read
+abbrev pub config_status : ConfigFault → Status
+config_status Config.Memory = Memory
+config_status fault = SourceRefused (Repo (Config fault))
+
+-- the status where the source's key doesn't read or open
+abbrev pub key_status : KeyFault → Status
+key_status Key.Memory = Memory
+key_status fault = SourceRefused (Repo (Key fault))
+
 -- the fault line of the first wrong word
 abbrev pub usage_line : ℕ → List ℕ
 usage_line word = codes "usage: word " ++ (decimal word ++ (10 ∷ []))
@@ -35,10 +51,19 @@ usage_line word = codes "usage: word " ++ (decimal word ++ (10 ∷ []))
 abbrev pub damaged_line : ℕ → ℕ → List ℕ
 damaged_line segment at = codes "source refused: damaged segment " ++ (decimal segment ++ (codes " at " ++ (decimal at ++ (10 ∷ []))))
 
+-- the fault lines of a source whose file `config`, or whose key, is refused
+abbrev pub config_line : ℕ → List ℕ
+config_line number = codes "source refused: config " ++ (decimal number ++ (10 ∷ []))
+
+abbrev pub key_fault_line : ℕ → List ℕ
+key_fault_line number = codes "source refused: key " ++ (decimal number ++ (10 ∷ []))
+
 -- the fault line of a source that doesn't open
 abbrev pub refused_line : RepoFault → List ℕ
 refused_line NoCommit = codes "source refused: no commit\n"
 refused_line (Damaged segment at) = damaged_line segment at
+refused_line (Config fault) = config_line (number_of_fault fault)
+refused_line (Key fault) = key_fault_line (key_number fault)
 
 -- the fault line, nothing where a status has none
 abbrev pub fault_line : Status → List ℕ
@@ -49,10 +74,9 @@ fault_line SourceDevice = codes "source device failed\n"
 fault_line OutputDevice = []
 fault_line (SourceRefused (Repo fault)) = refused_line fault
 
--- what a refusal says of the files
-abbrev pub IsRepoFault : Files → RepoFault → Type 0
-IsRepoFault files NoCommit = IsUncommitted files
-IsRepoFault files (Damaged segment at) = IsDamaged files segment at
-
-abbrev pub IsRefusal : Files → Refusal → Type 0
-IsRefusal files (Repo fault) = IsRepoFault files fault
+-- what a refusal says of the files of a source whose keys are to be listed
+abbrev pub RefusesKeys : Files → Refusal → Type 0
+RefusesKeys files (Repo NoCommit) = IsUncommitted files
+RefusesKeys files (Repo (Damaged segment at)) = IsDamaged files segment at
+RefusesKeys files (Repo (Config fault)) = ⊥
+RefusesKeys files (Repo (Key fault)) = ⊥

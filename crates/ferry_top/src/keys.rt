@@ -2,14 +2,14 @@
 ghost use Rattle.std.specs.Prelude.{◌≡◌, ◌++◌, OnOk, OnErr, option_map};
 ghost use Rattle.std.specs.FinMap.{entries};
 ghost use Rattle.ferry_disk.specs.Device.{WritesSome, HasSinkCause, files_told};
-ghost use Rattle.ferry_top.specs.Keys.{key_line, key_lines};
+ghost use Rattle.ferry_top.specs.Keys.{key_lines};
 ghost use Rattle.ferry_top.specs.Run.{KeysOut, HasSourceCause};
 
+use crate::lines::push_line;
 use crate::status::{Status, of_log};
 use ferry_disk::{Shelf, Sink, SinkFault};
 use ferry_log::{Id, Log, open_log};
-use itoa::Buffer;
-use std::alloc::{AllocError, Global};
+use std::alloc::Global;
 
 /// How many bytes of lines are kept before they go out.
 const FULL: usize = 65_536;
@@ -54,18 +54,4 @@ fn write_keys<K: Sink>(alloc: Global, log: &Log, out: &mut K) -> Result<(), Sink
         last = Some(key);
     }
     out.write(&lines)
-}
-
-/// Puts a key's line behind the lines.
-fn push_line(lines: &mut Vec<u8>, key: &Id, size: u32) -> Result<(), AllocError>
-    ensures { OnOk result (lines.new.items ≡ lines.old.items ++ key_line key.now size) }
-{
-    let mut digits = [0; 64];
-    let _ = hex::encode_to_slice(key, &mut digits);
-    let mut buffer = Buffer::new();
-    lines.extend_from_slice(&digits)?;
-    lines.push(b' ')?;
-    lines.extend_from_slice(buffer.format(size).as_bytes())?;
-    lines.push(b'\n')?;
-    Ok(())
 }

@@ -4,7 +4,9 @@
 //! status means and what goes to the output.
 #![tactic(auto)]
 
+mod key;
 mod keys;
+mod lines;
 mod report;
 mod status;
 #[cfg(test)]

@@ -1,7 +1,9 @@
 //! How a run ends.
 ghost use Rattle.std.specs.Prelude.{◌≡◌};
-ghost use Rattle.ferry_top.specs.Status.{status_number, log_status};
+ghost use Rattle.ferry_top.specs.Status.{status_number, log_status, config_status, key_status};
 
+use ferry_config::ConfigFault;
+use ferry_keyblob::KeyFault;
 use ferry_log::LogFault;
 
 /// The passphrases of the source and of the target, as bytes. The caller owns them.
@@ -42,6 +44,10 @@ pub enum RepoFault {
     NoCommit,
     /// The first segment that doesn't read, and the offset in bytes of its first entry that doesn't, 0 for a wrong magic.
     Damaged { segment: u64, at: u64 },
+    /// The file `config` doesn't read.
+    Config(ConfigFault),
+    /// The repository key doesn't read, or doesn't open.
+    Key(KeyFault),
 }
 
 impl Status {
@@ -71,5 +77,25 @@ pub(crate) fn of_log(fault: LogFault) -> Status
         }
         LogFault::Device => Status::SourceDevice,
         LogFault::Memory => Status::Memory,
+    }
+}
+
+/// The status of a source whose file `config` doesn't read.
+pub(crate) fn of_config(fault: ConfigFault) -> Status
+    ensures { result ≡ config_status fault }
+{
+    match fault {
+        ConfigFault::Memory => Status::Memory,
+        fault => Status::SourceRefused(Refusal::Repo(RepoFault::Config(fault))),
+    }
+}
+
+/// The status of a source whose key doesn't read or open.
+pub(crate) fn of_key(fault: KeyFault) -> Status
+    ensures { result ≡ key_status fault }
+{
+    match fault {
+        KeyFault::Memory => Status::Memory,
+        fault => Status::SourceRefused(Refusal::Repo(RepoFault::Key(fault))),
     }
 }

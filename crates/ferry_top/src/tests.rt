@@ -13,6 +13,33 @@ const FIVE: &str = "111111111111111111111111111111111111111111111111111111111111
 
 const EMPTY: &str = "1111111111111111111111111111111111111111111111111111111111111111 0\n";
 
+/// The passphrase that each run gets for its source.
+const PASSPHRASE: &[u8] = b"passphrase";
+
+/// The lines of a `config` before its key.
+const CONFIG: &str = "[repository]\nversion = 1\n\
+    id = 0000000000000000000000000000000000000000000000000000000000000000\n";
+
+/// A key that Python's `hashlib` and openssl sealed under the passphrase, with 100000 iterations. Its repository id is 32 bytes 22.
+const SEALED: &str =
+    "key = hqd2ZXJzaW9uAaRzYWx02gAgZmZmZmZmZmZmZmZmZmZmZmZmZmZmZmZmZmZmZmZmZmaqaX\n\
+\tRlcmF0aW9uc84AAYagqWFsZ29yaXRobaZzaGEyNTakaGFzaNoAILDJPG5Zma0aMbCTe7tS\n\
+\tNjG+0WKDHFJfzlugCtcFueIvpGRhdGHaAMytdpWAKM9J+8gugegTOByyVrJRbW1Js+LL8+\n\
+\t7dcLwW0rbfY1BP6kVcZHksRYA5+rlHW58alHT7O1lEfhS/WA9bwVwuPuagA62TEkVguGo5\n\
+\tGDcr8Nylz04mfETHKfFHM+Qv/E0NtmygTOP6YAaMK2wPMgezILYWqJjfM9/EVMoTqFgHJN\n\
+\tp250ekiS2oMoR6nl2Lnq7zcwb2eAC1zx0nODAnidO60Y/nv0QliqHLtdlsGplThO+tVc0s\n\
+\tbEd1pil1rWi37qviJ9M+UagJxlU=\n";
+
+/// The same key in an envelope that states no iterations.
+const NO_ITERATIONS: &str =
+    "key = hqd2ZXJzaW9uAaRzYWx02gAgZmZmZmZmZmZmZmZmZmZmZmZmZmZmZmZmZmZmZmZmZmaqaX\n\
+\tRlcmF0aW9ucwCpYWxnb3JpdGhtpnNoYTI1NqRoYXNo2gAgsMk8blmZrRoxsJN7u1I2Mb7R\n\
+\tYoMcUl/OW6AK1wW54i+kZGF0YdoAzK12lYAoz0n7yC6B6BM4HLJWslFtbUmz4svz7t1wvB\n\
+\tbStt9jUE/qRVxkeSxFgDn6uUdbnxqUdPs7WUR+FL9YD1vBXC4+5qADrZMSRWC4ajkYNyvw\n\
+\t3KXPTiZ8RMcp8Ucz5C/8TQ22bKBM4/pgBowrbA8yB7MgthaomN8z38RUyhOoWAck2nbnR6\n\
+\tSJLagyhHqeXYuervNzBvZ4ALXPHSc4MCeJ07rRj+e/RCWKocu12WwamVOE761VzSxsR3Wm\n\
+\tKXWtaLfuq+In0z5RqAnGVQ==\n";
+
 /// What a segment of a case holds behind its magic.
 #[derive(Clone, Copy)]
 enum Part {
@@ -66,9 +93,20 @@ fn status_of(
     source: &mut MemoryShelf,
     out: &mut MemorySink,
 ) -> Result<Status, AllocError> {
+    status_under(alloc, PASSPHRASE, words, source, out)
+}
+
+/// The same under a passphrase.
+fn status_under(
+    alloc: Global,
+    passphrase: &[u8],
+    words: &[&str],
+    source: &mut MemoryShelf,
+    out: &mut MemorySink,
+) -> Result<Status, AllocError> {
     let words = strings(alloc, words)?;
     let secrets = Secrets {
-        source: Vec::new(alloc),
+        source: Vec::from_slice(alloc, passphrase)?,
         target: Vec::new(alloc),
     };
     let mut target = MemoryDepot::new(alloc, Vec::new(alloc), Vec::new(alloc))?;
@@ -146,17 +184,66 @@ fn a_source_is_refused_by_its_first_fault(rt: HostRuntime) -> Result<(), Fail> {
     Ok(())
 }
 
+/// Whether `key` under a passphrase over a `config` of these texts, or without one where there are none, ends with this number
+/// and prints this text.
+fn key_prints(
+    alloc: Global,
+    passphrase: &[u8],
+    config: &[&str],
+    number: u8,
+    text: &str,
+) -> Result<bool, AllocError> {
+    let mut bytes = Vec::new(alloc);
+    for part in config {
+        bytes.extend_from_slice(part.as_bytes())?;
+    }
+    let mut files = Vec::new(alloc);
+    if !config.is_empty() {
+        files.push((Name::Config, bytes))?;
+    }
+    let mut source = MemoryShelf::new(alloc, files, Vec::new(alloc))?;
+    let mut out = MemorySink::new(alloc, Vec::new(alloc))?;
+    let status = status_under(alloc, passphrase, &["key"], &mut source, &mut out)?;
+    Ok(status.number() == number && out.bytes() == text.as_bytes())
+}
+
+#[test]
+fn a_key_opens_with_its_passphrase_alone(rt: HostRuntime) -> Result<(), Fail> {
+    let alloc = rt.alloc();
+    let line = "2222222222222222222222222222222222222222222222222222222222222222 100000\n";
+    let right = [CONFIG, SEALED];
+    assert!(rt; key_prints(alloc, PASSPHRASE, &right, 0, line)?);
+    assert!(rt; key_prints(alloc, b"Passphrase", &right, 8, "source refused: key 5\n")?);
+    let none = [CONFIG, NO_ITERATIONS];
+    assert!(rt; key_prints(alloc, PASSPHRASE, &none, 8, "source refused: key 4\n")?);
+    let short = [CONFIG, "key = AAAA\n"];
+    assert!(rt; key_prints(alloc, PASSPHRASE, &short, 8, "source refused: key 1\n")?);
+    Ok(())
+}
+
+#[test]
+fn a_config_is_looked_at_before_its_key(rt: HostRuntime) -> Result<(), Fail> {
+    let alloc = rt.alloc();
+    let other = ["[repository]\nversion = 2\n", ""];
+    let wrong = [CONFIG, "key = *\n"];
+    assert!(rt; key_prints(alloc, PASSPHRASE, &[], 8, "source refused: config 1\n")?);
+    assert!(rt; key_prints(alloc, PASSPHRASE, &other, 8, "source refused: config 2\n")?);
+    assert!(rt; key_prints(alloc, PASSPHRASE, &wrong, 8, "source refused: config 4\n")?);
+    Ok(())
+}
+
 /// Words that are no command, with the number of the first wrong one.
 #[test]
 fn the_first_wrong_word_is_told(rt: HostRuntime) -> Result<(), Fail> {
     let alloc = rt.alloc();
-    let cases: [(&[&str], u64); 6] = [
+    let cases: [(&[&str], u64); 7] = [
         (&[], 1),
         (&["list"], 1),
         (&["Keys", "x"], 1),
         (&["keys", "x"], 2),
         (&["keys", "--block", "64"], 2),
         (&["keys", "--", "--"], 3),
+        (&["key", "x"], 2),
     ];
     for (words, number) in cases {
         let mut source = source(alloc, &[Part::Commit], Vec::new(alloc))?;

@@ -1,20 +1,22 @@
 //! The top call.
-ghost use Rattle.std.specs.Prelude.{◌≡◌, ℕ, map, string_bytes, IfSome, MatchOption};
+ghost use Rattle.std.specs.Prelude.{◌≡◌, ℕ, map, string_bytes, IfErr, MatchResult};
 ghost use Rattle.ferry_disk.specs.Device.{files_told};
-ghost use Rattle.ferry_top.specs.Words.{first_wrong_word};
+ghost use Rattle.ferry_top.specs.Words.{words_of};
 ghost use Rattle.ferry_top.specs.Run.{RunOut, HasSourceCause};
 
+use crate::key::key;
 use crate::keys::keys;
 use crate::report::report;
 use crate::status::{Secrets, Status};
-use crate::words::first_wrong;
+use crate::words::{Command, read_words};
 use ferry_disk::{Depot, Entropy, Shelf, Sink};
 use std::alloc::Global;
 
 /// Does what the words say.
 ///
-/// `words` begins with the command; the only one is `keys`, which prints each live key of the source in byte order as 64
-/// hex digits, with a space and the size of its blob in bytes. `secrets`, `target` and `entropy` aren't used by it.
+/// `words` begins with the command. `keys` prints each live key of the source in byte order as 64 hex digits, with a space and
+/// the size of its blob in bytes. `key` opens the repository key in the source's `config` with the source's passphrase and
+/// prints its repository id as 64 hex digits, a space, and its iterations. Neither uses `target` and `entropy`.
 pub fn run<S: Shelf, D: Depot, E: Entropy, K: Sink>(
     alloc: Global,
     words: &[String],
@@ -24,17 +26,18 @@ pub fn run<S: Shelf, D: Depot, E: Entropy, K: Sink>(
     entropy: &mut E,
     out: &mut K,
 ) -> Status
-    ensures usage { MatchOption (first_wrong_word (map string_bytes words.now)) ((n : ℕ) → result ≡ Status.Usage n → ⊥) (λ n. result ≡ Status.Usage n) }
-    ensures idle { IfSome (first_wrong_word (map string_bytes words.now)) (λ _. source.new ≡ source.old) }
-    ensures out { RunOut (first_wrong_word (map string_bytes words.now)) (S.told source.old) (K.written out.old) (K.faults out.old) result (K.written out.new) (K.faults out.new) }
+    ensures usage { MatchResult (words_of (map string_bytes words.now)) (λ _. (n : ℕ) → result ≡ Status.Usage n → ⊥) (λ n. result ≡ Status.Usage n) }
+    ensures idle { IfErr (words_of (map string_bytes words.now)) (λ _. source.new ≡ source.old) }
+    ensures out { RunOut (words_of (map string_bytes words.now)) secrets.now.source.items (S.told source.old) (K.written out.old) (K.faults out.old) result (K.written out.new) (K.faults out.new) }
     ensures same { files_told (S.told source.new) ≡ files_told (S.told source.old) }
     ensures cause { HasSourceCause (S.faults source.old) (S.faults source.new) result }
     ensures target { target.new ≡ target.old }
     ensures entropy { entropy.new ≡ entropy.old }
 {
-    let status = match first_wrong(words) {
-        Some(word) => Status::Usage(word),
-        None => keys(alloc, source, out),
+    let status = match read_words(words) {
+        Ok(Command::Keys) => keys(alloc, source, out),
+        Ok(Command::Key) => key(alloc, &secrets.source, source, out),
+        Err(word) => Status::Usage(word),
     };
     report(alloc, &status, out);
     status

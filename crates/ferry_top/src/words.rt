@@ -1,5 +1,5 @@
 //! The words of a run.
-ghost use Rattle.std.specs.Prelude.{◌≡◌, map, string_bytes};
+ghost use Rattle.std.specs.Prelude.{◌≡◌, ◌≤◌, map, drop, length, string_bytes};
 ghost use Rattle.ferry_top.specs.Words as spec;
 
 /// Whether the program's words name a source, a target and a command: three words or more, and the first two differ or are
@@ -13,16 +13,34 @@ pub fn places_fit(words: &[String]) -> bool
     }
 }
 
-/// The number, from 1, of the first word at which the words can't go on to a command, `None` where they are one.
-pub(crate) fn first_wrong(words: &[String]) -> Option<u64>
-    ensures { result ≡ spec.first_wrong_word (map string_bytes words.now) }
+/// A command.
+#[derive(Clone, Copy)]
+pub(crate) enum Command {
+    /// Lists the live keys.
+    Keys,
+    /// Opens the repository key.
+    Key,
+}
+
+/// The command that the words are, or the number, from 1, of the first word at which they can't go on to one.
+pub(crate) fn read_words(words: &[String]) -> Result<Command, u64>
+    ensures { result ≡ spec.words_of (map string_bytes words.now) }
 {
     match words {
-        [] => Some(1),
-        [command, ..] if command.as_str() != "keys" => Some(1),
-        [_] => None,
-        [_, end, ..] if end.as_str() != "--" => Some(2),
-        [_, _] => None,
-        _ => Some(3),
+        [name, ..] if name.as_str() == "keys" => alone(words, Command::Keys),
+        [name, ..] if name.as_str() == "key" => alone(words, Command::Key),
+        _ => Err(1),
+    }
+}
+
+/// The command, where nothing stands behind its name, or `--` alone.
+fn alone(words: &[String], command: Command) -> Result<Command, u64>
+    requires { 1 ≤ length words.now }
+    ensures { result ≡ spec.alone command (drop 1 (map string_bytes words.now)) }
+{
+    match words {
+        [_, end, ..] if end.as_str() != "--" => Err(2),
+        [_, _, _, ..] => Err(3),
+        _ => Ok(command),
     }
 }
