@@ -1,0 +1,4 @@
+mod AppendLemmas
+pub mod CallerLemmas
+mod LawLemmas
+mod TextLemmas
