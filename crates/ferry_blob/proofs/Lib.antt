@@ -1,0 +1,5 @@
+pub mod StreamLemmas
+pub mod BlobLemmas
+pub mod SealLemmas
+pub mod LawLemmas
+pub mod CallerLemmas

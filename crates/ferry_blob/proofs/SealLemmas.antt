@@ -1,0 +1,107 @@
+-- What is sealed opens, and has the nonce that was given.
+use Rattle.std.proofs.Common.{◌≡◌, ◌⊎◌, ℕ, ◌+◌, ◌-◌, ◌^◌, ◌<◌, ◌≤◌, List, ◌∷◌, ◌++◌, length, take, drop, slice_index, refl, sym, ap, ◌∙◌, arith, length-append}
+use Rattle.std.specs.Int.{w64, to_be_bytes, from_be_bytes}
+use Rattle.std.proofs.lemmas.List.{take_at, drop_at, drop-drop, length-take-le}
+use Rattle.std.proofs.lemmas.Nat.{from_be_bytes-to_be_bytes_8}
+use Rattle.sha2.specs.Sha256.{sha256}
+use Rattle.sha2.proofs.Facts256.{length-sha256}
+use Rattle.ferry_aes.specs.CounterMode.{ctr}
+use Rattle.ferry_aes.proofs.CallerLemmas.{length-ctr, ctr-ctr}
+use Rattle.ferry_mac.specs.Hmac.{hmac256, block_key, xored_with, inner_pad, outer_pad}
+use Rattle.ferry_mac.specs.declared.keys.Keys.{Keys}
+use borrow.Rule.Slice.PartMut.{put_mid}
+use Rattle.ferry_blob.proofs.BlobLemmas.{put_rest}
+use Rattle.ferry_blob.specs.Blob.{Opens, authenticated, blob_type, content_id, no_compression, nonce_of, plaintext, sealed, zero_id}
+
+-- ---- HMAC
+
+pub length-hmac256 : (key text : List ℕ) → length (hmac256 key text) ≡ 32
+unfolding hmac256
+length-hmac256 key text =
+    let block = block_key sha256 64 key in
+    length-sha256 (xored_with outer_pad block ++ sha256 (xored_with inner_pad block ++ text))
+
+-- ---- authenticated
+
+-- the nonce has 8 bytes
+nonce_bytes : (nonce : ℕ) → length (to_be_bytes w64 nonce) ≡ 8
+nonce_bytes nonce = refl
+
+pub length-authenticated : (key : List ℕ) (nonce : ℕ) (content : List ℕ) → length (authenticated key nonce content) ≡ 10 + length content
+unfolding authenticated
+length-authenticated key nonce content =
+    let text = no_compression ++ content in
+    let joined = length-append (to_be_bytes w64 nonce) (ctr key nonce text) in
+    let part = length-append no_compression content in
+    omega (arith, length-ctr key nonce text)
+
+drop-authenticated : (key : List ℕ) (nonce : ℕ) (content : List ℕ) → drop 8 (authenticated key nonce content) ≡ ctr key nonce (no_compression ++ content)
+unfolding authenticated
+drop-authenticated key nonce content = drop_at (to_be_bytes w64 nonce) (ctr key nonce (no_compression ++ content)) 8 refl
+
+take-authenticated : (key : List ℕ) (nonce : ℕ) (content : List ℕ) → take 8 (authenticated key nonce content) ≡ to_be_bytes w64 nonce
+unfolding authenticated
+take-authenticated key nonce content = take_at (to_be_bytes w64 nonce) (ctr key nonce (no_compression ++ content)) 8 refl
+
+-- ---- sealed
+
+pub length-sealed : (keys : Keys) (nonce : ℕ) (content : List ℕ) → length (sealed keys nonce content) ≡ 43 + length content
+unfolding sealed
+length-sealed keys nonce content =
+    let part = authenticated keys.enc_key nonce content in
+    let mac = hmac256 keys.enc_hmac_key part in
+    let joined = length-append mac part in
+    omega (arith, length-hmac256 keys.enc_hmac_key part, length-authenticated keys.enc_key nonce content)
+
+sealed-part : (keys : Keys) (nonce : ℕ) (content : List ℕ) → drop 33 (sealed keys nonce content) ≡ authenticated keys.enc_key nonce content
+unfolding sealed
+sealed-part keys nonce content =
+    let part = authenticated keys.enc_key nonce content in
+    drop_at (hmac256 keys.enc_hmac_key part) part 32 (length-hmac256 keys.enc_hmac_key part)
+
+sealed-mac : (keys : Keys) (nonce : ℕ) (content : List ℕ) → take 32 (drop 1 (sealed keys nonce content)) ≡ hmac256 keys.enc_hmac_key (authenticated keys.enc_key nonce content)
+unfolding sealed
+sealed-mac keys nonce content =
+    let part = authenticated keys.enc_key nonce content in
+    take_at (hmac256 keys.enc_hmac_key part) part 32 (length-hmac256 keys.enc_hmac_key part)
+
+sealed-kind : (keys : Keys) (nonce : ℕ) (content : List ℕ) → slice_index (sealed keys nonce content) 0 ≡ blob_type
+unfolding sealed
+sealed-kind keys nonce content = refl
+
+pub sealed-nonce : (keys : Keys) (nonce : ℕ) (content : List ℕ) → nonce < 2 ^ 64 → nonce_of (sealed keys nonce content) ≡ nonce
+unfolding nonce_of
+sealed-nonce keys nonce content small =
+    ap (λ part. from_be_bytes w64 (take 8 part)) (sealed-part keys nonce content) ∙ ap (from_be_bytes w64) (take-authenticated keys.enc_key nonce content)
+    ∙ from_be_bytes-to_be_bytes_8 nonce small
+
+pub sealed-plaintext : (keys : Keys) (nonce : ℕ) (content : List ℕ) → nonce < 2 ^ 64 → plaintext keys (sealed keys nonce content) ≡ no_compression ++ content
+unfolding plaintext
+sealed-plaintext keys nonce content small =
+    let blob = sealed keys nonce content in
+    let text : drop 41 blob ≡ ctr keys.enc_key nonce (no_compression ++ content) =
+    sym (drop-drop 8 33 blob) ∙ ap (drop 8) (sealed-part keys nonce content) ∙ drop-authenticated keys.enc_key nonce content in
+    rw (sealed-nonce keys nonce content small, text) (ctr-ctr keys.enc_key nonce (no_compression ++ content))
+
+-- what is sealed opens to its content, under the zero id and its own
+pub sealed-opens : (keys : Keys) (nonce : ℕ) (id content : List ℕ) → nonce < 2 ^ 64 → (id ≡ zero_id) ⊎ (id ≡ content_id keys content)
+    → Opens keys id (sealed keys nonce content) content
+sealed-opens keys nonce id content small named = record {
+  size = omega (arith, length-sealed keys nonce content);
+  kind = sealed-kind keys nonce content;
+  mac = sealed-mac keys nonce content ∙ ap (hmac256 keys.enc_hmac_key) (sym (sealed-part keys nonce content));
+  plain = sealed-plaintext keys nonce content small;
+  named = named;
+}
+
+-- ---- what the code puts together
+
+pub sealed_by : (keys : Keys) (nonce : ℕ) (buffer part blob : List ℕ) → 43 ≤ length buffer → part ≡ authenticated keys.enc_key nonce (drop 10 (drop 33 buffer))
+    → blob ≡ blob_type ∷ (hmac256 keys.enc_hmac_key (drop 33 (put_mid 33 (length buffer - 33) buffer part)) ++ drop 33 (put_mid 33 (length buffer - 33) buffer part))
+    → blob ≡ sealed keys nonce (drop 43 buffer)
+unfolding sealed
+sealed_by keys nonce buffer part blob room is put =
+    let behind : drop 33 (put_mid 33 (length buffer - 33) buffer part) ≡ part =
+    ap (drop 33) (put_rest 33 buffer part (omega arith)) ∙ drop_at (take 33 buffer) part 33 (length-take-le 33 buffer (omega arith)) in
+    let whole : part ≡ authenticated keys.enc_key nonce (drop 43 buffer) = is ∙ ap (authenticated keys.enc_key nonce) (drop-drop 10 33 buffer) in
+    put ∙ ap (λ rest. blob_type ∷ (hmac256 keys.enc_hmac_key rest ++ rest)) (behind ∙ whole)

@@ -1,0 +1,87 @@
+//! From a blob to its content.
+
+ghost use Rattle.std.specs.Prelude.{◌≡◌, ◌≤◌, OnOk, IfErr, None, Some, true, false, drop, length};
+ghost use Rattle.ferry_blob.specs.Blob.{Opens, blob_fault, decrypted, has_mac, is_decrypted, nonce_of};
+
+use crate::fault::BlobFault;
+use crate::id::{Id, is_named};
+use crate::stream::add_key_stream;
+use ferry_lanes::same;
+use ferry_mac::{Keys, hmac256};
+
+/// The number of bytes before the content: type, MAC, nonce and compression header.
+const HEAD: usize = 43;
+
+/// The compression header of a content that isn't compressed.
+const NO_COMPRESSION: [u8; 2] = [0, 0];
+
+/// The type of a blob under a key that the repository keeps ("repokey").
+const REPOKEY: u8 = 3;
+
+/// Opens a blob in place: checks it, and decrypts it from byte 41 on. The content is `blob[43..]`.
+///
+/// With the zero id the id isn't looked at. A MAC is compared in full, and nothing is decrypted before
+/// it is found right, so that what isn't authentic is never read as a plaintext.
+///
+/// Source: BorgBackup 1.2, Internals, "Data structures and file formats", Encryption.
+pub fn open_blob(keys: &Keys, id: &Id, blob: &mut [u8]) -> Result<(), BlobFault>
+    ensures opened { OnOk result (Opens keys.now id.now blob.old (drop 43 blob.new)) }
+    ensures fault { IfErr result (λ fault. blob_fault keys.now id.now blob.old ≡ Some fault) }
+    ensures ok { OnOk result (blob_fault keys.now id.now blob.old ≡ None) }
+
+    // After Short, Kind and Mac the blob is as it was.
+    ensures kept { IfErr result (λ fault. is_decrypted fault ≡ false → blob.new ≡ blob.old) }
+
+    // At Ok, and after Compressed and Id, it is decrypted from byte 41 on.
+    ensures decrypted { OnOk result (blob.new ≡ decrypted keys.now blob.old) }
+    ensures refused { IfErr result (λ fault.
+        is_decrypted fault ≡ true → blob.new ≡ decrypted keys.now blob.old) }
+{
+    if blob.len() < HEAD {
+        return Err(BlobFault::Short);
+    }
+    if blob[0] != REPOKEY {
+        return Err(BlobFault::Kind);
+    }
+    if !has_mac(keys, blob) {
+        return Err(BlobFault::Mac);
+    }
+    decrypt(keys, blob);
+    if !same(&blob[41..HEAD], &NO_COMPRESSION) {
+        return Err(BlobFault::Compressed);
+    }
+    if !is_named(keys, id, &blob[HEAD..]) {
+        return Err(BlobFault::Id);
+    }
+    Ok(())
+}
+
+/// Whether the MAC of a blob is that of the nonce and the ciphertext.
+#[tactic(auto, unfolding(crate::specs::Blob::has_mac))]
+fn has_mac(keys: &Keys, blob: &[u8]) -> bool
+    requires { 43 ≤ length blob.now }
+    ensures mac { result ≡ has_mac keys.now blob.now }
+{
+    same(&blob[1..33], &hmac256(&keys.enc_hmac_key, &blob[33..]))
+}
+
+/// The nonce of a blob.
+#[tactic(auto, unfolding(crate::specs::Blob::nonce_of))]
+fn nonce_in(blob: &[u8]) -> u64
+    requires { 43 ≤ length blob.now }
+    ensures nonce { result ≡ nonce_of blob.now }
+{
+    let mut bytes = [0u8; 8];
+    bytes.copy_from_slice(&blob[33..41]);
+    u64::from_be_bytes(bytes)
+}
+
+/// Puts the plaintext in the place of the ciphertext.
+#[tactic(auto, unfolding(crate::specs::Blob::decrypted, crate::specs::Blob::plaintext))]
+fn decrypt(keys: &Keys, blob: &mut [u8])
+    requires { 43 ≤ length blob.old }
+    ensures decrypted { blob.new ≡ decrypted keys.now blob.old }
+{
+    let nonce = nonce_in(blob);
+    add_key_stream(&keys.enc_key, nonce, &mut blob[41..]);
+}
