@@ -1,7 +1,7 @@
 -- The fields of a key.
 use Rattle.std.proofs.Common.{◌≡◌, ℕ, true, List, codes, ℤ, Some, None, refl}
 use Rattle.ferry_msgpack.specs.Tree.{Pairs}
-use Rattle.ferry_keyblob.specs.Fields.{has_version_1, number_in, raw32_in}
+use Rattle.ferry_fields.specs.Fields.{has_version_1, number_in, raw32_in}
 use Rattle.ferry_keyblob.specs.Opening.{key_fault}
 
 -- fields that are all there have no fault

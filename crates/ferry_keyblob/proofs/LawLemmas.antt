@@ -1,7 +1,7 @@
 -- What key texts mean, by the conditions of each answer.
 use Rattle.std.proofs.Common.{◌≡◌, ℕ, Bool, true, false, cond, List, Option, Some, None, is_none, Result, Ok, Err, not, if◌then◌else◌, refl, subst}
 use Rattle.ferry_msgpack.specs.Tree.{Pairs}
-use Rattle.ferry_keyblob.specs.Fields.{map_of}
+use Rattle.ferry_fields.specs.Fields.{map_of}
 use Rattle.ferry_keyblob.specs.Envelope.{envelope_of, envelope_from, envelope_in, fault_or, has_sha256, iterations_in, lacks_field}
 use Rattle.ferry_keyblob.specs.Opening.{Opened, has_hash, lacks_key_field, key_from, key_in, key_inside, key_of, opened, packed_key_of, unsealed}
 use Rattle.ferry_keyblob.specs.declared.envelope.Envelope.{Envelope}

@@ -1,6 +1,3 @@
-pub mod MapLemmas
-pub mod FieldLemmas
-pub mod OtherLemmas
 pub mod KeyLemmas
 pub mod SealLemmas
 pub mod OpensLemmas

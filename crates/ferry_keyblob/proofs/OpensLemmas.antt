@@ -1,36 +1,23 @@
 -- What is sealed opens.
-use Rattle.std.proofs.Common.{◌≡◌, ℕ, ◌≤◌, true, List, codes, length, ℤ, pos, Some, Ok, refl, sym, ap, ◌∙◌}
+use Rattle.std.proofs.Common.{◌≡◌, ℕ, ◌≤◌, true, List, codes, length, pos, Some, Ok, refl, sym, ap, ◌∙◌}
 use Rattle.std.proofs.lemmas.Bool.{le-leb}
 use Rattle.ferry_aes.specs.CounterMode.{ctr}
 use Rattle.ferry_aes.proofs.CallerLemmas.{ctr-ctr}
 use Rattle.ferry_mac.specs.Hmac.{hmac256}
 use Rattle.ferry_mac.specs.Pbkdf2.{pbkdf2}
 use Rattle.ferry_msgpack.specs.Tree.{number, raw, table, Pairs, no_pairs, put}
-use Rattle.ferry_msgpack.specs.Shortest.{shortest}
 use Rattle.ferry_msgpack.specs.Writable.{IsWritable}
-use Rattle.ferry_msgpack.proofs.ShortestLemmas.{shortest_spelled}
-use Rattle.ferry_keyblob.specs.Fields.{map_of, value_of, number_in, raw_in, raw32_in, has_version_1}
+use Rattle.ferry_fields.specs.Fields.{map_of, value_of, number_in, raw_in, raw32_in, has_version_1}
+use Rattle.ferry_fields.proofs.FieldLemmas.{number_is, raw_is, raw32_is, version_is}
+use Rattle.ferry_fields.proofs.MapLemmas.{map_of-shortest}
+use Rattle.ferry_fields.proofs.OtherLemmas.{without-apart}
+use Rattle.ferry_fields.proofs.PutLemmas.{bytes_eq-self, value_of-put, value_of-put_other, without-put}
 use Rattle.ferry_keyblob.specs.Envelope.{envelope_of, envelope_fault, envelope_in, fault_or, envelope_from}
-use Rattle.ferry_keyblob.specs.Opening.{Opened, key_in, key_from, key_of, key_inside, key_encryption_key, has_hash, others, opened, packed_key_of, unsealed}
+use Rattle.ferry_keyblob.specs.Opening.{Opened, key_in, key_from, key_of, key_inside, key_encryption_key, field_names, has_hash, others, opened, packed_key_of, unsealed}
 use Rattle.ferry_keyblob.specs.Sealing.{HasLengths, IsSealable, envelope_pairs, envelope_text, key_text, more_of, packed, packed_pairs}
 use Rattle.ferry_keyblob.specs.declared.envelope.Envelope.{Envelope}
 use Rattle.ferry_keyblob.proofs.KeyLemmas.{no_key_fault}
-use Rattle.ferry_keyblob.proofs.MapLemmas.{map_of-spelled}
-use Rattle.ferry_keyblob.proofs.SealLemmas.{bytes_eq-self, value_of-put, value_of-put_other, others-put, others-apart, packed_writable, envelope_writable}
-
--- ---- fields by their values
-
-raw32_is : (name : List ℕ) (pairs : Pairs) (bytes : List ℕ) → value_of name pairs ≡ Some (raw bytes) → length bytes ≡ 32 → raw32_in name pairs ≡ Some bytes
-raw32_is name pairs bytes e len = rw (e, len) refl
-
-raw_is : (name : List ℕ) (pairs : Pairs) (bytes : List ℕ) → value_of name pairs ≡ Some (raw bytes) → raw_in name pairs ≡ Some bytes
-raw_is name pairs bytes e = rw e refl
-
-number_is : (name : List ℕ) (pairs : Pairs) (z : ℤ) → value_of name pairs ≡ Some (number z) → number_in name pairs ≡ Some z
-number_is name pairs z e = rw e refl
-
-version_is : (pairs : Pairs) → value_of (codes "version") pairs ≡ Some (number (pos 1)) → has_version_1 pairs ≡ true
-version_is pairs e = rw e refl
+use Rattle.ferry_keyblob.proofs.SealLemmas.{packed_writable, envelope_writable}
 
 -- ---- the envelope
 
@@ -123,7 +110,7 @@ envelope_again : (kek salt : List ℕ) (iterations : ℕ) (text : List ℕ) → 
 unfolding envelope_of envelope_text
 envelope_again kek salt iterations text salted hashed least most writable =
     let pairs = envelope_pairs kek salt iterations text in
-    ap envelope_from (map_of-spelled (shortest (table pairs)) (table pairs) (shortest_spelled (table pairs) writable))
+    ap envelope_from (map_of-shortest pairs writable)
     ∙ said_envelope pairs iterations salt (hmac256 kek text) (ctr kek 0 text) (version_is pairs (sealed_version kek salt iterations text))
     (raw_is (codes "algorithm") pairs (codes "sha256") (sealed_algorithm kek salt iterations text)) (number_is (codes "iterations") pairs (pos iterations) (sealed_iterations kek salt iterations text))
     (raw32_is (codes "salt") pairs salt (sealed_salt kek salt iterations text) salted) (raw32_is (codes "hash") pairs (hmac256 kek text) (sealed_hash kek salt iterations text) hashed)
@@ -215,12 +202,12 @@ module _ (key : Opened) where
       let p3 : Pairs = put (codes "enc_hmac_key") (raw key.keys.enc_hmac_key) p2 in
       let p4 : Pairs = put (codes "enc_key") (raw key.keys.enc_key) p3 in
       let p5 : Pairs = put (codes "repository_id") (raw key.repository_id) p4 in
-      others-put (codes "version") (number (pos 1)) p5 refl
-      ∙ others-put (codes "repository_id") (raw key.repository_id) p4 refl
-      ∙ others-put (codes "enc_key") (raw key.keys.enc_key) p3 refl
-      ∙ others-put (codes "enc_hmac_key") (raw key.keys.enc_hmac_key) p2 refl
-      ∙ others-put (codes "id_key") (raw key.keys.id_key) p1 refl
-      ∙ others-put (codes "chunk_seed") (number key.chunk_seed) (more_of key) refl
+      without-put field_names (codes "version") (number (pos 1)) p5 refl
+      ∙ without-put field_names (codes "repository_id") (raw key.repository_id) p4 refl
+      ∙ without-put field_names (codes "enc_key") (raw key.keys.enc_key) p3 refl
+      ∙ without-put field_names (codes "enc_hmac_key") (raw key.keys.enc_hmac_key) p2 refl
+      ∙ without-put field_names (codes "id_key") (raw key.keys.id_key) p1 refl
+      ∙ without-put field_names (codes "chunk_seed") (number key.chunk_seed) (more_of key) refl
 
 said_key : (pairs : Pairs) (key : Opened) → raw32_in (codes "repository_id") pairs ≡ Some key.repository_id → raw32_in (codes "enc_key") pairs ≡ Some key.keys.enc_key
     → raw32_in (codes "enc_hmac_key") pairs ≡ Some key.keys.enc_hmac_key → raw32_in (codes "id_key") pairs ≡ Some key.keys.id_key → number_in (codes "chunk_seed") pairs ≡ Some key.chunk_seed
@@ -229,7 +216,7 @@ said_key pairs key e1 e2 e3 e4 e5 e6 = rw (e1, e2, e3, e4, e5, sym e6) refl
 
 packed_read : (key : Opened) → IsWritable (table (packed_pairs key)) → map_of (packed key) ≡ Some (packed_pairs key)
 unfolding packed
-packed_read key writable = map_of-spelled (packed key) (table (packed_pairs key)) (shortest_spelled (table (packed_pairs key)) writable)
+packed_read key writable = map_of-shortest (packed_pairs key) writable
 
 key_again : (key : Opened) → HasLengths key → IsSealable key → packed_key_of (packed key) ≡ Ok key
 unfolding packed_key_of
@@ -240,9 +227,9 @@ key_again key lengths sealable =
     let mac = raw32_is (codes "enc_hmac_key") pairs key.keys.enc_hmac_key (packed_mac key) lengths.mac in
     let ids = raw32_is (codes "id_key") pairs key.keys.id_key (packed_ids key) lengths.ids in
     let seed = number_is (codes "chunk_seed") pairs key.chunk_seed (packed_seed key) in
-    let more : key.more ≡ table (others pairs) = sealable.more ∙ ap table (sym (packed_others key ∙ others-apart (more_of key) sealable.apart)) in
+    let more : key.more ≡ table (others pairs) = sealable.more ∙ ap table (sym (packed_others key ∙ without-apart field_names (more_of key) sealable.apart)) in
     let none = no_key_fault pairs _ _ _ _ _ (version_is pairs (packed_version key)) id enc mac ids seed in
-    let read : map_of (packed key) ≡ Some pairs = packed_read key (packed_writable key lengths sealable) in
+    let read : map_of (packed key) ≡ Some pairs = packed_read key (packed_writable key sealable) in
     ap key_from read ∙ ap (λ fault. fault_or fault (key_in pairs)) none ∙ ap Ok (said_key pairs key id enc mac ids seed more)
 
 -- ---- both

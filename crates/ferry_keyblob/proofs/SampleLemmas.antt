@@ -6,8 +6,9 @@ use Rattle.ferry_msgpack.specs.Shortest.{shortest_count, shortest_number}
 use Rattle.ferry_msgpack.specs.View.{view, pairs_view}
 use Rattle.ferry_msgpack.specs.declared.value.Value.{Table}
 use Rattle.ferry_msgpack.proofs.ViewLemmas.{Entry, view_table}
+use Rattle.ferry_fields.specs.Others.{has_among}
 use Rattle.ferry_keyblob.specs.Opening.{Opened}
-use Rattle.ferry_keyblob.specs.Sealing.{IsSealable, more_of, names_field, packed, packed_pairs}
+use Rattle.ferry_keyblob.specs.Sealing.{IsSealable, more_of, packed, packed_pairs}
 
 abbrev sample : Pairs → Opened
 sample more = record {
@@ -18,7 +19,7 @@ sample more = record {
 }
 
 sealable : IsSealable (sample no_pairs)
-unfolding more_of names_field packed packed_pairs shortest_number shortest_count
+unfolding more_of has_among packed packed_pairs shortest_number shortest_count
 sealable = record {
   more = refl;
   apart = refl;

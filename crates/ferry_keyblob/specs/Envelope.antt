@@ -4,7 +4,7 @@
 use Rattle.std.specs.Prelude.{ℕ, nat_le, ◌&&◌, ◌||◌, not, Bool, if◌then◌else◌, List, [], codes, ℤ, pos, negsuc, Option, Some, None, is_none, unwrap_or, option_and_then, Result, Ok, Err}
 use Rattle.std.specs.Str.{bytes_eq}
 use Rattle.ferry_msgpack.specs.Tree.{Pairs}
-use Rattle.ferry_keyblob.specs.Fields.{map_of, number_in, raw_in, raw32_in, has_version_1}
+use Rattle.ferry_fields.specs.Fields.{map_of, number_in, raw_in, raw32_in, has_version_1}
 use Rattle.ferry_keyblob.specs.declared.envelope.Envelope.{Envelope}
 use Rattle.ferry_keyblob.specs.declared.fault.KeyFault.{KeyFault}
 use Rattle.ferry_keyblob.specs.declared.fault.KeyFault.TheVariants.{Pack, Field, Algorithm, Iterations}

@@ -2,15 +2,15 @@
 -- files: a passphrase and PBKDF2 give the key-encryption key, under which AES-256 in counter mode
 -- from the counter 0 encrypts the packed key, and whose HMAC of the packed key is the hash.
 use Rattle.std.specs.Prelude.{ℕ, ◌||◌, not, Bool, if◌then◌else◌, List, [], ◌∷◌, codes, ℤ, pos, Option, Some, None, is_none, unwrap_or, Result, Ok, Err}
-use Rattle.std.specs.List.{list_any}
 use Rattle.std.specs.Str.{bytes_eq}
 use Rattle.ferry_aes.specs.CounterMode.{ctr}
 use Rattle.ferry_mac.specs.Hmac.{hmac256}
 use Rattle.ferry_mac.specs.Pbkdf2.{pbkdf2}
 use Rattle.ferry_mac.specs.declared.keys.Keys.{Keys}
-use Rattle.ferry_msgpack.specs.Tree.{Tree, table, Pairs, no_pairs, pair}
+use Rattle.ferry_msgpack.specs.Tree.{Tree, table, Pairs}
 use Rattle.ferry_msgpack.specs.View.{view}
-use Rattle.ferry_keyblob.specs.Fields.{map_of, number_in, raw32_in, has_version_1}
+use Rattle.ferry_fields.specs.Fields.{map_of, number_in, raw32_in, has_version_1}
+use Rattle.ferry_fields.specs.Others.{is_among, without}
 use Rattle.ferry_keyblob.specs.Envelope.{envelope_of, fault_or}
 use Rattle.ferry_keyblob.specs.declared.envelope.Envelope.{Envelope}
 use Rattle.ferry_keyblob.specs.declared.key_text.KeyText.{KeyText}
@@ -41,12 +41,11 @@ field_names =
 
 -- whether a name is that of a field
 abbrev pub is_field : List ℕ → Bool
-is_field name = list_any (λ field. bytes_eq name field) field_names
+is_field name = is_among field_names name
 
 -- the pairs whose names are no field's
-unfoldable pub others : Pairs → Pairs
-others no_pairs = no_pairs
-others (pair name t pairs) = if is_field name then others pairs else pair name t (others pairs)
+abbrev pub others : Pairs → Pairs
+others pairs = without field_names pairs
 
 -- whether a field of a key is missing or has another kind or length, or the version isn't 1
 abbrev pub lacks_key_field : Pairs → Bool

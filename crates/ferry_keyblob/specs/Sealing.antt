@@ -1,19 +1,19 @@
 -- The key text that is written. BorgBackup 1.2 Internals, "Data structures and file formats", Key
 -- files. Each map is written by the one shortest spelling.
-use Rattle.std.specs.Prelude.{◌≡◌, ℕ, ◌≤◌, ◌||◌, Bool, false, List, codes, length, pos, unwrap_or}
+use Rattle.std.specs.Prelude.{◌≡◌, ℕ, ◌≤◌, Bool, false, List, codes, length, pos, unwrap_or}
 use Rattle.ferry_aes.specs.CounterMode.{ctr}
 use Rattle.ferry_mac.specs.Hmac.{hmac256}
 use Rattle.ferry_mac.specs.Pbkdf2.{pbkdf2}
-use Rattle.ferry_msgpack.specs.Tree.{number, raw, table, Pairs, no_pairs, pair, put}
+use Rattle.ferry_msgpack.specs.Tree.{number, raw, table, Pairs, no_pairs, put}
 use Rattle.ferry_msgpack.specs.Shortest.{shortest}
 use Rattle.ferry_msgpack.specs.Writable.{IsNumber, IsWritable}
-use Rattle.ferry_keyblob.specs.Fields.{pairs_in}
-use Rattle.ferry_keyblob.specs.Opening.{Opened, is_field}
+use Rattle.ferry_fields.specs.Fields.{pairs_in}
+use Rattle.ferry_fields.specs.Others.{has_among}
+use Rattle.ferry_keyblob.specs.Opening.{Opened, field_names}
 
 -- whether one of the names is that of a field
-unfoldable pub names_field : Pairs → Bool
-names_field no_pairs = false
-names_field (pair name t pairs) = is_field name || names_field pairs
+abbrev pub names_field : Pairs → Bool
+names_field pairs = has_among field_names pairs
 
 -- the pairs of the other names
 unfoldable pub more_of : Opened → Pairs

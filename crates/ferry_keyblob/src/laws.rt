@@ -3,7 +3,7 @@
 ghost use Rattle.std.specs.Prelude.{◌≡◌, ◌≢◌, ◌↔◌, ℕ, List, Bool, false, Ok, Err, Some};
 ghost use Rattle.ferry_msgpack.specs.Tree.{Pairs, table};
 ghost use Rattle.ferry_msgpack.specs.Spelling.{Spells};
-ghost use Rattle.ferry_keyblob.specs.Fields.{map_of};
+ghost use Rattle.ferry_fields.specs.Fields.{map_of};
 ghost use Rattle.ferry_keyblob.specs.Envelope.{envelope_of};
 ghost use Rattle.ferry_keyblob.specs.Opening.{has_hash, key_of};
 ghost use Rattle.ferry_keyblob.specs.declared.envelope.Envelope.{Envelope};

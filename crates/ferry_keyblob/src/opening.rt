@@ -5,14 +5,15 @@ ghost use Rattle.ferry_msgpack.specs.View.{view, pairs_view};
 ghost use Rattle.ferry_msgpack.specs.Tree.{table};
 ghost use Rattle.ferry_aes.specs.CounterMode.{ctr};
 ghost use Rattle.ferry_keyblob.specs.Envelope.{fault_or};
-ghost use Rattle.ferry_keyblob.specs.Opening.{is_field, key_fault, key_in, key_of, keys_in, repository_id_in, chunk_seed_in, opened, others, packed_key_of, shown};
+ghost use Rattle.ferry_keyblob.specs.Opening.{key_fault, key_in, key_of, keys_in, repository_id_in, chunk_seed_in, opened, others, packed_key_of, shown};
 
 use crate::envelope::Envelope;
 use crate::fault::KeyFault;
-use crate::fields::{has_version_1, map_of, number_in, raw32_in};
+use crate::fields::pairs_of;
 use crate::key_text::{Id, KeyText};
 use crate::reading::read_envelope;
 use ferry_aes::{Schedule, keystream};
+use ferry_fields::{has_version_1, number_in, raw32_in, without};
 use ferry_lanes::{same, xor_into};
 use ferry_mac::{Keys, hmac256, pbkdf2};
 use ferry_msgpack::Value;
@@ -70,7 +71,7 @@ fn packed_key_of(alloc: Global, bytes: &[u8]) -> Result<KeyText, KeyFault>
     ensures fault { IfErr result (λ fault.
         fault ≢ KeyFault.Memory → packed_key_of bytes.now ≡ Err fault) }
 {
-    let pairs = map_of(alloc, bytes)?;
+    let pairs = pairs_of(alloc, bytes)?;
     key_in(alloc, pairs)
 }
 
@@ -135,23 +136,13 @@ fn fields_in(pairs: &[(Vec<u8>, Value)]) -> Option<Fields>
 fn others(alloc: Global, pairs: Vec<(Vec<u8>, Value)>) -> Result<Vec<(Vec<u8>, Value)>, AllocError>
     ensures others { IfOk result (λ kept. pairs_view kept.items ≡ others (pairs_view pairs.items)) }
 {
-    let mut kept = Vec::new(alloc);
-    for (name, value) in pairs {
-        if !is_field(name.as_slice()) {
-            kept.push((name, value))?;
-        }
-    }
-    Ok(kept)
-}
-
-/// Whether a name is that of a field.
-fn is_field(name: &[u8]) -> bool
-    ensures field { result ≡ is_field name.now }
-{
-    name == b"version".as_slice()
-        || name == b"repository_id".as_slice()
-        || name == b"enc_key".as_slice()
-        || name == b"enc_hmac_key".as_slice()
-        || name == b"id_key".as_slice()
-        || name == b"chunk_seed".as_slice()
+    let names: [&[u8]; 6] = [
+        b"version",
+        b"repository_id",
+        b"enc_key",
+        b"enc_hmac_key",
+        b"id_key",
+        b"chunk_seed",
+    ];
+    without(alloc, pairs, &names)
 }

@@ -6,7 +6,8 @@ ghost use Rattle.ferry_keyblob.specs.Envelope.{envelope_fault, envelope_in, enve
 
 use crate::envelope::{Envelope, SealedBytes};
 use crate::fault::KeyFault;
-use crate::fields::{has_version_1, map_of, number_in, raw_in, raw32_in};
+use crate::fields::pairs_of;
+use ferry_fields::{has_version_1, number_in, raw_in, raw32_in};
 use ferry_msgpack::Value;
 use std::alloc::Global;
 
@@ -27,7 +28,7 @@ pub fn read_envelope(alloc: Global, blob: &[u8]) -> Result<Envelope, KeyFault>
     ensures range { IfOk result (λ envelope.
         (1 ≤ envelope.iterations) × (envelope.iterations ≤ 10000000)) }
 {
-    let pairs = map_of(alloc, blob)?;
+    let pairs = pairs_of(alloc, blob)?;
     envelope_in(alloc, pairs.as_slice())
 }
 

@@ -1,19 +1,19 @@
 //! From a key to its key text.
 
-ghost use Rattle.std.specs.Prelude.{◌≡◌, ◌≤◌, IfOk, OnOk, Ok, length, unwrap_or};
+ghost use Rattle.std.specs.Prelude.{◌≡◌, ◌≤◌, IfOk, Ok, length, unwrap_or};
 ghost use Rattle.ferry_mac.specs.Hmac.{hmac256};
-ghost use Rattle.ferry_msgpack.specs.Tree.{table, raw, no_pairs, put};
+ghost use Rattle.ferry_msgpack.specs.Tree.{no_pairs};
 ghost use Rattle.ferry_msgpack.specs.View.{view, pairs_view};
-ghost use Rattle.ferry_msgpack.specs.Shortest.{shortest};
-ghost use Rattle.ferry_msgpack.specs.Writable.{IsWritable, IsIncreasing};
-ghost use Rattle.ferry_keyblob.specs.Fields.{pairs_in};
+ghost use Rattle.ferry_msgpack.specs.Writable.{IsWritable};
+ghost use Rattle.ferry_fields.specs.Fields.{pairs_in};
 ghost use Rattle.ferry_keyblob.specs.Opening.{key_of, shown};
 ghost use Rattle.ferry_keyblob.specs.Sealing.{HasLengths, IsSealable, envelope_pairs, envelope_text, key_text, more_of, packed, packed_pairs};
 
 use crate::key_text::KeyText;
 use crate::opening::decrypted;
+use ferry_fields::{copied, put, put_raw, text_of};
 use ferry_mac::{hmac256, pbkdf2};
-use ferry_msgpack::{Value, write};
+use ferry_msgpack::Value;
 use std::alloc::{AllocError, Global};
 use std::collections::BTreeMap;
 
@@ -121,38 +121,6 @@ fn envelope_pairs(
     Ok(pairs)
 }
 
-/// Puts a pair in its place.
-fn put(
-    alloc: Global,
-    pairs: &mut BTreeMap<Vec<u8>, Value>,
-    name: &[u8],
-    value: Value,
-) -> Result<(), AllocError>
-    ensures pairs { OnOk result (
-        pairs_view pairs.new.entries ≡ put name.now (view value) (pairs_view pairs.old.entries)) }
-{
-    drop(pairs.insert(Vec::from_slice(alloc, name)?, value)?);
-    Ok(())
-}
-
-/// Puts a pair of a name and bytes in its place.
-fn put_raw(
-    alloc: Global,
-    pairs: &mut BTreeMap<Vec<u8>, Value>,
-    name: &[u8],
-    content: &[u8],
-) -> Result<(), AllocError>
-    ensures pairs { OnOk result (
-        pairs_view pairs.new.entries ≡ put name.now (raw content.now) (pairs_view pairs.old.entries)) }
-{
-    put(
-        alloc,
-        pairs,
-        name,
-        Value::Raw(Vec::from_slice(alloc, content)?),
-    )
-}
-
 /// A copy of the pairs of the other names.
 #[tactic(auto, unfolding(crate::specs::Sealing::more_of))]
 fn more_of(alloc: Global, more: &Value) -> Result<BTreeMap<Vec<u8>, Value>, AllocError>
@@ -164,39 +132,4 @@ fn more_of(alloc: Global, more: &Value) -> Result<BTreeMap<Vec<u8>, Value>, Allo
         Value::Table(pairs) => Ok(copied(alloc, pairs.as_slice())?),
         _ => Ok(BTreeMap::new(alloc)),
     }
-}
-
-/// A copy of pairs whose names increase.
-fn copied(alloc: Global, pairs: &[(Vec<u8>, Value)]) -> Result<BTreeMap<Vec<u8>, Value>, AllocError>
-    requires { IsIncreasing (pairs_view pairs.now) }
-    ensures pairs { IfOk result (λ copy. pairs_view copy.entries ≡ pairs_view pairs.now) }
-{
-    let mut copy = BTreeMap::new(alloc);
-    for place in 0..pairs.len() {
-        let value = pairs[place].1.clone()?;
-        put(alloc, &mut copy, pairs[place].0.as_slice(), value)?;
-    }
-    Ok(copy)
-}
-
-/// The bytes of a map.
-#[tactic(auto, using(ferry_msgpack::proofs::ViewLemmas::view_table))]
-fn text_of(alloc: Global, pairs: BTreeMap<Vec<u8>, Value>) -> Result<Vec<u8>, AllocError>
-    requires { IsWritable (table (pairs_view pairs.entries)) }
-    ensures text { IfOk result (λ text. text.items ≡ shortest (table (pairs_view pairs.entries))) }
-{
-    let value = Value::Table(in_order(alloc, pairs)?);
-    let mut text = Vec::new(alloc);
-    write(&value, &mut text)?;
-    Ok(text)
-}
-
-/// The pairs of a map as a vector, the least name first.
-fn in_order(
-    alloc: Global,
-    pairs: BTreeMap<Vec<u8>, Value>,
-) -> Result<Vec<(Vec<u8>, Value)>, AllocError>
-    ensures { IfOk result (λ all. all.items ≡ pairs.entries) }
-{
-    pairs.into_iter().collect(alloc)
 }

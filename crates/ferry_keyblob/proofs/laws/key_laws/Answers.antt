@@ -1,4 +1,4 @@
-use Rattle.ferry_keyblob.proofs.MapLemmas.{map_of-spelled, spelled-map_of}
+use Rattle.ferry_fields.proofs.MapLemmas.{map_of-spelled, spelled-map_of}
 use Rattle.ferry_msgpack.specs.Tree.{table}
 use Rattle.ferry_keyblob.proofs.LawLemmas.{wrong_passphrase, passphrase_wrong, no_passphrase, no_memory}
 use Rattle.ferry_keyblob.proofs.laws.key_laws.Goals as goal

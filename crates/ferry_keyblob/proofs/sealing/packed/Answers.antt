@@ -6,4 +6,4 @@ use Rattle.ferry_keyblob.proofs.SealLemmas.{packed_writable}
 use Rattle.ferry_keyblob.proofs.sealing.packed.Goals as goal
 
 pub text_of-requires : goal.text_of-requires
-text_of-requires c = subst (λ (ps : Pairs). IsWritable (table ps)) (sym c.in_ok-pairs.ensures.pairs) (packed_writable (shown c.args.key.now) c.in_ok-pairs.ensures.lengths c.requires)
+text_of-requires c = subst (λ (ps : Pairs). IsWritable (table ps)) (sym c.in_ok-pairs.ensures.pairs) (packed_writable (shown c.args.key.now) c.requires)

@@ -1,0 +1,69 @@
+//! From bytes to the pairs of a map.
+
+ghost use Rattle.std.specs.Prelude.{◌≡◌, ◌≢◌, IfOk, IfErr, Some, None};
+ghost use Rattle.ferry_msgpack.specs.Tree.{table};
+ghost use Rattle.ferry_msgpack.specs.View.{view, pairs_view};
+ghost use Rattle.ferry_msgpack.specs.Writable.{IsWritable};
+ghost use Rattle.ferry_fields.specs.Fields.{map_of, pairs_in};
+
+use crate::fault::MapFault;
+use ferry_msgpack::{PackFault, Value, read};
+use std::alloc::Global;
+
+/// The pairs of the map that the bytes spell, with nothing behind it, in byte order of their names.
+///
+/// `Memory` may come from any bytes, at any point.
+///
+/// Source: msgpack specification, "Formats".
+pub fn map_of(alloc: Global, bytes: &[u8]) -> Result<Vec<(Vec<u8>, Value)>, MapFault>
+    ensures map { IfOk result (λ pairs. map_of bytes.now ≡ Some (pairs_view pairs.items)) }
+    ensures fault { IfErr result (λ fault. fault ≢ MapFault.Memory → map_of bytes.now ≡ None) }
+    // The pairs can be written.
+    ensures writable { IfOk result (λ pairs. IsWritable (table (pairs_view pairs.items))) }
+{
+    let value = only_value(alloc, bytes)?;
+    pairs_of(value)
+}
+
+/// The value that the bytes spell, with nothing behind it.
+fn only_value(alloc: Global, bytes: &[u8]) -> Result<Value, MapFault>
+    ensures value { IfOk result (λ value. map_of bytes.now ≡ pairs_in (view value)) }
+    ensures fault { IfErr result (λ fault. fault ≢ MapFault.Memory → map_of bytes.now ≡ None) }
+    ensures writable { IfOk result (λ value. IsWritable (view value)) }
+{
+    match read(alloc, bytes, 0) {
+        Ok((value, stop)) => {
+            if stop == bytes.len() {
+                Ok(value)
+            } else {
+                Err(MapFault::Pack)
+            }
+        }
+        Err(fault) => Err(fault_of_pack(fault)),
+    }
+}
+
+/// The fault where no value could be read.
+fn fault_of_pack(fault: PackFault) -> MapFault
+    ensures memory { fault ≡ PackFault.Memory → result ≡ MapFault.Memory }
+    ensures pack { fault ≢ PackFault.Memory → result ≡ MapFault.Pack }
+{
+    match fault {
+        PackFault::Memory => MapFault::Memory,
+        _ => MapFault::Pack,
+    }
+}
+
+/// The pairs of a map.
+#[tactic(auto, using(ferry_msgpack::proofs::ViewLemmas::view_table))]
+fn pairs_of(value: Value) -> Result<Vec<(Vec<u8>, Value)>, MapFault>
+    requires { IsWritable (view value) }
+    ensures pairs { IfOk result (λ pairs. pairs_in (view value) ≡ Some (pairs_view pairs.items)) }
+    ensures fault { IfErr result (λ fault. (fault ≡ MapFault.Pack) × (pairs_in (view value) ≡ None)) }
+    ensures writable { IfOk result (λ pairs. IsWritable (table (pairs_view pairs.items))) }
+{
+    match value {
+        Value::Table(pairs) => Ok(pairs),
+        _ => Err(MapFault::Pack),
+    }
+}
