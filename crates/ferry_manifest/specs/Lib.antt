@@ -1,0 +1,6 @@
+pub mod Fault
+pub mod Place
+pub mod Walk
+pub mod Tag
+pub mod Manifest
+pub mod Writing
