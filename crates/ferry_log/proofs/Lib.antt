@@ -1,4 +1,4 @@
-mod LawLemmas
+pub mod LawLemmas
 mod HeadLemmas
 mod WholeLemmas
 pub mod PairsLemmas
@@ -7,3 +7,4 @@ mod LeastLemmas
 mod OpeningLemmas
 mod ExtentsLemmas
 mod StateLemmas
+pub mod PlaceLemmas

@@ -1,5 +1,5 @@
 -- What contracts see of an opened log, and what ties it to the files.
-use Rattle.std.specs.Prelude.{◌≡◌, ℕ, ◌+◌, ◌==◌, if◌then◌else◌, List, length, map, sum_by, Option, Some, None, MatchOption, IsSome, refl}
+use Rattle.std.specs.Prelude.{◌≡◌, ℕ, ◌+◌, ◌≤◌, ◌==◌, if◌then◌else◌, List, length, map, sum_by, take, drop, Option, Some, None, MatchOption, IsSome, refl}
 use Rattle.std.specs.FinMap.{FinMap, get, values, code}
 use Rattle.std.specs.Coded.{Coded, code_by, coded×, coded_ℕ, coded_list}
 use Rattle.std.specs.declared.cmp.Ordering.TheVariants.{Less}
@@ -52,6 +52,11 @@ pub record IsStateOf (files : Files) (state : LogState) : Type 0 where
   pub is : IsLog files state.transaction log
   pub live : (key : List ℕ) → get state.live key ≡ live_place key log
   pub extents : state.extents ≡ extents_of files state.live (log_numbers is.is)
+
+-- A blob lies at a place of a segment: so many of its bytes from there on.
+pub record IsBlobAt (bytes : List ℕ) (at size : ℕ) (blob : List ℕ) : Type 0 where
+  pub holds : take size (drop at bytes) ≡ blob
+  pub within : at + size ≤ length bytes
 
 -- What opening gives, where these numbers are those of the segments that are there.
 abbrev pub OpensAs : Files → List ℕ → LogState → Type 0

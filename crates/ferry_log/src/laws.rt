@@ -1,11 +1,13 @@
 //! Laws of the log, each the contract of a function with nothing to do.
-ghost use Rattle.std.specs.Prelude.{◌≡◌, ◌⊎◌, ℕ, List, Option};
+ghost use Rattle.std.specs.Prelude.{◌≡◌, ◌⊎◌, ℕ, List, Option, Some, None};
 ghost use Rattle.ferry_segment.specs.Entry.{IsBytes};
 ghost use Rattle.ferry_disk.specs.Files.{Files, segment_bytes};
 ghost use Rattle.ferry_log.specs.declared.place.Head.{Head};
+ghost use Rattle.ferry_log.specs.declared.place.Place.{Place};
+ghost use Rattle.ferry_log.specs.Live.{live_blob, live_place};
 ghost use Rattle.ferry_log.specs.Head.{IsHeadAt, IsUnreadAt};
 ghost use Rattle.ferry_log.specs.Log.{Located, IsTransaction, IsUncommitted, IsLog, IsDamaged};
-ghost use Rattle.ferry_log.specs.State.{LogState, IsStateOf};
+ghost use Rattle.ferry_log.specs.State.{LogState, IsStateOf, IsBlobAt};
 
 /// Files have one log, or one first place that doesn't read, or no committed segment, and never two of these.
 pub fn log_laws()
@@ -17,6 +19,12 @@ pub fn log_laws()
     ensures uncommitted { (files : Files) (t : ℕ) → IsUncommitted files → IsTransaction files t → ⊥ }
     ensures apart { (files : Files) (s at t : ℕ) (log : List Located) → IsDamaged files s at → IsLog files t log → ⊥ }
     ensures one_state { (files : Files) (a b : LogState) → IsStateOf files a → IsStateOf files b → a ≡ b }
+    // The place of a live key is where its blob lies, and a key without a place has no blob.
+    ensures places { (files : Files) (t : ℕ) (log : List Located) (key : List ℕ) (place : Place)
+        → IsLog files t log → live_place key log ≡ Some place
+        → (blob : List ℕ) × (live_blob key log ≡ Some blob)
+        × IsBlobAt (segment_bytes files place.segment) place.at place.size blob }
+    ensures no_place { (key : List ℕ) (log : List Located) → live_place key log ≡ None → live_blob key log ≡ None }
 {}
 
 /// At a place one thing reads, or nothing does.

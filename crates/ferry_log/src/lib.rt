@@ -22,4 +22,4 @@ pub use head::head_at;
 pub use laws::{head_laws, log_laws};
 pub use log::{Log, open_log};
 pub use place::{Extent, Head, Place};
-pub use whole::read_whole;
+pub use whole::{read_part, read_whole};

@@ -39,8 +39,9 @@ pub(crate) fn length_of<S: Shelf>(shelf: &mut S, name: Name) -> Result<u64, Stor
     }
 }
 
-/// Reads `count` bytes of a file from `at` on into `bytes`, whose memory is used again: fewer only at the file's end.
-pub(crate) fn read_part<S: Shelf>(
+/// Reads `count` bytes of a file from `at` on into `bytes`, whose memory is used again: fewer only at the file's end. After an
+/// error `bytes` has anything.
+pub fn read_part<S: Shelf>(
     shelf: &mut S,
     name: Name,
     at: u64,

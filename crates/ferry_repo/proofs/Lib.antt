@@ -1,0 +1,3 @@
+pub mod ObjectLemmas
+pub mod OpeningLemmas
+pub mod LawLemmas

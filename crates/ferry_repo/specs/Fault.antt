@@ -1,0 +1,57 @@
+-- The faults of a repository: those of its parts, and what each says of a shelf's count of faults.
+use Rattle.std.specs.Prelude.{◌≡◌, ℕ, Result, MatchResult}
+use Rattle.ferry_config.specs.declared.fault.ConfigFault.{ConfigFault}
+use Rattle.ferry_config.specs.declared.fault.ConfigFault.TheVariants as Config
+use Rattle.ferry_disk.specs.Device.{Rose}
+use Rattle.ferry_disk.specs.declared.shelf.StoreFault.{StoreFault}
+use Rattle.ferry_disk.specs.declared.shelf.StoreFault.TheVariants as Store
+use Rattle.ferry_keyblob.specs.declared.fault.KeyFault.{KeyFault}
+use Rattle.ferry_keyblob.specs.declared.fault.KeyFault.TheVariants as Key
+use Rattle.ferry_log.specs.declared.fault.LogFault.{LogFault}
+use Rattle.ferry_log.specs.declared.fault.LogFault.TheVariants as Log
+use Rattle.ferry_manifest.specs.declared.fault.MetaFault.{MetaFault}
+use Rattle.ferry_manifest.specs.declared.fault.MetaFault.TheVariants as Meta
+use Rattle.ferry_repo.specs.declared.fault.RepoFault.{RepoFault}
+use Rattle.ferry_repo.specs.declared.fault.RepoFault.TheVariants.{NoCommit, Damaged, Config, Key, Manifest, Device, Memory}
+
+-- the fault of a repository whose log doesn't open
+abbrev pub log_fault : LogFault → RepoFault
+log_fault Log.NoCommit = NoCommit
+log_fault (Log.Damaged segment at) = Damaged segment at
+log_fault Log.Device = Device
+log_fault Log.Memory = Memory
+
+-- that of a shelf
+abbrev pub store_fault : StoreFault → RepoFault
+store_fault Store.Failed = Device
+store_fault Store.Memory = Memory
+
+-- that of a file `config`
+abbrev pub config_fault : ConfigFault → RepoFault
+config_fault Config.Memory = Memory
+config_fault fault = Config fault
+
+-- that of a repository key
+abbrev pub key_fault : KeyFault → RepoFault
+key_fault Key.Memory = Memory
+key_fault fault = Key fault
+
+-- that of a manifest
+abbrev pub manifest_fault : MetaFault → RepoFault
+manifest_fault Meta.Memory = Memory
+manifest_fault fault = Manifest fault
+
+-- The count rose at `Device`, and is the same at any other refusal.
+abbrev pub FaultCause : ℕ → ℕ → RepoFault → Type 0
+FaultCause before now Device = Rose before now
+FaultCause before now fault = now ≡ before
+
+-- The count rose where the answer is `Device`, and is the same at any other.
+abbrev pub HasFaultCause : {T : Type 0} → ℕ → ℕ → Result T RepoFault → Type 0
+HasFaultCause before now result = MatchResult result (λ _. now ≡ before) (FaultCause before now)
+
+-- a fault that says something of the files: neither the device's nor want of memory
+abbrev pub IsOfFiles : RepoFault → Type 0
+IsOfFiles Device = ⊥
+IsOfFiles Memory = ⊥
+IsOfFiles fault = Unit {0}

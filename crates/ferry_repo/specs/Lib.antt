@@ -1,0 +1,5 @@
+pub mod Fault
+pub mod Objects
+pub mod Parts
+pub mod Reason
+pub mod Opening

@@ -1,0 +1,97 @@
+//! Why a repository or a part of it can't be read.
+ghost use Rattle.std.specs.Prelude.{◌≡◌};
+ghost use Rattle.ferry_repo.specs.Fault.{log_fault, store_fault, config_fault, key_fault, manifest_fault};
+
+use ferry_blob::BlobFault;
+use ferry_config::ConfigFault;
+use ferry_disk::StoreFault;
+use ferry_keyblob::KeyFault;
+use ferry_log::{Id, LogFault};
+use ferry_manifest::MetaFault;
+use thiserror::Error;
+
+/// Why a repository doesn't open, or a chunk of it can't be read. The faults of parts are never those of memory, which is
+/// `Memory` alone. No message shows a key.
+#[derive(Clone, Copy, Debug, PartialEq, Eq, Error)]
+pub enum RepoFault {
+    /// No segment is committed.
+    #[error("no segment is committed")]
+    NoCommit,
+    /// The first segment that doesn't read, and the offset in bytes of its first entry that doesn't, 0 for a wrong magic. After
+    /// opening: a blob isn't at its place any more.
+    #[error("segment {segment} is damaged at {at}")]
+    Damaged { segment: u64, at: u64 },
+    /// The file `config` doesn't read.
+    #[error("the file config doesn't read: {0}")]
+    Config(ConfigFault),
+    /// The repository key doesn't read, or doesn't open.
+    #[error("the repository key doesn't open: {0}")]
+    Key(KeyFault),
+    /// The id isn't live.
+    #[error("an object isn't there")]
+    Missing(Id),
+    /// The blob of the id doesn't open.
+    #[error("an object doesn't open: {1}")]
+    Blob(Id, BlobFault),
+    /// The object under the zero id is no manifest.
+    #[error("the manifest doesn't read: {0}")]
+    Manifest(MetaFault),
+    /// The device failed.
+    #[error("the device failed")]
+    Device,
+    /// Memory was refused.
+    #[error("out of memory")]
+    Memory,
+}
+
+/// The fault where the log doesn't open.
+pub(crate) fn of_log(fault: LogFault) -> RepoFault
+    ensures { result ≡ log_fault fault }
+{
+    match fault {
+        LogFault::NoCommit => RepoFault::NoCommit,
+        LogFault::Damaged { segment, at } => RepoFault::Damaged { segment, at },
+        LogFault::Device => RepoFault::Device,
+        LogFault::Memory => RepoFault::Memory,
+    }
+}
+
+/// The fault where the shelf gives no answer.
+pub(crate) fn of_store(fault: StoreFault) -> RepoFault
+    ensures { result ≡ store_fault fault }
+{
+    match fault {
+        StoreFault::Failed => RepoFault::Device,
+        StoreFault::Memory => RepoFault::Memory,
+    }
+}
+
+/// The fault where the file `config` doesn't read.
+pub(crate) fn of_config(fault: ConfigFault) -> RepoFault
+    ensures { result ≡ config_fault fault }
+{
+    match fault {
+        ConfigFault::Memory => RepoFault::Memory,
+        fault => RepoFault::Config(fault),
+    }
+}
+
+/// The fault where the key doesn't open.
+pub(crate) fn of_key(fault: KeyFault) -> RepoFault
+    ensures { result ≡ key_fault fault }
+{
+    match fault {
+        KeyFault::Memory => RepoFault::Memory,
+        fault => RepoFault::Key(fault),
+    }
+}
+
+/// The fault where the manifest doesn't read.
+pub(crate) fn of_meta(fault: MetaFault) -> RepoFault
+    ensures { result ≡ manifest_fault fault }
+{
+    match fault {
+        MetaFault::Memory => RepoFault::Memory,
+        fault => RepoFault::Manifest(fault),
+    }
+}

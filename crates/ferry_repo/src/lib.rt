@@ -1,0 +1,19 @@
+//! A repository opened for reading: its log, its settings, its keys, its manifest, and its chunks.
+//!
+//! The layers above may rely on this: `Repo::open` succeeds exactly where the files open under the passphrase, and otherwise
+//! names the first thing that is wrong, in the order log, `config`, key, manifest. `Repo::chunk` answers the content that
+//! opens under an id, or why there is none. The formats are those of BorgBackup 1.2 (Internals, "Data structures and file
+//! formats").
+#![tactic(auto)]
+
+mod fault;
+mod laws;
+mod object;
+mod opening;
+mod reason;
+mod repo;
+
+pub use fault::RepoFault;
+pub use laws::{chunk_laws, repo_laws};
+pub use reason::write_reason;
+pub use repo::{Id, Repo};
