@@ -17,7 +17,9 @@ import sys
 import tempfile
 
 sys.dont_write_bytecode = True
+import repositories
 import segments
+from repositories import Keys, fields, pack, repository
 from segments import COMMIT, COMMIT_SEGMENT, MAGIC, delete, put, sealed, segment
 
 PROGRAM = os.path.abspath(sys.argv[1])
@@ -264,7 +266,7 @@ def words():
     case("--version", good, (0, b"borgferry 0.1.0\n"), ["--version"])
     case("a source of the name --version", good, NO_COMMIT, ("--version", "-", "keys"))
     status, out = run(["--help"], "/")
-    texts = [b"SOURCE TARGET COMMAND", b"  keys  ", b"  key   ", b"BORG_OTHER_PASSPHRASE", b"BORG_PASSPHRASE", b"status", b"--version"]
+    texts = [b"SOURCE TARGET COMMAND", b"  keys  ", b"  key   ", b"  list  ", b"BORG_OTHER_PASSPHRASE", b"BORG_PASSPHRASE", b"status", b"--version"]
     judge("--help", (status, b" ".join(text for text in texts if text not in out)), (0, b""))
     for at in range(3):
         given = [b"source", b"-", b"keys"]
@@ -327,6 +329,74 @@ def keys_of_configs():
     case("key: a folder as config", {"config": None}, (8, b"source refused: config 1\n"), words)
 
 
+PASSPHRASE = b"source passphrase"
+OPEN = {b"BORG_OTHER_PASSPHRASE": PASSPHRASE}
+LIST = ("source", "-", "list")
+ZERO_ID = b"00" * 32
+
+
+def refused(reason):
+    return 8, b"source refused: %s\n" % reason
+
+
+def listing(name, manifest, want, words=LIST, variables=OPEN, **files):
+    """`list` of a repository whose manifest has this blob, and whose files are these beside."""
+    made = repository(Keys(), PASSPHRASE, manifest)
+    made.update({place.replace("_", "/"): content for place, content in files.items()})
+    case(f"list: {name}", {place: content for place, content in made.items() if content is not None}, want, words, variables=variables)
+
+
+def listings():
+    """What `list` says of manifests, good and bad; a plain program of this folder made them."""
+    keys = Keys()
+    good = keys.blob(keys.tagged(fields()))
+    listing("no archives", good, NOTHING)
+    archives = [(b"b", K, b"2020-01-01T00:00:00.000000"), (b"a\n", L, b""), (b"A", K, b"x y"), (b"\xff\\\x7f \x1f", L, b"\n"), (b"", K, b"t")]
+    listing("archives in byte order of names", keys.blob(keys.tagged(fields(archives))), (0, repositories.listing(archives)))
+    many = [(b"archive %05d" % number, K, b"2020-01-01T00:00:00.000000") for number in range(3000)]
+    listing("many archives", keys.blob(keys.tagged(fields(many))), (0, repositories.listing(many)))
+    loose = fields(archives[:1])
+    del loose[b"timestamp"], loose[b"config"], loose[b"item_keys"]
+    loose[b"archives"][b"b"][b"more"] = [1, -2, None, True]
+    listing("fields that are absent, and others", keys.blob(keys.tagged({**loose, b"other": {b"x": b"y"}})), (0, repositories.listing(archives[:1])))
+    listing("no segment is committed", good, NO_COMMIT, data_0_1=None, config=None)
+    listing("a damaged segment comes before config", good, damaged(0, 0), data_0_0=b"", config=b"")
+    listing("config comes before the key", good, refused(b"config 1"), config=None)
+    listing("another passphrase", good, refused(b"key 5"), variables={})
+    listing("the target's passphrase", good, refused(b"key 5"), variables={b"BORG_PASSPHRASE": PASSPHRASE})
+    listing("no manifest", None, refused(b"missing " + ZERO_ID))
+    listing("no folder", good, NO_COMMIT, ("-", "source", "list"))
+    listing("a word too many", good, wrong_word(2), LIST + ("--x",))
+    listing("--", good, NOTHING, LIST + ("--",))
+    for name, blob, number in [
+        ("42 bytes", good[:42], 2), ("no bytes", b"", 2), ("the type 02", b"\x02" + good[1:], 1), ("the type 02 and 42 bytes", b"\x02" + good[1:42], 2),
+        ("a byte of the MAC changed", good[:9] + bytes([good[9] ^ 1]) + good[10:], 3), ("its last byte changed", good[:-1] + bytes([good[-1] ^ 1]), 3),
+        ("another MAC key", Keys(b"other").blob(keys.tagged(fields())), 3), ("the header 01 00", keys.blob(keys.tagged(fields()), b"\1\0"), 4), ("the header 00 01", keys.blob(b"", b"\0\1"), 4),
+    ]:
+        listing(f"a manifest's blob with {name}", blob, refused(b"blob %d %s" % (number, ZERO_ID)))
+    tagged = keys.tagged(fields(archives))
+    bad = {
+        "no bytes": (b"", 1), "a byte behind": (tagged + b"\0", 1), "a byte less": (tagged[:-1], 1), "no map": (pack([1]), 1),
+        "no authentication tag": (pack(fields()), 3), "another info": (keys.tagged(fields(), b"borg-metadata-authentication-archive"), 4),
+        "a bit of the tag changed": (tagged.replace(bytes([0xDB, 0, 0, 0, 64]), bytes([0xDA, 0, 64]), 1), 4),
+        "a time changed": (tagged.replace(b"x y", b"x z"), 4), "the tag of other keys": (Keys(b"other").tagged(fields()), 4),
+        "a salt of 63 bytes": (keys.tagged(fields(), salt=b"\x55" * 63), 2),
+    }
+    without = lambda name: {key: value for key, value in fields(archives).items() if key != name}
+    for name, packed in {
+        "the version 2": {**fields(), b"version": 2}, "no version": without(b"version"), "no archives": without(b"archives"), "a version that is raw": {**fields(), b"version": b"1"},
+        "a timestamp that is nil": {**fields(), b"timestamp": None}, "a config that is an array": {**fields(), b"config": []},
+        "item keys that are a map": {**fields(), b"item_keys": {}}, "an item key that is a number": {**fields(), b"item_keys": [b"path", 1]}, "archives that are an array": {**fields(), b"archives": []},
+        "an id of 31 bytes": fields([(b"a", K[1:], b"t")]), "an archive without its time": {**fields(), b"archives": {b"a": {b"id": K}}}, "an archive that is nil": {**fields(), b"archives": {b"a": None}},
+        "no version and no tag": None,
+    }.items():
+        bad[name] = (pack(without(b"version")) if packed is None else keys.tagged(packed), 2)
+    for name, tam in {"a tag that is raw": b"x", "a tag without a salt": {b"type": b"HKDF_HMAC_SHA512", b"hmac": bytes(64)}, "a tag of another type": {b"type": b"HMAC", b"hmac": bytes(64), b"salt": bytes(64)}, "a tag of 63 bytes": {b"type": b"HKDF_HMAC_SHA512", b"hmac": bytes(63), b"salt": bytes(64)}}.items():
+        bad[name] = (pack({**fields(), b"tam": tam}), 2)
+    for name, (content, number) in bad.items():
+        listing(f"a manifest with {name}", keys.blob(content), refused(b"manifest %d" % number))
+
+
 def variables():
     good = log(segment(put(K, b"abc")), COMMIT_SEGMENT)
     bad, text = b"\xff\xfe", "gr\u00fc\u00df e".encode()
@@ -353,7 +423,7 @@ def outputs():
             os.close(write)
 
 
-for cases in (folders, logs, damage, memory, names, words, keys_of_configs, variables, outputs):
+for cases in (folders, logs, damage, memory, names, words, keys_of_configs, listings, variables, outputs):
     cases()
 print(f"{passed} passed, {failed} failed")
 sys.exit(1 if failed or not passed else 0)

@@ -16,6 +16,7 @@ SOURCE and TARGET are folders of repositories; the word - stands for no folder.
 commands:
   keys    prints each live key of the source's committed log and the size of its blob
   key     opens the source's key with its passphrase, and prints the repository's id and the iterations
+  list    prints the id, the time and the name of each archive of the source
 
 variables:
   BORG_OTHER_PASSPHRASE    the source's passphrase, empty where the variable is absent

@@ -1,2 +1,3 @@
 mod KeyLemmas
 mod KeysLemmas
+mod ListLemmas

@@ -10,7 +10,7 @@ use Rattle.ferry_top.specs.declared.status.Status.{Status}
 use Rattle.ferry_top.specs.declared.status.Status.TheVariants.{Done, Usage, Memory, SourceDevice, OutputDevice, SourceRefused}
 use Rattle.ferry_top.specs.declared.status.Refusal.{Refusal}
 use Rattle.ferry_top.specs.declared.status.Refusal.TheVariants.{Repo}
-use Rattle.ferry_top.specs.declared.status.RepoFault.TheVariants as Fault
+use Rattle.ferry_repo.specs.declared.fault.RepoFault.TheVariants as Fault
 
 -- The text is the line of the key in a file `config` that the passphrase opens: its repository id in hex digits, a space, the
 -- iterations of its envelope, and a line feed.
@@ -25,11 +25,10 @@ pub record IsIdLine (passphrase bytes text : List ℕ) : Type 0 where
 
 -- what a refusal says of a file `config` and a passphrase
 abbrev pub RefusesConfig : List ℕ → List ℕ → Refusal → Type 0
-RefusesConfig passphrase bytes (Repo Fault.NoCommit) = ⊥
-RefusesConfig passphrase bytes (Repo (Fault.Damaged segment at)) = ⊥
 RefusesConfig passphrase bytes (Repo (Fault.Config fault)) = config_of bytes ≡ Err fault
 RefusesConfig passphrase bytes (Repo (Fault.Key fault)) =
     (config : Config) × (config_of bytes ≡ Ok config) × (key_of passphrase config.key ≡ Err fault)
+RefusesConfig passphrase bytes (Repo fault) = ⊥
 
 -- the status where a file `config` gives no line
 abbrev pub IsKeyRefusal : List ℕ → List ℕ → Status → Type 0

@@ -1,5 +1,6 @@
 pub mod Key
 pub mod Keys
+pub mod List
 pub mod Run
 pub mod Status
 pub mod Words

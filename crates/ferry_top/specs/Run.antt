@@ -6,9 +6,10 @@ use Rattle.ferry_disk.specs.Device.{Told, Rose, WritesSome, HasSinkCause}
 use Rattle.ferry_disk.specs.declared.sink.SinkFault.{SinkFault}
 use Rattle.ferry_top.specs.Keys.{IsListing}
 use Rattle.ferry_top.specs.Key.{IsIdLine, RefusesConfig}
+use Rattle.ferry_top.specs.List.{IsArchiveListing, RefusesOpening}
 use Rattle.ferry_top.specs.Status.{fault_line, RefusesKeys}
 use Rattle.ferry_top.specs.declared.words.Command.{Command}
-use Rattle.ferry_top.specs.declared.words.Command.TheVariants.{Keys, Key}
+use Rattle.ferry_top.specs.declared.words.Command.TheVariants.{Keys, Key, List as ListCommand}
 use Rattle.ferry_top.specs.declared.status.Refusal.{Refusal}
 use Rattle.ferry_top.specs.declared.status.Status.{Status}
 use Rattle.ferry_top.specs.declared.status.Status.TheVariants.{Done, Usage, Memory, SourceDevice, OutputDevice, SourceRefused}
@@ -49,6 +50,10 @@ KeysOut source written faults status after_written after_faults = TextOut IsList
 abbrev pub KeyOut : List ℕ → Option Told → Option (List ℕ) → ℕ → Status → Option (List ℕ) → ℕ → Type 0
 KeyOut passphrase source written faults status after_written after_faults = TextOut (λ files text. IsIdLine passphrase (contents_at files Name.Config) text) (λ files refusal. RefusesConfig passphrase (contents_at files Name.Config) refusal) source written faults status after_written after_faults
 
+-- what the command that lists the archives has written
+abbrev pub ListOut : List ℕ → Option Told → Option (List ℕ) → ℕ → Status → Option (List ℕ) → ℕ → Type 0
+ListOut passphrase source written faults status after_written after_faults = TextOut (IsArchiveListing passphrase) (RefusesOpening passphrase) source written faults status after_written after_faults
+
 -- A line went to the output in one write, whatever the write answered.
 pub record IsSent (line : List ℕ) (written : Option (List ℕ)) (faults : ℕ) (after_written : Option (List ℕ)) (after_faults : ℕ) : Type 0 where
   pub answer : Result Unit SinkFault
@@ -66,6 +71,7 @@ Reports status written faults after_written after_faults = IsSent (fault_line st
 abbrev pub CommandOut : Result Command ℕ → List ℕ → Option Told → Option (List ℕ) → ℕ → Status → Option (List ℕ) → ℕ → Type 0
 CommandOut (Ok Keys) passphrase source written faults status after_written after_faults = KeysOut source written faults status after_written after_faults
 CommandOut (Ok Key) passphrase source written faults status after_written after_faults = KeyOut passphrase source written faults status after_written after_faults
+CommandOut (Ok ListCommand) passphrase source written faults status after_written after_faults = ListOut passphrase source written faults status after_written after_faults
 CommandOut (Err word) passphrase source written faults status after_written after_faults = Unwritten written faults after_written after_faults
 
 -- what a run has written: the command's lines, and then the fault line

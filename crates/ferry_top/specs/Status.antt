@@ -1,11 +1,9 @@
 -- The numbers of the statuses, their fault lines, and what a refusal says of the source's files.
 use Rattle.std.specs.Prelude.{ℕ, List, [], ◌∷◌, ◌++◌, codes, decimal}
-use Rattle.ferry_config.specs.Fault.{number_of_fault}
 use Rattle.ferry_config.specs.declared.fault.ConfigFault.{ConfigFault}
 use Rattle.ferry_config.specs.declared.fault.ConfigFault.TheVariants as Config
 use Rattle.ferry_keyblob.specs.declared.fault.KeyFault.{KeyFault}
 use Rattle.ferry_keyblob.specs.declared.fault.KeyFault.TheVariants as Key
-use Rattle.ferry_keyblob.specs.Fault.{number_of_fault as key_number}
 use Rattle.ferry_disk.specs.Files.{Files}
 use Rattle.ferry_log.specs.Log.{IsUncommitted, IsDamaged}
 use Rattle.ferry_log.specs.declared.fault.LogFault.{LogFault}
@@ -14,8 +12,9 @@ use Rattle.ferry_top.specs.declared.status.Status.{Status}
 use Rattle.ferry_top.specs.declared.status.Status.TheVariants.{Done, Usage, Memory, SourceDevice, OutputDevice, SourceRefused}
 use Rattle.ferry_top.specs.declared.status.Refusal.{Refusal}
 use Rattle.ferry_top.specs.declared.status.Refusal.TheVariants.{Repo}
-use Rattle.ferry_top.specs.declared.status.RepoFault.{RepoFault}
-use Rattle.ferry_top.specs.declared.status.RepoFault.TheVariants.{NoCommit, Damaged, Config, Key}
+use Rattle.ferry_repo.specs.Reason.{reason}
+use Rattle.ferry_repo.specs.declared.fault.RepoFault.{RepoFault}
+use Rattle.ferry_repo.specs.declared.fault.RepoFault.TheVariants.{NoCommit, Damaged, Config, Key, Missing, Blob, Manifest, Device, Memory as RepoMemory}
 
 -- the number that the program ends with
 abbrev pub status_number : Status → ℕ
@@ -43,27 +42,19 @@ abbrev pub key_status : KeyFault → Status
 key_status Key.Memory = Memory
 key_status fault = SourceRefused (Repo (Key fault))
 
+-- the status where the source doesn't open
+abbrev pub repo_status : RepoFault → Status
+repo_status Device = SourceDevice
+repo_status RepoMemory = Memory
+repo_status fault = SourceRefused (Repo fault)
+
 -- the fault line of the first wrong word
 abbrev pub usage_line : ℕ → List ℕ
 usage_line word = codes "usage: word " ++ (decimal word ++ (10 ∷ []))
 
--- the fault line of a source with a damaged segment
-abbrev pub damaged_line : ℕ → ℕ → List ℕ
-damaged_line segment at = codes "source refused: damaged segment " ++ (decimal segment ++ (codes " at " ++ (decimal at ++ (10 ∷ []))))
-
--- the fault lines of a source whose file `config`, or whose key, is refused
-abbrev pub config_line : ℕ → List ℕ
-config_line number = codes "source refused: config " ++ (decimal number ++ (10 ∷ []))
-
-abbrev pub key_fault_line : ℕ → List ℕ
-key_fault_line number = codes "source refused: key " ++ (decimal number ++ (10 ∷ []))
-
--- the fault line of a source that doesn't open
+-- the fault line of a source that is refused
 abbrev pub refused_line : RepoFault → List ℕ
-refused_line NoCommit = codes "source refused: no commit\n"
-refused_line (Damaged segment at) = damaged_line segment at
-refused_line (Config fault) = config_line (number_of_fault fault)
-refused_line (Key fault) = key_fault_line (key_number fault)
+refused_line fault = codes "source refused: " ++ (reason fault ++ (10 ∷ []))
 
 -- the fault line, nothing where a status has none
 abbrev pub fault_line : Status → List ℕ
@@ -78,5 +69,4 @@ fault_line (SourceRefused (Repo fault)) = refused_line fault
 abbrev pub RefusesKeys : Files → Refusal → Type 0
 RefusesKeys files (Repo NoCommit) = IsUncommitted files
 RefusesKeys files (Repo (Damaged segment at)) = IsDamaged files segment at
-RefusesKeys files (Repo (Config fault)) = ⊥
-RefusesKeys files (Repo (Key fault)) = ⊥
+RefusesKeys files (Repo fault) = ⊥

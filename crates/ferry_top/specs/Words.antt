@@ -2,7 +2,7 @@
 use Rattle.std.specs.Prelude.{ℕ, Bool, false, not, ◌||◌, if◌then◌else◌, List, [], ◌∷◌, codes, Result, Ok, Err}
 use Rattle.std.specs.Str.{bytes_eq}
 use Rattle.ferry_top.specs.declared.words.Command.{Command}
-use Rattle.ferry_top.specs.declared.words.Command.TheVariants.{Keys, Key}
+use Rattle.ferry_top.specs.declared.words.Command.TheVariants.{Keys, Key, List as ListCommand}
 
 -- whether there are three words or more, of which the first two differ or are `-`
 abbrev pub places_fit : List (List ℕ) → Bool
@@ -24,4 +24,5 @@ words_of [] = Err 1
 words_of (command ∷ rest) =
     if bytes_eq command (codes "keys") then alone Keys rest
     else if bytes_eq command (codes "key") then alone Key rest
+    else if bytes_eq command (codes "list") then alone ListCommand rest
     else Err 1

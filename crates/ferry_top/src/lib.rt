@@ -7,6 +7,7 @@
 mod key;
 mod keys;
 mod lines;
+mod list;
 mod report;
 mod status;
 #[cfg(test)]
@@ -14,6 +15,7 @@ mod tests;
 mod top;
 mod words;
 
-pub use status::{Refusal, RepoFault, Secrets, Status};
+pub use ferry_repo::RepoFault;
+pub use status::{Refusal, Secrets, Status};
 pub use top::run;
 pub use words::places_fit;

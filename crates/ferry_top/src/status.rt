@@ -1,10 +1,11 @@
 //! How a run ends.
 ghost use Rattle.std.specs.Prelude.{◌≡◌};
-ghost use Rattle.ferry_top.specs.Status.{status_number, log_status, config_status, key_status};
+ghost use Rattle.ferry_top.specs.Status.{status_number, log_status, config_status, key_status, repo_status};
 
 use ferry_config::ConfigFault;
 use ferry_keyblob::KeyFault;
 use ferry_log::LogFault;
+use ferry_repo::RepoFault;
 
 /// The passphrases of the source and of the target, as bytes. The caller owns them.
 #[derive(Drop)]
@@ -35,19 +36,6 @@ pub enum Status {
 pub enum Refusal {
     /// The repository doesn't open.
     Repo(RepoFault),
-}
-
-/// Why a repository doesn't open.
-#[derive(Clone, Copy, Debug, PartialEq, Eq)]
-pub enum RepoFault {
-    /// No segment is committed.
-    NoCommit,
-    /// The first segment that doesn't read, and the offset in bytes of its first entry that doesn't, 0 for a wrong magic.
-    Damaged { segment: u64, at: u64 },
-    /// The file `config` doesn't read.
-    Config(ConfigFault),
-    /// The repository key doesn't read, or doesn't open.
-    Key(KeyFault),
 }
 
 impl Status {
@@ -97,5 +85,16 @@ pub(crate) fn of_key(fault: KeyFault) -> Status
     match fault {
         KeyFault::Memory => Status::Memory,
         fault => Status::SourceRefused(Refusal::Repo(RepoFault::Key(fault))),
+    }
+}
+
+/// The status of a source that doesn't open.
+pub(crate) fn of_repo(fault: RepoFault) -> Status
+    ensures { result ≡ repo_status fault }
+{
+    match fault {
+        RepoFault::Device => Status::SourceDevice,
+        RepoFault::Memory => Status::Memory,
+        fault => Status::SourceRefused(Refusal::Repo(fault)),
     }
 }

@@ -40,6 +40,62 @@ const NO_ITERATIONS: &str =
 \tSJLagyhHqeXYuervNzBvZ4ALXPHSc4MCeJ07rRj+e/RCWKocu12WwamVOE761VzSxsR3Wm\n\
 \tKXWtaLfuq+In0z5RqAnGVQ==\n";
 
+/// The key of the manifests below, under the same passphrase with one iteration. Python sealed it and them, by
+/// `checks/repositories.py`.
+const OPEN_KEY: &str =
+    "key = 3wAAAAbbAAAACWFsZ29yaXRobdsAAAAGc2hhMjU22wAAAARkYXRh2wAAARINUwE2Ll7fdW1b3j+A1ntd\
+    QpVf3UWmNLbIYOnV464GEZ6VRWMPNBhexZ0I/az+zrUkV1iQly8Dh2gPuSmUJ+/ynJiOkBhKvoVWdgxz\
+    Sv00BS+fIpBbiCStXe7hed2AJpQW2Ap2lIWprOn0Lt2mRCVMxoCTTlIopLlBhPZ/iFB96He379lOQiqr\
+    mNaDThD6ieDt6pUKU/Y17WIIYB1nO4ZixHdj+dFyEz9umis9FxFPQt14roYuyIAEdp7PflAICv8PMhcL\
+    yZjdsBjbs1mfzsdm/8XcMvafPVvC5YDNY6Rt2W7DMzFmDjlEIQaFg1M+5GbSFZl2Mn6ak3rVFkw/goQk\
+    r4LyjLtltERXwmqOop6jQIhx2wAAAARoYXNo2wAAACA2y6QnWTNKlvyLg2qDMeCMTJPWjc5H6Xri0/oT\
+    frIxVtsAAAAKaXRlcmF0aW9uc88AAAAAAAAAAdsAAAAEc2FsdNsAAAAgAAECAwQFBgcICQoLDA0ODxAR\
+    EhMUFRYXGBkaGxwdHh/bAAAAB3ZlcnNpb27PAAAAAAAAAAE=\n";
+
+/// A manifest without archives, sealed.
+const NO_ARCHIVES: &str =
+    "03399e5d15146fb2c9298f755896cacc927590c1bb12096dff62a905317707a98400000000000000009ae86c824ffdde9633\
+    2cf8d9add0dbc2c697f2fac4c1c6562462883c5a0d74447d4f0b9f1b65001097cf67ac8897f48a27931b32a84031cdc9a4ba\
+    d70fcb82337721e9fe545551aeda7396b6de75086a4c223f9a99f480e3180674661579c1f3d36ebe6abc7e4a717ce79c5232\
+    8eb82cc269c6b8379eff0fed4d14283ae530c3148180725c09e25ac9557b959db40499838db14a7c451c5e1d70a87b03d4fc\
+    81af7cbcf914a078b0249f62efc05f593f9b3961b31bd2b249fbfc92e79cf9c0c17be0e9d5699bfdb13858461236f1513f8c\
+    442e88868af2dac27c5c433767eba6ba05f3f43f00aada9e98f92504d4ee69b470caa98de850c412df6c98b9fe3f050baed8\
+    25a11334a07e8ac491c5a269c721904ff14b1e2d0617248f5d01b5a88afea50247a7a843bac90cdbd10d8589276a127d5fea\
+    eadcb48f8ef02efe927e0fc787152651934c60066467742185";
+
+/// A manifest with the archives `a` and a line feed, and `b`.
+const TWO_ARCHIVES: &str =
+    "0330538bae9b50460269fac8f56a2a4e5a3ce5fd8bd5d2f1db5cabdb7837eddb3500000000000000151b62ba01fada65c3d3\
+    4b96c14bfe287ed961dd1f50eadb52a35b348e88f980d3f8ecf4bc691d73815fa1f6da9e24395429a09d6c6a3e3466a5daae\
+    7d35b83353fe335e5f3d0770d6d70ce41d3c1f2b8d16d9461760827b8ecab2e893d76b5269e843ac6dff34edb0f43dd313cb\
+    3b5e70991cc461320c576297d07d32f5afbe51920a5eff64c6772599b8980b75cafb5bd12b29612cf46ccc1d0668dbf99021\
+    fbf09e18afea75143bb6fd4c8a80dcaface2d0f5754821321c7e950fbcda159413fb93f5cb27fb3ba584b41e7c2794811609\
+    4d628e922097f391f1e346b0936d6929aa535c79c1a36aff05928eaff9c7fd784dbccf96b76bf9d0fe469541b1421e7800c7\
+    fd08f45c4be8670e6ebfcdfaf300e5ba64c736a71e387b57f6913dc34b3150ee599bb3888799356979ab70e54803c70d3c0e\
+    42e4d11b12ce0acdc3a3b813e389a09b444d7644edcd0d0dbf6a0e779d190cbf2a808ec017ad77c1038390de83f9ff977e7c\
+    f18207497551daeffd7d384bf1f0bee2e833fb16bf7cfab8e8313efa5492762680f822c6db60b5a1ea7e42c7a8300c52bd05\
+    07fe3616fef13b6f15f312bc387999619906e06d1a5ace0e4447023867846caf684fc2a9dda67e7e76c92a09bd2e100b041e\
+    209749b3e122febf662331786cbe927242866aeaa5528543a8d1ef178fa0ce09b5a794cc5f2f700ca41ec5e7f382f4c94bab\
+    cf5f7e5fcd5e7e3f261fea913cb815bf";
+
+/// A manifest without an authentication tag.
+const UNTAGGED: &str =
+    "03e84b582391c19eea147e116b3b951ff7751483530533f23a78e729c627a551cc0000000000000036c735876d3403ae8d3d\
+    9b83b9c4a65c8ff13ea118cf8fecb512a5cfb513caab1cf3d2a006efc5c3c9e9275caa4bace0547fbba50e5bc6b70db4a627\
+    afabe8af93234287f8256f4229539e4d728821347607265197b17a1de1eb43ca5e3c5cea868ac4b68e6c539cf0a2d7244998\
+    8774e48e65fe6b7516a3b5f2d6ef5dbfbe00f5e8c2e15378dab2";
+
+/// A manifest behind the header of a compressed content.
+const COMPRESSED: &str =
+    "030ae9f05db2ed15e494692dda2aa8c18acd318aa77be968e0f71ca5299ed50c7c000000000000003f2dd91c211b5b38795e\
+    c0a2e819308483b469ef3fddcc6605664223999c47ce41ae354189a996a47f0e01565dbd1450cf89450bb4969798fb12b232\
+    4063d3d6245064e59d1feda23362263e140a8e05ba905dbda61dd238013a2f472b86b5e44bbfe139b0feaafcb80093bbe84c\
+    9900940a1079b5520cef23e30c62ed766b9f6c862e083de2a08e8aa0a70615e2f2c1cdef0f7c955720b35db942076922cbff\
+    5ac06df15155cab132cf8bd7b35d70a6cc88d93996dcda051b6f542554a5bbecaf6960eb2758579cd9744c6a85b3c15f09c7\
+    936ecc0d0951b572719331596db154113ed229f4c8d22750121ff1f33ab699ce936e36beeb8ea4ba5e6ff10f833ab6f062d6\
+    eb72ba86695cdad41013a50a1338ed95b4e68c44e8cf6022fa9107ada7f357eab7282ac5587f6b354bc0be1944d3ab6e13c6\
+    83c782b1307cc53bc4a0a52cd93d43623404e37cb7ed400242";
+
 /// What a segment of a case holds behind its magic.
 #[derive(Clone, Copy)]
 enum Part {
@@ -232,13 +288,82 @@ fn a_config_is_looked_at_before_its_key(rt: HostRuntime) -> Result<(), Fail> {
     Ok(())
 }
 
+/// Whether `list` under a passphrase over a repository with this sealed manifest, or none where the text is empty, ends with this
+/// number and prints this text.
+fn list_prints(
+    alloc: Global,
+    passphrase: &[u8],
+    manifest: &str,
+    number: u8,
+    text: &str,
+) -> Result<bool, Fail> {
+    let mut bytes = Vec::from_slice(alloc, &MAGIC)?;
+    let blob = hex::decode(alloc, manifest)?;
+    if !blob.is_empty() && blob.len() <= ENTRY_LIMIT - HEAD {
+        bytes.extend_from_slice(&put_head(&[0; 32], &blob))?;
+        bytes.extend_from_slice(&blob)?;
+    }
+    let mut config = Vec::from_slice(alloc, CONFIG.as_bytes())?;
+    config.extend_from_slice(OPEN_KEY.as_bytes())?;
+    let mut files = Vec::new(alloc);
+    files.push((Name::Segment(0), bytes))?;
+    files.push((Name::Segment(1), Vec::from_slice(alloc, &COMMIT_SEGMENT)?))?;
+    files.push((Name::Config, config))?;
+    let mut source = MemoryShelf::new(alloc, files, Vec::new(alloc))?;
+    let mut out = MemorySink::new(alloc, Vec::new(alloc))?;
+    let status = status_under(alloc, passphrase, &["list"], &mut source, &mut out)?;
+    Ok(status.number() == number && out.bytes() == text.as_bytes())
+}
+
+#[test]
+fn archives_are_listed_on_a_line_each(rt: HostRuntime) -> Result<(), Fail> {
+    let alloc = rt.alloc();
+    let lines = "2222222222222222222222222222222222222222222222222222222222222222 \
+        2020-01-01T00:00:00.000000 a\\x0a\n\
+        1111111111111111111111111111111111111111111111111111111111111111 \
+        2021-01-01T00:00:00.000000 b\n";
+    assert!(rt; list_prints(alloc, PASSPHRASE, NO_ARCHIVES, 0, "")?);
+    assert!(rt; list_prints(alloc, PASSPHRASE, TWO_ARCHIVES, 0, lines)?);
+    Ok(())
+}
+
+#[test]
+fn a_repository_without_its_manifest_is_refused(rt: HostRuntime) -> Result<(), Fail> {
+    let alloc = rt.alloc();
+    let missing = "source refused: missing \
+        0000000000000000000000000000000000000000000000000000000000000000\n";
+    let compressed = "source refused: blob 4 \
+        0000000000000000000000000000000000000000000000000000000000000000\n";
+    assert!(rt; list_prints(alloc, PASSPHRASE, "", 8, missing)?);
+    assert!(rt; list_prints(alloc, PASSPHRASE, COMPRESSED, 8, compressed)?);
+    assert!(rt;
+        list_prints(
+            alloc,
+            PASSPHRASE,
+            UNTAGGED,
+            8,
+            "source refused: manifest 3\n"
+        )?
+    );
+    assert!(rt;
+        list_prints(
+            alloc,
+            b"Passphrase",
+            NO_ARCHIVES,
+            8,
+            "source refused: key 5\n"
+        )?
+    );
+    Ok(())
+}
+
 /// Words that are no command, with the number of the first wrong one.
 #[test]
 fn the_first_wrong_word_is_told(rt: HostRuntime) -> Result<(), Fail> {
     let alloc = rt.alloc();
     let cases: [(&[&str], u64); 7] = [
         (&[], 1),
-        (&["list"], 1),
+        (&["list", "x"], 2),
         (&["Keys", "x"], 1),
         (&["keys", "x"], 2),
         (&["keys", "--block", "64"], 2),

@@ -6,6 +6,7 @@ ghost use Rattle.ferry_top.specs.Run.{RunOut, HasSourceCause};
 
 use crate::key::key;
 use crate::keys::keys;
+use crate::list::list;
 use crate::report::report;
 use crate::status::{Secrets, Status};
 use crate::words::{Command, read_words};
@@ -16,7 +17,9 @@ use std::alloc::Global;
 ///
 /// `words` begins with the command. `keys` prints each live key of the source in byte order as 64 hex digits, with a space and
 /// the size of its blob in bytes. `key` opens the repository key in the source's `config` with the source's passphrase and
-/// prints its repository id as 64 hex digits, a space, and its iterations. Neither uses `target` and `entropy`.
+/// prints its repository id as 64 hex digits, a space, and its iterations. `list` opens the source with that passphrase and
+/// prints, for each archive in byte order of names, the id of its record, its time and its name. None uses `target` and
+/// `entropy`.
 pub fn run<S: Shelf, D: Depot, E: Entropy, K: Sink>(
     alloc: Global,
     words: &[String],
@@ -37,6 +40,7 @@ pub fn run<S: Shelf, D: Depot, E: Entropy, K: Sink>(
     let status = match read_words(words) {
         Ok(Command::Keys) => keys(alloc, source, out),
         Ok(Command::Key) => key(alloc, &secrets.source, source, out),
+        Ok(Command::List) => list(alloc, &secrets.source, source, out),
         Err(word) => Status::Usage(word),
     };
     report(alloc, &status, out);

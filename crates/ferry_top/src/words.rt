@@ -20,6 +20,8 @@ pub(crate) enum Command {
     Keys,
     /// Opens the repository key.
     Key,
+    /// Lists the archives.
+    List,
 }
 
 /// The command that the words are, or the number, from 1, of the first word at which they can't go on to one.
@@ -29,6 +31,7 @@ pub(crate) fn read_words(words: &[String]) -> Result<Command, u64>
     match words {
         [name, ..] if name.as_str() == "keys" => alone(words, Command::Keys),
         [name, ..] if name.as_str() == "key" => alone(words, Command::Key),
+        [name, ..] if name.as_str() == "list" => alone(words, Command::List),
         _ => Err(1),
     }
 }

@@ -1,0 +1,161 @@
+"""Whole repositories, made the plain way: keys, blobs and manifests.
+
+Source: FIPS 197 (AES-256), RFC 2104, 5869 and 8018, and BorgBackup 1.2, Internals, "Data structures and file formats". It
+shares nothing with the program.
+"""
+import base64
+import hashlib
+import hmac
+import struct
+
+import segments
+
+ZERO = b"\0" * 32
+
+
+def doubled(byte):
+    return byte << 1 ^ (0x11B if byte & 0x80 else 0)
+
+
+def times(left, right):
+    product = 0
+    for _ in range(8):
+        product ^= left if right & 1 else 0
+        left, right = doubled(left), right >> 1
+    return product
+
+
+def substitutes():
+    """The S-box: the inverse in GF(2^8), and then an affine map."""
+    box = []
+    for byte in range(256):
+        inverse = next((other for other in range(256) if times(byte, other) == 1), 0)
+        bits = 0x63
+        for turn in range(5):
+            bits ^= (inverse << turn | inverse >> (8 - turn)) & 0xFF
+        box.append(bits)
+    return box
+
+
+SBOX = substitutes()
+TWICE = [doubled(byte) for byte in range(256)]
+
+
+def schedule(key):
+    words, constant = [list(key[i : i + 4]) for i in range(0, 32, 4)], 1
+    for i in range(8, 60):
+        word = list(words[i - 1])
+        if i % 8 == 0:
+            word = [SBOX[byte] for byte in word[1:] + word[:1]]
+            word[0] ^= constant
+            constant = doubled(constant)
+        elif i % 8 == 4:
+            word = [SBOX[byte] for byte in word]
+        words.append([old ^ new for old, new in zip(words[i - 8], word)])
+    return [sum(words[i : i + 4], []) for i in range(0, 60, 4)]
+
+
+def block(rounds, text):
+    state = [byte ^ key for byte, key in zip(text, rounds[0])]
+    for number, keys in enumerate(rounds[1:], 1):
+        state = [SBOX[state[(i + 4 * (i % 4)) % 16]] for i in range(16)]
+        if number < 14:
+            for i in range(0, 16, 4):
+                a, b, c, d = state[i : i + 4]
+                state[i : i + 4] = [
+                    TWICE[a] ^ TWICE[b] ^ b ^ c ^ d, a ^ TWICE[b] ^ TWICE[c] ^ c ^ d,
+                    a ^ b ^ TWICE[c] ^ TWICE[d] ^ d, TWICE[a] ^ a ^ b ^ c ^ TWICE[d],
+                ]
+        state = [byte ^ key for byte, key in zip(state, keys)]
+    return bytes(state)
+
+
+def ctr(key, counter, text):
+    rounds, stream = schedule(key), b""
+    for number in range(-(-len(text) // 16)):
+        stream += block(rounds, ((counter + number) % 2**128).to_bytes(16, "big"))
+    return bytes(left ^ right for left, right in zip(text, stream))
+
+
+def mac(key, text, digest=hashlib.sha256):
+    return hmac.new(key, text, digest).digest()
+
+
+def pack(value):
+    """A value as msgpack: None, booleans, numbers, bytes, lists, and dictionaries in the order of their keys."""
+    if value is None:
+        return b"\xc0"
+    if isinstance(value, bool):
+        return b"\xc3" if value else b"\xc2"
+    if isinstance(value, int):
+        return struct.pack(">BQ", 0xCF, value) if value >= 0 else struct.pack(">Bq", 0xD3, value)
+    if isinstance(value, bytes):
+        return struct.pack(">BI", 0xDB, len(value)) + value
+    if isinstance(value, list):
+        return struct.pack(">BI", 0xDD, len(value)) + b"".join(map(pack, value))
+    return struct.pack(">BI", 0xDF, len(value)) + b"".join(pack(key) + pack(value[key]) for key in sorted(value))
+
+
+class Keys:
+    """The secrets of a repository: all different, made of a seed."""
+
+    def __init__(self, seed=b"keys"):
+        self.enc_key, self.enc_hmac_key, self.id_key = (hashlib.sha256(seed + name).digest() for name in (b"1", b"2", b"3"))
+        self.nonce = 0
+
+    def text(self, passphrase, iterations=1):
+        """The key text that opens with this passphrase."""
+        inside = pack({
+            b"version": 1, b"repository_id": bytes(32), b"enc_key": self.enc_key, b"enc_hmac_key": self.enc_hmac_key,
+            b"id_key": self.id_key, b"chunk_seed": -7, b"tam_required": True,
+        })
+        salt = bytes(range(32))
+        kek = hashlib.pbkdf2_hmac("sha256", passphrase, salt, iterations)
+        return pack({
+            b"version": 1, b"algorithm": b"sha256", b"iterations": iterations, b"salt": salt,
+            b"hash": mac(kek, inside), b"data": ctr(kek, 0, inside),
+        })
+
+    def id(self, content):
+        return mac(self.id_key, content)
+
+    def blob(self, content, header=b"\0\0", kind=3):
+        """A content's blob under the next nonce."""
+        sealed = struct.pack(">Q", self.nonce) + ctr(self.enc_key, self.nonce, header + content)
+        self.nonce += -(-(2 + len(content)) // 16)
+        return bytes([kind]) + mac(self.enc_hmac_key, sealed) + sealed
+
+    def tagged(self, fields, info=b"borg-metadata-authentication-manifest", salt=b"\x55" * 64):
+        """The packed fields with their authentication tag."""
+        key = mac(salt, self.id_key + self.enc_key + self.enc_hmac_key, hashlib.sha512)
+        key = mac(key, info + b"\x01", hashlib.sha512)
+        tam = {b"type": b"HKDF_HMAC_SHA512", b"salt": salt}
+        zeroed = pack({**fields, b"tam": {**tam, b"hmac": bytes(64)}})
+        return pack({**fields, b"tam": {**tam, b"hmac": mac(key, zeroed, hashlib.sha512)}})
+
+
+def fields(archives=(), **others):
+    """The fields of a manifest: archives are names, ids and times."""
+    listed = {name: {b"id": id, b"time": time} for name, id, time in archives}
+    return {b"version": 1, b"archives": listed, b"timestamp": b"2020-01-01T00:00:00.000000", b"config": {}, b"item_keys": [b"path"], **others}
+
+
+def config(key_text):
+    return b"[repository]\nversion = 1\nid = %s\nkey = %s\n" % (b"00" * 32, base64.b64encode(key_text))
+
+
+def repository(keys, passphrase, manifest_blob, *chunks):
+    """The files of a repository with this blob under the zero id, None for none, and chunks as pairs of id and blob."""
+    entries = [segments.put(id, blob) for id, blob in chunks]
+    if manifest_blob is not None:
+        entries.append(segments.put(ZERO, manifest_blob))
+    return {"config": config(keys.text(passphrase)), "data/0/0": segments.segment(*entries), "data/0/1": segments.COMMIT_SEGMENT}
+
+
+def escaped(text):
+    return b"".join(b"\\x%02x" % byte if byte < 32 or byte in (92, 127) else bytes([byte]) for byte in text)
+
+
+def listing(archives):
+    """What `list` has to print of these archives."""
+    return b"".join(b"%s %s %s\n" % (id.hex().encode(), escaped(time), escaped(name)) for name, id, time in sorted(archives))
