@@ -12,6 +12,8 @@ mod object;
 mod opening;
 mod reason;
 mod repo;
+#[cfg(test)]
+mod tests;
 
 pub use fault::RepoFault;
 pub use laws::{chunk_laws, repo_laws};

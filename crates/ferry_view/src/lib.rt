@@ -7,6 +7,8 @@
 mod archives;
 mod fault;
 mod output;
+#[cfg(test)]
+mod tests;
 
 pub use archives::list;
 pub use fault::ViewFault;
