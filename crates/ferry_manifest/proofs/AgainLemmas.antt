@@ -54,7 +54,7 @@ raws_said (name ∷ names) = rw (raws_said names) refl
 names_said : (all : Pairs) (names : List (List ℕ)) → value_of (codes "item_keys") all ≡ Some (array (raws names)) → in_order names ≡ names → item_keys_in all ≡ Some names
 names_said all names is order = rw (is, raws_said names, order) refl
 
-raw_said : (name : List ℕ) (fields : Pairs) (content : List ℕ) → value_of name fields ≡ Some (raw content) → raw_in name fields ≡ Some content
+pub raw_said : (name : List ℕ) (fields : Pairs) (content : List ℕ) → value_of name fields ≡ Some (raw content) → raw_in name fields ≡ Some content
 raw_said name fields content is = rw is refl
 
 raw32_said : (name : List ℕ) (fields : Pairs) (content : List ℕ) → value_of name fields ≡ Some (raw content) → length content ≡ 32 → raw32_in name fields ≡ Some content
@@ -110,7 +110,7 @@ absent_at names k l t ps true is among other rest =
     absurd cc
 absent_at names k l t ps false is among other rest = value_of-other k l t ps is ∙ rest
 
-absent : (names : List (List ℕ)) (k : List ℕ) (ps : Pairs) → is_among names k ≡ true → has_among names ps ≡ false → value_of k ps ≡ None
+pub absent : (names : List (List ℕ)) (k : List ℕ) (ps : Pairs) → is_among names k ≡ true → has_among names ps ≡ false → value_of k ps ≡ None
 unfolding has_among
 absent names k no_pairs among apart = value_of-none k
 absent names k (pair l t ps) among apart =

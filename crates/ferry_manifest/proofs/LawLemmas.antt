@@ -11,7 +11,7 @@ use Rattle.ferry_manifest.specs.Manifest.{ManifestText, IsTagged, StatesTag, has
 use Rattle.ferry_manifest.specs.Tag.{tag_key, tag_of}
 use Rattle.ferry_manifest.specs.declared.tag.StatedTag.{StatedTag}
 use Rattle.ferry_manifest.specs.declared.fault.MetaFault.{MetaFault}
-use Rattle.ferry_manifest.specs.declared.fault.MetaFault.TheVariants.{Field, TagMissing, Tag, TooLarge, Memory}
+use Rattle.ferry_manifest.specs.declared.fault.MetaFault.TheVariants.{Pack, Field, TagMissing, Tag, TooLarge, Memory}
 use Rattle.ferry_manifest.proofs.PlaceLemmas.{bytes_differ, zeroed-is}
 use Rattle.ferry_manifest.proofs.TagLemmas.{tag_stands}
 
@@ -79,6 +79,53 @@ stated all hmac salt (tam, is, hmac_is, salt_is) whole =
     let some : is_none (tag_from tam) ≡ false = mapped_some (tag_from tam) (sym (ap (λ o. is_none o) here) ∙ tag_read all whole) in
     let tag : (if has_known_type tam then Some (record { hmac = hmac; salt = salt }) else None) ≡ tag_from tam = rw (hmac_is, salt_is) refl in
     here ∙ ap (λ o. option_map Some o) (known_again (has_known_type tam) hmac salt (tag_from tam) tag some)
+
+-- ---- no map, and a wrong field
+
+tested_pack : (b : Bool) (text : ManifestText) → cond b (Ok text) (Err Tag) ≡ Err Pack → ⊥
+tested_pack true text e = cc
+tested_pack false text e = cc
+
+pack_at : (b : Bool) (keys : Keys) (bytes : List ℕ) (text : ManifestText) (tag : Option StatedTag) → cond b (Err Field) (with_tag keys bytes text tag) ≡ Err Pack → ⊥
+pack_at true keys bytes text tag e = cc
+pack_at false keys bytes text None e = cc
+pack_at false keys bytes text (Some t) e = tested_pack (bytes_eq (tag_of keys t.salt bytes) t.hmac) text e
+
+pack_from : (keys : Keys) (bytes : List ℕ) (found : Option Pairs) → manifest_from keys bytes found ≡ Err Pack → found ≡ None
+pack_from keys bytes None e = refl
+pack_from keys bytes (Some all) e = absurd (pack_at (lacks_field all) keys bytes (text_in all) (unwrap_or (tag_in all) None) e)
+
+pub pack_says : (keys : Keys) (bytes : List ℕ) → manifest_of keys bytes ≡ Err Pack → map_of bytes ≡ None
+unfolding manifest_of
+pack_says keys bytes e = pack_from keys bytes (map_of bytes) e
+
+pub says_pack : (keys : Keys) (bytes : List ℕ) → map_of bytes ≡ None → manifest_of keys bytes ≡ Err Pack
+unfolding manifest_of
+says_pack keys bytes is = rw is refl
+
+tested_field : (b : Bool) (text : ManifestText) → cond b (Ok text) (Err Tag) ≡ Err Field → ⊥
+tested_field true text e = cc
+tested_field false text e = cc
+
+field_at : (b : Bool) (keys : Keys) (bytes : List ℕ) (text : ManifestText) (tag : Option StatedTag) → cond b (Err Field) (with_tag keys bytes text tag) ≡ Err Field → b ≡ true
+field_at true keys bytes text tag e = refl
+field_at false keys bytes text None e = absurd cc
+field_at false keys bytes text (Some t) e = absurd (tested_field (bytes_eq (tag_of keys t.salt bytes) t.hmac) text e)
+
+field_from : (keys : Keys) (bytes : List ℕ) (found : Option Pairs) → map_of bytes ≡ found → manifest_from keys bytes found ≡ Err Field → (pairs : Pairs) × (map_of bytes ≡ Some pairs) × (lacks_field pairs ≡ true)
+field_from keys bytes None is e = absurd cc
+field_from keys bytes (Some all) is e = (all, is, field_at (lacks_field all) keys bytes (text_in all) (unwrap_or (tag_in all) None) e)
+
+pub field_says : (keys : Keys) (bytes : List ℕ) → manifest_of keys bytes ≡ Err Field → (pairs : Pairs) × (map_of bytes ≡ Some pairs) × (lacks_field pairs ≡ true)
+unfolding manifest_of
+field_says keys bytes e = field_from keys bytes (map_of bytes) refl e
+
+field_pairs : (keys : Keys) (bytes : List ℕ) (all : Pairs) → lacks_field all ≡ true → manifest_from keys bytes (Some all) ≡ Err Field
+field_pairs keys bytes all lacks = rw lacks refl
+
+pub says_field : (keys : Keys) (bytes : List ℕ) (all : Pairs) → map_of bytes ≡ Some all → lacks_field all ≡ true → manifest_of keys bytes ≡ Err Field
+unfolding manifest_of
+says_field keys bytes all is lacks = ap (manifest_from keys bytes) is ∙ field_pairs keys bytes all lacks
 
 -- ---- no tag
 
@@ -159,7 +206,7 @@ read_at true keys bytes text manifest tag e = absurd cc
 read_at false keys bytes text manifest None e = absurd cc
 read_at false keys bytes text manifest (Some t) e = (refl, (t, refl, tested_read (bytes_eq (tag_of keys t.salt bytes) t.hmac) text manifest e))
 
-raw_value : (t : Tree) (content : List ℕ) → raw_of t ≡ Some content → t ≡ raw content
+pub raw_value : (t : Tree) (content : List ℕ) → raw_of t ≡ Some content → t ≡ raw content
 raw_value nil content e = absurd cc
 raw_value (flag b) content e = absurd cc
 raw_value (number z) content e = absurd cc

@@ -10,3 +10,6 @@ pub mod PartsLemmas
 pub mod AgainLemmas
 pub mod LawLemmas
 pub mod SampleLemmas
+pub mod RecordLemmas
+pub mod RecordAgainLemmas
+pub mod RecordLawLemmas

@@ -47,12 +47,12 @@ archives_ordered (a ∷ archives) increase =
       ordered = (table_ordered 0 (archive_fields a) (fields_ordered a), rest.ordered);
     }
 
-raws_deep : (names : List (List ℕ)) → items_depth (raws names) ≤ 0
+pub raws_deep : (names : List (List ℕ)) → items_depth (raws names) ≤ 0
 unfolding raws
 raws_deep [] = omega arith
 raws_deep (name ∷ names) = let rest = raws_deep names in omega arith
 
-raws_ordered : (names : List (List ℕ)) → ItemsOrdered (raws names)
+pub raws_ordered : (names : List (List ℕ)) → ItemsOrdered (raws names)
 unfolding raws
 raws_ordered [] = tt
 raws_ordered (name ∷ names) = (tt, raws_ordered names)
@@ -80,7 +80,7 @@ pub short_writable : (manifest : ManifestText) (hmac salt : List ℕ) → IsPack
 unfolding packed
 short_writable manifest hmac salt packable short = ordered_writable (manifest_pairs manifest hmac salt) (manifest_ordered manifest hmac salt packable) (omega arith)
 
-either_size : (n : ℕ) (P : Type 0) → (n ≤ 20971436 → P) → (P → ⊥) → 20971436 < n
+pub either_size : (n : ℕ) (P : Type 0) → (n ≤ 20971436 → P) → (P → ⊥) → 20971436 < n
 either_size n P short not_so =
     elim (cases_lt 20971436 n) [
       | inl more ↦ more

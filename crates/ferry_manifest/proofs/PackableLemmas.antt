@@ -15,9 +15,9 @@ use Rattle.ferry_manifest.proofs.OrderLemmas.{in_order-increasing}
 -- ---- the value of a name is no deeper than all, and fits
 
 -- what holds of each value of pairs that can be written
-record IsInside (d : ℕ) (t : Tree) : Type 0 where
-  deep : depth t ≤ d
-  fits : Fits t
+pub record IsInside (d : ℕ) (t : Tree) : Type 0 where
+  pub deep : depth t ≤ d
+  pub fits : Fits t
 
 some_tree : (t u : Tree) → Some t ≡ Some u → t ≡ u
 some_tree t u e = cc
@@ -31,7 +31,7 @@ inside_at d name key t u ps false is deep fits found rest = rest (sym (value_of-
 no_tree : (t : Tree) (o : Option Tree) → o ≡ None → o ≡ Some t → ⊥
 no_tree t o none some = cc
 
-inside : (d : ℕ) (name : List ℕ) (t : Tree) (ps : Pairs) → pairs_depth ps ≤ d → PairsFit ps → value_of name ps ≡ Some t → IsInside d t
+pub inside : (d : ℕ) (name : List ℕ) (t : Tree) (ps : Pairs) → pairs_depth ps ≤ d → PairsFit ps → value_of name ps ≡ Some t → IsInside d t
 inside d name t no_pairs deep fits found = absurd (no_tree t (value_of name no_pairs) (value_of-none name) found)
 inside d name t (pair key u ps) deep fits found = inside_at d name key t u ps (bytes_eq key name) refl (omega arith) fits.1 found (inside d name t ps (omega arith) fits.2)
 

@@ -36,7 +36,7 @@ names_view-insert (n ∷ names) name = names_view-match (name_cmp name n) _ _ _ 
 unfoldable pub names_with : List (Vec ℕ Global) → Items → Option (List (List ℕ))
 names_with names items = option_map (fold (insert_key (slice_cmp nat_cmp)) (names_view names)) (raws_in items)
 
-items-drop : (vs : List Value) (place : ℕ) (v : Value) → place < length vs → items_view (drop place vs) ≡ item (view (get_or vs place v)) (items_view (drop (place + 1) vs))
+pub items-drop : (vs : List Value) (place : ℕ) (v : Value) → place < length vs → items_view (drop place vs) ≡ item (view (get_or vs place v)) (items_view (drop (place + 1) vs))
 items-drop vs place v lt = rw (add-one place) (ap items_view (drop-cons vs place v lt))
 
 pub names_start : (vs : List Value) → names_with [] (items_view (drop 0 vs)) ≡ option_map in_order (raws_in (items_view vs))

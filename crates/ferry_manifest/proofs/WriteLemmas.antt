@@ -15,7 +15,7 @@ pub raws_none : no_items ≡ raws []
 unfolding raws
 raws_none = refl
 
-raws_push : (vs : List Value) (v : Value) (contents : List (List ℕ)) (content : List ℕ) → items_view vs ≡ raws contents → view v ≡ raw content → items_view (vs ++ v ∷ []) ≡ raws (contents ++ content ∷ [])
+pub raws_push : (vs : List Value) (v : Value) (contents : List (List ℕ)) (content : List ℕ) → items_view vs ≡ raws contents → view v ≡ raw content → items_view (vs ++ v ∷ []) ≡ raws (contents ++ content ∷ [])
 unfolding raws
 raws_push [] v [] content done is = rw is refl
 raws_push [] v (c ∷ contents) content done is = absurd cc

@@ -4,3 +4,4 @@ pub mod Walk
 pub mod Tag
 pub mod Manifest
 pub mod Writing
+pub mod Archive

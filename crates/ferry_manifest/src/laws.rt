@@ -1,6 +1,6 @@
 //! Laws on what packed manifests mean.
 
-ghost use Rattle.std.specs.Prelude.{◌≡◌, ◌≢◌, ◌↔◌, ◌≤◌, ℕ, false, List, ◌++◌, length, codes, replicate, Some, None, Ok, Err};
+ghost use Rattle.std.specs.Prelude.{◌≡◌, ◌≢◌, ◌↔◌, ◌≤◌, ℕ, true, false, List, ◌++◌, length, codes, replicate, Some, None, Ok, Err};
 ghost use Rattle.std.specs.List.{list_any};
 ghost use Rattle.std.specs.Str.{bytes_eq};
 ghost use Rattle.ferry_mac.specs.declared.keys.Keys.{Keys};
@@ -46,6 +46,12 @@ pub fn manifest_laws()
     ensures tagged { (keys : Keys) (bytes : List ℕ) (manifest : ManifestText)
         → manifest_of keys bytes ≡ Ok manifest
         → (pairs : Pairs) × (map_of bytes ≡ Some pairs) × IsTagged keys bytes pairs }
+    // Bytes are refused as no map exactly where they spell none, with nothing behind it.
+    ensures pack { (keys : Keys) (bytes : List ℕ)
+        → (manifest_of keys bytes ≡ Err MetaFault.Pack) ↔ (map_of bytes ≡ None) }
+    // A field is wrong exactly where the map lacks one.
+    ensures field { (keys : Keys) (bytes : List ℕ) → (manifest_of keys bytes ≡ Err MetaFault.Field)
+        ↔ ((pairs : Pairs) × (map_of bytes ≡ Some pairs) × (lacks_field pairs ≡ true)) }
     // The tag is missing exactly where all fields are right and none has its name.
     ensures missing { (keys : Keys) (bytes : List ℕ) → (manifest_of keys bytes ≡ Err MetaFault.TagMissing)
         ↔ ((pairs : Pairs) × (map_of bytes ≡ Some pairs) × (lacks_field pairs ≡ false)

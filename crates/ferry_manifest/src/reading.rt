@@ -90,7 +90,7 @@ fn all_names(alloc: Global, names: BTreeSet<Vec<u8>>) -> Result<Vec<Vec<u8>>, Al
 }
 
 /// The bytes that a value is.
-fn raw_of(value: &Value) -> Option<&[u8]>
+pub(crate) fn raw_of(value: &Value) -> Option<&[u8]>
     ensures { option_map (λ x. x.now) result ≡ raw_of (view value.now) }
 {
     match value {

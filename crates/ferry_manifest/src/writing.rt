@@ -81,7 +81,10 @@ fn untagged_pairs(
 }
 
 /// A copy of the pairs of a table.
-fn pairs_of_table(alloc: Global, value: &Value) -> Result<BTreeMap<Vec<u8>, Value>, AllocError>
+pub(crate) fn pairs_of_table(
+    alloc: Global,
+    value: &Value,
+) -> Result<BTreeMap<Vec<u8>, Value>, AllocError>
     requires { IsWritable (view value.now) }
     ensures pairs { IfOk result (λ pairs.
         pairs_view pairs.entries ≡ unwrap_or (pairs_in (view value.now)) no_pairs) }
@@ -176,7 +179,7 @@ fn packed(
 }
 
 /// The bytes of a value, where they aren't too many.
-fn short_text(alloc: Global, value: &Value) -> Result<Vec<u8>, MetaFault>
+pub(crate) fn short_text(alloc: Global, value: &Value) -> Result<Vec<u8>, MetaFault>
     requires { IsWritable (view value.now) }
     ensures text { IfOk result (λ text. text.items ≡ shortest (view value.now)) }
     ensures small { IfOk result (λ text. length text.items ≤ 20971436) }

@@ -1,7 +1,7 @@
 use Rattle.ferry_manifest.proofs.PlaceLemmas.{one_place, tag_first, zeroed-is}
 use Rattle.ferry_manifest.proofs.TagLemmas.{tag_stands, tag_replaced}
 use Rattle.ferry_manifest.proofs.OrderLemmas.{in_order-increasing, in_order-same}
-use Rattle.ferry_manifest.proofs.LawLemmas.{tagged, missing_says, says_missing, other_says, says_other, no_large, no_memory}
+use Rattle.ferry_manifest.proofs.LawLemmas.{tagged, pack_says, says_pack, field_says, says_field, missing_says, says_missing, other_says, says_other, no_large, no_memory}
 use Rattle.ferry_manifest.proofs.laws.manifest_laws.Goals as goal
 
 pub returns-clause-place : goal.returns-clause-place
@@ -39,3 +39,9 @@ returns-clause-increasing c = in_order-increasing
 
 pub returns-clause-same : goal.returns-clause-same
 returns-clause-same c = in_order-same
+
+pub returns-clause-pack : goal.returns-clause-pack
+returns-clause-pack c = λ keys bytes. (pack_says keys bytes, says_pack keys bytes)
+
+pub returns-clause-field : goal.returns-clause-field
+returns-clause-field c = λ keys bytes. (field_says keys bytes, λ (all, is, lacks). says_field keys bytes all is lacks)

@@ -1,0 +1,85 @@
+//! From an archive's record to its packed bytes.
+
+ghost use Rattle.std.specs.Prelude.{◌≡◌, ◌≢◌, ◌≤◌, ◌<◌, IfOk, IfErr, OnOk, Ok, length, option_map};
+ghost use Rattle.ferry_msgpack.specs.View.{view, items_view, pairs_view};
+ghost use Rattle.ferry_manifest.specs.Archive.{AreIds, IsPackableArchive, archive_of, archive_text, record_pairs, shown_archive, with_params};
+ghost use Rattle.ferry_manifest.specs.Writing.{raws};
+
+use crate::archive::Archive;
+use crate::fault::MetaFault;
+use crate::manifest::Id;
+use crate::writing::{pairs_of_table, short_text};
+use ferry_fields::{put, table_of};
+use ferry_msgpack::{Value, is_writable};
+use std::alloc::{AllocError, Global};
+use std::collections::BTreeMap;
+
+/// These ids as the values of an array.
+fn id_values(alloc: Global, ids: &[Id]) -> Result<Vec<Value>, AllocError>
+    ensures values { IfOk result (λ values. items_view values.items ≡ raws ids.now) }
+    ensures ids { IfOk result (λ _. AreIds ids.now) }
+{
+    let mut values = Vec::new(alloc);
+    for place in 0..ids.len() {
+        let id = Vec::from_slice(alloc, &ids[place])?;
+        values.push(Value::Raw(id))?;
+    }
+    Ok(values)
+}
+
+/// Puts the value of `chunker_params` in its place, where there is one.
+fn put_params(
+    alloc: Global,
+    pairs: &mut BTreeMap<Vec<u8>, Value>,
+    params: &Option<Value>,
+) -> Result<(), AllocError>
+    ensures pairs { OnOk result (pairs_view pairs.new.entries
+        ≡ with_params (option_map view params.now) (pairs_view pairs.old.entries)) }
+{
+    match params {
+        Some(params) => {
+            let copy = params.clone()?;
+            put(alloc, pairs, b"chunker_params", copy)
+        }
+        None => Ok(()),
+    }
+}
+
+/// The pairs of a record.
+#[tactic(auto, unfolding(crate::specs::Archive::record_pairs))]
+fn record_pairs(alloc: Global, archive: &Archive) -> Result<BTreeMap<Vec<u8>, Value>, AllocError>
+    requires { IsPackableArchive (shown_archive archive.now) }
+    ensures pairs { IfOk result (λ pairs.
+        pairs_view pairs.entries ≡ record_pairs (shown_archive archive.now)) }
+    ensures ids { IfOk result (λ _. AreIds archive.now.items) }
+{
+    let mut pairs = pairs_of_table(alloc, &archive.fields)?;
+    put_params(alloc, &mut pairs, &archive.params)?;
+    let items = Value::Array(id_values(alloc, archive.items.as_slice())?);
+    put(alloc, &mut pairs, b"items", items)?;
+    Ok(pairs)
+}
+
+/// Packs the record of an archive, without an authentication tag.
+///
+/// `TooLarge` comes where the bytes would be more than 20971436, the most that the content of an
+/// object has.
+///
+/// Source: BorgBackup 1.2, Internals, "Data structures and file formats", Archives.
+#[tactic(auto, unfolding(crate::specs::Archive::archive_text))]
+pub fn write_archive(alloc: Global, archive: &Archive) -> Result<Vec<u8>, MetaFault>
+    requires packable { IsPackableArchive (shown_archive archive.now) }
+    ensures text { IfOk result (λ text. text.items ≡ archive_text (shown_archive archive.now)) }
+    // What is written is read again and says the same.
+    ensures again { IfOk result (λ text. archive_of text.items ≡ Ok (shown_archive archive.now)) }
+    ensures small { IfOk result (λ text. length text.items ≤ 20971436) }
+    ensures large { IfErr result (λ fault. fault ≢ MetaFault.Memory → (fault ≡ MetaFault.TooLarge)
+        × (20971436 < length (archive_text (shown_archive archive.now)))) }
+{
+    let value = table_of(alloc, record_pairs(alloc, archive)?)?;
+    // Its order and depth are right: where it can't be written, a length in it is 2^32 or more.
+    if !is_writable(&value) {
+        return Err(MetaFault::TooLarge);
+    }
+    short_text(alloc, &value)
+}
