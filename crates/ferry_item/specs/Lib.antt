@@ -1,0 +1,4 @@
+pub mod Fault
+pub mod Item
+pub mod Stream
+pub mod Writing

@@ -1,0 +1,64 @@
+//! Why no item could be read.
+
+ghost use Rattle.std.specs.Prelude.{◌≡◌};
+ghost use Rattle.ferry_item.specs.declared.fault.ItemFault.TheVariants.{Memory};
+
+use std::alloc::{AllocError, AllocFailed};
+use thiserror::Error;
+
+/// Why an item isn't read, in the order in which faults are looked for.
+#[derive(Clone, Copy, Debug, PartialEq, Eq, Error)]
+pub enum ItemFault {
+    /// A value that isn't read, however the stream goes on, or that isn't a map.
+    #[error("a value that isn't read or isn't a map")]
+    Pack,
+    /// `path` is missing or isn't raw.
+    #[error("`path` is missing or isn't raw")]
+    Path,
+    /// `chunks` is neither nil nor an array of chunks.
+    #[error("`chunks` is neither nil nor an array of chunks")]
+    Chunks,
+    /// `chunks_healthy` is there: the item was repaired and lacks content.
+    #[error("`chunks_healthy` is there")]
+    Healed,
+    /// The stream ends inside an item.
+    #[error("the stream ends inside an item")]
+    Rest,
+    /// Memory ran out.
+    #[error("out of memory")]
+    Memory,
+}
+
+impl ItemFault {
+    ghost use Rattle.ferry_item.specs.Fault.{number_of_fault};
+
+    /// The number of the fault in printed lines, from 1 to 6.
+    pub fn number(&self) -> u8
+        ensures number { result ≡ number_of_fault self.now }
+    {
+        match self {
+            ItemFault::Pack => 1,
+            ItemFault::Path => 2,
+            ItemFault::Chunks => 3,
+            ItemFault::Healed => 4,
+            ItemFault::Rest => 5,
+            ItemFault::Memory => 6,
+        }
+    }
+}
+
+impl From<AllocError> for ItemFault {
+    ghost from_gives = { λ _ fault. fault ≡ Memory };
+
+    fn from(_error: AllocError) -> ItemFault {
+        ItemFault::Memory
+    }
+}
+
+impl<T: Drop> From<AllocFailed<T>> for ItemFault {
+    ghost from_gives = { λ _ fault. fault ≡ Memory };
+
+    fn from(_error: AllocFailed<T>) -> ItemFault {
+        ItemFault::Memory
+    }
+}

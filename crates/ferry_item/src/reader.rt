@@ -1,0 +1,99 @@
+//! The items of a stream that comes in pieces.
+
+ghost use Rattle.std.specs.Prelude.{◌≡◌, ◌≢◌, ◌↔◌, ◌++◌, [], IfOk, IfErr, IfSome, OnOk, OnErr, Ok, Err, None, false};
+ghost use Rattle.ferry_item.specs.Item.{is_healed, shown};
+ghost use Rattle.ferry_item.specs.Stream.{an_item, nothing_yet, a_fault, front_item};
+ghost use Rattle.ferry_item.specs.Writing.{IsPackable, field_pairs};
+ghost use Rattle.ferry_item.specs.declared.fault.ItemFault.{ItemFault};
+
+use crate::fault::ItemFault;
+use crate::front::item_at;
+use crate::item::Item;
+use std::alloc::Global;
+use std::marker::Model;
+
+/// A reader of the item stream of an archive, which comes in pieces that are cut anywhere.
+///
+/// Contracts see it as the bytes that were fed and not yet answered. It keeps all bytes that it was fed and a place in
+/// them, so no byte is moved.
+///
+/// Source: BorgBackup 1.2, Internals, "Data structures and file formats", Archives.
+#[derive(Drop)]
+pub struct ItemReader {
+    bytes: Vec<u8>,
+    at: usize,
+}
+
+impl Model for ItemReader {
+    ghost use Rattle.std.specs.Prelude.{ℕ, ◌≤◌, List, drop, length};
+
+    ghost Value = { List ℕ };
+
+    ghost view = { λ a. drop a.at a.bytes.items };
+
+    ghost invariant = { λ a. a.at ≤ length a.bytes.items };
+}
+
+impl ItemReader {
+    /// A reader that was fed nothing. It takes its memory from `alloc` when it is fed.
+    pub fn new(alloc: Global) -> ItemReader
+        ensures bytes { result ≡ [] }
+    {
+        ItemReader {
+            bytes: Vec::new(alloc),
+            at: 0,
+        }
+    }
+
+    /// Takes the next piece of the stream, behind the bytes that it has.
+    pub fn feed(&mut self, piece: &[u8]) -> Result<(), ItemFault>
+        ensures ok { OnOk result (self.new ≡ self.old ++ piece.now) }
+        ensures err { OnErr result (self.new ≡ self.old) }
+        ensures memory { IfErr result (λ fault. fault ≡ ItemFault.Memory) }
+    {
+        match self.bytes.extend_from_slice(piece) {
+            Ok(()) => Ok(()),
+            Err(_) => Err(ItemFault::Memory),
+        }
+    }
+
+    /// Answers the next item, and none where the bytes end before it does, no bytes included.
+    ///
+    /// A malformed item gives its fault now and at every later call. `Memory` may come at any call. After a fault the
+    /// reader is as it was.
+    pub fn next(&mut self) -> Result<Option<Item>, ItemFault>
+        // The item stands in front, and the bytes behind it are left.
+        ensures item { IfOk result (λ found. IfSome found (λ item.
+            front_item self.old ≡ an_item (shown item) self.new)) }
+        ensures none { result ≡ Ok None → front_item self.old ≡ nothing_yet }
+        ensures none_kept { result ≡ Ok None → self.new ≡ self.old }
+        ensures fault { IfErr result (λ fault. fault ≢ ItemFault.Memory → front_item self.old ≡ a_fault fault) }
+        ensures err { OnErr result (self.new ≡ self.old) }
+        ensures rest { result ≢ Err ItemFault.Rest }
+        // What is read can be written, and is read as the same item.
+        ensures packable { IfOk result (λ found. IfSome found (λ item. IsPackable (shown item))) }
+        ensures whole { IfOk result (λ found. IfSome found (λ item. is_healed (field_pairs (shown item)) ≡ false)) }
+    {
+        let alloc = *self.bytes.allocator();
+        match item_at(alloc, self.bytes.as_slice(), self.at) {
+            Ok(Some((item, stop))) => {
+                self.at = stop;
+                Ok(Some(item))
+            }
+            Ok(None) => Ok(None),
+            Err(fault) => Err(fault),
+        }
+    }
+
+    /// Ends the reading, once the stream has no more pieces and `next` answered none: no bytes may be left.
+    pub fn finish(self) -> Result<(), ItemFault>
+        requires ended { front_item self ≡ nothing_yet }
+        ensures ok { (result ≡ Ok tt) ↔ (self ≡ []) }
+        ensures rest { (result ≡ Err ItemFault.Rest) ↔ (self ≢ []) }
+    {
+        if self.at < self.bytes.len() {
+            return Err(ItemFault::Rest);
+        }
+        Ok(())
+    }
+}
