@@ -1,10 +1,9 @@
 -- Lemmas on specs/Files.antt and specs/Memory.antt: a map of the program and the finite map of the contracts.
-use Rattle.std.proofs.Common.{◌≡◌, ℕ, Bool, true, false, cond, List, [], ◌∷◌, map, Option, Some, None, option_map, Bor, Result, Ok, Err, IfOk, refl, sym, ◌∙◌, ap, subst}
-use Rattle.std.specs.Ordering.{nat_cmp, eq_by_cmp, is_eq}
-use Rattle.std.specs.declared.cmp.Ordering.{Ordering}
-use Rattle.std.specs.declared.cmp.Ordering.TheVariants.{Less, Equal, Greater}
+use Rattle.std.proofs.Common.{◌≡◌, ℕ, Bool, true, false, cond, List, [], ◌∷◌, map, Option, Some, None, option_map, Bor, refl, sym, ◌∙◌, ap, subst}
+use Rattle.std.specs.Ordering.{nat_cmp}
+use Rattle.std.specs.declared.cmp.Ordering.TheVariants.{Less}
 use Rattle.std.specs.Cmp.{nat_cmp_total, eq_by_cmp_equiv}
-use Rattle.std.specs.FinMap.{FinMap, entries, from_entries, insert, get, get-from_entries, get-insert, entries-insert, same_map, len-entries, len-empty, empty, nat_cmp-IsAntisymmetric}
+use Rattle.std.specs.FinMap.{entries, from_entries, insert, get, get-from_entries, get-insert, entries-insert, same_map, len-entries, len-empty, empty, nat_cmp-IsAntisymmetric}
 use Rattle.std.specs.FinMap.Entries.{find, put, by_order}
 use Rattle.std.proofs.lemmas.List.{nil_from_length}
 use Rattle.std.specs.List.Sorted.{IsStrictlySortedBy}

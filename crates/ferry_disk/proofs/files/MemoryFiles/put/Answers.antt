@@ -1,5 +1,5 @@
 use Rattle.std.proofs.Common.{sym, ◌∙◌, ap}
-use Rattle.ferry_disk.specs.Files.{Files, with_file}
+use Rattle.ferry_disk.specs.Files.{with_file}
 use Rattle.ferry_disk.specs.Memory.{files_of}
 use Rattle.ferry_disk.proofs.FilesLemmas.{insert-seen}
 use Rattle.ferry_disk.proofs.files.MemoryFiles.put.Goals as goal

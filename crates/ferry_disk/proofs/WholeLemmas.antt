@@ -7,9 +7,9 @@ use Rattle.std.proofs.Math.Seq.{take-append-add}
 use borrow.Rule.Slice.PartMut.{put_mid, post_of}
 use Rattle.ferry_disk.specs.declared.name.Name.{Name}
 use Rattle.ferry_disk.specs.Files.{Files, contents_at}
-use Rattle.ferry_disk.specs.Device.{Told, ReadsAt, files_told}
+use Rattle.ferry_disk.specs.Device.{Told, ReadsAt, heard, told_files}
 use Rattle.ferry_disk.proofs.DeviceLemmas.{told_with}
-use Rattle.ferry_log.specs.Whole.{Fills}
+use Rattle.ferry_disk.specs.Whole.{Fills}
 
 -- so far no more was filled than there is
 pub record FilledTo (contents : List ℕ) (at : ℕ) (buffer : List ℕ) (filled : ℕ) : Type 0 where
@@ -49,9 +49,9 @@ filled_whole contents at filled buffer all within f = record { count = omega (ar
 
 -- ---- over what a shelf tells
 
-pub told_more : (a b : Option Told) (name : Name) (at filled count : ℕ) (buffer part new : List ℕ) → files_told b ≡ files_told a → filled ≤ length buffer → length part ≡ length buffer - filled
-    → IfSome a (λ t. FilledTo (contents_at t.files name) at buffer filled) → IfSome b (λ t. ReadsAt t.files name (at + filled) part new count)
-    → IfSome a (λ t. FilledTo (contents_at t.files name) at (put_mid filled (length buffer - filled) buffer new) (filled + count))
+pub told_more : (a b : Option Told) (name : Name) (at filled count : ℕ) (buffer part new : List ℕ) → heard b ≡ heard a → filled ≤ length buffer → length part ≡ length buffer - filled
+    → IfSome a (λ t. FilledTo (contents_at (told_files t) name) at buffer filled) → IfSome b (λ t. ReadsAt (told_files t) name (at + filled) part new count)
+    → IfSome a (λ t. FilledTo (contents_at (told_files t) name) at (put_mid filled (length buffer - filled) buffer new) (filled + count))
 told_more a b name at filled count buffer part new same within sized f r =
     told_with a b (λ files. FilledTo (contents_at files name) at buffer filled) (λ files. ReadsAt files name (at + filled) part new count) (λ files. FilledTo (contents_at files name) at (put_mid filled (length buffer - filled) buffer new) (filled + count)) same
     (λ files p q. filled_more files name at filled count buffer part new within sized p q) f r
