@@ -5,9 +5,6 @@ use Rattle.std.proofs.lemmas.List.{append_assoc, append-nil, length-take-le, len
 use Rattle.ferry_segment.specs.declared.entry.EntryFault.{EntryFault}
 use Rattle.ferry_segment.specs.Entry.{LogEntry, size_of, spelling, IsEntryAt, entry_limit, stated_size, first_fault}
 use Rattle.ferry_segment.proofs.EntryLemmas.{length-spelling, size_of-least, size_of-most, spelling-size, no_spelling, one_spelling}
-use Rattle.ferry_disk.specs.Files.{Files, segment_bytes}
-use Rattle.ferry_disk.specs.Device.{Told, files_told}
-use Rattle.ferry_disk.proofs.DeviceLemmas.{told_same, told_with, told_then}
 use Rattle.ferry_log.specs.declared.place.Head.{Head}
 use Rattle.ferry_log.specs.Head.{head_of, BeginsAt, HasHead, IsHeadAt, IsUnreadAt, IsSized, IsUnsized}
 
@@ -105,40 +102,3 @@ one_head bytes at (Some a) (Some b) g h =
 pub head_apart : (bytes : List ℕ) (at : ℕ) (head : Option Head) → IsHeadAt bytes at head → IsUnreadAt bytes at → ⊥
 head_apart bytes at None h u = u.0 h
 head_apart bytes at (Some head) h u = u.1 h.0 h.1
-
--- ---- over what a shelf tells
-
--- a part of a segment, from this place on
-abbrev pub IsPart : Files → ℕ → ℕ → ℕ → List ℕ → Type 0
-IsPart files segment at n part = part ≡ take n (drop at (segment_bytes files segment))
-
--- so many bytes are left at this place of a segment
-abbrev pub IsLeft : Files → ℕ → ℕ → ℕ → Type 0
-IsLeft files segment at left = at + left ≡ length (segment_bytes files segment)
-
-pub told_unsized : (a : Option Told) (segment at left : ℕ) (front own : List ℕ) → 9 ≤ left → IfSome a (λ t. IsLeft t.files segment at left) → IfSome a (λ t. IsPart t.files segment at 9 front) → own ≡ front → IsUnsized own
-    → IfSome a (λ t. IsUnreadAt (segment_bytes t.files segment) at)
-told_unsized a segment at left front own some is read same wrong =
-    told_with a a (λ files. IsLeft files segment at left) (λ files. IsPart files segment at 9 front) (λ files. IsUnreadAt (segment_bytes files segment) at) refl
-    (λ files p q. unread_unsized (segment_bytes files segment) at left own some p (same ∙ q) wrong) is read
-
-pub told_long : (a : Option Told) (segment at left : ℕ) (front own : List ℕ) (size : ℕ) → 9 ≤ left → IfSome a (λ t. IsLeft t.files segment at left) → IfSome a (λ t. IsPart t.files segment at 9 front) → own ≡ front → IsSized own size → left < size
-    → IfSome a (λ t. IsUnreadAt (segment_bytes t.files segment) at)
-told_long a segment at left front own size some is read same sized long =
-    told_with a a (λ files. IsLeft files segment at left) (λ files. IsPart files segment at 9 front) (λ files. IsUnreadAt (segment_bytes files segment) at) refl
-    (λ files p q. unread_long (segment_bytes files segment) at left own size some p (same ∙ q) sized long) is read
-
-pub told_broken : (a b : Option Told) (segment at left : ℕ) (front own part whole : List ℕ) (size : ℕ) (fault : EntryFault) → files_told b ≡ files_told a → 9 ≤ left → IfSome a (λ t. IsLeft t.files segment at left)
-    → IfSome a (λ t. IsPart t.files segment at 9 front) → own ≡ front → IsSized own size → IfSome b (λ t. IsPart t.files segment at size part) → whole ≡ part → first_fault whole ≡ Some fault
-    → IfSome a (λ t. IsUnreadAt (segment_bytes t.files segment) at)
-told_broken a b segment at left front own part whole size fault same some is read e sized next f broken =
-    let left_and_front = told_with a a (λ files. IsLeft files segment at left) (λ files. IsPart files segment at 9 front) (λ files. IsLeft files segment at left × IsPart files segment at 9 front) refl (λ files p q. (p, q)) is read in
-    told_with a b (λ files. IsLeft files segment at left × IsPart files segment at 9 front) (λ files. IsPart files segment at size part) (λ files. IsUnreadAt (segment_bytes files segment) at) same
-    (λ files p q. unread_broken (segment_bytes files segment) at left own whole size fault some p.0 (e ∙ p.1) sized (f ∙ q) broken) left_and_front next
-
-pub told_head : (a b : Option Told) (segment at : ℕ) (part whole : List ℕ) (size : ℕ) (e : LogEntry) (end : ℕ) (head : Head) → files_told b ≡ files_told a → IfSome b (λ t. IsPart t.files segment at size part) → whole ≡ part
-    → IsEntryAt whole 0 e end → head ≡ head_of e → IfSome a (λ t. HasHead (segment_bytes t.files segment) at head)
-told_head a b segment at part whole size e end head same read f h is =
-    told_same b a (λ files. HasHead (segment_bytes files segment) at head) (sym same)
-    (told_then b (λ files. IsPart files segment at size part) (λ files. HasHead (segment_bytes files segment) at head)
-    (λ files q. (e, begins_of (segment_bytes files segment) at size e end (subst (λ k. IsEntryAt k 0 e end) (f ∙ q) h), is)) read)

@@ -7,7 +7,7 @@ use Rattle.ferry_segment.specs.Segment.{magic, spellings}
 use Rattle.ferry_segment.proofs.EntryLemmas.{length-spelling, spelling-tagged}
 use Rattle.ferry_disk.specs.Files.{Files, segment_bytes}
 use Rattle.ferry_log.specs.Head.{BeginsAt}
-use Rattle.ferry_log.specs.Log.{Located, located, Joins, IsLog}
+use Rattle.ferry_log.specs.Log.{Located, located, Joins}
 use Rattle.ferry_log.specs.Live.{names_key, naming, last_naming, put_blob, put_place, live_blob, live_place}
 use Rattle.ferry_log.specs.State.{IsBlobAt}
 use Rattle.ferry_log.specs.declared.place.Place.{Place}
@@ -50,8 +50,9 @@ all_get P (y ∷ ys) zero x ps e = let same : y ≡ x = cc in subst P same ps.0
 all_get P (y ∷ ys) (suc i) x ps e = all_get P ys i x ps.1 e
 
 -- the last entry that names a key lies at its place
-lies_last : (files : Files) (transaction : ℕ) (log : List Located) (key : List ℕ) (e : Located) → IsLog files transaction log → last_naming key log ≡ Some e → Lies files e
-lies_last files transaction log key e is last = all_get (Lies files) (naming key log) (length (naming key log) - 1) e (all_filter (Lies files) (λ f. names_key key f.entry) log (lies_joined files _ log is.joined)) last
+lies_last : (files : Files) (ns : List ℕ) (log : List Located) (key : List ℕ) (e : Located) → Joins files ns log → last_naming key log ≡ Some e → Lies files e
+lies_last files ns log key e joined last =
+    all_get (Lies files) (naming key log) (length (naming key log) - 1) e (all_filter (Lies files) (λ f. names_key key f.entry) log (lies_joined files ns log joined)) last
 
 -- the blob of a PUT lies behind its head
 blob_lies : (bytes : List ℕ) (at : ℕ) (key blob : List ℕ) → BeginsAt bytes at (PutEntry key blob) → IsBlobAt bytes (at + 41) (length blob) blob
@@ -80,10 +81,10 @@ last_lies files log key place None lies e = absurd (let none : ⊥ = cc in none)
 last_lies files log key place (Some last) lies e = put_lies files last.segment last.at last.entry place (lies last refl) e
 
 -- the place of a live key is where its blob lies
-pub place_lies : (files : Files) (transaction : ℕ) (log : List Located) (key : List ℕ) (place : Place) → IsLog files transaction log → live_place key log ≡ Some place
+pub place_lies : (files : Files) (ns : List ℕ) (log : List Located) (key : List ℕ) (place : Place) → Joins files ns log → live_place key log ≡ Some place
     → (blob : List ℕ) × (live_blob key log ≡ Some blob) × IsBlobAt (segment_bytes files place.segment) place.at place.size blob
 unfolding live_place live_blob
-place_lies files transaction log key place is live = last_lies files log key place (last_naming key log) (λ e last. lies_last files transaction log key e is last) live
+place_lies files ns log key place joined live = last_lies files log key place (last_naming key log) (λ e last. lies_last files ns log key e joined last) live
 
 put_without : (segment at : ℕ) (entry : LogEntry) → put_place segment at entry ≡ None → put_blob entry ≡ None
 put_without segment at (PutEntry key blob) e = absurd (let none : ⊥ = cc in none)

@@ -55,12 +55,16 @@ abbrev pub IsAbove : Option (List ℕ) → List ℕ → Type 0
 IsAbove None key = Unit {0}
 IsAbove (Some after) key = key_cmp after key ≡ Less
 
+-- the least key above `after` that has a place, with it, or nothing where none has
+abbrev pub IsLeastWhere : (List ℕ → Option Place) → Option (List ℕ) → Option (List ℕ × Place) → Type 0
+IsLeastWhere placed after found = MatchOption found
+    ((key : List ℕ) → IsSome (placed key) → IsAbove after key → ⊥)
+    (λ least. (placed least.0 ≡ Some least.1) × IsAbove after least.0
+    × ((key : List ℕ) → IsSome (placed key) → IsAbove after key → key_cmp key least.0 ≡ Less → ⊥))
+
 -- the least live key above `after`, with its place, or nothing where none is
 abbrev pub IsLeastAbove : LogState → Option (List ℕ) → Option (List ℕ × Place) → Type 0
-IsLeastAbove state after found = MatchOption found
-    ((key : List ℕ) → IsSome (place_in state key) → IsAbove after key → ⊥)
-    (λ least. (place_in state least.0 ≡ Some least.1) × IsAbove after least.0
-    × ((key : List ℕ) → IsSome (place_in state key) → IsAbove after key → key_cmp key least.0 ≡ Less → ⊥))
+IsLeastAbove state after found = IsLeastWhere (place_in state) after found
 
 -- ---- what ties a log to files
 

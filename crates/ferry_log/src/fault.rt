@@ -22,12 +22,13 @@ pub enum LogFault {
     Memory,
 }
 
-/// The same fault as one of the log.
-pub(crate) fn of_store(fault: StoreFault) -> LogFault
-    ensures { result ≡ store_fault fault }
-{
-    match fault {
-        StoreFault::Failed => LogFault::Device,
-        StoreFault::Memory => LogFault::Memory,
+impl From<StoreFault> for LogFault {
+    ghost from_gives = { λ fault gives. gives ≡ store_fault fault };
+
+    fn from(fault: StoreFault) -> LogFault {
+        match fault {
+            StoreFault::Failed => LogFault::Device,
+            StoreFault::Memory => LogFault::Memory,
+        }
     }
 }

@@ -1,5 +1,5 @@
 //! Places in the segments of a repository.
-use ferry_segment::Id;
+use ferry_base::Id;
 
 /// Where the blob of a PUT lies: its segment, the offset of its first byte in it, and its length in bytes.
 #[derive(Clone, Copy, Debug, PartialEq, Eq)]
