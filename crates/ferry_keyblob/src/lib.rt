@@ -21,6 +21,6 @@ pub use envelope::{Envelope, SealedBytes};
 pub use fault::KeyFault;
 pub use key_text::{Id, KeyText};
 pub use laws::key_laws;
-pub use opening::open_key;
+pub use opening::{open_envelope, open_key};
 pub use reading::read_envelope;
 pub use sealing::seal_key;

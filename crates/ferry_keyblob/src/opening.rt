@@ -32,12 +32,14 @@ pub fn open_key(alloc: Global, blob: &[u8], passphrase: &[u8]) -> Result<KeyText
         fault ≢ KeyFault.Memory → key_of passphrase.now blob.now ≡ Err fault) }
 {
     let envelope = read_envelope(alloc, blob)?;
-    opened(alloc, &envelope, passphrase)
+    open_envelope(alloc, &envelope, passphrase)
 }
 
-/// The key inside an envelope.
+/// Opens the key inside an envelope with a passphrase.
+///
+/// A fault is the first of Passphrase, Pack and Field, the last two of the key inside.
 #[tactic(auto, unfolding(crate::specs::Opening::opened, crate::specs::Opening::has_hash, crate::specs::Opening::unsealed, crate::specs::Opening::key_encryption_key))]
-fn opened(alloc: Global, envelope: &Envelope, passphrase: &[u8]) -> Result<KeyText, KeyFault>
+pub fn open_envelope(alloc: Global, envelope: &Envelope, passphrase: &[u8]) -> Result<KeyText, KeyFault>
     requires { 1 ≤ envelope.now.iterations }
     ensures key { IfOk result (λ key. opened passphrase.now envelope.now ≡ Ok (shown key)) }
     ensures fault { IfErr result (λ fault.

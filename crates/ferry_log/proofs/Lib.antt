@@ -3,3 +3,4 @@ pub mod PlaceLemmas
 pub mod FitsLemmas
 mod HeadLemmas
 mod LeastLemmas
+pub mod PlacesLemmas
