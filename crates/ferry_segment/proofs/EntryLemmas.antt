@@ -5,10 +5,11 @@ use Rattle.std.specs.Int.{w32, to_le_bytes, from_le_bytes}
 use Rattle.std.specs.List.{flat_map}
 use Rattle.std.proofs.lemmas.Nat.{xor_of_32, le_bytes_4, from_le_bytes-to_le_bytes_4}
 use Rattle.std.proofs.lemmas.List.{append_assoc, append-nil, length-append, length-take-le, take_at, drop_at, drop_more, drop-drop, take-append-drop, take_rest, take-take, get_or-take, get_or-drop, drop-take, append_cancel_left, append_cancel_right, length-drop, length-take, get_or_past, drop_all}
+use Rattle.ferry_base.specs.Limits.{entry_limit}
 use Rattle.ferry_segment.specs.Crc.{all_ones, polynomial, low_bits, bits_of, reduced, after_bit, register_after, crc}
 use Rattle.ferry_segment.specs.declared.entry.EntryFault.{EntryFault}
 use Rattle.ferry_segment.specs.declared.entry.EntryFault.TheVariants.{Short, Size, Crc, Tag}
-use Rattle.ferry_segment.specs.Entry.{IsBytes, LogEntry, PutEntry, DeleteEntry, CommitEntry, tagged, size_of, checked_part, spelling, Fits, IsEntryAt, entry_limit, stated_size, stated_crc, size_fits_tag, first_fault}
+use Rattle.ferry_segment.specs.Entry.{IsBytes, LogEntry, PutEntry, DeleteEntry, CommitEntry, tagged, size_of, checked_part, spelling, Fits, IsEntryAt, stated_size, stated_crc, size_fits_tag, first_fault}
 use Rattle.ferry_segment.proofs.CrcLemmas.{register_after-append}
 use Rattle.ferry_segment.specs.Reading.{IsChecked, IsTagged, tag_fault}
 
@@ -132,26 +133,30 @@ first_fault-checked bytes entry h =
     let t5 : eqb (crc (take (stated_size bytes - 4) (drop 4 bytes))) (stated_crc bytes) ≡ true = eq-eqb _ _ h.right in
     rw (t1, t2, t3, t4, t5, tag, sized) refl
 
-front_byte : (n : ℕ) (bytes : List ℕ) (i : ℕ) → IsBytes bytes → get_or (take n bytes) i 0 < 256
+front_byte : (n : ℕ) (bytes : List ℕ) (i : ℕ) → ((k : ℕ) → k < n → get_or bytes k 0 < 256) → get_or (take n bytes) i 0 < 256
 front_byte n bytes i small =
     elim (cases_lt i n) [
-      | inl below ↦ subst (λ x. x < 256) (sym (get_or-take n bytes i 0 below)) (small i)
+      | inl below ↦ subst (λ x. x < 256) (sym (get_or-take n bytes i 0 below)) (small i below)
       | inr past ↦ subst (λ x. x < 256) (sym (get_or_past (take n bytes) i 0 (omega (arith, length-take n bytes)))) (omega arith)
     ]
 
 joined_takes : (i j : ℕ) (bytes : List ℕ) (n : ℕ) → i + j ≡ n → take i bytes ++ take j (drop i bytes) ≡ take n bytes
 joined_takes i j bytes n e = subst (λ k. take i bytes ++ take j (drop i bytes) ≡ take k bytes) e (sym (take-add i j bytes))
 
+-- the first eight of these are bytes
+abbrev pub AreSmall : List ℕ → Type 0
+AreSmall bytes = (i : ℕ) → i < 8 → get_or bytes i 0 < 256
+
 -- behind right checks of the size and of the tag, the bytes begin with the entry's spelling
-pub spelled : (bytes entry : List ℕ) (e : LogEntry) → IsBytes bytes → IsChecked bytes entry → IsTagged entry e → bytes ≡ spelling e ++ drop (size_of e) bytes
+pub spelled : (bytes entry : List ℕ) (e : LogEntry) → AreSmall bytes → IsChecked bytes entry → IsTagged entry e → bytes ≡ spelling e ++ drop (size_of e) bytes
 unfolding spelling stated_crc stated_size
 spelled bytes entry e small h t =
     let n = stated_size bytes in
     let least : 9 ≤ n = h.least in
     let within : n ≤ length bytes = h.within in
     let sized : n ≡ size_of e = sym (length-take-le n bytes within) ∙ (sym (ap length h.front) ∙ t.sized) in
-    let crc_bytes : to_le_bytes w32 (stated_crc bytes) ≡ take 4 bytes = le_bytes_4 (take 4 bytes) _ (length-take-le 4 bytes (omega arith)) (λ i. front_byte 4 bytes i small) refl in
-    let size_bytes : to_le_bytes w32 n ≡ take 4 (drop 4 bytes) = le_bytes_4 (take 4 (drop 4 bytes)) _ (length-take-le 4 (drop 4 bytes) (omega (arith, length-drop 4 bytes))) (λ i. front_byte 4 (drop 4 bytes) i (λ k. subst (λ x. x < 256) (sym (get_or-drop 4 bytes k 0)) (small (4 + k)))) refl in
+    let crc_bytes : to_le_bytes w32 (stated_crc bytes) ≡ take 4 bytes = le_bytes_4 (take 4 bytes) _ (length-take-le 4 bytes (omega arith)) (λ i. front_byte 4 bytes i (λ k l. small k (omega arith))) refl in
+    let size_bytes : to_le_bytes w32 n ≡ take 4 (drop 4 bytes) = le_bytes_4 (take 4 (drop 4 bytes)) _ (length-take-le 4 (drop 4 bytes) (omega (arith, length-drop 4 bytes))) (λ i. front_byte 4 (drop 4 bytes) i (λ k l. subst (λ x. x < 256) (sym (get_or-drop 4 bytes k 0)) (small (4 + k) (omega arith)))) refl in
     let rest : take (n - 4) (drop 4 bytes) ≡ drop 4 entry = sym (drop-take 4 (n - 4) bytes) ∙ (ap (λ k. drop 4 (take k bytes)) (let e : 4 + (n - 4) ≡ n = omega arith in e) ∙ ap (drop 4) (sym h.front)) in
     let part : checked_part e ≡ take (n - 4) (drop 4 bytes) =
     ap (λ k. to_le_bytes w32 k ++ tagged e) (sym sized)
@@ -247,7 +252,7 @@ entry_of bytes small right =
     let sized : length entry ≡ stated_size bytes = length-take-le _ bytes h.within in
     let t = tagged_of entry (omega (arith, h.least)) (sym (first_fault-checked bytes entry h) ∙ right) in
     let most : length entry ≤ entry_limit = omega (arith, h.most) in
-    (t.0, t.1.fits most, omega (arith, h.within, t.1.sized), spelled bytes entry t.0 small h t.1)
+    (t.0, t.1.fits most, omega (arith, h.within, t.1.sized), spelled bytes entry t.0 (λ i l. small i) h t.1)
 
 -- two lists that begin alike, of one length, are one
 pub same_fronts : {A : Type 0} (a b x y : List A) → length a ≡ length b → a ++ x ≡ b ++ y → (a ≡ b) × (x ≡ y)
@@ -285,15 +290,14 @@ one_spelling d e x y p q same =
 -- ---- IsEntryAt
 
 -- the entry at a place, from the parts of its reader
-pub entry_at : (bytes : List ℕ) (at : ℕ) (entry : List ℕ) (e : LogEntry) → at ≤ length bytes → IsBytes bytes → IsChecked (drop at bytes) entry → IsTagged entry e → IsEntryAt bytes at e (at + length entry)
+pub entry_at : (bytes : List ℕ) (at : ℕ) (entry : List ℕ) (e : LogEntry) → at ≤ length bytes → AreSmall (drop at bytes) → IsChecked (drop at bytes) entry → IsTagged entry e → IsEntryAt bytes at e (at + length entry)
 entry_at bytes at entry e within small h t =
     let n = stated_size (drop at bytes) in
     let sized : length entry ≡ n = ap length h.front ∙ length-take-le n (drop at bytes) h.within in
     let left = length-drop at bytes in
-    let bytes_behind : IsBytes (drop at bytes) = λ i. subst (λ k. k < 256) (sym (get_or-drop at bytes i 0)) (small (at + i)) in
     record {
       fits = t.fits (omega (arith, h.most));
-      spelled = spelled (drop at bytes) entry e bytes_behind h t ∙ ap (λ k. spelling e ++ k) (drop-drop (size_of e) at bytes ∙ ap (λ k. drop k bytes) (let same : at + size_of e ≡ at + length entry = ap (λ k. at + k) (sym t.sized) in same));
+      spelled = spelled (drop at bytes) entry e small h t ∙ ap (λ k. spelling e ++ k) (drop-drop (size_of e) at bytes ∙ ap (λ k. drop k bytes) (let same : at + size_of e ≡ at + length entry = ap (λ k. at + k) (sym t.sized) in same));
       ends = ap (λ k. at + k) t.sized;
       within = omega (arith, h.within);
     }

@@ -24,6 +24,11 @@ bits_of byte = low_bits 8 byte
 abbrev pub reduced : ℕ → ℕ
 reduced register = bit_xor (register / 2) (register % 2 * polynomial)
 
+-- the register so many powers on
+unfoldable pub reduced_by : ℕ → ℕ → ℕ
+reduced_by zero register = register
+reduced_by (suc n) register = reduced_by n (reduced register)
+
 -- the register after one more bit of the message
 abbrev pub after_bit : ℕ → ℕ → ℕ
 after_bit register bit = reduced (bit_xor register bit)
@@ -35,3 +40,7 @@ register_after register bytes = fold after_bit register (flat_map bits_of bytes)
 -- the CRC-32 of these bytes
 unfoldable pub crc : List ℕ → ℕ
 crc bytes = bit_xor (register_after all_ones bytes) all_ones
+
+-- the CRC-32 of some bytes and these behind them, from that of the bytes before
+unfoldable pub crc_more : ℕ → List ℕ → ℕ
+crc_more before bytes = bit_xor (register_after (bit_xor before all_ones) bytes) all_ones
