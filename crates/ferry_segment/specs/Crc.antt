@@ -1,6 +1,6 @@
 -- The CRC-32 of IEEE 802.3 (clause 3.2.9): the remainder of a division of polynomials over bits. The lowest
 -- bit of each byte comes first, so a register holds the coefficient of the highest power in its lowest bit.
-use Rattle.std.specs.Prelude.{ℕ, zero, suc, ◌+◌, ◌*◌, ◌/◌, ◌%◌, List, [], ◌∷◌, bit_xor, fold}
+use Rattle.std.specs.Prelude.{ℕ, zero, suc, ◌*◌, ◌/◌, ◌%◌, List, [], ◌∷◌, bit_xor, fold}
 use Rattle.std.specs.List.{flat_map}
 
 -- x^32 + x^26 + x^23 + x^22 + x^16 + x^12 + x^11 + x^10 + x^8 + x^7 + x^5 + x^4 + x^2 + x + 1, its first term left out

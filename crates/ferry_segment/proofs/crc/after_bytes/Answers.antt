@@ -9,7 +9,10 @@ loop-at-preserved c =
     let sixteen : c.loop-at.at + 16 - c.loop-at.at ≡ 16 = omega arith in
     record {
       within = omega arith;
-      left = register_after_sixteen c.loop-at.after _ c.args.bytes.now c.loop-at.at (c.after_sixteen-after.ensures ∙ ap (λ n. register_after c.loop-at.after (take n (drop c.loop-at.at c.args.bytes.now))) sixteen) ∙ c.loop-at.invariant.left;
+      left =
+          register_after_sixteen c.loop-at.after _ c.args.bytes.now c.loop-at.at (c.after_sixteen-after.ensures
+          ∙ ap (λ n. register_after c.loop-at.after (take n (drop c.loop-at.at c.args.bytes.now))) sixteen)
+          ∙ c.loop-at.invariant.left;
     }
 
 pub returns : goal.returns

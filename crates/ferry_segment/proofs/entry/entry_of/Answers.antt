@@ -1,4 +1,4 @@
-use Rattle.std.proofs.Common.{ap, drop}
+use Rattle.std.proofs.Common.{ap}
 use Rattle.std.proofs.lemmas.List.{take_rest}
 use Rattle.ferry_segment.specs.Entry.{PutEntry}
 use Rattle.ferry_segment.proofs.entry.entry_of.Goals as goal

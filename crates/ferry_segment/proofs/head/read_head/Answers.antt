@@ -1,4 +1,4 @@
-use Rattle.std.proofs.Common.{length, sym, ◌∙◌, arith, ap, subst, ◌<◌}
+use Rattle.std.proofs.Common.{◌∙◌, arith, subst, ◌<◌}
 use Rattle.ferry_segment.proofs.HeadLemmas.{fault_short, fault_small, fault_large, fault_cut, front_size, front_crc, front_byte, front_key}
 use Rattle.ferry_segment.proofs.head.read_head.Goals.{then-size-via-then-size, then-size-via-else-size+then-size-2, then-size-3, else-size-3}
 use Rattle.ferry_segment.proofs.head.read_head.Goals as goal
