@@ -37,7 +37,8 @@ pub struct StatedHead {
 /// A refusal is the first rule that the entry breaks. Nothing is allocated.
 pub fn read_head(front: &[u8], left: u64) -> Result<StatedHead, EntryFault>
     requires { min 41 left ≤ length front.now }
-    ensures { (bytes : List ℕ) → length bytes ≡ left → front.now ≡ take (length front.now) bytes
+    ensures within { IfOk result (λ stated. (9 ≤ stated.head.size) × (stated.head.size ≤ left)) }
+    ensures stated { (bytes : List ℕ) → length bytes ≡ left → front.now ≡ take (length front.now) bytes
         → MatchResult result (States bytes) (λ fault. first_fault bytes ≡ Some fault) }
 {
     if left < COMMIT_SIZE as u64 {
@@ -71,6 +72,7 @@ impl StatedHead {
     /// A refusal is the first rule that the entry breaks.
     pub fn check(&self, checksum: u32) -> Result<Head, EntryFault>
         ensures same { IfOk result (λ head. head ≡ self.now.head) }
+        ensures put { IfOk result (λ head. head.tag ≡ 0 → 41 ≤ head.size) }
         ensures decided { (bytes : List ℕ) (at : ℕ) → at ≤ length bytes → States (drop at bytes) self.now
             → checksum ≡ crc (take (self.now.head.size - 4) (drop 4 (drop at bytes)))
             → MatchResult result (HasHead bytes at) (λ fault. first_fault (drop at bytes) ≡ Some fault) }

@@ -8,22 +8,22 @@ use Rattle.ferry_segment.proofs.entry.read_entry.Goals as goal
 pub returns-in_err-stated-clause-only : goal.returns-in_err-stated-clause-only
 returns-in_err-stated-clause-only c entry rest fits same =
     absurd (no_spelling _ _
-    (c.in_err-stated.ensures (drop c.args.at c.args.bytes.now) (rest_length c.args.bytes.now c.args.at)
+    (c.in_err-stated.ensures.stated (drop c.args.at c.args.bytes.now) (rest_length c.args.bytes.now c.args.at)
     (rest_front c.args.bytes.now c.args.at)) entry rest fits same)
 
 pub returns-in_err-head-clause-only : goal.returns-in_err-head-clause-only
 returns-in_err-head-clause-only c entry rest fits same =
     let broken = c.in_err-head.ensures.decided c.args.bytes.now c.args.at c.requires
-    (c.in_ok-stated.ensures (drop c.args.at c.args.bytes.now) (rest_length c.args.bytes.now c.args.at) (rest_front c.args.bytes.now c.args.at))
+    (c.in_ok-stated.ensures.stated (drop c.args.at c.args.bytes.now) (rest_length c.args.bytes.now c.args.at) (rest_front c.args.bytes.now c.args.at))
     (rest_sum c.args.bytes.now c.args.at c.in_ok-stated.stated.head.size _ c.crc32.ensures) in
     absurd (no_spelling _ _ broken entry rest fits same)
 
 pub entry_of-requires : goal.entry_of-requires
 entry_of-requires c tag =
     let stated =
-    c.in_ok-stated.ensures (drop c.args.at c.args.bytes.now) (rest_length c.args.bytes.now c.args.at) (rest_front c.args.bytes.now c.args.at) in
+    c.in_ok-stated.ensures.stated (drop c.args.at c.args.bytes.now) (rest_length c.args.bytes.now c.args.at) (rest_front c.args.bytes.now c.args.at) in
     let found = c.in_ok-head.ensures.decided c.args.bytes.now c.args.at c.requires
-    (c.in_ok-stated.ensures (drop c.args.at c.args.bytes.now) (rest_length c.args.bytes.now c.args.at) (rest_front c.args.bytes.now c.args.at))
+    (c.in_ok-stated.ensures.stated (drop c.args.at c.args.bytes.now) (rest_length c.args.bytes.now c.args.at) (rest_front c.args.bytes.now c.args.at))
     (rest_sum c.args.bytes.now c.args.at c.in_ok-stated.stated.head.size _ c.crc32.ensures) in
     let same = ap (λ h. h.size) c.in_ok-head.ensures.same in
     let own = ap (λ h. h.size) found.2 in
@@ -37,7 +37,7 @@ entry_of-requires c tag =
 pub returns-clause-entry : goal.returns-clause-entry
 returns-clause-entry c =
     let found = c.in_ok-head.ensures.decided c.args.bytes.now c.args.at c.requires
-    (c.in_ok-stated.ensures (drop c.args.at c.args.bytes.now) (rest_length c.args.bytes.now c.args.at) (rest_front c.args.bytes.now c.args.at))
+    (c.in_ok-stated.ensures.stated (drop c.args.at c.args.bytes.now) (rest_length c.args.bytes.now c.args.at) (rest_front c.args.bytes.now c.args.at))
     (rest_sum c.args.bytes.now c.args.at c.in_ok-stated.stated.head.size _ c.crc32.ensures) in
     entry_read c.args.bytes.now c.args.at c.in_ok-stated.stated.head.size c.in_ok-head.head _ found
     (ap (λ h. h.size) c.in_ok-head.ensures.same) c.entry_of.ensures
@@ -45,7 +45,7 @@ returns-clause-entry c =
 pub returns-clause-only : goal.returns-clause-only
 returns-clause-only c entry rest fits same =
     let found = c.in_ok-head.ensures.decided c.args.bytes.now c.args.at c.requires
-    (c.in_ok-stated.ensures (drop c.args.at c.args.bytes.now) (rest_length c.args.bytes.now c.args.at) (rest_front c.args.bytes.now c.args.at))
+    (c.in_ok-stated.ensures.stated (drop c.args.at c.args.bytes.now) (rest_length c.args.bytes.now c.args.at) (rest_front c.args.bytes.now c.args.at))
     (rest_sum c.args.bytes.now c.args.at c.in_ok-stated.stated.head.size _ c.crc32.ensures) in
     let here =
     entry_read c.args.bytes.now c.args.at c.in_ok-stated.stated.head.size c.in_ok-head.head _ found
@@ -55,6 +55,6 @@ returns-clause-only c entry rest fits same =
 pub returns-clause-fault : goal.returns-clause-fault
 returns-clause-fault c =
     let found = c.in_ok-head.ensures.decided c.args.bytes.now c.args.at c.requires
-    (c.in_ok-stated.ensures (drop c.args.at c.args.bytes.now) (rest_length c.args.bytes.now c.args.at) (rest_front c.args.bytes.now c.args.at))
+    (c.in_ok-stated.ensures.stated (drop c.args.at c.args.bytes.now) (rest_length c.args.bytes.now c.args.at) (rest_front c.args.bytes.now c.args.at))
     (rest_sum c.args.bytes.now c.args.at c.in_ok-stated.stated.head.size _ c.crc32.ensures) in
     ap first_fault found.1.spelled ∙ first_fault-spelling found.0 _ found.1.fits

@@ -3,24 +3,24 @@ use Rattle.ferry_segment.proofs.HeadLemmas.{fault_short, fault_small, fault_larg
 use Rattle.ferry_segment.proofs.head.read_head.Goals.{then-size-via-then-size, then-size-via-else-size+then-size-2, then-size-3, else-size-3}
 use Rattle.ferry_segment.proofs.head.read_head.Goals as goal
 
-pub returns-then-left : goal.returns-then-left
-returns-then-left c bytes sized front = fault_short bytes (omega arith)
+pub returns-then-left-clause-stated : goal.returns-then-left-clause-stated
+returns-then-left-clause-stated c bytes sized front = fault_short bytes (omega arith)
 
-pub returns-then-size : goal.returns-then-size
-returns-then-size c bytes sized front =
+pub returns-then-size-clause-stated : goal.returns-then-size-clause-stated
+returns-then-size-clause-stated c bytes sized front =
     let size = front_size c.args.front.now bytes c.word_at-size.result front (omega arith) c.word_at-size.ensures in
     elim c.then-size.branch [
       | then-size-via-then-size w ↦ fault_small bytes (omega arith) (omega arith)
       | then-size-via-else-size+then-size-2 w ↦ fault_large bytes (omega arith) (omega arith)
     ]
 
-pub returns-then-left-from : goal.returns-then-left-from
-returns-then-left-from c bytes sized front =
+pub returns-then-left-from-clause-stated : goal.returns-then-left-from-clause-stated
+returns-then-left-from-clause-stated c bytes sized front =
     let size = front_size c.args.front.now bytes c.word_at-size.result front (omega arith) c.word_at-size.ensures in
     fault_cut bytes (omega arith) (omega arith) (omega arith) (omega arith)
 
-pub returns : goal.returns
-returns c bytes sized front =
+pub returns-clause-stated : goal.returns-clause-stated
+returns-clause-stated c bytes sized front =
     let size = front_size c.args.front.now bytes c.word_at-size.result front (omega arith) c.word_at-size.ensures in
     record {
       crc = front_crc c.args.front.now bytes c.word_at.result front (omega arith) c.word_at.ensures;
