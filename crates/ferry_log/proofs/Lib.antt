@@ -1,6 +1,11 @@
 pub mod LawLemmas
 pub mod PlaceLemmas
 pub mod FitsLemmas
+pub mod PlacesLemmas
 mod HeadLemmas
 mod LeastLemmas
-pub mod PlacesLemmas
+mod ExtentsLemmas
+mod LiveLemmas
+mod OpeningLemmas
+mod StateLemmas
+mod WindowLemmas

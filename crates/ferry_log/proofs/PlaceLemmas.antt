@@ -6,7 +6,7 @@ use Rattle.ferry_segment.specs.Entry.{LogEntry, PutEntry, DeleteEntry, CommitEnt
 use Rattle.ferry_segment.specs.Segment.{magic, spellings}
 use Rattle.ferry_segment.proofs.EntryLemmas.{length-spelling, spelling-tagged}
 use Rattle.ferry_disk.specs.Files.{Files, segment_bytes}
-use Rattle.ferry_log.specs.Head.{BeginsAt}
+use Rattle.ferry_segment.specs.Head.{BeginsAt}
 use Rattle.ferry_log.specs.Log.{Located, located, Joins}
 use Rattle.ferry_log.specs.Live.{names_key, naming, last_naming, put_blob, put_place, live_blob, live_place}
 use Rattle.ferry_log.specs.State.{IsBlobAt}

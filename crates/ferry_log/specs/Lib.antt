@@ -3,4 +3,6 @@ pub mod Head
 pub mod Least
 pub mod Live
 pub mod Log
+pub mod Opening
 pub mod State
+pub mod Window

@@ -1,8 +1,10 @@
 //! Why a log can't be read.
 ghost use Rattle.std.specs.Prelude.{◌≡◌};
 ghost use Rattle.ferry_log.specs.Fault.{store_fault};
+ghost use Rattle.ferry_log.specs.declared.fault.LogFault.TheVariants as Log;
 
 use ferry_disk::StoreFault;
+use std::alloc::{AllocError, AllocFailed};
 use thiserror::Error;
 
 /// Why a log can't be read, in the order of their numbers.
@@ -30,5 +32,21 @@ impl From<StoreFault> for LogFault {
             StoreFault::Failed => LogFault::Device,
             StoreFault::Memory => LogFault::Memory,
         }
+    }
+}
+
+impl From<AllocError> for LogFault {
+    ghost from_gives = { λ _ fault. fault ≡ Log.Memory };
+
+    fn from(_error: AllocError) -> LogFault {
+        LogFault::Memory
+    }
+}
+
+impl<T: Drop> From<AllocFailed<T>> for LogFault {
+    ghost from_gives = { λ _ fault. fault ≡ Log.Memory };
+
+    fn from(_error: AllocFailed<T>) -> LogFault {
+        LogFault::Memory
     }
 }

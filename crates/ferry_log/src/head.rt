@@ -6,11 +6,14 @@ ghost use Rattle.ferry_log.specs.Fault.{log_failed};
 ghost use Rattle.ferry_log.specs.Head.{IsHeadAt, NamesPlace, IsHeadless};
 
 use crate::fault::LogFault;
-use crate::place::Head;
+use crate::window::{entry_head, no_window, open_window};
 use ferry_disk::Shelf;
+use ferry_segment::Head;
 use std::alloc::Global;
 
-/// The head.
+/// The head of the entry that begins at byte `at` of a segment, `None` at the segment's end. An absent segment is empty.
+///
+/// The entry is read in windows of at most 65536 bytes, and no more memory is taken than one of them.
 pub fn head_at<S: Shelf>(
     alloc: Global,
     shelf: &mut S,
@@ -23,5 +26,13 @@ pub fn head_at<S: Shelf>(
     ensures same { KeepsTold log_failed (S.told shelf.old) (S.told shelf.new) result }
     ensures cause { HasCause log_failed (S.faults shelf.old) (S.faults shelf.new) result }
 {
-    Err(LogFault::Memory)
+    let mut window = no_window(alloc);
+    open_window(shelf, segment, &mut window)?;
+    if at == window.size {
+        return Ok(None);
+    }
+    if at > window.size {
+        return Err(LogFault::Damaged { segment, at });
+    }
+    Ok(Some(entry_head(shelf, &mut window, at)?))
 }

@@ -6,7 +6,7 @@ ghost use Rattle.ferry_disk.specs.Act.{replaced};
 ghost use Rattle.ferry_disk.specs.Files.{Files, segment_bytes, with_file, without_segment};
 ghost use Rattle.ferry_disk.specs.declared.name.Name.{Name};
 ghost use Rattle.ferry_disk.specs.declared.name.Name.TheVariants as FileName;
-ghost use Rattle.ferry_log.specs.declared.place.Head.{Head};
+ghost use Rattle.ferry_segment.specs.declared.head.Head.{Head};
 ghost use Rattle.ferry_log.specs.declared.place.Place.{Place};
 ghost use Rattle.ferry_log.specs.Live.{live_blob, live_place};
 ghost use Rattle.ferry_log.specs.Head.{IsHeadAt, IsUnreadAt};

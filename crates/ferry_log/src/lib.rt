@@ -4,15 +4,22 @@
 //! blob, and on a refusal to name the first thing that doesn't read. Source: BorgBackup 1.2, Internals, Repository.
 #![tactic(auto)]
 
+mod extents;
 mod fault;
 mod head;
 mod laws;
 mod least;
+mod live;
 mod log;
+mod opening;
 mod place;
+#[cfg(test)]
+mod tests;
+mod window;
 
 pub use fault::LogFault;
+pub use ferry_segment::Head;
 pub use head::head_at;
 pub use laws::{fits_laws, head_laws, log_laws};
 pub use log::{Log, open_log};
-pub use place::{Extent, Head, Place};
+pub use place::{Extent, Place};

@@ -1,13 +1,19 @@
 //! An opened log.
-ghost use Rattle.std.specs.Prelude.{◌≡◌, IfOk, IfErr, IfSome, slice_get};
+ghost use Rattle.std.specs.Prelude.{◌≡◌, IfOk, IfErr, IfSome, MatchResult, slice_get};
+ghost use Rattle.std.specs.List.Sorted.{IsStrictlyIncreasing};
 ghost use Rattle.std.specs.Option.{option_copied};
+ghost use Rattle.ferry_disk.specs.Files.{Files, segment_numbers};
 ghost use Rattle.ferry_disk.specs.Device.{KeepsTold, HasCause, told_files};
 ghost use Rattle.ferry_log.specs.Fault.{IsRefused, log_failed};
+ghost use Rattle.ferry_log.specs.Window.{Tells};
 ghost use Rattle.ferry_log.specs.State.{IsStateOf, IsLeastAbove, place_in};
 
+use crate::extents::with_live;
 use crate::fault::LogFault;
 use crate::least::{least_in, lesser, place_at};
+use crate::opening::{log_length, take_segments};
 use crate::place::{Extent, Place};
+use crate::window::no_window;
 use ferry_base::Id;
 use ferry_disk::Shelf;
 use std::alloc::Global;
@@ -43,13 +49,41 @@ impl Model for Log {
     } };
 }
 
+/// Reads the log of a repository up to its transaction, the last committed segment.
+///
+/// Segments above the transaction don't count, damaged or not. A segment is read in windows of at most 65536 bytes, once, and the
+/// transaction's own twice, so the memory taken is that of the places of the live keys and of one window.
 pub fn open_log<S: Shelf>(alloc: Global, shelf: &mut S) -> Result<Log, LogFault>
     ensures log { IfOk result (λ log. IfSome (S.told shelf.old) (λ t. IsStateOf (told_files t) log)) }
     ensures refused { IfErr result (λ fault. IfSome (S.told shelf.old) (λ t. IsRefused (told_files t) fault)) }
     ensures same { KeepsTold log_failed (S.told shelf.old) (S.told shelf.new) result }
     ensures cause { HasCause log_failed (S.faults shelf.old) (S.faults shelf.new) result }
 {
-    Err(LogFault::Memory)
+    let numbers = shelf.segments(alloc)?;
+    open_segments(alloc, shelf, &numbers)
+}
+
+/// Reads the log of these segments, which are all that are there.
+fn open_segments<S: Shelf>(alloc: Global, shelf: &mut S, numbers: &[u64]) -> Result<Log, LogFault>
+    requires { IsStrictlyIncreasing numbers.now }
+    ensures opened { (files : Files) → Tells (S.told shelf.old) files → numbers.now ≡ segment_numbers files → MatchResult result (IsStateOf files) (IsRefused files) }
+    ensures same { KeepsTold log_failed (S.told shelf.old) (S.told shelf.new) result }
+    ensures cause { HasCause log_failed (S.faults shelf.old) (S.faults shelf.new) result }
+{
+    let mut window = no_window(alloc);
+    let count = log_length(shelf, numbers, &mut window)?;
+    let transaction = numbers[count - 1];
+    let numbers = &numbers[..count];
+    let mut opened = BTreeMap::new(alloc);
+    let mut extents = Vec::new(alloc);
+    take_segments(shelf, numbers, &mut window, &mut opened, &mut extents)?;
+    let extents = with_live(extents, numbers, &opened);
+    Ok(Log {
+        transaction,
+        opened,
+        extents,
+        learnt: BTreeMap::new(alloc),
+    })
 }
 
 impl Log {
