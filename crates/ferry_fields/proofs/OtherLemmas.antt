@@ -1,7 +1,7 @@
 -- The pairs whose names aren't among some.
 use Rattle.std.proofs.Common.{◌≡◌, ℕ, Bool, true, false, not, ◌||◌, List, [], ◌∷◌, ◌++◌, filter, length, refl, sym, ap, ◌∙◌, append_assoc, append-nil, arith}
 use Rattle.ferry_msgpack.specs.Tree.{Tree, Pairs, no_pairs, pair}
-use Rattle.ferry_msgpack.specs.View.{view, pairs_view}
+use Rattle.ferry_msgpack.specs.View.{value_view, pairs_view}
 use Rattle.ferry_msgpack.proofs.ViewLemmas.{Entry}
 use Rattle.ferry_fields.specs.Others.{is_among, without, has_among}
 
@@ -37,8 +37,8 @@ is_other names e = not (is_among names e.0.items)
 
 filter_then : (names : List (List ℕ)) (e : Entry) (es : List Entry) (b : Bool) → is_among names e.0.items ≡ b → pairs_view (filter (is_other names) es) ≡ without names (pairs_view es)
     → pairs_view (filter (is_other names) (e ∷ es)) ≡ without names (pairs_view (e ∷ es))
-filter_then names e es true is rest = rw is (rest ∙ sym (without-among names e.0.items (view e.1) (pairs_view es) is))
-filter_then names e es false is rest = rw is (ap (pair e.0.items (view e.1)) rest ∙ sym (without-other names e.0.items (view e.1) (pairs_view es) is))
+filter_then names e es true is rest = rw is (rest ∙ sym (without-among names e.0.items (value_view e.1) (pairs_view es) is))
+filter_then names e es false is rest = rw is (ap (pair e.0.items (value_view e.1)) rest ∙ sym (without-other names e.0.items (value_view e.1) (pairs_view es) is))
 
 pub without-filter : (names : List (List ℕ)) (es : List Entry) → pairs_view (filter (is_other names) es) ≡ without names (pairs_view es)
 without-filter names [] = sym (without-none names)

@@ -7,7 +7,7 @@ use Rattle.std.proofs.lemmas.Cmp.{nat_list_cmp_total}
 use Rattle.std.proofs.lemmas.Map.Text.{is_eq-slice_cmp}
 use Rattle.std.proofs.lemmas.Slice.Eq.{bytes_eq-Decides}
 use Rattle.ferry_msgpack.specs.Tree.{Tree, Pairs, no_pairs, pair, put}
-use Rattle.ferry_msgpack.specs.View.{view, pairs_view}
+use Rattle.ferry_msgpack.specs.View.{value_view, pairs_view}
 use Rattle.ferry_msgpack.specs.Writable.{IsBelow, IsIncreasing}
 use Rattle.ferry_msgpack.proofs.ViewLemmas.{Entry}
 use Rattle.ferry_fields.specs.Fields.{value_of}
@@ -26,12 +26,12 @@ above_at : (f : Entry) (es : List Entry) (i : ℕ) (e : Entry) → IsIncreasing 
 above_at f es i e inc lt = nat_list_cmp_total.antisymm (get_or es i e).0.items f.0.items ∙ ap ordering_reverse (below_at f es i e inc lt)
 
 -- pairs whose names increase, put one after the other
-put_next : (es : List Entry) (i : ℕ) (e : Entry) → IsIncreasing (pairs_view es) → i < length es → put (get_or es i e).0.items (view (get_or es i e).1) (pairs_view (take i es)) ≡ pairs_view (take (suc i) es)
+put_next : (es : List Entry) (i : ℕ) (e : Entry) → IsIncreasing (pairs_view es) → i < length es → put (get_or es i e).0.items (value_view (get_or es i e).1) (pairs_view (take i es)) ≡ pairs_view (take (suc i) es)
 put_next [] i e inc lt = absurd (omega arith)
 put_next (f ∷ es) zero e inc lt = refl
-put_next (f ∷ es) (suc i) e inc lt = rw (above_at f es i e inc (omega arith)) (ap (pair f.0.items (view f.1)) (put_next es i e inc.1 (omega arith)))
+put_next (f ∷ es) (suc i) e inc lt = rw (above_at f es i e inc (omega arith)) (ap (pair f.0.items (value_view f.1)) (put_next es i e inc.1 (omega arith)))
 
-pub put_more : (es : List Entry) (i : ℕ) (e : Entry) → IsIncreasing (pairs_view es) → i < length es → put (get_or es i e).0.items (view (get_or es i e).1) (pairs_view (take i es)) ≡ pairs_view (take (i + 1) es)
+pub put_more : (es : List Entry) (i : ℕ) (e : Entry) → IsIncreasing (pairs_view es) → i < length es → put (get_or es i e).0.items (value_view (get_or es i e).1) (pairs_view (take i es)) ≡ pairs_view (take (i + 1) es)
 put_more es i e inc lt = rw (add-one i) (put_next es i e inc lt)
 
 IsBelow-put : (l k : List ℕ) (t : Tree) (ps : Pairs) → slice_cmp nat_cmp l k ≡ Less → IsBelow l ps → IsBelow l (put k t ps)

@@ -2,7 +2,7 @@
 
 ghost use Rattle.std.specs.Prelude.{◌≡◌, ◌≢◌, IfOk, IfErr, Some, None};
 ghost use Rattle.ferry_msgpack.specs.Tree.{table};
-ghost use Rattle.ferry_msgpack.specs.View.{view, pairs_view};
+ghost use Rattle.ferry_msgpack.specs.View.{value_view, pairs_view};
 ghost use Rattle.ferry_msgpack.specs.Writable.{IsWritable};
 ghost use Rattle.ferry_fields.specs.Fields.{map_of, pairs_in};
 
@@ -27,9 +27,9 @@ pub fn map_of(alloc: Global, bytes: &[u8]) -> Result<Vec<(Vec<u8>, Value)>, MapF
 
 /// The value that the bytes spell, with nothing behind it.
 fn only_value(alloc: Global, bytes: &[u8]) -> Result<Value, MapFault>
-    ensures value { IfOk result (λ value. map_of bytes.now ≡ pairs_in (view value)) }
+    ensures value { IfOk result (λ value. map_of bytes.now ≡ pairs_in (value_view value)) }
     ensures fault { IfErr result (λ fault. fault ≢ MapFault.Memory → map_of bytes.now ≡ None) }
-    ensures writable { IfOk result (λ value. IsWritable (view value)) }
+    ensures writable { IfOk result (λ value. IsWritable (value_view value)) }
 {
     match read(alloc, bytes, 0) {
         Ok((value, stop)) => {
@@ -57,9 +57,9 @@ fn fault_of_pack(fault: PackFault) -> MapFault
 /// The pairs of a map.
 #[tactic(auto, using(ferry_msgpack::proofs::ViewLemmas::view_table))]
 fn pairs_of(value: Value) -> Result<Vec<(Vec<u8>, Value)>, MapFault>
-    requires { IsWritable (view value) }
-    ensures pairs { IfOk result (λ pairs. pairs_in (view value) ≡ Some (pairs_view pairs.items)) }
-    ensures fault { IfErr result (λ fault. (fault ≡ MapFault.Pack) × (pairs_in (view value) ≡ None)) }
+    requires { IsWritable (value_view value) }
+    ensures pairs { IfOk result (λ pairs. pairs_in (value_view value) ≡ Some (pairs_view pairs.items)) }
+    ensures fault { IfErr result (λ fault. (fault ≡ MapFault.Pack) × (pairs_in (value_view value) ≡ None)) }
     ensures writable { IfOk result (λ pairs. IsWritable (table (pairs_view pairs.items))) }
 {
     match value {

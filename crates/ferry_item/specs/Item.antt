@@ -2,7 +2,7 @@
 -- a map with the name `path`, and for a file that has content with the name `chunks`; other names are kept.
 use Rattle.std.specs.Prelude.{ℕ, Bool, nat_le, if◌then◌else◌, List, [], ◌∷◌, codes, ℤ, pos, negsuc, Option, Some, None, is_some, is_none, unwrap_or, option_and_then, option_map, Result, Ok, Err}
 use Rattle.ferry_msgpack.specs.Tree.{Tree, nil, flag, number, raw, array, table, Items, no_items, item, Pairs}
-use Rattle.ferry_msgpack.specs.View.{view}
+use Rattle.ferry_msgpack.specs.View.{value_view}
 use Rattle.ferry_fields.specs.Fields.{value_of, number_of, raw_of, of_32, raw_in, pairs_in}
 use Rattle.ferry_fields.specs.Others.{without}
 use Rattle.ferry_item.specs.declared.item.ChunkRef.{ChunkRef}
@@ -17,7 +17,7 @@ pub record ItemText : Type 0 where
 
 -- what an `Item` says, apart from where its values lie in memory
 abbrev pub shown : Item → ItemText
-shown i = record { fields = view i.fields; chunks = i.chunks }
+shown i = record { fields = value_view i.fields; chunks = i.chunks }
 
 -- the values of an array of exactly three
 abbrev pub three_of : Items → Option (Tree × Tree × Tree)

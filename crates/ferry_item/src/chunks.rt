@@ -1,7 +1,7 @@
 //! From the value of `chunks` to the chunks of an item.
 
 ghost use Rattle.std.specs.Prelude.{◌≡◌, ◌≢◌, IfOk, IfErr, Some, None, option_map, option_and_then};
-ghost use Rattle.ferry_msgpack.specs.View.{view, items_view, pairs_view};
+ghost use Rattle.ferry_msgpack.specs.View.{value_view, items_view, pairs_view};
 ghost use Rattle.ferry_msgpack.specs.Writable.{Fits, ItemsFit};
 ghost use Rattle.ferry_fields.specs.Fields.{of_32};
 ghost use Rattle.ferry_item.specs.Item.{chunk_from, chunk_of, chunks_of, chunks_said, csize_of, id_of, size_of, three_of};
@@ -18,10 +18,10 @@ const MOST_BYTES: i128 = 20_971_436;
 
 /// What the value of `chunks` says: nil is no chunks, and an array of chunks is these.
 pub(crate) fn chunks_said(alloc: Global, value: &Value) -> Result<Option<ChunkRefs>, ItemFault>
-    requires { Fits (view value.now) }
-    ensures chunks { IfOk result (λ chunks. chunks_said (view value.now) ≡ Some chunks) }
+    requires { Fits (value_view value.now) }
+    ensures chunks { IfOk result (λ chunks. chunks_said (value_view value.now) ≡ Some chunks) }
     ensures fault { IfErr result (λ fault. fault ≢ ItemFault.Memory
-        → (fault ≡ ItemFault.Chunks) × (chunks_said (view value.now) ≡ None)) }
+        → (fault ≡ ItemFault.Chunks) × (chunks_said (value_view value.now) ≡ None)) }
 {
     match value {
         Value::Nil => Ok(None),
@@ -53,8 +53,8 @@ fn chunks_of(alloc: Global, items: &[Value]) -> Result<ChunkRefs, ItemFault>
 /// The chunk that a value is: an array of exactly an id, a size and a csize.
 #[tactic(auto, unfolding(crate::specs::Item::chunk_of))]
 fn chunk_of(value: &Value) -> Option<ChunkRef>
-    requires { Fits (view value.now) }
-    ensures { result ≡ chunk_of (view value.now) }
+    requires { Fits (value_view value.now) }
+    ensures { result ≡ chunk_of (value_view value.now) }
 {
     match value {
         Value::Array(items) => chunk_of_items(items.as_slice()),
@@ -79,7 +79,7 @@ fn chunk_of_items(items: &[Value]) -> Option<ChunkRef>
 
 /// The 32 bytes that a value is.
 fn id_of(value: &Value) -> Option<Id>
-    ensures { result ≡ id_of (view value.now) }
+    ensures { result ≡ id_of (value_view value.now) }
 {
     match value {
         Value::Raw(content) => id_of_bytes(content.as_slice()),
@@ -101,7 +101,7 @@ fn id_of_bytes(content: &[u8]) -> Option<Id>
 
 /// The size that a value is: a number from 0 to 20971436.
 fn size_of(value: &Value) -> Option<u64>
-    ensures { result ≡ size_of (view value.now) }
+    ensures { result ≡ size_of (value_view value.now) }
 {
     match value {
         Value::Number(number) if 0 <= *number && *number <= MOST_BYTES => Some(*number as u64),
@@ -111,8 +111,8 @@ fn size_of(value: &Value) -> Option<u64>
 
 /// The csize that a value is: a number of 0 or above.
 fn csize_of(value: &Value) -> Option<u64>
-    requires { Fits (view value.now) }
-    ensures { result ≡ csize_of (view value.now) }
+    requires { Fits (value_view value.now) }
+    ensures { result ≡ csize_of (value_view value.now) }
 {
     match value {
         Value::Number(number) if 0 <= *number => Some(*number as u64),

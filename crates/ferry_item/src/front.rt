@@ -2,7 +2,7 @@
 
 ghost use Rattle.std.specs.Prelude.{◌≡◌, ◌≢◌, ◌≤◌, IfOk, IfErr, IfSome, Ok, Err, Some, None, drop, length, false};
 ghost use Rattle.ferry_msgpack.specs.Tree.{table};
-ghost use Rattle.ferry_msgpack.specs.View.{view, pairs_view};
+ghost use Rattle.ferry_msgpack.specs.View.{value_view, pairs_view};
 ghost use Rattle.ferry_msgpack.specs.Writable.{IsWritable, PairsFit};
 ghost use Rattle.ferry_fields.specs.Others.{without};
 ghost use Rattle.ferry_item.specs.Item.{chunks_in, chunks_names, is_healed, item_of, item_of_value, lacks_path, shown};
@@ -62,9 +62,9 @@ fn fault_of_rule(rule: PackFault) -> Option<ItemFault>
 /// The item that a value means.
 #[tactic(auto, using(ferry_msgpack::proofs::ViewLemmas::view_table))]
 fn item_of_value(alloc: Global, value: Value) -> Result<Item, ItemFault>
-    requires { IsWritable (view value) }
-    ensures item { IfOk result (λ item. item_of_value (view value) ≡ Ok (shown item)) }
-    ensures fault { IfErr result (λ fault. fault ≢ ItemFault.Memory → item_of_value (view value) ≡ Err fault) }
+    requires { IsWritable (value_view value) }
+    ensures item { IfOk result (λ item. item_of_value (value_view value) ≡ Ok (shown item)) }
+    ensures fault { IfErr result (λ fault. fault ≢ ItemFault.Memory → item_of_value (value_view value) ≡ Err fault) }
     ensures packable { IfOk result (λ item. IsPackable (shown item)) }
     ensures whole { IfOk result (λ item. is_healed (field_pairs (shown item)) ≡ false) }
     ensures rest { result ≢ Err ItemFault.Rest }

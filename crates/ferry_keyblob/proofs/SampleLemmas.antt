@@ -3,7 +3,7 @@ use Rattle.std.proofs.Common.{◌≡◌, replicate, Vec, Global, refl, arith, ne
 use Rattle.std.proofs.lemmas.Int.{ints}
 use Rattle.ferry_msgpack.specs.Tree.{Pairs, no_pairs, table}
 use Rattle.ferry_msgpack.specs.Shortest.{shortest_count, shortest_number}
-use Rattle.ferry_msgpack.specs.View.{view, pairs_view}
+use Rattle.ferry_msgpack.specs.View.{value_view, pairs_view}
 use Rattle.ferry_msgpack.specs.declared.value.Value.{Table}
 use Rattle.ferry_msgpack.proofs.ViewLemmas.{Entry, view_table}
 use Rattle.ferry_fields.specs.Others.{has_among}
@@ -28,5 +28,5 @@ sealable = record {
   size = omega arith;
 }
 
-pub sample_sealable : (v : Vec Entry Global) → pairs_view v.items ≡ no_pairs → IsSealable (record { keys = record { enc_key = replicate 32 101; enc_hmac_key = replicate 32 109; id_key = replicate 32 105 }; repository_id = replicate 32 114; chunk_seed = negsuc 6; more = view (Table v) })
+pub sample_sealable : (v : Vec Entry Global) → pairs_view v.items ≡ no_pairs → IsSealable (record { keys = record { enc_key = replicate 32 101; enc_hmac_key = replicate 32 109; id_key = replicate 32 105 }; repository_id = replicate 32 114; chunk_seed = negsuc 6; more = value_view (Table v) })
 sample_sealable v e = rw (view_table v, e) sealable

@@ -8,7 +8,7 @@ use Rattle.ferry_mac.specs.Hmac.{hmac256}
 use Rattle.ferry_mac.specs.Pbkdf2.{pbkdf2}
 use Rattle.ferry_mac.specs.declared.keys.Keys.{Keys}
 use Rattle.ferry_msgpack.specs.Tree.{Tree, table, Pairs}
-use Rattle.ferry_msgpack.specs.View.{view}
+use Rattle.ferry_msgpack.specs.View.{value_view}
 use Rattle.ferry_fields.specs.Fields.{map_of, number_in, raw32_in, has_version_1}
 use Rattle.ferry_fields.specs.Others.{is_among, without}
 use Rattle.ferry_keyblob.specs.Envelope.{envelope_of, fault_or}
@@ -30,7 +30,7 @@ shown text = record {
   keys = text.keys;
   repository_id = text.repository_id;
   chunk_seed = text.chunk_seed;
-  more = view text.more;
+  more = value_view text.more;
 }
 
 -- the names of the fields of a key

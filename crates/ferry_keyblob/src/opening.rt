@@ -1,7 +1,7 @@
 //! From a key text and a passphrase to the key.
 
 ghost use Rattle.std.specs.Prelude.{◌≡◌, ◌≢◌, ◌≤◌, IfOk, IfErr, IfSome, IfNone, Ok, Err, Some, None};
-ghost use Rattle.ferry_msgpack.specs.View.{view, pairs_view};
+ghost use Rattle.ferry_msgpack.specs.View.{value_view, pairs_view};
 ghost use Rattle.ferry_msgpack.specs.Tree.{table};
 ghost use Rattle.ferry_aes.specs.CounterMode.{ctr};
 ghost use Rattle.ferry_keyblob.specs.Envelope.{fault_or};

@@ -3,7 +3,7 @@
 ghost use Rattle.std.specs.Prelude.{◌≡◌, ◌≤◌, IfOk, Ok, length, unwrap_or};
 ghost use Rattle.ferry_mac.specs.Hmac.{hmac256};
 ghost use Rattle.ferry_msgpack.specs.Tree.{no_pairs};
-ghost use Rattle.ferry_msgpack.specs.View.{view, pairs_view};
+ghost use Rattle.ferry_msgpack.specs.View.{value_view, pairs_view};
 ghost use Rattle.ferry_msgpack.specs.Writable.{IsWritable};
 ghost use Rattle.ferry_fields.specs.Fields.{pairs_in};
 ghost use Rattle.ferry_keyblob.specs.Opening.{key_of, shown};
@@ -124,9 +124,9 @@ fn envelope_pairs(
 /// A copy of the pairs of the other names.
 #[tactic(auto, unfolding(crate::specs::Sealing::more_of))]
 fn more_of(alloc: Global, more: &Value) -> Result<BTreeMap<Vec<u8>, Value>, AllocError>
-    requires { IsWritable (view more.now) }
+    requires { IsWritable (value_view more.now) }
     ensures pairs { IfOk result (λ pairs.
-        pairs_view pairs.entries ≡ unwrap_or (pairs_in (view more.now)) no_pairs) }
+        pairs_view pairs.entries ≡ unwrap_or (pairs_in (value_view more.now)) no_pairs) }
 {
     match more {
         Value::Table(pairs) => Ok(copied(alloc, pairs.as_slice())?),

@@ -6,7 +6,7 @@ use Rattle.std.specs.Ordering.{match_ordering}
 use Rattle.std.specs.BTreeSet.{insert_key}
 use Rattle.ferry_msgpack.specs.declared.value.Value.{Value}
 use Rattle.ferry_msgpack.specs.Tree.{item, Items, Pairs}
-use Rattle.ferry_msgpack.specs.View.{view, items_view, pairs_view}
+use Rattle.ferry_msgpack.specs.View.{value_view, items_view, pairs_view}
 use Rattle.ferry_msgpack.proofs.ViewLemmas.{Entry}
 use Rattle.ferry_fields.specs.Fields.{raw_of, pairs_in}
 use Rattle.ferry_fields.proofs.FieldLemmas.{pairs-drop}
@@ -36,7 +36,7 @@ names_view-insert (n ∷ names) name = names_view-match (name_cmp name n) _ _ _ 
 unfoldable pub names_with : List (Vec ℕ Global) → Items → Option (List (List ℕ))
 names_with names items = option_map (fold (insert_key (slice_cmp nat_cmp)) (names_view names)) (raws_in items)
 
-pub items-drop : (vs : List Value) (place : ℕ) (v : Value) → place < length vs → items_view (drop place vs) ≡ item (view (get_or vs place v)) (items_view (drop (place + 1) vs))
+pub items-drop : (vs : List Value) (place : ℕ) (v : Value) → place < length vs → items_view (drop place vs) ≡ item (value_view (get_or vs place v)) (items_view (drop (place + 1) vs))
 items-drop vs place v lt = rw (add-one place) (ap items_view (drop-cons vs place v lt))
 
 pub names_start : (vs : List Value) → names_with [] (items_view (drop 0 vs)) ≡ option_map in_order (raws_in (items_view vs))
@@ -47,7 +47,7 @@ names_after : (names : List (List ℕ)) (name : List ℕ) (rest : Option (List (
 names_after names name None = refl
 names_after names name (Some rest) = refl
 
-pub names_more : (names : List (Vec ℕ Global)) (name : Vec ℕ Global) (vs : List Value) (place : ℕ) (v : Value) → place < length vs → raw_of (view (get_or vs place v)) ≡ Some name.items
+pub names_more : (names : List (Vec ℕ Global)) (name : Vec ℕ Global) (vs : List Value) (place : ℕ) (v : Value) → place < length vs → raw_of (value_view (get_or vs place v)) ≡ Some name.items
     → names_with (insert_key name_cmp names name) (items_view (drop (place + 1) vs)) ≡ names_with names (items_view (drop place vs))
 unfolding names_with raws_in
 names_more names name vs place v lt is =
@@ -55,7 +55,7 @@ names_more names name vs place v lt is =
     let here : raws_in (items_view (drop place vs)) ≡ option_map (λ contents. name.items ∷ contents) rest = rw (items-drop vs place v lt, is) refl in
     rw (here, names_view-insert names name) (sym (names_after (names_view names) name.items rest))
 
-pub names_fail : (vs : List Value) (place : ℕ) (v : Value) → place < length vs → raw_of (view (get_or vs place v)) ≡ None → raws_in (items_view (drop place vs)) ≡ None
+pub names_fail : (vs : List Value) (place : ℕ) (v : Value) → place < length vs → raw_of (value_view (get_or vs place v)) ≡ None → raws_in (items_view (drop place vs)) ≡ None
 unfolding raws_in
 names_fail vs place v lt is = rw (items-drop vs place v lt, is) refl
 
@@ -64,7 +64,7 @@ no_more None e = refl
 no_more (Some names) e = cc
 
 -- a value that isn't bytes
-pub names_lost : (names : List (Vec ℕ Global)) (vs : List Value) (place : ℕ) (v : Value) → place < length vs → raw_of (view (get_or vs place v)) ≡ None
+pub names_lost : (names : List (Vec ℕ Global)) (vs : List Value) (place : ℕ) (v : Value) → place < length vs → raw_of (value_view (get_or vs place v)) ≡ None
     → names_with names (items_view (drop place vs)) ≡ option_map in_order (raws_in (items_view vs)) → raws_in (items_view vs) ≡ None
 unfolding names_with
 names_lost names vs place v lt is so_far =
@@ -94,7 +94,7 @@ archives_after archives archive None = refl
 archives_after archives archive (Some others) = ap (λ all. Some all) (sym (append_assoc archives (archive ∷ []) others))
 
 pub archives_more : (archives : List ArchiveRef) (archive : ArchiveRef) (es : List Entry) (place : ℕ) (e : Entry) → place < length es
-    → option_and_then (archive_from (get_or es place e).0.items) (pairs_in (view (get_or es place e).1)) ≡ Some archive
+    → option_and_then (archive_from (get_or es place e).0.items) (pairs_in (value_view (get_or es place e).1)) ≡ Some archive
     → archives_with (archives ++ archive ∷ []) (pairs_view (drop (place + 1) es)) ≡ archives_with archives (pairs_view (drop place es))
 unfolding archives_with archives_of
 archives_more archives archive es place e lt is =
@@ -104,7 +104,7 @@ archives_more archives archive es place e lt is =
 
 -- a value that is no map with an id and a time
 pub archives_lost : (archives : List ArchiveRef) (es : List Entry) (place : ℕ) (e : Entry) → place < length es
-    → option_and_then (archive_from (get_or es place e).0.items) (pairs_in (view (get_or es place e).1)) ≡ None
+    → option_and_then (archive_from (get_or es place e).0.items) (pairs_in (value_view (get_or es place e).1)) ≡ None
     → archives_with archives (pairs_view (drop place es)) ≡ archives_of (pairs_view es) → archives_of (pairs_view es) ≡ None
 unfolding archives_with archives_of
 archives_lost archives es place e lt is so_far =

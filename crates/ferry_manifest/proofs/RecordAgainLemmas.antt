@@ -3,7 +3,7 @@ use Rattle.std.proofs.Common.{◌≡◌, ℕ, true, false, ◌+◌, ◌≤◌, �
 use Rattle.std.proofs.lemmas.List.{take_more, take_all}
 use Rattle.ferry_msgpack.specs.declared.value.Value.{Value}
 use Rattle.ferry_msgpack.specs.Tree.{Tree, raw, array, table, Pairs, put}
-use Rattle.ferry_msgpack.specs.View.{view, items_view}
+use Rattle.ferry_msgpack.specs.View.{value_view, items_view}
 use Rattle.ferry_msgpack.specs.Shortest.{shortest}
 use Rattle.ferry_msgpack.specs.Writable.{IsWritable}
 use Rattle.ferry_fields.specs.Fields.{map_of, value_of, raw_in, has_version_1}
@@ -21,7 +21,7 @@ use Rattle.ferry_manifest.proofs.WriteLemmas.{raws_push}
 
 -- ---- ids as values
 
-pub ids_written : (vs : List Value) (v : Value) (ids : List (List ℕ)) (place : ℕ) (id : List ℕ) → place < length ids → items_view vs ≡ raws (take place ids) → view v ≡ raw (get_or ids place id) → items_view (vs ++ v ∷ []) ≡ raws (take (place + 1) ids)
+pub ids_written : (vs : List Value) (v : Value) (ids : List (List ℕ)) (place : ℕ) (id : List ℕ) → place < length ids → items_view vs ≡ raws (take place ids) → value_view v ≡ raw (get_or ids place id) → items_view (vs ++ v ∷ []) ≡ raws (take (place + 1) ids)
 ids_written vs v ids place id lt done is = raws_push vs v (take place ids) (get_or ids place id) done is ∙ ap raws (sym (take_more ids place id lt))
 
 sized_push : (ids : List (List ℕ)) (id : List ℕ) → AreIds ids → length id ≡ 32 → AreIds (ids ++ id ∷ [])

@@ -3,7 +3,7 @@ use Rattle.std.proofs.Common.{◌≡◌, ℕ, ◌+◌, ◌≤◌, ◌<◌, true,
 use Rattle.std.proofs.lemmas.List.{drop_all}
 use Rattle.ferry_msgpack.specs.declared.value.Value.{Value}
 use Rattle.ferry_msgpack.specs.Tree.{Tree, Items, table, Pairs}
-use Rattle.ferry_msgpack.specs.View.{view, items_view}
+use Rattle.ferry_msgpack.specs.View.{value_view, items_view}
 use Rattle.ferry_msgpack.specs.Writable.{pairs_depth, PairsFit, IsWritable}
 use Rattle.ferry_fields.specs.Fields.{value_of, raw_in, has_version_1}
 use Rattle.ferry_fields.specs.Others.{without}
@@ -30,7 +30,7 @@ ids_after : (ids : List (List ℕ)) (id : List ℕ) (o : Option (List (List ℕ)
 ids_after ids id None = refl
 ids_after ids id (Some others) = ap (λ all. Some all) (sym (append_assoc ids (id ∷ []) others))
 
-pub ids_more : (ids : List (List ℕ)) (id : List ℕ) (vs : List Value) (place : ℕ) (v : Value) → place < length vs → id_of (view (get_or vs place v)) ≡ Some id
+pub ids_more : (ids : List (List ℕ)) (id : List ℕ) (vs : List Value) (place : ℕ) (v : Value) → place < length vs → id_of (value_view (get_or vs place v)) ≡ Some id
     → ids_with (ids ++ id ∷ []) (items_view (drop (place + 1) vs)) ≡ ids_with ids (items_view (drop place vs))
 unfolding ids_with ids_in
 ids_more ids id vs place v lt is =
@@ -39,7 +39,7 @@ ids_more ids id vs place v lt is =
     rw here (sym (ids_after ids id rest))
 
 -- a value that is no id
-pub ids_lost : (ids : List (List ℕ)) (vs : List Value) (place : ℕ) (v : Value) → place < length vs → id_of (view (get_or vs place v)) ≡ None
+pub ids_lost : (ids : List (List ℕ)) (vs : List Value) (place : ℕ) (v : Value) → place < length vs → id_of (value_view (get_or vs place v)) ≡ None
     → ids_with ids (items_view (drop place vs)) ≡ ids_in (items_view vs) → ids_in (items_view vs) ≡ None
 unfolding ids_with ids_in
 ids_lost ids vs place v lt is so_far =

@@ -3,7 +3,7 @@ use Rattle.std.proofs.Common.{◌≡◌, ℕ, ◌+◌, ◌≤◌, ◌<◌, List,
 use Rattle.std.proofs.lemmas.List.{take_more, take_all}
 use Rattle.ferry_msgpack.specs.declared.value.Value.{Value}
 use Rattle.ferry_msgpack.specs.Tree.{raw, table, no_items, no_pairs}
-use Rattle.ferry_msgpack.specs.View.{view, items_view, pairs_view}
+use Rattle.ferry_msgpack.specs.View.{value_view, items_view, pairs_view}
 use Rattle.ferry_msgpack.proofs.ViewLemmas.{Entry}
 use Rattle.ferry_manifest.specs.Writing.{HaveIds, archive_fields, archive_pairs, raws}
 use Rattle.ferry_manifest.specs.declared.manifest.ArchiveRef.{ArchiveRef}
@@ -15,13 +15,13 @@ pub raws_none : no_items ≡ raws []
 unfolding raws
 raws_none = refl
 
-pub raws_push : (vs : List Value) (v : Value) (contents : List (List ℕ)) (content : List ℕ) → items_view vs ≡ raws contents → view v ≡ raw content → items_view (vs ++ v ∷ []) ≡ raws (contents ++ content ∷ [])
+pub raws_push : (vs : List Value) (v : Value) (contents : List (List ℕ)) (content : List ℕ) → items_view vs ≡ raws contents → value_view v ≡ raw content → items_view (vs ++ v ∷ []) ≡ raws (contents ++ content ∷ [])
 unfolding raws
 raws_push [] v [] content done is = rw is refl
 raws_push [] v (c ∷ contents) content done is = absurd cc
 raws_push (u ∷ vs) v [] content done is = absurd cc
 raws_push (u ∷ vs) v (c ∷ contents) content done is =
-    let first : view u ≡ raw c = cc in
+    let first : value_view u ≡ raw c = cc in
     let others : items_view vs ≡ raws contents = cc in
     rw (first, raws_push vs v contents content others is) refl
 
@@ -29,7 +29,7 @@ names_view-push : (names : List (Vec ℕ Global)) (name : Vec ℕ Global) → na
 names_view-push [] name = refl
 names_view-push (n ∷ names) name = ap (λ (rest : List (List ℕ)). n.items ∷ rest) (names_view-push names name)
 
-pub raws_more : (vs : List Value) (v : Value) (names : List (Vec ℕ Global)) (place : ℕ) (name : Vec ℕ Global) → place < length names → items_view vs ≡ raws (names_view (take place names)) → view v ≡ raw (get_or names place name).items
+pub raws_more : (vs : List Value) (v : Value) (names : List (Vec ℕ Global)) (place : ℕ) (name : Vec ℕ Global) → place < length names → items_view vs ≡ raws (names_view (take place names)) → value_view v ≡ raw (get_or names place name).items
     → items_view (vs ++ v ∷ []) ≡ raws (names_view (take (place + 1) names))
 raws_more vs v names place name lt done is =
     raws_push vs v (names_view (take place names)) (get_or names place name).items done is
@@ -44,7 +44,7 @@ pub archives_none : no_pairs ≡ archive_pairs []
 unfolding archive_pairs
 archives_none = refl
 
-archives_push : (es : List Entry) (e : Entry) (archives : List ArchiveRef) (archive : ArchiveRef) → pairs_view es ≡ archive_pairs archives → e.0.items ≡ archive.name → view e.1 ≡ table (archive_fields archive)
+archives_push : (es : List Entry) (e : Entry) (archives : List ArchiveRef) (archive : ArchiveRef) → pairs_view es ≡ archive_pairs archives → e.0.items ≡ archive.name → value_view e.1 ≡ table (archive_fields archive)
     → pairs_view (es ++ e ∷ []) ≡ archive_pairs (archives ++ archive ∷ [])
 unfolding archive_pairs
 archives_push [] e [] archive done name_is fields_are = rw (name_is, fields_are) refl
@@ -52,12 +52,12 @@ archives_push [] e (a ∷ archives) archive done name_is fields_are = absurd cc
 archives_push (f ∷ es) e [] archive done name_is fields_are = absurd cc
 archives_push (f ∷ es) e (a ∷ archives) archive done name_is fields_are =
     let first_name : f.0.items ≡ a.name = cc in
-    let first : view f.1 ≡ table (archive_fields a) = cc in
+    let first : value_view f.1 ≡ table (archive_fields a) = cc in
     let others : pairs_view es ≡ archive_pairs archives = cc in
     rw (first_name, first, archives_push es e archives archive others name_is fields_are) refl
 
 pub archives_written : (es : List Entry) (e : Entry) (archives : List ArchiveRef) (place : ℕ) (archive : ArchiveRef) → place < length archives → pairs_view es ≡ archive_pairs (take place archives) → e.0.items ≡ (get_or archives place archive).name
-    → view e.1 ≡ table (archive_fields (get_or archives place archive)) → pairs_view (es ++ e ∷ []) ≡ archive_pairs (take (place + 1) archives)
+    → value_view e.1 ≡ table (archive_fields (get_or archives place archive)) → pairs_view (es ++ e ∷ []) ≡ archive_pairs (take (place + 1) archives)
 archives_written es e archives place archive lt done name_is fields_are =
     archives_push es e (take place archives) (get_or archives place archive) done name_is fields_are ∙ ap archive_pairs (sym (take_more archives place archive lt))
 

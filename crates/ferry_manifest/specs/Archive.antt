@@ -2,7 +2,7 @@
 -- Archives: a map with the names `version`, `name`, `items` and `chunker_params`; other names are kept, but for `tam`.
 use Rattle.std.specs.Prelude.{◌≡◌, ℕ, ◌≤◌, ◌||◌, not, Bool, true, false, if◌then◌else◌, List, [], ◌∷◌, length, codes, Option, Some, None, is_none, unwrap_or, option_and_then, option_map, Result, Ok, Err, ⊤}
 use Rattle.ferry_msgpack.specs.Tree.{Tree, nil, flag, number, raw, array, table, Items, no_items, item, Pairs, put}
-use Rattle.ferry_msgpack.specs.View.{view}
+use Rattle.ferry_msgpack.specs.View.{value_view}
 use Rattle.ferry_msgpack.specs.Shortest.{shortest}
 use Rattle.ferry_msgpack.specs.Writable.{depth, IsWritable}
 use Rattle.ferry_fields.specs.Fields.{map_of, value_of, raw_of, of_32, raw_in, has_version_1}
@@ -24,8 +24,8 @@ abbrev pub shown_archive : Archive → ArchiveText
 shown_archive archive = record {
   name = archive.name;
   items = archive.items;
-  params = option_map view archive.params;
-  fields = view archive.fields;
+  params = option_map value_view archive.params;
+  fields = value_view archive.fields;
 }
 
 -- the names of a record that aren't among its fields

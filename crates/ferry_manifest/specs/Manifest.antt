@@ -8,7 +8,7 @@ use Rattle.std.specs.BTreeSet.{insert_key}
 use Rattle.ferry_mac.specs.Hmac.{hmac512}
 use Rattle.ferry_mac.specs.declared.keys.Keys.{Keys}
 use Rattle.ferry_msgpack.specs.Tree.{Tree, nil, flag, number, raw, array, table, Items, no_items, item, Pairs, no_pairs, pair}
-use Rattle.ferry_msgpack.specs.View.{view}
+use Rattle.ferry_msgpack.specs.View.{value_view}
 use Rattle.ferry_fields.specs.Fields.{map_of, value_of, raw_of, raw_in, raw32_in, raw64_in, pairs_in, has_version_1}
 use Rattle.ferry_fields.specs.Others.{without}
 use Rattle.ferry_manifest.specs.Place.{TagStands}
@@ -31,10 +31,10 @@ pub record ManifestText : Type 0 where
 abbrev pub shown : Manifest → ManifestText
 shown manifest = record {
   timestamp = manifest.timestamp;
-  config = view manifest.config;
+  config = value_view manifest.config;
   item_keys = manifest.item_keys;
   archives = manifest.archives;
-  more = view manifest.more;
+  more = value_view manifest.more;
 }
 
 -- the names of the fields of a manifest

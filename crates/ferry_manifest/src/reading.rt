@@ -3,7 +3,7 @@
 ghost use Rattle.std.specs.Prelude.{◌≡◌, ◌≢◌, true, false, IfOk, IfErr, IfSome, IfNone, Ok, Err, Some, None, unwrap_or, option_map, option_and_then};
 ghost use Rattle.ferry_msgpack.specs.Tree.{table};
 ghost use Rattle.ferry_msgpack.specs.Writable.{IsWritable};
-ghost use Rattle.ferry_msgpack.specs.View.{view, items_view, pairs_view};
+ghost use Rattle.ferry_msgpack.specs.View.{value_view, items_view, pairs_view};
 ghost use Rattle.ferry_fields.specs.Fields.{pairs_in, raw_of};
 ghost use Rattle.ferry_fields.specs.Others.{without};
 ghost use Rattle.ferry_manifest.specs.Manifest.{ManifestText, field_names, archive_from, archives_in, archives_of, config_in, in_order, item_keys_in, lacks_field, manifest_from, manifest_of, raws_in, shown, tag_from, tag_in, text_in, timestamp_in, with_tag};
@@ -37,7 +37,7 @@ fn timestamp_in(alloc: Global, pairs: &[(Vec<u8>, Value)]) -> Result<Option<Byte
 /// The table `config`, where the name is absent or has a map.
 fn config_in(alloc: Global, pairs: &[(Vec<u8>, Value)]) -> Result<Value, MetaFault>
     ensures config { IfOk result (λ config.
-        config_in (pairs_view pairs.now) ≡ Some (view config)) }
+        config_in (pairs_view pairs.now) ≡ Some (value_view config)) }
     ensures fault { IfErr result (λ fault. fault ≢ MetaFault.Memory
         → (fault ≡ MetaFault.Field) × (config_in (pairs_view pairs.now) ≡ None)) }
 {
@@ -91,7 +91,7 @@ fn all_names(alloc: Global, names: BTreeSet<Vec<u8>>) -> Result<Vec<Vec<u8>>, Al
 
 /// The bytes that a value is.
 pub(crate) fn raw_of(value: &Value) -> Option<&[u8]>
-    ensures { option_map (λ x. x.now) result ≡ raw_of (view value.now) }
+    ensures { option_map (λ x. x.now) result ≡ raw_of (value_view value.now) }
 {
     match value {
         Value::Raw(content) => Some(content.as_slice()),
@@ -133,9 +133,9 @@ fn archives_of(alloc: Global, pairs: &[(Vec<u8>, Value)]) -> Result<ArchiveRefs,
 /// The archive of a name, where its value is a map with an id and a time.
 fn archive_of(alloc: Global, name: &[u8], value: &Value) -> Result<ArchiveRef, MetaFault>
     ensures archive { IfOk result (λ archive.
-        option_and_then (archive_from name.now) (pairs_in (view value.now)) ≡ Some archive) }
+        option_and_then (archive_from name.now) (pairs_in (value_view value.now)) ≡ Some archive) }
     ensures fault { IfErr result (λ fault. fault ≢ MetaFault.Memory → (fault ≡ MetaFault.Field)
-        × (option_and_then (archive_from name.now) (pairs_in (view value.now)) ≡ None)) }
+        × (option_and_then (archive_from name.now) (pairs_in (value_view value.now)) ≡ None)) }
 {
     let Some(fields) = pairs_in(value) else {
         return Err(MetaFault::Field);
@@ -154,7 +154,7 @@ fn archive_of(alloc: Global, name: &[u8], value: &Value) -> Result<ArchiveRef, M
 /// The pairs of a value that is a map.
 #[tactic(auto, using(ferry_msgpack::proofs::ViewLemmas::view_table))]
 fn pairs_in(value: &Value) -> Option<&[(Vec<u8>, Value)]>
-    ensures { option_map (λ x. pairs_view x.now) result ≡ pairs_in (view value.now) }
+    ensures { option_map (λ x. pairs_view x.now) result ≡ pairs_in (value_view value.now) }
 {
     match value {
         Value::Table(pairs) => Some(pairs.as_slice()),
@@ -179,7 +179,7 @@ fn tag_in(pairs: &[(Vec<u8>, Value)]) -> Result<Option<StatedTag>, MetaFault>
 
 /// The tag, where the value is a map with a tag of the known type.
 fn tag_of_value(value: &Value) -> Option<StatedTag>
-    ensures { result ≡ option_and_then tag_from (pairs_in (view value.now)) }
+    ensures { result ≡ option_and_then tag_from (pairs_in (value_view value.now)) }
 {
     let fields = pairs_in(value)?;
     let known = raw_in(fields, b"type")?;
@@ -228,7 +228,7 @@ struct Fields {
 fn fields_in(alloc: Global, pairs: &[(Vec<u8>, Value)]) -> Result<Fields, MetaFault>
     ensures whole { IfOk result (λ _. lacks_field (pairs_view pairs.now) ≡ false) }
     ensures timestamp { IfOk result (λ fields. timestamp_in (pairs_view pairs.now) ≡ Some fields.timestamp) }
-    ensures config { IfOk result (λ fields. config_in (pairs_view pairs.now) ≡ Some (view fields.config)) }
+    ensures config { IfOk result (λ fields. config_in (pairs_view pairs.now) ≡ Some (value_view fields.config)) }
     ensures item_keys { IfOk result (λ fields. item_keys_in (pairs_view pairs.now) ≡ Some fields.item_keys) }
     ensures archives { IfOk result (λ fields. archives_in (pairs_view pairs.now) ≡ Some fields.archives) }
     ensures tag { IfOk result (λ fields. tag_in (pairs_view pairs.now) ≡ Some fields.tag) }

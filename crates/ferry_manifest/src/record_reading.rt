@@ -3,7 +3,7 @@
 ghost use Rattle.std.specs.Prelude.{◌≡◌, ◌≢◌, true, false, IfOk, IfErr, Ok, Err, Some, None, option_map, codes};
 ghost use Rattle.ferry_msgpack.specs.Tree.{table};
 ghost use Rattle.ferry_msgpack.specs.Writable.{IsWritable};
-ghost use Rattle.ferry_msgpack.specs.View.{view, items_view, pairs_view};
+ghost use Rattle.ferry_msgpack.specs.View.{value_view, items_view, pairs_view};
 ghost use Rattle.ferry_fields.specs.Fields.{value_of};
 ghost use Rattle.ferry_fields.specs.Others.{without};
 ghost use Rattle.ferry_manifest.specs.Archive.{IsPackableArchive, IsRecordFault, apart_names, archive_of, id_of, ids_in, items_at, lacks_record_field, record_from, shown_archive};
@@ -18,7 +18,7 @@ use std::alloc::{AllocError, Global};
 
 /// The id that a value is.
 fn id_of(value: &Value) -> Option<Id>
-    ensures { result ≡ id_of (view value.now) }
+    ensures { result ≡ id_of (value_view value.now) }
 {
     let content = raw_of(value)?;
     if content.len() != 32 {
@@ -62,7 +62,7 @@ fn items_in(alloc: Global, pairs: &[(Vec<u8>, Value)]) -> Result<Ids, MetaFault>
 /// A copy of the value of `chunker_params`, where the name is there.
 fn params_in(pairs: &[(Vec<u8>, Value)]) -> Result<Option<Value>, AllocError>
     ensures params { IfOk result (λ params.
-        option_map view params ≡ value_of (codes "chunker_params") (pairs_view pairs.now)) }
+        option_map value_view params ≡ value_of (codes "chunker_params") (pairs_view pairs.now)) }
 {
     match value_of(pairs, b"chunker_params") {
         Some(params) => Ok(Some(params.clone()?)),

@@ -1,7 +1,7 @@
 //! From an archive's record to its packed bytes.
 
 ghost use Rattle.std.specs.Prelude.{◌≡◌, ◌≢◌, ◌≤◌, ◌<◌, IfOk, IfErr, OnOk, Ok, length, option_map};
-ghost use Rattle.ferry_msgpack.specs.View.{view, items_view, pairs_view};
+ghost use Rattle.ferry_msgpack.specs.View.{value_view, items_view, pairs_view};
 ghost use Rattle.ferry_manifest.specs.Archive.{AreIds, IsPackableArchive, archive_of, archive_text, record_pairs, shown_archive, with_params};
 ghost use Rattle.ferry_manifest.specs.Writing.{raws};
 
@@ -34,7 +34,7 @@ fn put_params(
     params: &Option<Value>,
 ) -> Result<(), AllocError>
     ensures pairs { OnOk result (pairs_view pairs.new.entries
-        ≡ with_params (option_map view params.now) (pairs_view pairs.old.entries)) }
+        ≡ with_params (option_map value_view params.now) (pairs_view pairs.old.entries)) }
 {
     match params {
         Some(params) => {

@@ -3,7 +3,7 @@
 ghost use Rattle.std.specs.Prelude.{◌≡◌, ◌≢◌, ◌≤◌, ◌<◌, IfOk, IfErr, OnOk, Ok, Err, length, map, unwrap_or};
 ghost use Rattle.ferry_msgpack.specs.Tree.{table, no_pairs};
 ghost use Rattle.ferry_msgpack.specs.Shortest.{shortest};
-ghost use Rattle.ferry_msgpack.specs.View.{view, items_view, pairs_view};
+ghost use Rattle.ferry_msgpack.specs.View.{value_view, items_view, pairs_view};
 ghost use Rattle.ferry_msgpack.specs.Writable.{IsWritable};
 ghost use Rattle.ferry_fields.specs.Fields.{pairs_in};
 ghost use Rattle.ferry_manifest.specs.Manifest.{manifest_of, shown};
@@ -85,9 +85,9 @@ pub(crate) fn pairs_of_table(
     alloc: Global,
     value: &Value,
 ) -> Result<BTreeMap<Vec<u8>, Value>, AllocError>
-    requires { IsWritable (view value.now) }
+    requires { IsWritable (value_view value.now) }
     ensures pairs { IfOk result (λ pairs.
-        pairs_view pairs.entries ≡ unwrap_or (pairs_in (view value.now)) no_pairs) }
+        pairs_view pairs.entries ≡ unwrap_or (pairs_in (value_view value.now)) no_pairs) }
 {
     match value {
         Value::Table(pairs) => Ok(copied(alloc, pairs.as_slice())?),
@@ -144,7 +144,7 @@ fn archive_pairs(
 /// The map of an archive.
 #[tactic(auto, unfolding(crate::specs::Writing::archive_fields))]
 fn archive_fields(alloc: Global, archive: &ArchiveRef) -> Result<Value, AllocError>
-    ensures fields { IfOk result (λ fields. view fields ≡ table (archive_fields archive.now)) }
+    ensures fields { IfOk result (λ fields. value_view fields ≡ table (archive_fields archive.now)) }
     ensures id { IfOk result (λ _. length archive.now.id ≡ 32) }
 {
     let mut fields = BTreeMap::new(alloc);
@@ -180,11 +180,11 @@ fn packed(
 
 /// The bytes of a value, where they aren't too many.
 pub(crate) fn short_text(alloc: Global, value: &Value) -> Result<Vec<u8>, MetaFault>
-    requires { IsWritable (view value.now) }
-    ensures text { IfOk result (λ text. text.items ≡ shortest (view value.now)) }
+    requires { IsWritable (value_view value.now) }
+    ensures text { IfOk result (λ text. text.items ≡ shortest (value_view value.now)) }
     ensures small { IfOk result (λ text. length text.items ≤ 20971436) }
     ensures large { IfErr result (λ fault. fault ≢ MetaFault.Memory → (fault ≡ MetaFault.TooLarge)
-        × (20971436 < length (shortest (view value.now)))) }
+        × (20971436 < length (shortest (value_view value.now)))) }
 {
     let mut text = Vec::new(alloc);
     write(value, &mut text)?;

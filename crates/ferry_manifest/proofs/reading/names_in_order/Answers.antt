@@ -1,5 +1,5 @@
 use Rattle.std.proofs.Common.{◌≡◌, None, Some, get_or, [], refl, sym, ◌∙◌, arith, rules}
-use Rattle.ferry_msgpack.specs.View.{view}
+use Rattle.ferry_msgpack.specs.View.{value_view}
 use Rattle.ferry_fields.specs.Fields.{raw_of}
 use Rattle.ferry_manifest.proofs.ReadLemmas.{names_view, names_start, names_more, names_lost, names_done}
 use Rattle.ferry_manifest.proofs.reading.names_in_order.Goals as goal
@@ -13,14 +13,14 @@ pub returns-in_default-clause-fault : goal.returns-in_default-clause-fault
 returns-in_default-clause-fault c h =
     let vs = c.args.items.now in
     let place = c.loop-place.place in
-    let none : raw_of (view (get_or vs place c.index-items-place.result)) ≡ None = search rules in
+    let none : raw_of (value_view (get_or vs place c.index-items-place.result)) ≡ None = search rules in
     (refl, names_lost c.loop-place.names.keys vs place c.index-items-place.result (omega arith) none c.loop-place.invariant)
 
 pub loop-place-preserved : goal.loop-place-preserved
 loop-place-preserved c =
     let vs = c.args.items.now in
     let place = c.loop-place.place in
-    let some : raw_of (view (get_or vs place c.index-items-place.result)) ≡ Some c.in_ok-name.name.items = search rules in
+    let some : raw_of (value_view (get_or vs place c.index-items-place.result)) ≡ Some c.in_ok-name.name.items = search rules in
     rw c.in_ok-insert.ensures.keys (names_more c.loop-place.names.keys c.in_ok-name.name vs place c.index-items-place.result (omega arith) some ∙ c.loop-place.invariant)
 
 pub returns-clause-names : goal.returns-clause-names

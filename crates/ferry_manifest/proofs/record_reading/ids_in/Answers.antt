@@ -1,5 +1,5 @@
 use Rattle.std.proofs.Common.{◌≡◌, None, Some, get_or, refl, sym, ◌∙◌, arith, rules}
-use Rattle.ferry_msgpack.specs.View.{view}
+use Rattle.ferry_msgpack.specs.View.{value_view}
 use Rattle.ferry_manifest.specs.Archive.{id_of}
 use Rattle.ferry_manifest.proofs.RecordLemmas.{ids_start, ids_more, ids_lost, ids_done}
 use Rattle.ferry_manifest.proofs.record_reading.ids_in.Goals as goal
@@ -11,14 +11,14 @@ pub returns-in_default-clause-fault : goal.returns-in_default-clause-fault
 returns-in_default-clause-fault c h =
     let vs = c.args.items.now in
     let place = c.loop-place.place in
-    let none : id_of (view (get_or vs place c.index-items-place.result)) ≡ None = search rules in
+    let none : id_of (value_view (get_or vs place c.index-items-place.result)) ≡ None = search rules in
     (refl, ids_lost c.loop-place.ids.items vs place c.index-items-place.result (omega arith) none c.loop-place.invariant)
 
 pub loop-place-preserved : goal.loop-place-preserved
 loop-place-preserved c =
     let vs = c.args.items.now in
     let place = c.loop-place.place in
-    let some : id_of (view (get_or vs place c.index-items-place.result)) ≡ Some c.in-Some.id = search rules in
+    let some : id_of (value_view (get_or vs place c.index-items-place.result)) ≡ Some c.in-Some.id = search rules in
     rw c.in_ok-push.ensures.items (ids_more c.loop-place.ids.items c.in-Some.id vs place c.index-items-place.result (omega arith) some ∙ c.loop-place.invariant)
 
 pub returns-clause-ids : goal.returns-clause-ids

@@ -2,7 +2,7 @@ use Rattle.std.proofs.Common.{ap, sym, ◌∙◌}
 use Rattle.std.proofs.lemmas.Result.{err_from_is_err_and}
 use Rattle.ferry_msgpack.specs.FirstView.{count_view}
 use Rattle.ferry_msgpack.specs.Tree.{no_pairs, put}
-use Rattle.ferry_msgpack.specs.View.{view, items_view, pairs_view}
+use Rattle.ferry_msgpack.specs.View.{value_view, items_view, pairs_view}
 use Rattle.ferry_msgpack.specs.Reading.{value_at, items_at, pairs_at}
 use Rattle.ferry_msgpack.proofs.Levels.{at_bottom, at_array, at_table, at_flat}
 use Rattle.ferry_msgpack.proofs.Loops.{items_go_on, items_fail, items_done, pairs_go_on, pairs_repeat, key_fails, pair_fails, pairs_done}
@@ -33,7 +33,7 @@ items_of-returns-in_err-item t c =
 pub items_of-items-preserved : goal.items_of-items-preserved
 items_of-items-preserved t c =
     let grown = ap items_view c.in_ok-push.ensures.items ∙ items_view-push c.items.items.items c.in_ok-item.item in
-    rw grown (items_go_on (value_at c.args.depth) (items_view c.items.items.items) c.args.count c.items.counter c.items.rest.now (items_at (value_at c.args.depth) c.args.count c.args.bytes.now) c.items.invariant (view c.in_ok-item.item) c.in_ok-item.after.now c.items-test.true c.in_ok-item.ensures)
+    rw grown (items_go_on (value_at c.args.depth) (items_view c.items.items.items) c.args.count c.items.counter c.items.rest.now (items_at (value_at c.args.depth) c.args.count c.args.bytes.now) c.items.invariant (value_view c.in_ok-item.item) c.in_ok-item.after.now c.items-test.true c.in_ok-item.ensures)
 
 pub items_of-returns : goal.items_of-returns
 items_of-returns t c =
@@ -59,8 +59,8 @@ pub pairs_of-pairs-preserved : goal.pairs_of-pairs-preserved
 pairs_of-pairs-preserved t c =
     let new = sym (has_key-lookup c.in_ok-key.key.now c.pairs.found.entries) ∙ sym c.contains_key.ensures ∙ c.if-contains_key.false in
     let grown = ap pairs_view c.in_ok-insert.ensures.entries ∙ pairs_view-insert_entry c.pairs.found.entries c.in_ok-from_slice.field-0 c.in_ok-value.value
-    ∙ ap (λ k. put k (view c.in_ok-value.value) (pairs_view c.pairs.found.entries)) c.in_ok-from_slice.ensures.items in
-    rw grown (pairs_go_on (value_at c.args.depth) (pairs_view c.pairs.found.entries) c.args.count c.pairs.counter c.pairs.rest.now (pairs_at (value_at c.args.depth) c.args.count no_pairs c.args.bytes.now) c.pairs.invariant c.in_ok-key.key.now c.in_ok-key.after.now (view c.in_ok-value.value) c.in_ok-value.after.now c.pairs-test.true c.in_ok-key.ensures new c.in_ok-value.ensures)
+    ∙ ap (λ k. put k (value_view c.in_ok-value.value) (pairs_view c.pairs.found.entries)) c.in_ok-from_slice.ensures.items in
+    rw grown (pairs_go_on (value_at c.args.depth) (pairs_view c.pairs.found.entries) c.args.count c.pairs.counter c.pairs.rest.now (pairs_at (value_at c.args.depth) c.args.count no_pairs c.args.bytes.now) c.pairs.invariant c.in_ok-key.key.now c.in_ok-key.after.now (value_view c.in_ok-value.value) c.in_ok-value.after.now c.pairs-test.true c.in_ok-key.ensures new c.in_ok-value.ensures)
 
 pub pairs_of-returns : goal.pairs_of-returns
 pairs_of-returns t c =
