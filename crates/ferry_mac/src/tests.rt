@@ -109,7 +109,8 @@ static RFC_4231_CASES: [MacCase; 7] = [
     },
     MacCase {
         key: &[0xaa; 131],
-        text: b"This is a test using a larger than block-size key and a larger than block-size data. The key needs to be hashed before being used by the HMAC algorithm.",
+        text: b"This is a test using a larger than block-size key and a larger than block-size data. The key needs to be hashed \
+            before being used by the HMAC algorithm.",
         sha256: &[
             0x9b, 0x09, 0xff, 0xa7, 0x1b, 0x94, 0x2f, 0xcb, 0x27, 0x63, 0x5f, 0xbc, 0xd5, 0xb0,
             0xe9, 0x44, 0xbf, 0xdc, 0x63, 0x64, 0x4f, 0x07, 0x13, 0x93, 0x8a, 0x7f, 0x51, 0x53,
