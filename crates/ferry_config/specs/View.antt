@@ -4,9 +4,9 @@ use Rattle.ferry_config.specs.declared.line.Line.{Line}
 use Rattle.ferry_config.specs.declared.line.Line.TheVariants.{Passed, Header, Continued, Assigned, Formless}
 
 -- a line, without where its texts lie in memory
-abbrev pub shown : Line → spec.Line
-shown Passed = spec.passed
-shown (Header name) = spec.header name.now
-shown (Continued piece) = spec.continued piece.now
-shown (Assigned name value) = spec.assigned name.now value.now
-shown Formless = spec.formless
+abbrev pub line_view : Line → spec.Line
+line_view Passed = spec.passed
+line_view (Header name) = spec.header name.now
+line_view (Continued piece) = spec.continued piece.now
+line_view (Assigned name value) = spec.assigned name.now value.now
+line_view Formless = spec.formless
