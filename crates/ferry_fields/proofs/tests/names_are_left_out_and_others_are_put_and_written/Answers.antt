@@ -2,7 +2,7 @@ use Rattle.std.proofs.Common.{ap, sym, subst, ◌∙◌}
 use Rattle.ferry_msgpack.specs.View.{pairs_view}
 use Rattle.ferry_msgpack.specs.Writable.{IsIncreasing}
 use Rattle.ferry_fields.proofs.KeptLemmas.{IsIncreasing-without}
-use Rattle.ferry_fields.proofs.tests.names_are_left_out_and_others_are_put.Goals as goal
+use Rattle.ferry_fields.proofs.tests.names_are_left_out_and_others_are_put_and_written.Goals as goal
 
 pub copied-requires : goal.copied-requires
 copied-requires g c =
