@@ -1,0 +1,208 @@
+#!/usr/bin/env python3
+"""Holds the papers of the repository to it: docs.py [--rows] [CRATE ..]
+
+Each public definition of a crate's specs/ stands in docs/DEFINITIONS.md with its sentence and its file; each named clause of a
+public call stands in the README.md of its crate beside the call; crates.txt is the table of docs/ARCHITECTURE.md; the links
+of the papers lead to files that are there; no line of code or proofs has more than 160 columns. One line for each thing that is
+missing, and at the end 'N passed, M failed'; status 1 where M isn't 0. With names of crates, those alone are looked at, and with
+--rows the rows of the definitions that are missing are printed, ready for docs/DEFINITIONS.md.
+"""
+import glob
+import os
+import re
+import sys
+
+TOP = os.path.join(os.path.dirname(os.path.abspath(__file__)), "..")
+WIDEST = 160
+DEFINITION = re.compile(r"^(?:(?:abbrev|unfoldable) pub|pub (?:record|data)) ([^\s:({]+)")
+DEFINITION_OF_SEVERAL = re.compile(r"^  pub (?:data )?([^\s:({]+)")
+TICKED = re.compile(r"`([^`]+)`")
+
+passed = 0
+missing = []
+
+
+def read(path):
+    with open(os.path.join(TOP, path), encoding="utf-8") as file:
+        return file.read()
+
+
+def judge(is_right, what):
+    global passed
+    if is_right:
+        passed += 1
+    else:
+        missing.append(what)
+
+
+def listed():
+    """The crates of crates.txt, each with the crates that it stands on."""
+    lines = (line.partition("#")[0] for line in read("crates.txt").splitlines())
+    pairs = (line.partition(":") for line in lines if line.strip())
+    return {name.strip(): below.split() for name, _, below in pairs}
+
+
+def definitions(crate):
+    """The public definitions of a crate's specs/: name, the sentence that stands above it, and the file in specs/.
+
+    A definition without a comment of its own belongs to the one above it, and shares its sentence.
+    """
+    folder = os.path.join(TOP, "crates", crate, "specs")
+    for path in sorted(glob.glob(folder + "/**/*.antt", recursive=True)):
+        with open(path, encoding="utf-8") as file:
+            lines = file.read().splitlines()
+        said, sentence, is_comment, are_several = [], "", False, False
+        for line in lines:
+            if line[:1].strip() and not line.startswith("--"):
+                are_several = line.split()[-1] == "mutual"
+            comment = re.match(r"^ *-- ?(?!-)(.*)$", line)
+            if comment:
+                said = [*said, comment[1].strip()] if is_comment else [comment[1].strip()]
+            is_comment = bool(comment)
+            found = DEFINITION_OF_SEVERAL.match(line) if are_several else DEFINITION.match(line)
+            if found:
+                sentence, said = " ".join(said) or sentence, []
+                yield found[1], sentence, os.path.relpath(path, folder)
+            elif line.startswith("use "):
+                said = []
+
+
+def sentence_of(comment):
+    """A comment as a sentence: its first letter large, and a full stop at its end."""
+    return comment[:1].upper() + comment[1:] + ("" if comment.endswith(".") else ".") if comment else ""
+
+
+def section(text, name):
+    """The part of a paper under this heading."""
+    return (re.split(rf"(?m)^## {name}$", text, maxsplit=1) + [""])[1].split("\n## ")[0]
+
+
+def rows_of(text):
+    """The rows of the tables in a text, as lists of cells, without their heads."""
+    rows = [[cell.strip() for cell in re.split(r"(?<!\\)\|", line)[1:-1]] for line in text.splitlines() if line.startswith("|")]
+    return [row for at, row in enumerate(rows) if not set("".join(row)) <= set("-: ") and not (at + 1 < len(rows) and set("".join(rows[at + 1])) <= set("-: "))]
+
+
+def look_at_definitions(crate, paper, wants_rows):
+    """Each definition has a row in the section of its crate, with its file."""
+    rows = {}
+    for row in rows_of(section(paper, crate)):
+        for name in TICKED.findall(row[0]):
+            rows.setdefault(name.split()[0], []).append(row)
+    there = set()
+    for name, comment, file in definitions(crate):
+        there.add(name)
+        found = any(file in " ".join(row).replace("specs/", "") for row in rows.get(name, []))
+        judge(found, f"docs/DEFINITIONS.md, {crate}: no row of `{name}` in {file}")
+        if wants_rows and not found:
+            print(f"| `{name}` | {sentence_of(comment)} | {file} |")
+    for name in sorted(set(rows) - there):
+        judge(False, f"docs/DEFINITIONS.md, {crate}: `{name}` is no public definition of its specs/")
+
+
+def exported(crate):
+    """The names that a crate's root hands out."""
+    path = os.path.join(TOP, "crates", crate, "src", "lib.rt")
+    if not os.path.isfile(path):
+        return set()
+    with open(path, encoding="utf-8") as file:
+        uses = re.findall(r"(?ms)^pub use ([^;]+);", file.read())
+    return {name.split("::")[-1].strip().split(" as ")[-1] for use in uses for name in re.sub(r"^.*\{|\}", "", use, flags=re.S).split(",") if name.strip()}
+
+
+def clauses(crate):
+    """The named clauses of a crate's public calls: the call, as it is called, and the clause.
+
+    Public are the functions that the root hands out, the public methods of its types, and the methods of its traits.
+    """
+    names = exported(crate)
+    for path in sorted(glob.glob(os.path.join(TOP, "crates", crate, "src", "**", "*.rt"), recursive=True)):
+        with open(path, encoding="utf-8") as file:
+            lines = file.read().splitlines()
+        owner, is_trait, call = "", False, None
+        for line in lines:
+            block = re.match(r"^(?:pub )?(impl|trait)\b(?:<.*?>)? *(.*?) *\{?$", line)
+            if block:
+                is_trait = block[1] == "trait"
+                is_own = is_trait or " for " not in block[2]
+                owner = re.match(r"\w*", block[2])[0] if is_own else None
+            elif line.startswith("}"):
+                owner, is_trait, call = "", False, None
+            head = re.match(r"^( *)(pub )?(?:const )?fn (\w+)", line)
+            if head:
+                is_public = head[3] in names if not head[1] else bool(owner) and owner in names and (is_trait or head[2])
+                call = head[3] if is_public else None
+            clause = re.match(r"^ *ensures\*? (\w+) \{", line)
+            if call and clause:
+                yield (f"{owner}::{call}" if owner else call), clause[1]
+
+
+def units(paper):
+    """The rows of a page, a row without a call being one more of the call above it, and its paragraphs and points."""
+    call = ""
+    for block in re.split(r"\n\s*\n", paper):
+        if block.lstrip().startswith("|"):
+            for row in rows_of(block):
+                call = row[0] or call
+                yield " | ".join([call, *row[1:]])
+        else:
+            yield from re.split(r"\n(?=[-*] )", block)
+
+
+def look_at_clauses(crate):
+    """Each clause of a public call stands in the crate's page, in a row or paragraph that names the call, or that names none."""
+    named = sorted(set(clauses(crate)))
+    calls = {call.split("::")[-1] for call, _ in named} - {clause for _, clause in named}
+    page = [{word for text in TICKED.findall(unit) for word in re.findall(r"\w+", text)} for unit in units(read(f"crates/{crate}/README.md"))]
+    for call, clause in named:
+        found = any(clause in words and (call.split("::")[-1] in words or not calls & words) for words in page)
+        judge(found, f"crates/{crate}/README.md: no clause `{clause}` of `{call}`")
+
+
+def look_at_architecture(crates):
+    """The table of crates has each crate of crates.txt with what it stands on, and others only as planned."""
+    rows = {row[0]: row for row in rows_of(section(read("docs/ARCHITECTURE.md"), "The crates"))}
+    for name, below in crates.items():
+        want = ", ".join(it.removeprefix("ferry_") for it in below)
+        got = rows[name][2] if name in rows else None
+        judge(got == want, f"docs/ARCHITECTURE.md: {name} stands on {want or 'nothing'}, and the table has {got!r}")
+    for name in rows:
+        judge(name in crates or rows[name][3].startswith("planned"), f"docs/ARCHITECTURE.md: {name} isn't in crates.txt, and not called planned")
+
+
+def look_at_links():
+    """The links of the papers lead to files that are there."""
+    for path in ["README.md", "CHANGELOG.md", *glob.glob("docs/*.md", root_dir=TOP), *glob.glob("bench/*.md", root_dir=TOP), *glob.glob("crates/*/README.md", root_dir=TOP)]:
+        for to in re.findall(r"\]\(([^)#]+)[^)]*\)", read(path)):
+            if "://" not in to:
+                judge(os.path.exists(os.path.join(TOP, os.path.dirname(path), to)), f"{path}: the link to {to} leads nowhere")
+
+
+def look_at_widths(crate):
+    """No line of code, definitions or proofs is wider than 160 columns."""
+    for end in ("rt", "antt"):
+        for path in sorted(glob.glob(f"crates/{crate}/**/*.{end}", root_dir=TOP, recursive=True)):
+            if "/out/" not in path:
+                wide = [number for number, line in enumerate(read(path).splitlines(), 1) if len(line) > WIDEST]
+                judge(not wide, f"{path}: more than {WIDEST} columns in line {', '.join(map(str, wide))}")
+
+
+def main(words):
+    crates = listed()
+    wants_rows = "--rows" in words
+    chosen = [word for word in words if word != "--rows"]
+    paper = read("docs/DEFINITIONS.md")
+    for crate in chosen or crates:
+        look_at_definitions(crate, paper, wants_rows)
+        look_at_clauses(crate)
+        look_at_widths(crate)
+    if not chosen:
+        look_at_architecture(crates)
+        look_at_links()
+    if not wants_rows:
+        print(*missing, sep="\n", end="\n" if missing else "")
+    print(f"{passed} passed, {len(missing)} failed")
+    return 1 if missing or not passed else 0
+
+
+sys.exit(main(sys.argv[1:]))
