@@ -68,29 +68,6 @@ fn a_folders_files_are_read_where_they_lie(rt: HostRuntime) -> Result<(), Fail> 
     Ok(())
 }
 
-/// A place that is no folder, or whose `data` is none, fails at each listing; one that isn't there has no files.
-#[test]
-fn what_is_no_folder_is_told_from_none(rt: HostRuntime) -> Result<(), Fail> {
-    let place = make_file(&rt)?;
-    for (end, fails) in [("", true), ("/data", true), ("-none", false)] {
-        let path = format!(in rt.alloc(); "{place}{end}")?;
-        let mut shelf = FolderShelf::new(rt.clone()?, rt.alloc(), path.as_str())?;
-        let failed = matches!(shelf.segments(rt.alloc()), Err(StoreFault::Failed));
-        assert_eq!(rt; failed, fails, "{end}");
-    }
-    fs::remove_file(&rt, place.as_str())?;
-    Ok(())
-}
-
-/// Makes a file that stands where a folder is looked for.
-fn make_file(rt: &HostRuntime) -> io::Result<String> {
-    let temporary = env::temp_dir(rt)?;
-    let number = process::id(rt.process());
-    let place = format!(in rt.alloc(); "{}/borgferry-file-{number}", temporary.as_str())?;
-    fs::write(rt, place.as_str(), "text")?;
-    Ok(place)
-}
-
 /// A file that gives at most two bytes a read, is interrupted at its second, and fails at the one that is told.
 #[derive(Drop)]
 struct SlowFile {
