@@ -1,11 +1,12 @@
 #!/usr/bin/env python3
-"""Holds the papers of the repository to it: docs.py [--rows] [CRATE ..]
+"""Holds the papers of the repository to it: docs.py [--write] [CRATE ..]
 
 Each public definition of a crate's specs/ stands in docs/DEFINITIONS.md with its sentence and its file; each named clause of a
 public call stands in the README.md of its crate beside the call; crates.txt is the table of docs/ARCHITECTURE.md; the links
 of the papers lead to files that are there; no line of code or proofs has more than 160 columns. One line for each thing that is
-missing, and at the end 'N passed, M failed'; status 1 where M isn't 0. With names of crates, those alone are looked at, and with
---rows the rows of the definitions that are missing are printed, ready for docs/DEFINITIONS.md.
+missing, and at the end 'N passed, M failed'; status 1 where M isn't 0. With names of crates, those alone are looked at. With --write
+the rows of definitions that are missing are first put at the end of their crate's section, and the table of crates gets what crates.txt
+says.
 """
 import glob
 import os
@@ -16,6 +17,7 @@ TOP = os.path.join(os.path.dirname(os.path.abspath(__file__)), "..")
 WIDEST = 160
 DEFINITION = re.compile(r"^(?:(?:abbrev|unfoldable) pub|pub (?:record|data)) ([^\s:({]+)")
 DEFINITION_OF_SEVERAL = re.compile(r"^  pub (?:data )?([^\s:({]+)")
+SHORT_HEAD = "| Name | One sentence | File |"
 TICKED = re.compile(r"`([^`]+)`")
 
 passed = 0
@@ -68,13 +70,15 @@ def definitions(crate):
 
 
 def sentence_of(comment):
-    """A comment as a sentence: its first letter large, and a full stop at its end."""
-    return comment[:1].upper() + comment[1:] + ("" if comment.endswith(".") else ".") if comment else ""
+    """A comment as a sentence: the first letter of a word large, and a full stop at its end."""
+    is_word = re.match(r"(a|[a-z']{2,})\b(?![(\[])", comment)
+    large = comment[:1].upper() + comment[1:] if is_word else comment
+    return large if large.endswith(".") or not large else large + "."
 
 
 def section(text, name):
     """The part of a paper under this heading."""
-    return (re.split(rf"(?m)^## {name}$", text, maxsplit=1) + [""])[1].split("\n## ")[0]
+    return (re.split(rf"(?m)^## {name}\n", text, maxsplit=1) + [""])[1].split("\n## ")[0]
 
 
 def rows_of(text):
@@ -83,21 +87,63 @@ def rows_of(text):
     return [row for at, row in enumerate(rows) if not set("".join(row)) <= set("-: ") and not (at + 1 < len(rows) and set("".join(rows[at + 1])) <= set("-: "))]
 
 
-def look_at_definitions(crate, paper, wants_rows):
-    """Each definition has a row in the section of its crate, with its file."""
+def defined_rows(crate, paper):
+    """The rows of a crate's section by the names that they are of."""
     rows = {}
     for row in rows_of(section(paper, crate)):
         for name in TICKED.findall(row[0]):
             rows.setdefault(name.split()[0], []).append(row)
-    there = set()
-    for name, comment, file in definitions(crate):
-        there.add(name)
-        found = any(file in " ".join(row).replace("specs/", "") for row in rows.get(name, []))
-        judge(found, f"docs/DEFINITIONS.md, {crate}: no row of `{name}` in {file}")
-        if wants_rows and not found:
-            print(f"| `{name}` | {sentence_of(comment)} | {file} |")
-    for name in sorted(set(rows) - there):
+    return rows
+
+
+def lacking(crate, paper):
+    """The definitions of a crate that have no row with their file."""
+    rows = defined_rows(crate, paper)
+    return [it for it in definitions(crate) if not any(it[2] in " ".join(row) for row in rows.get(it[0], []))]
+
+
+def look_at_definitions(crate, paper):
+    """Each definition has a row in the section of its crate, with its file, and each row is of one."""
+    there = {name for name, _, _ in definitions(crate)}
+    lacks = {name for name, _, _ in lacking(crate, paper)}
+    for name in sorted(there):
+        judge(name not in lacks, f"docs/DEFINITIONS.md, {crate}: no row of `{name}`")
+    for name in sorted(set(defined_rows(crate, paper)) - there):
         judge(False, f"docs/DEFINITIONS.md, {crate}: `{name}` is no public definition of its specs/")
+
+
+def write_definitions(crate):
+    """Puts a row for each sentence that has none at the end of a crate's section, the definitions of one sentence in one row."""
+    paper = read("docs/DEFINITIONS.md")
+    groups = {}
+    for name, comment, file in lacking(crate, paper):
+        groups.setdefault((sentence_of(comment), file), []).append(f"`{name}`")
+    rows = "".join(f"| {', '.join(names)} | {sentence} | {file} |\n" for (sentence, file), names in groups.items())
+    if rows:
+        old = section(paper, crate)
+        table = old.rstrip("\n") + "\n"
+        if table.split("\n\n")[-1].splitlines()[0] != SHORT_HEAD:
+            table += f"\n{SHORT_HEAD}\n|---|---|---|\n"
+        if not old:
+            paper = paper.rstrip("\n") + f"\n\n## {crate}\n"
+        before, _, after = paper.partition(f"\n## {crate}\n")
+        paper = f"{before}\n## {crate}\n{table}{rows}\n{after[len(old):].lstrip(chr(10))}"
+        with open(os.path.join(TOP, "docs", "DEFINITIONS.md"), "w", encoding="utf-8") as file:
+            file.write(paper.rstrip("\n") + "\n")
+
+
+def write_architecture(crates):
+    """Puts what crates.txt says into the table of crates."""
+    paper = read("docs/ARCHITECTURE.md")
+    for name, below in crates.items():
+        paper = re.sub(rf"(?m)^(\| {name} \|[^|]*\|)[^|]*\|", lambda row: f"{row[1]} {stands_on(below)} |".replace("  ", " "), paper)
+    with open(os.path.join(TOP, "docs", "ARCHITECTURE.md"), "w", encoding="utf-8") as file:
+        file.write(paper)
+
+
+def stands_on(below):
+    """What a crate stands on as the table of crates has it: our own without their common front."""
+    return ", ".join(it.removeprefix("ferry_") for it in below)
 
 
 def exported(crate):
@@ -163,7 +209,7 @@ def look_at_architecture(crates):
     """The table of crates has each crate of crates.txt with what it stands on, and others only as planned."""
     rows = {row[0]: row for row in rows_of(section(read("docs/ARCHITECTURE.md"), "The crates"))}
     for name, below in crates.items():
-        want = ", ".join(it.removeprefix("ferry_") for it in below)
+        want = stands_on(below)
         got = rows[name][2] if name in rows else None
         judge(got == want, f"docs/ARCHITECTURE.md: {name} stands on {want or 'nothing'}, and the table has {got!r}")
     for name in rows:
@@ -189,18 +235,20 @@ def look_at_widths(crate):
 
 def main(words):
     crates = listed()
-    wants_rows = "--rows" in words
-    chosen = [word for word in words if word != "--rows"]
+    chosen = [word for word in words if word != "--write"]
+    if "--write" in words:
+        for crate in chosen or crates:
+            write_definitions(crate)
+        write_architecture(crates)
     paper = read("docs/DEFINITIONS.md")
     for crate in chosen or crates:
-        look_at_definitions(crate, paper, wants_rows)
+        look_at_definitions(crate, paper)
         look_at_clauses(crate)
         look_at_widths(crate)
     if not chosen:
         look_at_architecture(crates)
         look_at_links()
-    if not wants_rows:
-        print(*missing, sep="\n", end="\n" if missing else "")
+    print(*missing, sep="\n", end="\n" if missing else "")
     print(f"{passed} passed, {len(missing)} failed")
     return 1 if missing or not passed else 0
 
