@@ -10,19 +10,23 @@ use ferry_manifest::MetaFault;
 use ferry_top::{Refusal, RepoFault, Status};
 
 /// Where the words name no source, target and command.
-pub const FORM: &str = "the form is borgferry SOURCE TARGET COMMAND; the two places are folders that differ, or - for none; borgferry --help says more";
+pub const FORM: &str =
+    "the form is borgferry SOURCE TARGET COMMAND; the two places are folders that differ, or - for none; borgferry --help says more";
 
 /// Where a passphrase isn't UTF-8.
 pub const NOT_TEXT: &str =
     "set the variable to the passphrase as UTF-8, or leave it out where the command doesn't need it";
 
 /// Where memory was refused.
-pub const MEMORY: &str = "the system refused memory, which says nothing of the repository: free some or allow the program more, and run it again";
+pub const MEMORY: &str =
+    "the system refused memory, which says nothing of the repository: free some or allow the program more, and run it again";
 
 /// Where standard output can't be written. It has no fault line, which would go there too.
-pub const OUTPUT: &str = "standard output can't be written, so lines are missing: see whether its disk is full or the program behind the pipe has ended";
+pub const OUTPUT: &str =
+    "standard output can't be written, so lines are missing: see whether its disk is full or the program behind the pipe has ended";
 
-const DEVICE: &str = "the files of SOURCE can't be read: see that it is a folder, that you may read all of it and that its disk answers";
+const DEVICE: &str =
+    "the files of SOURCE can't be read: see that it is a folder, that you may read all of it and that its disk answers";
 
 /// The line of a status, without its end, where a command ended with one.
 ///
