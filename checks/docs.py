@@ -2,11 +2,11 @@
 """Holds the papers of the repository to it: docs.py [--write] [CRATE ..]
 
 Each public definition of a crate's specs/ stands in docs/DEFINITIONS.md with its sentence and its file; each named clause of a
-public call stands in the README.md of its crate beside the call; crates.txt is the table of docs/ARCHITECTURE.md; the links
-of the papers lead to files that are there; no line of code or proofs has more than 160 columns. One line for each thing that is
-missing, and at the end 'N passed, M failed'; status 1 where M isn't 0. With names of crates, those alone are looked at. With --write
-the rows of definitions that are missing are first put at the end of their crate's section, and the table of crates gets what crates.txt
-says.
+public call stands in the README.md of its crate beside the call; crates.txt is the table of docs/ARCHITECTURE.md; the links of
+the papers lead to files that are there, and the wrong bodies and tests that they name are there; no line of code or proofs has
+more than 160 columns. One line for each thing that is missing, and at the end 'N passed, M failed'; status 1 where M isn't 0.
+With names of crates, those alone are looked at. With --write the rows of definitions that are missing are first put at the end
+of their crate's section, and the table of crates gets what crates.txt says.
 """
 import glob
 import os
@@ -224,6 +224,18 @@ def look_at_links():
                 judge(os.path.exists(os.path.join(TOP, os.path.dirname(path), to)), f"{path}: the link to {to} leads nowhere")
 
 
+def look_at_evidence():
+    """The wrong bodies and the tests that a page names are there."""
+    edits = {os.path.basename(path).removesuffix(".edit") for path in glob.glob("crates/*/must-fail/*.edit", root_dir=TOP)}
+    code = "".join(read(path) for path in glob.glob("crates/*/src/**/*.rt", root_dir=TOP, recursive=True))
+    for path in ["docs/DECISIONS.md", *sorted(glob.glob("crates/*/*.md", root_dir=TOP))]:
+        page = re.sub(r"\s+", " ", read(path))
+        for kind, names in re.findall(r"\b(wrong bod(?:y|ies)|tests?) ((?:`[^`]+`(?:, and |, | and )?)+)", page):
+            for name in TICKED.findall(names):
+                is_there = name in edits if kind.startswith("wrong") else name in code
+                judge(is_there, f"{path}: there is no {kind.replace('bodies', 'body').removesuffix('s')} `{name}`")
+
+
 def look_at_widths(crate):
     """No line of code, definitions or proofs is wider than 160 columns."""
     for end in ("rt", "antt"):
@@ -248,6 +260,7 @@ def main(words):
     if not chosen:
         look_at_architecture(crates)
         look_at_links()
+        look_at_evidence()
     print(*missing, sep="\n", end="\n" if missing else "")
     print(f"{passed} passed, {len(missing)} failed")
     return 1 if missing or not passed else 0
