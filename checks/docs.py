@@ -2,11 +2,11 @@
 """Holds the papers of the repository to it: docs.py [--write] [CRATE ..]
 
 Each public definition of a crate's specs/ stands in docs/DEFINITIONS.md with its sentence and its file; each named clause of a
-public call stands in the README.md of its crate beside the call; crates.txt is the table of docs/ARCHITECTURE.md; the links of
-the papers lead to files that are there, and the wrong bodies and tests that they name are there; no line of code or proofs has
-more than 160 columns. One line for each thing that is missing, and at the end 'N passed, M failed'; status 1 where M isn't 0.
-With names of crates, those alone are looked at. With --write the rows of definitions that are missing are first put at the end
-of their crate's section, and the table of crates gets what crates.txt says.
+public call stands in the README.md of its crate beside the call, and each that the front page names is one; crates.txt is the
+table of docs/ARCHITECTURE.md; the links of the papers lead to files that are there, and the wrong bodies and tests that they name
+are there; no line of code or proofs has more than 160 columns. One line for each thing that is missing, and at the end 'N passed,
+M failed'; status 1 where M isn't 0. With names of crates, those alone are looked at. With --write the rows of definitions that are
+missing are first put at the end of their crate's section, and the table of crates gets what crates.txt says.
 """
 import glob
 import os
@@ -84,7 +84,8 @@ def section(text, name):
 def rows_of(text):
     """The rows of the tables in a text, as lists of cells, without their heads."""
     rows = [[cell.strip() for cell in re.split(r"(?<!\\)\|", line)[1:-1]] for line in text.splitlines() if line.startswith("|")]
-    return [row for at, row in enumerate(rows) if not set("".join(row)) <= set("-: ") and not (at + 1 < len(rows) and set("".join(rows[at + 1])) <= set("-: "))]
+    is_line = [set("".join(row)) <= set("-: ") for row in rows]
+    return [row for row, is_this, is_next in zip(rows, is_line, [*is_line[1:], False]) if not is_this and not is_next]
 
 
 def defined_rows(crate, paper):
@@ -136,7 +137,8 @@ def write_architecture(crates):
     """Puts what crates.txt says into the table of crates."""
     paper = read("docs/ARCHITECTURE.md")
     for name, below in crates.items():
-        paper = re.sub(rf"(?m)^(\| {name} \|[^|]*\|)[^|]*\|", lambda row: f"{row[1]} {stands_on(below)} |".replace("  ", " "), paper)
+        cell = f" {stands_on(below)} |" if below else " |"
+        paper = re.sub(rf"(?m)^(\| {name} \|[^|]*\|)[^|]*\|", lambda row: row[1] + cell, paper)
     with open(os.path.join(TOP, "docs", "ARCHITECTURE.md"), "w", encoding="utf-8") as file:
         file.write(paper)
 
@@ -205,6 +207,18 @@ def look_at_clauses(crate):
         judge(found, f"crates/{crate}/README.md: no clause `{clause}` of `{call}`")
 
 
+def look_at_front_page(crates):
+    """Each clause that README.md names `of` a call or a type is one of its clauses."""
+    there = {}
+    for crate in crates:
+        for call, clause in clauses(crate):
+            for name in {call, *call.split("::")}:
+                there.setdefault(name, set()).add(clause)
+    for names, call in re.findall(r"((?:`\w+`(?:, )?)+) of `([\w:]+)`", re.sub(r"\s+", " ", read("README.md"))):
+        for name in TICKED.findall(names):
+            judge(name in there.get(call, ()), f"README.md: `{call}` has no clause `{name}`")
+
+
 def look_at_architecture(crates):
     """The table of crates has each crate of crates.txt with what it stands on, and others only as planned."""
     rows = {row[0]: row for row in rows_of(section(read("docs/ARCHITECTURE.md"), "The crates"))}
@@ -258,6 +272,7 @@ def main(words):
         look_at_clauses(crate)
         look_at_widths(crate)
     if not chosen:
+        look_at_front_page(crates)
         look_at_architecture(crates)
         look_at_links()
         look_at_evidence()
