@@ -3,10 +3,10 @@
 
 Each public definition of a crate's specs/ stands in docs/DEFINITIONS.md with its sentence and its file; each named clause of a
 public call stands in the README.md of its crate beside the call, and each that the front page names is one; crates.txt is the
-table of docs/ARCHITECTURE.md; the links of the papers lead to files that are there, and the wrong bodies and tests that they name
-are there; no line of code or proofs has more than 160 columns. One line for each thing that is missing, and at the end 'N passed,
-M failed'; status 1 where M isn't 0. With names of crates, those alone are looked at. With --write the rows of definitions that are
-missing are first put at the end of their crate's section, and the table of crates gets what crates.txt says.
+table of docs/ARCHITECTURE.md; the links of the papers, and the files, wrong bodies and tests that they name, are there; no line
+of code or proofs has more than 160 columns. One line for each thing that is missing, and at the end 'N passed, M failed';
+status 1 where M isn't 0. With names of crates, those alone are looked at. With --write the rows of definitions that are missing
+are first put at the end of their crate's section, and the table of crates gets what crates.txt says.
 """
 import glob
 import os
@@ -17,8 +17,11 @@ TOP = os.path.join(os.path.dirname(os.path.abspath(__file__)), "..")
 WIDEST = 160
 DEFINITION = re.compile(r"^(?:(?:abbrev|unfoldable) pub|pub (?:record|data)) ([^\s:({]+)")
 DEFINITION_OF_SEVERAL = re.compile(r"^  pub (?:data )?([^\s:({]+)")
+FILE = re.compile(r"(?<![\w/.])((?:src|specs|proofs|must-fail|checks|bench|docs)/[\w./-]+\.(?:rt|antt|py|sh|md|edit)(?:\.in)?)")
 SHORT_HEAD = "| Name | One sentence | File |"
 TICKED = re.compile(r"`([^`]+)`")
+
+PAPERS = sorted(path for form in ("*.md", "docs/*.md", "bench/*.md", "crates/*/*.md") for path in glob.glob(form, root_dir=TOP))
 
 passed = 0
 missing = []
@@ -232,10 +235,21 @@ def look_at_architecture(crates):
 
 def look_at_links():
     """The links of the papers lead to files that are there."""
-    for path in ["README.md", "CHANGELOG.md", *glob.glob("docs/*.md", root_dir=TOP), *glob.glob("bench/*.md", root_dir=TOP), *glob.glob("crates/*/README.md", root_dir=TOP)]:
+    for path in PAPERS:
         for to in re.findall(r"\]\(([^)#]+)[^)]*\)", read(path)):
             if "://" not in to:
                 judge(os.path.exists(os.path.join(TOP, os.path.dirname(path), to)), f"{path}: the link to {to} leads nowhere")
+
+
+def look_at_files():
+    """The files of the repository that a paper names by their folder are there, below the top or in the crate that it speaks of."""
+    papers = {path: (read(path), path.split("/")[1] if path.startswith("crates/") else "*") for path in PAPERS}
+    parts = re.split(r"(?m)^## ", papers.pop("docs/DEFINITIONS.md")[0])
+    papers.update({f"docs/DEFINITIONS.md, {part.split(chr(10))[0]}": (part, part.split("\n")[0]) for part in parts[1:]})
+    for path, (text, crate) in papers.items():
+        for name in sorted(set(FILE.findall(text))):
+            is_there = os.path.exists(os.path.join(TOP, name)) or glob.glob(f"crates/{crate}/{name}", root_dir=TOP)
+            judge(bool(is_there), f"{path}: there is no {name}")
 
 
 def look_at_evidence():
@@ -275,6 +289,7 @@ def main(words):
         look_at_front_page(crates)
         look_at_architecture(crates)
         look_at_links()
+        look_at_files()
         look_at_evidence()
     print(*missing, sep="\n", end="\n" if missing else "")
     print(f"{passed} passed, {len(missing)} failed")
