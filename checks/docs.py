@@ -242,14 +242,14 @@ def look_at_links():
 
 
 def look_at_files():
-    """The files of the repository that a paper names by their folder are there, below the top or in the crate that it speaks of."""
+    """The files of the repository that a paper names by their folder are there, below the top or in a crate that it speaks of."""
     papers = {path: (read(path), path.split("/")[1] if path.startswith("crates/") else "*") for path in PAPERS}
     parts = re.split(r"(?m)^## ", papers.pop("docs/DEFINITIONS.md")[0])
     papers.update({f"docs/DEFINITIONS.md, {part.split(chr(10))[0]}": (part, part.split("\n")[0]) for part in parts[1:]})
     for path, (text, crate) in papers.items():
         for name in sorted(set(FILE.findall(text))):
-            is_there = os.path.exists(os.path.join(TOP, name)) or glob.glob(f"crates/{crate}/{name}", root_dir=TOP)
-            judge(bool(is_there), f"{path}: there is no {name}")
+            places = [name, *(f"crates/{it}/{name}" for it in {crate, *TICKED.findall(text)})]
+            judge(any(glob.glob(place, root_dir=TOP) for place in places), f"{path}: there is no {name}")
 
 
 def look_at_evidence():
