@@ -5,6 +5,7 @@ use crate::shelf::FolderShelf;
 use crate::stdout::write_all;
 use ferry_disk::{Name, Shelf, SinkFault, StoreFault};
 use std::io::{Cursor, Error, ErrorKind, Read, Seek, SeekFrom, Write};
+use std::process::Abort;
 use std::test::Fail;
 use std::{env, fs, io, process};
 
@@ -44,6 +45,24 @@ fn make_folder(rt: &HostRuntime) -> io::Result<String> {
     Ok(place)
 }
 
+/// Asserts that the device has these files with these contents, from any place on.
+fn are_read(
+    rt: &impl Abort,
+    shelf: &mut FolderShelf<HostRuntime>,
+    files: &[(Name, &str)],
+) -> Result<(), Fail> {
+    for (name, content) in files {
+        let mut bytes = [0u8; 32];
+        let length = content.len();
+        assert_eq!(rt; shelf.size(*name)?, Some(length as u64));
+        assert_eq!(rt; shelf.read_at(*name, 0, &mut bytes)?, length);
+        assert!(rt; bytes.starts_with(content.as_bytes()));
+        assert_eq!(rt; shelf.read_at(*name, length as u64, &mut bytes)?, 0);
+        assert_eq!(rt; shelf.read_at(*name, u64::MAX, &mut bytes)?, 0);
+    }
+    Ok(())
+}
+
 #[test]
 fn a_folders_files_are_read_where_they_lie(rt: HostRuntime) -> Result<(), Fail> {
     let place = make_folder(&rt)?;
@@ -53,15 +72,7 @@ fn a_folders_files_are_read_where_they_lie(rt: HostRuntime) -> Result<(), Fail> 
     assert_eq!(rt; (count, &early), (3, b"its"));
     let numbers = shelf.segments(rt.alloc())?;
     assert_eq!(rt; numbers.as_slice(), [2, 7, 1001].as_slice());
-    for (name, content) in SEEN {
-        let mut bytes = [0u8; 32];
-        let length = content.len();
-        assert_eq!(rt; shelf.size(name)?, Some(length as u64));
-        assert_eq!(rt; shelf.read_at(name, 0, &mut bytes)?, length);
-        assert!(rt; bytes.starts_with(content.as_bytes()));
-        assert_eq!(rt; shelf.read_at(name, length as u64, &mut bytes)?, 0);
-        assert_eq!(rt; shelf.read_at(name, u64::MAX, &mut bytes)?, 0);
-    }
+    are_read(&rt, &mut shelf, &SEEN)?;
     assert_eq!(rt; shelf.size(Name::Nonce)?, None);
     assert_eq!(rt; shelf.read_at(Name::Segment(9), 0, &mut early)?, 0);
     fs::remove_dir_all(&rt, place.as_str())?;
