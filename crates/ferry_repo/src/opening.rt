@@ -3,7 +3,7 @@ ghost use Rattle.std.specs.Prelude.{◌≡◌, IfOk, IfErr, IfSome, Ok, false};
 ghost use Rattle.ferry_disk.specs.Files.{contents_at};
 ghost use Rattle.ferry_disk.specs.Device.{KeepsTold, HasCause, told_files};
 ghost use Rattle.ferry_disk.specs.declared.name.Name.TheVariants as FileName;
-ghost use Rattle.ferry_keyblob.specs.Opening.{shown as key_view};
+ghost use Rattle.ferry_keyblob.specs.Opening.{key_view};
 ghost use Rattle.ferry_manifest.specs.Manifest.{manifest_of, shown};
 ghost use Rattle.ferry_repo.specs.Fault.{repo_failed};
 ghost use Rattle.ferry_repo.specs.Opening.{UnlocksTo, RefusesKey, IsNoManifest};

@@ -5,7 +5,7 @@ use Rattle.ferry_disk.specs.Device.{told_files}
 use Rattle.ferry_disk.specs.Files.{contents_at}
 use Rattle.ferry_disk.specs.declared.name.Name.TheVariants as Name
 use Rattle.ferry_disk.proofs.DeviceLemmas.{told_same, told_then, told_with}
-use Rattle.ferry_keyblob.specs.Opening.{shown as key_view}
+use Rattle.ferry_keyblob.specs.Opening.{key_view}
 use Rattle.ferry_log.specs.State.{IsStateOf, FitsFiles}
 use Rattle.ferry_log.proofs.FitsLemmas.{opened_fits}
 use Rattle.ferry_mac.specs.declared.keys.Keys.{Keys}
