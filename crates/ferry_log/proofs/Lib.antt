@@ -3,7 +3,7 @@ pub mod PlaceLemmas
 pub mod FitsLemmas
 pub mod PlacesLemmas
 mod HeadLemmas
-mod LeastLemmas
+pub mod LeastLemmas
 mod ExtentsLemmas
 mod LiveLemmas
 mod OpeningLemmas
