@@ -1,5 +1,5 @@
 -- Lemmas on specs/State.antt: what fits a log, and what keeps it.
-use Rattle.std.proofs.Common.{◌≡◌, ◌≢◌, ℕ, ◌+◌, ◌<◌, ◌≤◌, Bool, true, false, cond, nat_le, List, [], ◌∷◌, ◌++◌, length, take, drop, map, filter, Option}
+use Rattle.std.proofs.Common.{◌≡◌, ℕ, ◌<◌, ◌≤◌, Bool, true, false, cond, nat_le, List, [], ◌∷◌, ◌++◌, length, take, drop, map, filter, Option}
 use Rattle.std.proofs.Common.{Some, None, unwrap_or, refl, sym, ◌∙◌, ap, subst, arith}
 use Rattle.std.proofs.lemmas.List.{length-append}
 use Rattle.std.specs.Ordering.{nat_cmp, eq_by_cmp, is_eq}
@@ -7,21 +7,19 @@ use Rattle.std.specs.declared.cmp.Ordering.{Ordering}
 use Rattle.std.specs.declared.cmp.Ordering.TheVariants.{Less, Equal, Greater}
 use borrow.Author.Tests.{leb-true}
 use Rattle.std.specs.Cmp.{nat_cmp_total}
-use Rattle.std.specs.FinMap.{FinMap, get, insert, remove, entries, entries_sorted, empty, get-empty, get-entries, get-insert, get-remove}
+use Rattle.std.specs.FinMap.{FinMap, get, entries, entries_sorted, empty, get-empty, get-entries, get-insert, get-remove}
 use Rattle.std.specs.FinMap.{nat_cmp-IsAntisymmetric}
 use Rattle.std.specs.FinMap.Entries.{find, where_key, is_sorted-where_key, find-where_key, same_entries}
 use Rattle.std.specs.List.{AllByRecursion}
-use Rattle.ferry_segment.specs.Entry.{LogEntry}
 use Rattle.ferry_segment.specs.Segment.{Splits}
 use Rattle.ferry_disk.specs.Act.{replaced}
 use Rattle.ferry_disk.specs.Files.{Files, segment_numbers, segment_bytes, with_file, without_segment}
 use Rattle.ferry_disk.specs.declared.name.Name.{Name}
 use Rattle.ferry_disk.specs.declared.name.Name.TheVariants.{Config, Nonce, Readme, Segment}
 use Rattle.ferry_log.specs.Log.{Located, numbers_up_to, Joins}
-use Rattle.ferry_log.specs.Live.{live_place, live_blob}
-use Rattle.ferry_log.specs.State.{LogState, Places, IsStateOf, FitsFiles, HasPlacesOf, IsBlobAt, place_in, first_place, extents_of, live_size}
+use Rattle.ferry_log.specs.Live.{live_blob}
+use Rattle.ferry_log.specs.State.{LogState, Places, IsStateOf, FitsFiles, IsBlobAt, place_in, first_place, extents_of, live_size}
 use Rattle.ferry_log.specs.declared.place.Place.{Place}
-use Rattle.ferry_log.specs.declared.place.Extent.{Extent}
 use Rattle.ferry_log.proofs.PlaceLemmas.{place_lies, place_none}
 
 -- ---- files that were opened

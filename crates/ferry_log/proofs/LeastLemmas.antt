@@ -12,7 +12,7 @@ use Rattle.std.specs.declared.cmp.Ordering.{Ordering}
 use Rattle.std.specs.declared.cmp.Ordering.TheVariants.{Less, Equal, Greater}
 use Rattle.ferry_log.specs.Least.{lesser_pair}
 use Rattle.ferry_log.specs.Live.{key_cmp}
-use Rattle.ferry_log.specs.State.{IsLeastWhere, IsAbove, first_place}
+use Rattle.ferry_log.specs.State.{IsLeastWhere, first_place}
 use Rattle.ferry_log.specs.declared.place.Place.{Place}
 
 -- ---- the order of keys

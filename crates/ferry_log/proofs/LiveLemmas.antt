@@ -1,8 +1,7 @@
 -- How the places of the live keys in a map of the program go on with the entries of a log.
-use Rattle.std.proofs.Common.{◌≡◌, ℕ, ◌+◌, ◌-◌, ◌≤◌, Bool, true, false, cond, List, [], ◌∷◌, ◌++◌, length, slice_get, Option, Some, None, option_and_then}
+use Rattle.std.proofs.Common.{◌≡◌, ℕ, ◌+◌, ◌-◌, ◌≤◌, Bool, true, false, cond, List, [], ◌∷◌, ◌++◌, length, Option, Some, None}
 use Rattle.std.proofs.Common.{eqb, refl, sym, ◌∙◌, ap, arith}
-use Rattle.std.proofs.lemmas.List.{append_assoc, append-nil, length-append, length_push}
-use Rattle.std.proofs.lemmas.List.Elements.{filter-append}
+use Rattle.std.proofs.lemmas.List.{append_assoc, append-nil, length-append}
 use Rattle.std.proofs.lemmas.List.Sums.{sum_by-append, sum_by-cons}
 use Rattle.std.specs.Ordering.{eq_by_cmp, match_ordering}
 use Rattle.std.specs.declared.cmp.Ordering.{Ordering}
@@ -17,7 +16,7 @@ use Rattle.ferry_segment.specs.Head.{head_of}
 use Rattle.ferry_segment.specs.declared.head.Head.{Head}
 use Rattle.ferry_log.specs.declared.place.Place.{Place}
 use Rattle.ferry_log.specs.Log.{Located}
-use Rattle.ferry_log.specs.Live.{key_cmp, names_key, naming, put_place, live_place}
+use Rattle.ferry_log.specs.Live.{key_cmp, live_place}
 use Rattle.ferry_log.specs.State.{size_in}
 use Rattle.ferry_log.proofs.PlacesLemmas.{live_place_more}
 use Rattle.ferry_log.specs.Opening.{Pairs, sum_in, entries_in, entry_at, TakesEntries}

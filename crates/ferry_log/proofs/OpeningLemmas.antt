@@ -18,7 +18,7 @@ use Rattle.ferry_disk.specs.Files.{Files, segment_bytes}
 use Rattle.ferry_log.specs.declared.fault.LogFault.{LogFault}
 use Rattle.ferry_log.specs.declared.fault.LogFault.TheVariants.{NoCommit, Damaged, Device, Memory}
 use Rattle.ferry_log.specs.declared.place.Extent.{Extent}
-use Rattle.ferry_log.specs.Log.{Located, located, IsOpen, IsSegment, Joins}
+use Rattle.ferry_log.specs.Log.{Located, located, IsOpen, Joins}
 use Rattle.ferry_log.specs.declared.window.Window.{Window}
 use Rattle.ferry_log.specs.Head.{IsHeadless, NamesPlace}
 use Rattle.ferry_log.specs.Window.{Tells, OnSame, IsWindowOf, IsBrokenAt}

@@ -1,8 +1,8 @@
 -- Lemmas on specs/State.antt: what was taken is the state of the log.
 use Rattle.std.proofs.Common.{◌≡◌, ℕ, zero, suc, nat_le, filter, ◌+◌, ◌-◌, ◌<◌, ◌≤◌, ◌^◌, Bool, true, false, cond, eqb, List, [], ◌∷◌, ◌++◌, length, take}
-use Rattle.std.proofs.Common.{drop, map, get_or, Option, Some, None, IfSome, IsSome, refl, sym, ◌∙◌, ap, subst, inl, inr, arith}
+use Rattle.std.proofs.Common.{drop, map, get_or, refl, sym, ◌∙◌, ap, subst, inl, inr, arith}
 use Rattle.std.proofs.lemmas.Bool.{ne_eqb, eqb-true, cases_eq, le-leb, lt-leb}
-use Rattle.std.proofs.lemmas.List.{length-append, take_more, drop_more, take-append-drop, length-take, get_or-take}
+use Rattle.std.proofs.lemmas.List.{length-append, drop_more, take-append-drop, length-take, get_or-take}
 use Rattle.std.proofs.lemmas.List.Sums.{sum_by-append, sum_by-cons}
 use Rattle.std.proofs.lemmas.Map.Keys.{sorted_from_strictly_increasing, below_from_sorted, sorted_head, sorted_tail}
 use Rattle.std.specs.Ordering.{nat_cmp}
@@ -18,7 +18,6 @@ use Rattle.ferry_segment.proofs.EntryLemmas.{length-spelling}
 use Rattle.ferry_disk.specs.Files.{Files, segment_numbers, segment_bytes}
 use Rattle.ferry_log.specs.declared.fault.LogFault.{LogFault}
 use Rattle.ferry_log.specs.declared.fault.LogFault.TheVariants.{NoCommit, Damaged, Device, Memory}
-use Rattle.ferry_log.specs.declared.place.Place.{Place}
 use Rattle.ferry_log.specs.declared.place.Extent.{Extent}
 use Rattle.ferry_log.specs.Fault.{IsRefused}
 use Rattle.ferry_log.specs.Log.{Located, located, IsOpen, IsTransaction, numbers_up_to, Joins}

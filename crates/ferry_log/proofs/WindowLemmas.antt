@@ -1,9 +1,9 @@
 -- Lemmas on specs/Window.antt: what a device tells, and what is read through a window.
-use Rattle.std.proofs.Common.{◌≡◌, ℕ, ◌+◌, ◌-◌, ◌<◌, ◌≤◌, Bool, true, false, List, ◌++◌, length, take, drop, Option, Some, None, IfSome, IsTrue, ◌↔◌}
+use Rattle.std.proofs.Common.{◌≡◌, ℕ, ◌+◌, ◌-◌, ◌≤◌, Bool, true, false, List, ◌++◌, length, take, drop, Option, Some, None, IfSome, IsTrue, ◌↔◌}
 use Rattle.std.proofs.Common.{nat_eq}
 use Rattle.std.proofs.Common.{option_map, refl, sym, ◌∙◌, ap, subst, inl, inr, arith, take-add}
 use Rattle.std.proofs.lemmas.Bool.{cases_lt}
-use Rattle.std.proofs.lemmas.List.{length-append, length-take, length-take-le, length-drop, drop-drop, drop-take, take-take, take_all, take_at}
+use Rattle.std.proofs.lemmas.List.{length-take-le, length-drop, drop-drop, drop-take, take-take, take_all}
 use Rattle.std.specs.Cmp.Lexicographic.{pointwise}
 use Rattle.ferry_segment.specs.Crc.{crc, register_after}
 use Rattle.ferry_segment.specs.Segment.{HasMagic, magic}

@@ -1,5 +1,5 @@
 -- A window on a segment, and what is read through it.
-use Rattle.std.specs.Prelude.{◌≡◌, ℕ, ◌+◌, ◌-◌, ◌≤◌, List, length, take, drop, Option, Some, None, option_map}
+use Rattle.std.specs.Prelude.{◌≡◌, ℕ, ◌+◌, ◌-◌, ◌≤◌, List, length, take, drop, Option, Some, option_map}
 use Rattle.ferry_segment.specs.Crc.{crc}
 use Rattle.ferry_segment.specs.Entry.{first_fault}
 use Rattle.ferry_segment.specs.declared.entry.EntryFault.{EntryFault}

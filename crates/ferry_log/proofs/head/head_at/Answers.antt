@@ -1,8 +1,6 @@
-use Rattle.std.proofs.Common.{◌≡◌, ◌∙◌, Some, ap, subst, arith}
+use Rattle.std.proofs.Common.{Some, arith}
 use Rattle.ferry_disk.specs.Files.{segment_bytes}
 use Rattle.ferry_log.specs.Head.{IsHeadAt, IsHeadless}
-use Rattle.ferry_log.specs.Window.{IsWindowOf, IsBrokenAt}
-use Rattle.ferry_segment.specs.Head.{HasHead}
 use Rattle.ferry_log.proofs.OpeningLemmas.{err_gives, headless, window_at, broken_at, head_found}
 use Rattle.ferry_log.proofs.WindowLemmas.{tells_on, to_told}
 use Rattle.ferry_log.proofs.head.head_at.Goals as goal

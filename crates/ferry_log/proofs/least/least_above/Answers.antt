@@ -1,4 +1,4 @@
-use Rattle.std.proofs.Common.{◌≡◌, ◌≢◌, ℕ, List, Bool, false, is_gt, Some}
+use Rattle.std.proofs.Common.{◌≡◌, ℕ, List, false, is_gt}
 use Rattle.ferry_log.specs.Live.{key_cmp}
 use Rattle.ferry_log.specs.declared.place.Place.{Place}
 use Rattle.ferry_log.proofs.LeastLemmas.{first_of, not_less}

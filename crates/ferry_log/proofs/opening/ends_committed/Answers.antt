@@ -1,11 +1,11 @@
-use Rattle.std.proofs.Common.{◌≡◌, ◌∙◌, ◌+◌, Bool, true, false, eqb, refl, sym, ap, subst, inl, inr, arith}
+use Rattle.std.proofs.Common.{◌≡◌, ◌∙◌, ◌+◌, false, eqb, refl, sym, ap, subst, inl, inr, arith}
 use Rattle.std.proofs.lemmas.Bool.{ne_eqb, eq-eqb}
-use Rattle.ferry_segment.specs.Entry.{LogEntry, IsEntryAt, size_of}
+use Rattle.ferry_segment.specs.Entry.{IsEntryAt, size_of}
 use Rattle.ferry_segment.specs.Segment.{commits}
 use Rattle.ferry_segment.proofs.HeadLemmas.{head_size}
 use Rattle.ferry_segment.proofs.SegmentLemmas.{Scanned, scanned_none, scanned_more, scanned_broken, scanned_data, scanned_whole, answers_no}
 use Rattle.ferry_disk.specs.Files.{segment_bytes}
-use Rattle.ferry_log.proofs.OpeningLemmas.{broken_on, broken_fault, head_on, commits_tag, outside}
+use Rattle.ferry_log.proofs.OpeningLemmas.{broken_on, broken_fault, head_on, commits_tag}
 use Rattle.ferry_log.proofs.WindowLemmas.{tells_on, window_on, window_back}
 use Rattle.ferry_log.proofs.opening.ends_committed.Goals as goal
 

@@ -1,8 +1,8 @@
-use Rattle.std.proofs.Common.{◌≡◌, ◌∙◌, ◌+◌, refl, sym, ap, subst, arith}
+use Rattle.std.proofs.Common.{◌≡◌, ◌∙◌, ◌+◌, sym, ap, subst, arith}
 use Rattle.ferry_segment.specs.Entry.{IsEntryAt, size_of}
 use Rattle.ferry_segment.proofs.HeadLemmas.{head_size}
 use Rattle.ferry_disk.specs.Files.{segment_bytes}
-use Rattle.ferry_log.proofs.OpeningLemmas.{broken_on, head_on, err_matches, taken_none, taken_more, taken_all, unread}
+use Rattle.ferry_log.proofs.OpeningLemmas.{head_on, taken_more}
 use Rattle.ferry_log.proofs.WindowLemmas.{tells_on, window_on, window_back}
 use Rattle.ferry_log.proofs.opening.take_entries.Goals as goal
 

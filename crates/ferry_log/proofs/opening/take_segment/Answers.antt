@@ -1,4 +1,4 @@
-use Rattle.std.proofs.Common.{◌≡◌, ◌∙◌, ◌+◌, ◌∷◌, ◌++◌, [], length, sym, ap, subst, arith}
+use Rattle.std.proofs.Common.{◌≡◌, ◌∙◌, ◌∷◌, ◌++◌, [], length, sym, ap, subst, arith}
 use Rattle.ferry_segment.specs.Segment.{HasMagic}
 use Rattle.ferry_disk.specs.Files.{segment_bytes}
 use Rattle.ferry_log.specs.Opening.{TakesSegment, IsUnread, uncounted}

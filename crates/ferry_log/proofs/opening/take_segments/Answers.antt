@@ -1,5 +1,5 @@
-use Rattle.std.proofs.Common.{refl, ap, map, take, subst, sym, ◌∙◌, ◌+◌, get_or, [], ◌∷◌, ◌++◌}
-use Rattle.std.proofs.lemmas.List.{take_more, take_all}
+use Rattle.std.proofs.Common.{refl, ap, map, take, subst, sym, ◌∙◌, get_or, [], ◌∷◌, ◌++◌}
+use Rattle.std.proofs.lemmas.List.{take_more}
 use Rattle.ferry_disk.specs.Files.{segment_bytes}
 use Rattle.ferry_log.specs.Opening.{HasTaken, IsStopped}
 use Rattle.ferry_log.proofs.OpeningLemmas.{has_none, has_more, stopped_at, err_matches}

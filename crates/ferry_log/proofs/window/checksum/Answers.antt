@@ -1,4 +1,4 @@
-use Rattle.std.proofs.Common.{◌≡◌, ℕ, ◌+◌, ◌∙◌, ap, length, refl, arith}
+use Rattle.std.proofs.Common.{ℕ, ◌∙◌, ap, length, refl, arith}
 use Rattle.std.proofs.lemmas.List.{length-take, length-drop}
 use Rattle.ferry_disk.specs.Files.{segment_bytes}
 use Rattle.ferry_log.proofs.WindowLemmas.{tells_on, window_on, window_back, part_is, sum_none, sum_more}
