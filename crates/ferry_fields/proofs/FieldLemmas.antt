@@ -1,5 +1,6 @@
 -- The value of a name among the pairs of a map.
-use Rattle.std.proofs.Common.{◌≡◌, ℕ, zero, suc, ◌+◌, ◌<◌, true, false, List, [], ◌∷◌, length, drop, get_or, codes, ℤ, pos, Some, None, refl, ap, arith, add-one, drop-cons}
+use Rattle.std.proofs.Common.{◌≡◌, ℕ, zero, suc, ◌+◌, ◌<◌, true, false, List, [], ◌∷◌, length, drop, get_or, codes, ℤ, pos, Some, None, refl, ap, arith}
+use Rattle.std.proofs.Common.{add-one, drop-cons}
 use Rattle.std.specs.Str.{bytes_eq}
 use Rattle.ferry_msgpack.specs.Tree.{Tree, number, raw, table, Pairs, no_pairs, pair}
 use Rattle.ferry_msgpack.specs.View.{value_view, pairs_view}

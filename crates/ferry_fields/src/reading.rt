@@ -7,7 +7,7 @@ ghost use Rattle.ferry_msgpack.specs.Writable.{IsWritable};
 ghost use Rattle.ferry_fields.specs.Fields.{map_of, pairs_in};
 
 use crate::fault::MapFault;
-use ferry_msgpack::{PackFault, Value, read};
+use ferry_msgpack::{Value, read};
 use std::alloc::Global;
 
 /// The pairs of the map that the bytes spell, with nothing behind it, in byte order of their names.
@@ -31,27 +31,11 @@ fn only_value(alloc: Global, bytes: &[u8]) -> Result<Value, MapFault>
     ensures fault { IfErr result (λ fault. fault ≢ MapFault.Memory → map_of bytes.now ≡ None) }
     ensures writable { IfOk result (λ value. IsWritable (value_view value)) }
 {
-    match read(alloc, bytes, 0) {
-        Ok((value, stop)) => {
-            if stop == bytes.len() {
-                Ok(value)
-            } else {
-                Err(MapFault::Pack)
-            }
-        }
-        Err(fault) => Err(fault_of_pack(fault)),
+    let (value, stop) = read(alloc, bytes, 0)?;
+    if stop != bytes.len() {
+        return Err(MapFault::Pack);
     }
-}
-
-/// The fault where no value could be read.
-fn fault_of_pack(fault: PackFault) -> MapFault
-    ensures memory { fault ≡ PackFault.Memory → result ≡ MapFault.Memory }
-    ensures pack { fault ≢ PackFault.Memory → result ≡ MapFault.Pack }
-{
-    match fault {
-        PackFault::Memory => MapFault::Memory,
-        _ => MapFault::Pack,
-    }
+    Ok(value)
 }
 
 /// The pairs of a map.

@@ -25,8 +25,8 @@ pub record Opened : Type 0 where
   pub more : Tree
 
 -- what a `KeyText` says, apart from where its other names lie in memory
-abbrev pub shown : KeyText → Opened
-shown text = record {
+abbrev pub key_view : KeyText → Opened
+key_view text = record {
   keys = text.keys;
   repository_id = text.repository_id;
   chunk_seed = text.chunk_seed;
@@ -96,7 +96,7 @@ unfoldable pub packed_key_of : List ℕ → Result Opened KeyFault
 packed_key_of bytes = key_from (map_of bytes)
 
 -- the key-encryption key that a passphrase makes
-unfoldable pub key_encryption_key : List ℕ → Envelope → List ℕ
+abbrev pub key_encryption_key : List ℕ → Envelope → List ℕ
 key_encryption_key passphrase envelope = pbkdf2 passphrase envelope.salt envelope.iterations
 
 -- the packed key: what was sealed, decrypted

@@ -1,5 +1,6 @@
 -- The tree of a value, level by level, and a `BTreeMap` beside the pairs that it stands for.
-use Rattle.std.proofs.Common.{◌≡◌, ℕ, List, [], ◌∷◌, ◌++◌, Vec, Global, Ordering, Less, Equal, Greater, nat_cmp, is_eq, is_some, cond, Bool, true, false, Some, ◌||◌, refl, ap, ◌∙◌, rules}
+use Rattle.std.proofs.Common.{◌≡◌, ℕ, List, [], ◌∷◌, ◌++◌, Vec, Global, Ordering, Less, Equal, Greater, nat_cmp, is_eq, is_some, cond, Bool, true, false, Some}
+use Rattle.std.proofs.Common.{◌||◌, refl, ap, ◌∙◌, rules}
 use Rattle.std.specs.Cmp.Lexicographic.{slice_cmp}
 use Rattle.std.specs.Ordering.{match_ordering}
 use Rattle.std.specs.Map.{lookup}
@@ -34,12 +35,14 @@ view_number z = search (rules, the_lemmas)
 abbrev pub key_cmp : Vec ℕ Global → Vec ℕ Global → Ordering
 key_cmp a b = slice_cmp nat_cmp a.items b.items
 
-pairs_view-match_ordering : (o : Ordering) (a b c : List Entry) → pairs_view (match_ordering o a b c) ≡ match_ordering o (pairs_view a) (pairs_view b) (pairs_view c)
+pairs_view-match_ordering : (o : Ordering) (a b c : List Entry)
+    → pairs_view (match_ordering o a b c) ≡ match_ordering o (pairs_view a) (pairs_view b) (pairs_view c)
 pairs_view-match_ordering Less a b c = refl
 pairs_view-match_ordering Equal a b c = refl
 pairs_view-match_ordering Greater a b c = refl
 
-pub pairs_view-insert_entry : (es : List Entry) (k : Vec ℕ Global) (v : Value) → pairs_view (insert_entry key_cmp es k v) ≡ put k.items (value_view v) (pairs_view es)
+pub pairs_view-insert_entry : (es : List Entry) (k : Vec ℕ Global) (v : Value)
+    → pairs_view (insert_entry key_cmp es k v) ≡ put k.items (value_view v) (pairs_view es)
 pairs_view-insert_entry [] k v = refl
 pairs_view-insert_entry (e ∷ es) k v = pairs_view-match_ordering (key_cmp k e.0) _ _ _ ∙ rw (pairs_view-insert_entry es k v) refl
 

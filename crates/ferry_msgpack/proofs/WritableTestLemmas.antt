@@ -1,5 +1,6 @@
 -- The test of what can be written, value by value and pair by pair, and what it says.
-use Rattle.std.proofs.Common.{◌≡◌, ℕ, ◌-◌, ◌^◌, ◌≤◌, ◌<◌, Bool, true, false, ◌&&◌, ltb, List, [], ◌∷◌, length, drop, ℤ, pos, Ordering, Less, Equal, Greater, refl, sym, ap, ◌∙◌, arith}
+use Rattle.std.proofs.Common.{◌≡◌, ℕ, ◌-◌, ◌^◌, ◌≤◌, ◌<◌, Bool, true, false, ◌&&◌, ltb, List, [], ◌∷◌, length, drop, ℤ, pos, Ordering, Less, Equal, Greater}
+use Rattle.std.proofs.Common.{refl, sym, ap, ◌∙◌, arith}
 use Rattle.std.proofs.lemmas.Bool.{ltb-true, le-ltb, lt-ltb, false≢true}
 use Rattle.std.proofs.lemmas.Int.{ints}
 use Rattle.std.specs.Prelude.{neg_ℤ, int_lt, int_le}
@@ -46,7 +47,8 @@ table_long d es le =
 abbrev pub pairs_from : ℕ → List Entry → ℕ → Bool
 pairs_from d es i = pairs_fit d (pairs_view (drop i es))
 
-pub table_start : (d : ℕ) (es : List Entry) → (d ≡ 0 → ⊥) → length es < 2 ^ 32 → keys_increase (pairs_view es) ≡ true → pairs_from (d - 1) es 0 ≡ fits_within d (table (pairs_view es))
+pub table_start : (d : ℕ) (es : List Entry) → (d ≡ 0 → ⊥) → length es < 2 ^ 32 → keys_increase (pairs_view es) ≡ true
+    → pairs_from (d - 1) es 0 ≡ fits_within d (table (pairs_view es))
 table_start d es inner lt order =
     let some : ltb 0 d ≡ true = lt-ltb _ _ (omega arith) in
     let short : ltb (pairs_count (pairs_view es)) (2 ^ 32) ≡ true = lt-ltb _ _ (omega (arith, pairs_count-pairs_view es)) in

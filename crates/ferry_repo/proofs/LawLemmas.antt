@@ -5,7 +5,7 @@ use Rattle.std.specs.List.{AllByRecursion}
 use Rattle.std.specs.Str.{bytes_eq}
 use Rattle.ferry_base.specs.Limits.{zero_id}
 use Rattle.ferry_blob.specs.Blob.{blob_fault}
-use Rattle.ferry_blob.specs.Blob.{Opens as OpensBlob}
+use Rattle.ferry_blob.specs.Blob.{OpensTo as OpensBlob}
 use Rattle.ferry_blob.specs.declared.fault.BlobFault.{BlobFault}
 use Rattle.ferry_blob.proofs.BlobLemmas.{opened_at, opens_no_fault}
 use Rattle.ferry_blob.proofs.LawLemmas.{one_content}
@@ -34,7 +34,7 @@ use Rattle.ferry_repo.specs.declared.fault.RepoFault.{RepoFault}
 use Rattle.ferry_repo.specs.declared.fault.RepoFault.TheVariants as Fault
 use Rattle.ferry_repo.specs.Fault.{IsOfFiles}
 use Rattle.ferry_repo.specs.Objects.{HasBlob, IsMissing, HoldsObject, BreaksObject, HoldsChunk, RefusesChunk}
-use Rattle.ferry_repo.specs.Opening.{RepoState, ReadsLog, UnlocksTo, UnlocksFiles, OpensRepo, OpensTo, FitsRepo, RefusesRoot, RefusesManifest, RefusesRepo}
+use Rattle.ferry_repo.specs.Opening.{RepoState, ReadsLog, UnlocksTo, UnlocksFiles, OpensRepo, OpensFilesTo, FitsRepo, RefusesRoot, RefusesManifest, RefusesRepo}
 
 -- ---- objects
 
@@ -205,14 +205,14 @@ one_manifest files passphrase l m c d k q a b ha hb =
     let same : a ≡ b = cc in
     (keys.0, keys.1, keys.2, same)
 
-pub one_repo : (files : Files) (passphrase : List ℕ) (a b : RepoState) → OpensTo files passphrase a → OpensTo files passphrase b → a ≡ b
+pub one_repo : (files : Files) (passphrase : List ℕ) (a b : RepoState) → OpensFilesTo files passphrase a → OpensFilesTo files passphrase b → a ≡ b
 one_repo files passphrase a b ha hb =
     let parts = one_manifest files passphrase a.log b.log a.config b.config a.keys b.keys a.manifest b.manifest ha.opens hb.opens in
     let cached = ha.cached ∙ sym hb.cached in
     rw (parts.0, parts.1, parts.2, parts.3, cached) refl
 
 -- files fit what they open to
-pub opens_fits : (files : Files) (passphrase : List ℕ) (repo : RepoState) → OpensTo files passphrase repo → FitsRepo files repo
+pub opens_fits : (files : Files) (passphrase : List ℕ) (repo : RepoState) → OpensFilesTo files passphrase repo → FitsRepo files repo
 opens_fits files passphrase repo opens = record {
   log = opened_fits files repo.log opens.opens.unlocks.reads;
   cached = subst (AllByRecursion (λ c. HoldsChunk files repo.log repo.keys c.0 c.1)) (sym opens.cached) tt;
@@ -220,7 +220,7 @@ opens_fits files passphrase repo opens = record {
 
 -- the answers on a repository
 abbrev SomeRepo : Files → List ℕ → Type 0
-SomeRepo files passphrase = ((repo : RepoState) × OpensTo files passphrase repo) ⊎ ((fault : RepoFault) × IsOfFiles fault × RefusesRepo files passphrase fault)
+SomeRepo files passphrase = ((repo : RepoState) × OpensFilesTo files passphrase repo) ⊎ ((fault : RepoFault) × IsOfFiles fault × RefusesRepo files passphrase fault)
 
 manifest_answer : (files : Files) (passphrase : List ℕ) (log : LogState) (config : Config) (keys : Keys) (content : List ℕ) (answer : Result ManifestText MetaFault)
     → UnlocksFiles files passphrase log config keys → HoldsObject files log keys zero_id content → manifest_of keys content ≡ answer → SomeRepo files passphrase
@@ -304,7 +304,7 @@ manifest_there files passphrase l m c d k q a b answer other hc hd ha hb is his 
     let content = one_content_of_root files passphrase l m c d k q a b hc hd ha hb in
     sym is ∙ (ap (λ (o : Keys). manifest_of o a) same ∙ (ap (manifest_of q) content ∙ his))
 
-pub repo_apart : (files : Files) (passphrase : List ℕ) (repo : RepoState) (fault : RepoFault) → OpensTo files passphrase repo → IsOfFiles fault → RefusesRepo files passphrase fault → ⊥
+pub repo_apart : (files : Files) (passphrase : List ℕ) (repo : RepoState) (fault : RepoFault) → OpensFilesTo files passphrase repo → IsOfFiles fault → RefusesRepo files passphrase fault → ⊥
 repo_apart files passphrase repo Fault.NoCommit opens of_files refuses = read_committed files (reads_of opens.opens.unlocks) refuses
 repo_apart files passphrase repo (Fault.Damaged segment at) opens of_files refuses = read_whole files segment at (reads_of opens.opens.unlocks) refuses
 repo_apart files passphrase repo (Fault.Config fault) opens of_files refuses = config_reads files repo.config fault opens.opens.unlocks.unlocks.config_is refuses.1

@@ -2,7 +2,7 @@
 -- breaks a first rule (BorgBackup 1.2, Internals, Repository, and "Data structures and file formats", Encryption).
 use Rattle.std.specs.Prelude.{◌≡◌, ◌≢◌, ◌⊎◌, ℕ, ◌+◌, ◌<◌, List, length, Some, None}
 use Rattle.ferry_base.specs.Limits.{zero_id}
-use Rattle.ferry_blob.specs.Blob.{Opens, blob_fault}
+use Rattle.ferry_blob.specs.Blob.{OpensTo as OpensBlob, blob_fault}
 use Rattle.ferry_blob.specs.declared.fault.BlobFault.{BlobFault}
 use Rattle.ferry_disk.specs.Files.{Files, segment_bytes}
 use Rattle.ferry_log.specs.State.{LogState, place_in, IsBlobAt}
@@ -25,7 +25,7 @@ IsMissing log id = place_in log id ≡ None
 pub record HoldsObject (files : Files) (log : LogState) (keys : Keys) (id content : List ℕ) : Type 0 where
   pub blob : List ℕ
   pub has : HasBlob files log id blob
-  pub opens : Opens keys id blob content
+  pub opens : OpensBlob keys id blob content
 
 -- The id is live, and its blob breaks this rule first.
 pub record BreaksObject (files : Files) (log : LogState) (keys : Keys) (id : List ℕ) (fault : BlobFault) : Type 0 where

@@ -77,7 +77,7 @@ pub record OpensRepo (files : Files) (passphrase : List ℕ) (log : LogState) (c
   pub manifest_is : manifest_of keys content ≡ Ok manifest
 
 -- What an opened repository says is what the files say: the log's state, the config, the secrets and the manifest.
-pub record OpensTo (files : Files) (passphrase : List ℕ) (repo : RepoState) : Type 0 where
+pub record OpensFilesTo (files : Files) (passphrase : List ℕ) (repo : RepoState) : Type 0 where
   pub opens : OpensRepo files passphrase repo.log repo.config repo.keys repo.manifest
   pub cached : repo.cached ≡ []
 

@@ -7,21 +7,21 @@ ghost use Rattle.ferry_mac.specs.declared.keys.Keys.{Keys};
 ghost use Rattle.ferry_segment.specs.Entry.{IsBytes};
 ghost use Rattle.ferry_repo.specs.Fault.{IsOfFiles};
 ghost use Rattle.ferry_repo.specs.Objects.{HasBlob, HoldsChunk, RefusesChunk};
-ghost use Rattle.ferry_repo.specs.Opening.{RepoState, OpensTo, FitsRepo, RefusesRepo};
+ghost use Rattle.ferry_repo.specs.Opening.{RepoState, OpensFilesTo, FitsRepo, RefusesRepo};
 ghost use Rattle.ferry_repo.specs.declared.fault.RepoFault.{RepoFault};
 
 /// Files open under a passphrase to one repository, or are refused for one cause, and never both; and they fit what they open to.
 pub fn repo_laws()
     ensures some { (files : Files) (passphrase : List ℕ) → ((n : ℕ) → IsBytes (segment_bytes files n))
-        → ((repo : RepoState) × OpensTo files passphrase repo)
+        → ((repo : RepoState) × OpensFilesTo files passphrase repo)
         ⊎ ((fault : RepoFault) × IsOfFiles fault × RefusesRepo files passphrase fault) }
     ensures one { (files : Files) (passphrase : List ℕ) (a b : RepoState)
-        → OpensTo files passphrase a → OpensTo files passphrase b → a ≡ b }
+        → OpensFilesTo files passphrase a → OpensFilesTo files passphrase b → a ≡ b }
     ensures apart { (files : Files) (passphrase : List ℕ) (repo : RepoState) (fault : RepoFault)
-        → OpensTo files passphrase repo → IsOfFiles fault → RefusesRepo files passphrase fault → ⊥ }
+        → OpensFilesTo files passphrase repo → IsOfFiles fault → RefusesRepo files passphrase fault → ⊥ }
     ensures one_fault { (files : Files) (passphrase : List ℕ) (f g : RepoFault) → IsOfFiles f → IsOfFiles g
         → RefusesRepo files passphrase f → RefusesRepo files passphrase g → f ≡ g }
-    ensures fits { (files : Files) (passphrase : List ℕ) (repo : RepoState) → OpensTo files passphrase repo → FitsRepo files repo }
+    ensures fits { (files : Files) (passphrase : List ℕ) (repo : RepoState) → OpensFilesTo files passphrase repo → FitsRepo files repo }
 {}
 
 /// An id has one content over files that fit the log, or is refused for one cause, and never both. Over files as they were opened,

@@ -1,6 +1,6 @@
 //! The objects of a repository, each read at the place of its blob.
 ghost use Rattle.std.specs.Prelude.{◌≡◌, ◌≤◌, ◌+◌, ◌<◌, drop, take, length, IfOk, IfErr, IfSome};
-ghost use Rattle.ferry_blob.specs.Blob.{Opens};
+ghost use Rattle.ferry_blob.specs.Blob.{OpensTo as OpensBlob};
 ghost use Rattle.ferry_disk.specs.Files.{segment_bytes};
 ghost use Rattle.ferry_disk.specs.Device.{KeepsTold, HasCause, told_files};
 ghost use Rattle.ferry_log.specs.State.{FitsFiles};
@@ -71,7 +71,7 @@ fn blob_at<S: Shelf>(alloc: Global, shelf: &mut S, place: Place) -> Result<Vec<u
 
 /// The content of a blob.
 fn content_of(keys: &Keys, id: &Id, mut blob: Vec<u8>) -> Result<Vec<u8>, RepoFault>
-    ensures content { IfOk result (λ content. Opens keys.now id.now blob.items content.items) }
+    ensures content { IfOk result (λ content. OpensBlob keys.now id.now blob.items content.items) }
     ensures refused { IfErr result (BreaksBlob keys.now id.now blob.items) }
 {
     match open_blob(keys, id, &mut blob) {

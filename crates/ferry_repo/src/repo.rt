@@ -4,7 +4,7 @@ ghost use Rattle.ferry_disk.specs.Device.{KeepsTold, HasCause, told_files};
 ghost use Rattle.ferry_manifest.specs.Manifest.{shown};
 ghost use Rattle.ferry_repo.specs.Fault.{repo_failed};
 ghost use Rattle.ferry_repo.specs.Objects.{HoldsChunk, RefusesChunk};
-ghost use Rattle.ferry_repo.specs.Opening.{repo_view, OpensTo, RefusesRepo, FitsRepo};
+ghost use Rattle.ferry_repo.specs.Opening.{repo_view, OpensFilesTo, RefusesRepo, FitsRepo};
 
 use crate::fault::RepoFault;
 use crate::object::object;
@@ -43,7 +43,7 @@ impl Repo {
         passphrase: &[u8],
     ) -> Result<Repo, RepoFault>
         ensures repository { IfOk result (λ repo. IfSome (S.told shelf.old) (λ t.
-            OpensTo (told_files t) passphrase.now (repo_view repo))) }
+            OpensFilesTo (told_files t) passphrase.now (repo_view repo))) }
         ensures refused { IfErr result (λ fault. IfSome (S.told shelf.old) (λ t.
             RefusesRepo (told_files t) passphrase.now fault)) }
         ensures same { KeepsTold repo_failed (S.told shelf.old) (S.told shelf.new) result }

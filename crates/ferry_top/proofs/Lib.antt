@@ -1,3 +1,2 @@
-mod KeyLemmas
 mod KeysLemmas
 mod ListLemmas

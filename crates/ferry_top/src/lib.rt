@@ -10,8 +10,6 @@ mod lines;
 mod list;
 mod report;
 mod status;
-#[cfg(test)]
-mod tests;
 mod top;
 mod words;
 

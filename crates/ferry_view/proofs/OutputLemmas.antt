@@ -1,8 +1,15 @@
 -- Lemmas on specs/Output.antt: text that is gathered and goes out.
 use Rattle.std.proofs.Common.{◌≡◌, ℕ, List, [], ◌++◌, length, take, drop, Option, Some, None, Result, Ok, Err, OnOk, OnErr, option_map, refl, sym, ◌∙◌, ap}
 use Rattle.std.proofs.lemmas.List.{append_assoc, append-nil, take-append-drop, take_at}
-use Rattle.ferry_disk.specs.Device.{WritesSome}
-use Rattle.ferry_view.specs.Output.{Sends}
+use Rattle.ferry_disk.specs.Device.{WritesSome, sink_failed}
+use Rattle.ferry_disk.specs.declared.sink.SinkFault.{SinkFault}
+use Rattle.ferry_disk.specs.declared.sink.SinkFault.TheVariants as Sink
+use Rattle.ferry_view.specs.Output.{Sends, sink_fault, view_failed}
+
+-- a fault of the output is one of the view
+pub failed_sink : (fault : SinkFault) → view_failed (sink_fault fault) ≡ sink_failed fault
+failed_sink Sink.Failed = refl
+failed_sink Sink.Memory = refl
 
 more_none : (o : Option (List ℕ)) → o ≡ option_map (λ w. w ++ []) o
 more_none None = refl
@@ -67,3 +74,8 @@ on_ok (Err e) P Q f p = tt
 pub on_err : {A E : Type 0} (r : Result A E) (P Q : Type 0) → (P → Q) → OnErr r P → OnErr r Q
 on_err (Ok v) P Q f p = tt
 on_err (Err e) P Q f p = f p
+
+-- what holds at any answer
+pub err_holds : {A E : Type 0} (r : Result A E) (P : Type 0) → P → OnErr r P
+err_holds (Ok v) P p = tt
+err_holds (Err e) P p = p

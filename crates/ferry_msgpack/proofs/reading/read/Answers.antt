@@ -27,25 +27,31 @@ returns-in_err-value-clause-fault c =
 
 pub overflow_sub-result : goal.overflow_sub-result
 overflow_sub-result c =
-    let is : value_at 64 (drop c.args.at c.args.bytes.now) ≡ Ok (value_view c.in_ok-value.value, c.in_ok-value.rest.now) = rw (from_place c.args.bytes.now c.args.at) at c.in_ok-value.ensures in
+    let is : value_at 64 (drop c.args.at c.args.bytes.now) ≡ Ok (value_view c.in_ok-value.value, c.in_ok-value.rest.now) =
+    rw (from_place c.args.bytes.now c.args.at) at c.in_ok-value.ensures in
     rest_within c.args.bytes.now c.args.at (value_view c.in_ok-value.value) c.in_ok-value.rest.now is
 
 pub returns-clause-found : goal.returns-clause-found
 returns-clause-found c =
-    let is : value_at 64 (drop c.args.at c.args.bytes.now) ≡ Ok (value_view c.in_ok-value.value, c.in_ok-value.rest.now) = rw (from_place c.args.bytes.now c.args.at) at c.in_ok-value.ensures in
+    let is : value_at 64 (drop c.args.at c.args.bytes.now) ≡ Ok (value_view c.in_ok-value.value, c.in_ok-value.rest.now) =
+    rw (from_place c.args.bytes.now c.args.at) at c.in_ok-value.ensures in
     stands c.args.bytes.now c.args.at (value_view c.in_ok-value.value) c.in_ok-value.rest.now c.requires is
 
 pub returns-clause-only : goal.returns-clause-only
 returns-clause-only c =
-    let is : value_at 64 (drop c.args.at c.args.bytes.now) ≡ Ok (value_view c.in_ok-value.value, c.in_ok-value.rest.now) = rw (from_place c.args.bytes.now c.args.at) at c.in_ok-value.ensures in
+    let is : value_at 64 (drop c.args.at c.args.bytes.now) ≡ Ok (value_view c.in_ok-value.value, c.in_ok-value.rest.now) =
+    rw (from_place c.args.bytes.now c.args.at) at c.in_ok-value.ensures in
     read_only c.args.bytes.now c.args.at (value_view c.in_ok-value.value) c.in_ok-value.rest.now c.requires is
 
 pub returns-clause-fault : goal.returns-clause-fault
 returns-clause-fault c =
-    let is : value_at 64 (drop c.args.at c.args.bytes.now) ≡ Ok (value_view c.in_ok-value.value, c.in_ok-value.rest.now) = rw (from_place c.args.bytes.now c.args.at) at c.in_ok-value.ensures in
+    let is : value_at 64 (drop c.args.at c.args.bytes.now) ≡ Ok (value_view c.in_ok-value.value, c.in_ok-value.rest.now) =
+    rw (from_place c.args.bytes.now c.args.at) at c.in_ok-value.ensures in
     read_unbroken (drop c.args.at c.args.bytes.now) (value_view c.in_ok-value.value) c.in_ok-value.rest.now is
 
 pub returns-clause-writable : goal.returns-clause-writable
 returns-clause-writable c =
-    let is : value_at 64 (drop c.args.at c.args.bytes.now) ≡ Ok (value_view c.in_ok-value.value, c.in_ok-value.rest.now) = rw (from_place c.args.bytes.now c.args.at) at c.in_ok-value.ensures in
-    read_writable (drop c.args.at c.args.bytes.now) (value_view c.in_ok-value.value) c.in_ok-value.rest.now (AreBytes-from _ (λ i. rw get_or-drop (omega (arith, c.type_inv.bytes (c.args.at + i))))) is
+    let is : value_at 64 (drop c.args.at c.args.bytes.now) ≡ Ok (value_view c.in_ok-value.value, c.in_ok-value.rest.now) =
+    rw (from_place c.args.bytes.now c.args.at) at c.in_ok-value.ensures in
+    read_writable (drop c.args.at c.args.bytes.now) (value_view c.in_ok-value.value) c.in_ok-value.rest.now
+    (AreBytes-from _ (λ i. rw get_or-drop (omega (arith, c.type_inv.bytes (c.args.at + i))))) is

@@ -11,7 +11,7 @@ use Rattle.ferry_log.proofs.FitsLemmas.{opened_fits}
 use Rattle.ferry_mac.specs.declared.keys.Keys.{Keys}
 use Rattle.ferry_manifest.specs.Manifest.{shown, manifest_of}
 use Rattle.ferry_repo.specs.Objects.{HoldsObject, RefusesObject}
-use Rattle.ferry_repo.specs.Opening.{OpensTo, RefusesRepo, RefusesKey, UnlocksTo, UnlocksFiles, IsNoManifest}
+use Rattle.ferry_repo.specs.Opening.{OpensFilesTo, RefusesRepo, RefusesKey, UnlocksTo, UnlocksFiles, IsNoManifest}
 use Rattle.ferry_repo.specs.declared.fault.RepoFault.{RepoFault}
 use Rattle.ferry_repo.proofs.FaultLemmas.{gives_err}
 use Rattle.ferry_repo.proofs.OpeningLemmas.{key_refused, unlocks_files, object_refused, manifest_refused}
@@ -85,11 +85,11 @@ returns-clause-repository g c =
     (λ f. UnlocksFiles f pass log u.config keys) c.in_ok-log.ensures.same
     (λ f i r. unlocks_files f pass log u.config u.iterations (key_view u.key) i r) c.in_ok-log.ensures.log c.in_ok-unlocked.ensures.unlocked in
     let opens = told_with (told c.args.shelf.now) (told c.unlock.new.shelf) (λ f. UnlocksFiles f pass log u.config keys) (λ f. HoldsObject f log keys zero_id content)
-    (λ f. OpensTo f pass (record { log = log; config = u.config; keys = keys; manifest = text; cached = [] }))
+    (λ f. OpensFilesTo f pass (record { log = log; config = u.config; keys = keys; manifest = text; cached = [] }))
     (c.in_ok-unlocked.ensures.same ∙ c.in_ok-log.ensures.same)
     (λ f i holds. record { opens = record { unlocks = i; content = content; object = holds; manifest_is = read }; cached = refl }) unlocks c.in_ok-content.ensures.content in
     let made = c.settings-config.ensures in
-    subst (λ (k : Config). IfSome (told c.args.shelf.now) (λ t. OpensTo (told_files t) pass (record { log = log; config = k; keys = c.settings-config.result.1; manifest = text; cached = [] })))
+    subst (λ (k : Config). IfSome (told c.args.shelf.now) (λ t. OpensFilesTo (told_files t) pass (record { log = log; config = k; keys = c.settings-config.result.1; manifest = text; cached = [] })))
     (sym made.config)
-    (subst (λ (k : Keys). IfSome (told c.args.shelf.now) (λ t. OpensTo (told_files t) pass (record { log = log; config = u.config; keys = k; manifest = text; cached = [] })))
+    (subst (λ (k : Keys). IfSome (told c.args.shelf.now) (λ t. OpensFilesTo (told_files t) pass (record { log = log; config = u.config; keys = k; manifest = text; cached = [] })))
     (sym made.keys) opens)
