@@ -1,25 +1,25 @@
 -- Lemmas on specs/State.antt: what fits a log, and what keeps it.
-use Rattle.std.proofs.Common.{◌≡◌, ◌≢◌, ℕ, ◌+◌, ◌<◌, ◌≤◌, Bool, true, false, cond, nat_le, List, [], ◌∷◌, ◌++◌, length, take, drop, map, filter, Option, Some, None, unwrap_or, refl, sym, ◌∙◌, ap, subst, arith}
+use Rattle.std.proofs.Common.{◌≡◌, ℕ, ◌<◌, ◌≤◌, Bool, true, false, cond, nat_le, List, [], ◌∷◌, ◌++◌, length, take, drop, map, filter, Option}
+use Rattle.std.proofs.Common.{Some, None, unwrap_or, refl, sym, ◌∙◌, ap, subst, arith}
 use Rattle.std.proofs.lemmas.List.{length-append}
 use Rattle.std.specs.Ordering.{nat_cmp, eq_by_cmp, is_eq}
 use Rattle.std.specs.declared.cmp.Ordering.{Ordering}
 use Rattle.std.specs.declared.cmp.Ordering.TheVariants.{Less, Equal, Greater}
 use borrow.Author.Tests.{leb-true}
 use Rattle.std.specs.Cmp.{nat_cmp_total}
-use Rattle.std.specs.FinMap.{FinMap, get, insert, remove, entries, entries_sorted, empty, get-empty, get-entries, get-insert, get-remove, nat_cmp-IsAntisymmetric}
+use Rattle.std.specs.FinMap.{FinMap, get, entries, entries_sorted, empty, get-empty, get-entries, get-insert, get-remove}
+use Rattle.std.specs.FinMap.{nat_cmp-IsAntisymmetric}
 use Rattle.std.specs.FinMap.Entries.{find, where_key, is_sorted-where_key, find-where_key, same_entries}
 use Rattle.std.specs.List.{AllByRecursion}
-use Rattle.ferry_segment.specs.Entry.{LogEntry}
 use Rattle.ferry_segment.specs.Segment.{Splits}
 use Rattle.ferry_disk.specs.Act.{replaced}
 use Rattle.ferry_disk.specs.Files.{Files, segment_numbers, segment_bytes, with_file, without_segment}
 use Rattle.ferry_disk.specs.declared.name.Name.{Name}
 use Rattle.ferry_disk.specs.declared.name.Name.TheVariants.{Config, Nonce, Readme, Segment}
 use Rattle.ferry_log.specs.Log.{Located, numbers_up_to, Joins}
-use Rattle.ferry_log.specs.Live.{live_place, live_blob}
-use Rattle.ferry_log.specs.State.{LogState, Places, IsStateOf, FitsFiles, HasPlacesOf, IsBlobAt, place_in, first_place, extents_of, live_size}
+use Rattle.ferry_log.specs.Live.{live_blob}
+use Rattle.ferry_log.specs.State.{LogState, Places, IsStateOf, FitsFiles, IsBlobAt, place_in, first_place, extents_of, live_size}
 use Rattle.ferry_log.specs.declared.place.Place.{Place}
-use Rattle.ferry_log.specs.declared.place.Extent.{Extent}
 use Rattle.ferry_log.proofs.PlaceLemmas.{place_lies, place_none}
 
 -- ---- files that were opened
@@ -42,14 +42,16 @@ opened_fits files state is = record {
 pub place_of_blob : (files : Files) (state : LogState) (is : IsStateOf files state) (key : List ℕ) (place : Place) → place_in state key ≡ Some place
     → (blob : List ℕ) × (live_blob key is.log ≡ Some blob) × IsBlobAt (segment_bytes files place.segment) place.at place.size blob
 place_of_blob files state is key place at =
-    place_lies files (numbers_up_to files state.transaction) is.log key place is.is.joined (sym (is.places.live key) ∙ (sym (place_opened state key is.learnt) ∙ at))
+    place_lies files (numbers_up_to files state.transaction) is.log key place is.is.joined (sym (is.places.live key)
+    ∙ (sym (place_opened state key is.learnt) ∙ at))
 
 pub no_place : (files : Files) (state : LogState) (is : IsStateOf files state) (key : List ℕ) → place_in state key ≡ None → live_blob key is.log ≡ None
 no_place files state is key none = place_none key is.log (sym (is.places.live key) ∙ (sym (place_opened state key is.learnt) ∙ none))
 
 -- ---- a blob lies at each place
 
-lies_first : (files : Files) (state : LogState) (key : List ℕ) (place : Place) (learnt : Option Place) → FitsFiles files state → get state.learnt key ≡ learnt
+lies_first : (files : Files) (state : LogState) (key : List ℕ) (place : Place) (learnt : Option Place) → FitsFiles files state
+    → get state.learnt key ≡ learnt
     → first_place learnt (get state.opened key) ≡ Some place → (blob : List ℕ) × IsBlobAt (segment_bytes files place.segment) place.at place.size blob
 lies_first files state key place (Some p) fits is at =
     let same : p ≡ place = cc in
@@ -88,9 +90,11 @@ cut_same f g t same =
     same_entries nat_cmp nat_cmp_total nat_cmp-IsAntisymmetric _ _
     (is_sorted-where_key nat_cmp (up_to t) (entries f.segments) (entries_sorted f.segments))
     (is_sorted-where_key nat_cmp (up_to t) (entries g.segments) (entries_sorted g.segments))
-    (λ q. found_at t f.segments q ∙ (found_same (get f.segments q) (get g.segments q) (up_to t q) (λ e. same q (leb-true q t e)) ∙ sym (found_at t g.segments q)))
+    (λ q. found_at t f.segments q
+    ∙ (found_same (get f.segments q) (get g.segments q) (up_to t q) (λ e. same q (leb-true q t e)) ∙ sym (found_at t g.segments q)))
 
-keys_step : (p : ℕ → Bool) (e : ℕ × List ℕ) (ks : List ℕ) (es : List (ℕ × List ℕ)) (b : Bool) → ks ≡ map (λ e. e.0) es → cond b (e.0 ∷ ks) ks ≡ map (λ e. e.0) (cond b (e ∷ es) es)
+keys_step : (p : ℕ → Bool) (e : ℕ × List ℕ) (ks : List ℕ) (es : List (ℕ × List ℕ)) (b : Bool) → ks ≡ map (λ e. e.0) es
+    → cond b (e.0 ∷ ks) ks ≡ map (λ e. e.0) (cond b (e ∷ es) es)
 keys_step p e ks es true h = ap (λ k. e.0 ∷ k) h
 keys_step p e ks es false h = h
 
@@ -99,9 +103,11 @@ keys_where p [] = refl
 keys_where p (e ∷ es) = keys_step p e (filter p (map (λ e. e.0) es)) (where_key nat_cmp p es) (p e.0) (keys_where p es)
 
 numbers_same : (f g : Files) (t : ℕ) → Agree f g t → numbers_up_to f t ≡ numbers_up_to g t
-numbers_same f g t same = keys_where (up_to t) (entries f.segments) ∙ (ap (map (λ e. e.0)) (cut_same f g t same) ∙ sym (keys_where (up_to t) (entries g.segments)))
+numbers_same f g t same =
+    keys_where (up_to t) (entries f.segments) ∙ (ap (map (λ e. e.0)) (cut_same f g t same) ∙ sym (keys_where (up_to t) (entries g.segments)))
 
-where_step : (p : ℕ → Bool) (P : ℕ → Type 0) (n : ℕ) (ns : List ℕ) (b : Bool) → p n ≡ b → ((n : ℕ) → p n ≡ true → P n) → AllByRecursion P (filter p ns) → AllByRecursion P (cond b (n ∷ filter p ns) (filter p ns))
+where_step : (p : ℕ → Bool) (P : ℕ → Type 0) (n : ℕ) (ns : List ℕ) (b : Bool) → p n ≡ b → ((n : ℕ) → p n ≡ true → P n) → AllByRecursion P (filter p ns)
+    → AllByRecursion P (cond b (n ∷ filter p ns) (filter p ns))
 where_step p P n ns true e h rest = (h n e, rest)
 where_step p P n ns false e h rest = rest
 
@@ -110,11 +116,13 @@ all_where : (p : ℕ → Bool) (P : ℕ → Type 0) (ns : List ℕ) → ((n : �
 all_where p P [] h = tt
 all_where p P (n ∷ ns) h = where_step p P n ns (p n) refl h (all_where p P ns h)
 
-joins_same : (f g : Files) (ns : List ℕ) (log : List Located) → AllByRecursion (λ n. segment_bytes f n ≡ segment_bytes g n) ns → Joins f ns log → Joins g ns log
+joins_same : (f g : Files) (ns : List ℕ) (log : List Located) → AllByRecursion (λ n. segment_bytes f n ≡ segment_bytes g n) ns → Joins f ns log
+    → Joins g ns log
 joins_same f g [] log same j = j
 joins_same f g (n ∷ ns) log same j = (j.0, j.1, subst (λ (b : List ℕ). Splits b j.0) same.0 j.2, joins_same f g ns j.1 same.1 j.3, j.4)
 
-extents_same : (f g : Files) (live : Places) (ns : List ℕ) → AllByRecursion (λ n. segment_bytes f n ≡ segment_bytes g n) ns → extents_of f live ns ≡ extents_of g live ns
+extents_same : (f g : Files) (live : Places) (ns : List ℕ) → AllByRecursion (λ n. segment_bytes f n ≡ segment_bytes g n) ns
+    → extents_of f live ns ≡ extents_of g live ns
 extents_same f g live [] same = refl
 extents_same f g live (n ∷ ns) same =
     ap (λ (b : List ℕ). record { segment = n; size = length b; live = live_size n live } ∷ extents_of f live ns) same.0
@@ -169,7 +177,8 @@ longer_or files n bytes q true e same = rw (same refl) (omega (arith, length-app
 longer_or files n bytes q false e same = omega arith
 
 -- an append makes no segment shorter
-longer_at : (files : Files) (n : ℕ) (bytes : List ℕ) (q : ℕ) → length (segment_bytes files q) ≤ length (segment_bytes (with_file files (Segment n) (segment_bytes files n ++ bytes)) q)
+longer_at : (files : Files) (n : ℕ) (bytes : List ℕ) (q : ℕ)
+    → length (segment_bytes files q) ≤ length (segment_bytes (with_file files (Segment n) (segment_bytes files n ++ bytes)) q)
 longer_at files n bytes q =
     let found = get-insert nat_cmp_total files.segments n (segment_bytes files n ++ bytes) q in
     subst (λ (o : Option (List ℕ)). length (segment_bytes files q) ≤ length (unwrap_or o [])) (sym found)
@@ -179,12 +188,14 @@ pub fits_appended : (files : Files) (state : LogState) (n : ℕ) (bytes : List �
     → FitsFiles (with_file files (Segment n) (segment_bytes files n ++ bytes)) state
 fits_appended files state n bytes above fits =
     fits_same files (with_file files (Segment n) (segment_bytes files n ++ bytes)) state
-    (λ q small. sym (get-insert nat_cmp_total files.segments n (segment_bytes files n ++ bytes) q ∙ ap (λ b. cond b (Some (segment_bytes files n ++ bytes)) (get files.segments q)) (apart q n (omega arith))))
+    (λ q small. sym (get-insert nat_cmp_total files.segments n (segment_bytes files n ++ bytes) q
+    ∙ ap (λ b. cond b (Some (segment_bytes files n ++ bytes)) (get files.segments q)) (apart q n (omega arith))))
     (λ key place at. longer_at files n bytes place.segment)
     fits
 
 pub fits_removed : (files : Files) (state : LogState) (n : ℕ) → state.transaction < n
-    → ((key : List ℕ) (place : Place) → get state.learnt key ≡ Some place → place.segment ≡ n → ⊥) → FitsFiles files state → FitsFiles (without_segment files n) state
+    → ((key : List ℕ) (place : Place) → get state.learnt key ≡ Some place → place.segment ≡ n → ⊥) → FitsFiles files state
+    → FitsFiles (without_segment files n) state
 fits_removed files state n above free fits =
     fits_same files (without_segment files n) state
     (λ q small. sym (removed_at files n q (omega arith)))

@@ -3,7 +3,7 @@ use Rattle.std.proofs.Common.{◌≡◌, ℕ, ◌+◌, ◌<◌, ◌≤◌, List,
 use Rattle.ferry_segment.specs.declared.entry.EntryFault.{EntryFault}
 use Rattle.ferry_segment.specs.declared.head.Head.{Head}
 use Rattle.ferry_segment.specs.Entry.{LogEntry, size_of, first_fault}
-use Rattle.ferry_segment.specs.Head.{head_of, BeginsAt, HasHead}
+use Rattle.ferry_segment.specs.Head.{head_of, BeginsAt}
 use Rattle.ferry_segment.proofs.EntryLemmas.{size_of-least, no_spelling, one_spelling}
 use Rattle.ferry_log.specs.Head.{IsHeadAt, IsUnreadAt}
 

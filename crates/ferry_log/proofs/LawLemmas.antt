@@ -25,17 +25,21 @@ all_there P [] x after h = h.0
 all_there P (y ∷ before) x after h = all_there P before x after h.1
 
 -- the first that lacks what all before it have
-pub one_first : (P : ℕ → Type 0) (before front : List ℕ) (x y : ℕ) (after rest : List ℕ) → before ++ x ∷ after ≡ front ++ y ∷ rest → AllByRecursion P before → AllByRecursion P front → (P x → ⊥) → (P y → ⊥) → x ≡ y
+pub one_first : (P : ℕ → Type 0) (before front : List ℕ) (x y : ℕ) (after rest : List ℕ) → before ++ x ∷ after ≡ front ++ y ∷ rest → AllByRecursion P before
+    → AllByRecursion P front → (P x → ⊥) → (P y → ⊥) → x ≡ y
 one_first P [] [] x y after rest e p q u v = first_of x y after rest e
 one_first P [] (z ∷ front) x y after rest e p q u v = absurd (u (subst P (sym (first_of x z after (front ++ y ∷ rest) e)) q.0))
 one_first P (z ∷ before) [] x y after rest e p q u v = absurd (v (subst P (first_of z y (before ++ x ∷ after) rest e) p.0))
 one_first P (z ∷ before) (w ∷ front) x y after rest e p q u v = one_first P before front x y after rest (rest_of z w _ _ e) p.1 q.1 u v
 
 -- the last that has what all behind it lack, and all before it
-pub one_last : (P : ℕ → Type 0) (before front : List ℕ) (x y : ℕ) (after rest : List ℕ) → before ++ x ∷ after ≡ front ++ y ∷ rest → P x → P y → AllByRecursion (λ n. P n → ⊥) after → AllByRecursion (λ n. P n → ⊥) rest → (x ≡ y) × (before ≡ front)
+pub one_last : (P : ℕ → Type 0) (before front : List ℕ) (x y : ℕ) (after rest : List ℕ) → before ++ x ∷ after ≡ front ++ y ∷ rest → P x → P y
+    → AllByRecursion (λ n. P n → ⊥) after → AllByRecursion (λ n. P n → ⊥) rest → (x ≡ y) × (before ≡ front)
 one_last P [] [] x y after rest e p q u v = (first_of x y after rest e, refl)
-one_last P [] (z ∷ front) x y after rest e p q u v = absurd (all_there (λ n. P n → ⊥) front y rest (subst (AllByRecursion (λ n. P n → ⊥)) (rest_of x z after (front ++ y ∷ rest) e) u) q)
-one_last P (z ∷ before) [] x y after rest e p q u v = absurd (all_there (λ n. P n → ⊥) before x after (subst (AllByRecursion (λ n. P n → ⊥)) (sym (rest_of z y (before ++ x ∷ after) rest e)) v) p)
+one_last P [] (z ∷ front) x y after rest e p q u v =
+    absurd (all_there (λ n. P n → ⊥) front y rest (subst (AllByRecursion (λ n. P n → ⊥)) (rest_of x z after (front ++ y ∷ rest) e) u) q)
+one_last P (z ∷ before) [] x y after rest e p q u v =
+    absurd (all_there (λ n. P n → ⊥) before x after (subst (AllByRecursion (λ n. P n → ⊥)) (sym (rest_of z y (before ++ x ∷ after) rest e)) v) p)
 one_last P (z ∷ before) (w ∷ front) x y after rest e p q u v =
     let others = one_last P before front x y after rest (rest_of z w _ _ e) p q u v in
     (others.0, ap (λ k. k ∷ before) (first_of z w _ _ e) ∙ ap (λ k. w ∷ k) others.1)
@@ -43,7 +47,9 @@ one_last P (z ∷ before) (w ∷ front) x y after rest e p q u v =
 -- ---- IsTransaction
 
 pub one_transaction : (files : Files) (t u : ℕ) → IsTransaction files t → IsTransaction files u → t ≡ u
-one_transaction files t u a b = (one_last (λ n. Committed (segment_bytes files n)) a.below b.below t u a.above b.above (sym a.numbers ∙ b.numbers) a.committed b.committed a.open_above b.open_above).0
+one_transaction files t u a b =
+    (one_last (λ n. Committed (segment_bytes files n)) a.below b.below t u a.above b.above (sym a.numbers
+    ∙ b.numbers) a.committed b.committed a.open_above b.open_above).0
 
 pub uncommitted_apart : (files : Files) (t : ℕ) → IsUncommitted files → IsTransaction files t → ⊥
 uncommitted_apart files t h a = all_there (IsOpen files) a.below t a.above (subst (AllByRecursion (IsOpen files)) a.numbers h) a.committed
@@ -70,7 +76,9 @@ breaks_apart files n at h s = split_unbroken (segment_bytes files n) s.0 at s.1 
 pub one_place : (files : Files) (s u a b : ℕ) → IsDamaged files s a → IsDamaged files u b → (s ≡ u) × (a ≡ b)
 one_place files s u a b g h =
     let numbers = ap (numbers_up_to files) (one_transaction files g.transaction h.transaction g.is h.is) in
-    let one = one_first (IsSegment files) g.before h.before s u g.after h.after (sym g.numbers ∙ (numbers ∙ h.numbers)) g.good h.good (breaks_apart files s a g.breaks) (breaks_apart files u b h.breaks) in
+    let one =
+    one_first (IsSegment files) g.before h.before s u g.after h.after (sym g.numbers
+    ∙ (numbers ∙ h.numbers)) g.good h.good (breaks_apart files s a g.breaks) (breaks_apart files u b h.breaks) in
     (one, one_break (segment_bytes files u) a b (subst (λ n. BreaksAt (segment_bytes files n) a) one g.breaks) h.breaks)
 
 -- the segments that are joined read
@@ -82,7 +90,8 @@ pub damaged_apart : (files : Files) (s at t : ℕ) (log : List Located) → IsDa
 damaged_apart files s at t log g h =
     let numbers = ap (numbers_up_to files) (one_transaction files g.transaction t g.is h.is) in
     let good = joins_good files (numbers_up_to files t) log h.joined in
-    breaks_apart files s at g.breaks (all_there (IsSegment files) g.before s g.after (subst (AllByRecursion (IsSegment files)) (sym numbers ∙ g.numbers) good))
+    breaks_apart files s at g.breaks (all_there (IsSegment files) g.before s g.after (subst (AllByRecursion (IsSegment files)) (sym numbers
+    ∙ g.numbers) good))
 
 -- ---- some answer
 
@@ -112,7 +121,15 @@ record LastOf (files : Files) (ns : List ℕ) : Type 0 where
 last_of : (files : Files) → ((n : ℕ) → IsBytes (segment_bytes files n)) → (numbers : List ℕ) → AllByRecursion (IsOpen files) numbers ⊎ LastOf files numbers
 last_of files small [] = inl tt
 last_of files small (n ∷ ns) = elim (last_of files small ns) [
-  | inr l ↦ inr (record { last = l.last; below = n ∷ l.below; above = l.above; numbers = ap (λ k. n ∷ k) l.numbers; committed = l.committed; open_above = l.open_above })
+  | inr l ↦ inr (record {
+    last = l.last;
+    below = n ∷ l.below;
+    above = l.above;
+    numbers = ap
+        (λ k. n ∷ k) l.numbers;
+    committed = l.committed;
+    open_above = l.open_above;
+  })
   | inl none ↦ elim (committed_or_open (segment_bytes files n) (small n)) [
     | inl committed ↦ inr (record { last = n; below = []; above = ns; numbers = refl; committed = committed; open_above = none })
     | inr apart ↦ inl (apart, none)
@@ -129,27 +146,45 @@ record FirstBroken (files : Files) (ns : List ℕ) : Type 0 where
   pub good : AllByRecursion (IsSegment files) before
   pub breaks : BreaksAt (segment_bytes files segment) at
 
-joins_or_breaks : (files : Files) → ((n : ℕ) → IsBytes (segment_bytes files n)) → (numbers : List ℕ) → ((log : List Located) × Joins files numbers log) ⊎ FirstBroken files numbers
+joins_or_breaks : (files : Files) → ((n : ℕ) → IsBytes (segment_bytes files n)) → (numbers : List ℕ)
+    → ((log : List Located) × Joins files numbers log) ⊎ FirstBroken files numbers
 joins_or_breaks files small [] = inl ([], refl)
 joins_or_breaks files small (n ∷ ns) = elim (some_answer (segment_bytes files n) (small n)) [
   | inr broken ↦ inr (record { segment = n; at = broken.0; before = []; after = ns; numbers = refl; good = tt; breaks = broken.1 })
   | inl split ↦ elim (joins_or_breaks files small ns) [
     | inl log ↦ inl (located n 8 split.0 ++ log.0, (split.0, log.0, split.1, log.1, refl))
-    | inr b ↦ inr (record { segment = b.segment; at = b.at; before = n ∷ b.before; after = b.after; numbers = ap (λ k. n ∷ k) b.numbers; good = (split, b.good); breaks = b.breaks })
+    | inr b ↦ inr (record {
+      segment = b.segment;
+      at = b.at;
+      before = n ∷ b.before;
+      after = b.after;
+      numbers = ap (λ k. n ∷ k) b.numbers;
+      good =
+          (split, b.good);
+      breaks = b.breaks;
+    })
   ]
 ]
 
-read_of : (files : Files) → ((n : ℕ) → IsBytes (segment_bytes files n)) → (t : ℕ) (is : IsTransaction files t) → ((u : ℕ) × (log : List Located) × IsLog files u log) ⊎ ((s : ℕ) × (at : ℕ) × IsDamaged files s at)
+read_of : (files : Files) → ((n : ℕ) → IsBytes (segment_bytes files n)) → (t : ℕ) (is : IsTransaction files t)
+    → ((u : ℕ) × (log : List Located) × IsLog files u log) ⊎ ((s : ℕ) × (at : ℕ) × IsDamaged files s at)
 read_of files small t is = elim (joins_or_breaks files small (numbers_up_to files t)) [
   | inl log ↦ inl (t, log.0, record { is = is; joined = log.1 })
-  | inr b ↦ inr (b.segment, b.at, record { transaction = t; is = is; before = b.before; after = b.after; numbers = b.numbers; good = b.good; breaks = b.breaks })
+  | inr b ↦ inr (
+    b.segment,
+    b.at,
+    record
+        { transaction = t; is = is; before = b.before; after = b.after; numbers = b.numbers; good = b.good; breaks = b.breaks },
+  )
 ]
 
 -- where each byte is one, one of the three answers holds
-pub some_log : (files : Files) → ((n : ℕ) → IsBytes (segment_bytes files n)) → IsUncommitted files ⊎ (((t : ℕ) × (log : List Located) × IsLog files t log) ⊎ ((s : ℕ) × (at : ℕ) × IsDamaged files s at))
+pub some_log : (files : Files) → ((n : ℕ) → IsBytes (segment_bytes files n))
+    → IsUncommitted files ⊎ (((t : ℕ) × (log : List Located) × IsLog files t log) ⊎ ((s : ℕ) × (at : ℕ) × IsDamaged files s at))
 some_log files small = elim (last_of files small (segment_numbers files)) [
   | inl none ↦ inl none
-  | inr l ↦ inr (read_of files small l.last (record { below = l.below; above = l.above; numbers = l.numbers; committed = l.committed; open_above = l.open_above }))
+  | inr l ↦ inr (read_of files small l.last
+      (record { below = l.below; above = l.above; numbers = l.numbers; committed = l.committed; open_above = l.open_above }))
 ]
 
 -- ---- IsStateOf
@@ -161,7 +196,8 @@ one_state files a b g h =
     let opened : a.opened ≡ b.opened = same_map nat_list_cmp_total (slice_cmp-IsAntisymmetric nat_cmp-IsAntisymmetric) a.opened b.opened
     (λ key. g.places.live key ∙ (ap (live_place key) one.1 ∙ sym (h.places.live key))) in
     let extents : a.extents ≡ b.extents = g.places.extents_are
-    ∙ (ap (λ k. extents_of files k (numbers_up_to files a.transaction)) opened ∙ (ap (λ k. extents_of files b.opened (numbers_up_to files k)) one.0 ∙ sym h.places.extents_are)) in
+    ∙ (ap (λ k. extents_of files k (numbers_up_to files a.transaction)) opened
+    ∙ (ap (λ k. extents_of files b.opened (numbers_up_to files k)) one.0 ∙ sym h.places.extents_are)) in
     let learnt : a.learnt ≡ b.learnt = g.learnt ∙ sym h.learnt in
     ap (λ k. record a { transaction = k }) one.0
     ∙ (ap (λ k. record { transaction = b.transaction; opened = k; extents = a.extents; learnt = a.learnt }) opened

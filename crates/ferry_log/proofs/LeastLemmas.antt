@@ -1,5 +1,6 @@
 -- Lemmas on specs/Least.antt: the least key of a map, and of two.
-use Rattle.std.proofs.Common.{◌≡◌, ◌⊎◌, ℕ, Bool, true, false, cond, List, [], ◌∷◌, Option, Some, None, IfSome, slice_get, is_gt, refl, sym, ◌∙◌, ap, subst, inl, inr}
+use Rattle.std.proofs.Common.{◌≡◌, ◌⊎◌, ℕ, Bool, true, false, cond, List, [], ◌∷◌, Option, Some, None, IfSome, slice_get, is_gt, refl, sym, ◌∙◌, ap, subst}
+use Rattle.std.proofs.Common.{inl, inr}
 use Rattle.std.specs.Cmp.Lexicographic.{nat_list_cmp_total}
 use Rattle.std.specs.BTreeMap.{is_at}
 use Rattle.std.specs.FinMap.{get, from_entries, get-from_entries, slice_cmp-IsAntisymmetric, nat_cmp-IsAntisymmetric}
@@ -11,7 +12,7 @@ use Rattle.std.specs.declared.cmp.Ordering.{Ordering}
 use Rattle.std.specs.declared.cmp.Ordering.TheVariants.{Less, Equal, Greater}
 use Rattle.ferry_log.specs.Least.{lesser_pair}
 use Rattle.ferry_log.specs.Live.{key_cmp}
-use Rattle.ferry_log.specs.State.{IsLeastWhere, IsAbove, first_place}
+use Rattle.ferry_log.specs.State.{IsLeastWhere, first_place}
 use Rattle.ferry_log.specs.declared.place.Place.{Place}
 
 -- ---- the order of keys
@@ -69,7 +70,8 @@ module _ (f g : List ℕ → Option Place) (after : Option (List ℕ)) where
   first_placed : (key : List ℕ) (place : Place) → f key ≡ Some place → either key ≡ Some place
   first_placed key place some = ap (λ p. first_place p (g key)) some
 
-  least_by : (a b : List ℕ × Place) (o : Bool) → is_lt (key_cmp b.0 a.0) ≡ o → IsLeastWhere f after (Some a) → IsLeastWhere g after (Some b) → IsLeastWhere either after (cond o (Some b) (Some a))
+  least_by : (a b : List ℕ × Place) (o : Bool) → is_lt (key_cmp b.0 a.0) ≡ o → IsLeastWhere f after (Some a) → IsLeastWhere g after (Some b)
+      → IsLeastWhere either after (cond o (Some b) (Some a))
   least_by a b true lt (fa, above_a, least_a) (gb, above_b, least_b) =
       let less = is_less (key_cmp b.0 a.0) lt in (
         second_placed b.0 b.1 (none_of (f b.0) (λ some. least_a b.0 some above_b less)) gb,
@@ -114,7 +116,8 @@ pub get-entries_of : (es : List (List ℕ × Place)) (key : List ℕ) → get (f
 get-entries_of es key = get-from_entries nat_list_cmp_total es key ∙ find-lookup es key
 
 -- what is least where keys have these places is least where they have the same ones
-pub least_same : (f g : List ℕ → Option Place) (after : Option (List ℕ)) (found : Option (List ℕ × Place)) → ((key : List ℕ) → f key ≡ g key) → IsLeastWhere f after found → IsLeastWhere g after found
+pub least_same : (f g : List ℕ → Option Place) (after : Option (List ℕ)) (found : Option (List ℕ × Place)) → ((key : List ℕ) → f key ≡ g key)
+    → IsLeastWhere f after found → IsLeastWhere g after found
 least_same f g after None same least = λ key some above. least key (subst IsSome (sym (same key)) some) above
 least_same f g after (Some found) same (placed, above, least) = (
   sym (same found.0) ∙ placed,

@@ -1,7 +1,7 @@
--- Lemmas on specs/Live.antt, and how the places of the live keys go on with the entries of a log.
-use Rattle.std.proofs.Common.{◌≡◌, ℕ, ◌+◌, ◌-◌, ◌≤◌, Bool, true, false, cond, List, [], ◌∷◌, ◌++◌, length, slice_get, Option, Some, None, option_and_then, eqb, refl, sym, ◌∙◌, ap, arith}
-use Rattle.std.proofs.lemmas.List.{append_assoc, append-nil, length-append, length_push}
-use Rattle.std.proofs.lemmas.List.Elements.{filter-append}
+-- How the places of the live keys in a map of the program go on with the entries of a log.
+use Rattle.std.proofs.Common.{◌≡◌, ℕ, ◌+◌, ◌-◌, ◌≤◌, Bool, true, false, cond, List, [], ◌∷◌, ◌++◌, length, Option, Some, None}
+use Rattle.std.proofs.Common.{eqb, refl, sym, ◌∙◌, ap, arith}
+use Rattle.std.proofs.lemmas.List.{append_assoc, append-nil, length-append}
 use Rattle.std.proofs.lemmas.List.Sums.{sum_by-append, sum_by-cons}
 use Rattle.std.specs.Ordering.{eq_by_cmp, match_ordering}
 use Rattle.std.specs.declared.cmp.Ordering.{Ordering}
@@ -16,36 +16,10 @@ use Rattle.ferry_segment.specs.Head.{head_of}
 use Rattle.ferry_segment.specs.declared.head.Head.{Head}
 use Rattle.ferry_log.specs.declared.place.Place.{Place}
 use Rattle.ferry_log.specs.Log.{Located}
-use Rattle.ferry_log.specs.Live.{key_cmp, names_key, naming, put_place, live_place}
+use Rattle.ferry_log.specs.Live.{key_cmp, live_place}
 use Rattle.ferry_log.specs.State.{size_in}
+use Rattle.ferry_log.proofs.PlacesLemmas.{live_place_more}
 use Rattle.ferry_log.specs.Opening.{Pairs, sum_in, entries_in, entry_at, TakesEntries}
-
--- ---- last_naming
-
-get_push : {A : Type 0} (xs : List A) (x : A) → slice_get (xs ++ x ∷ []) (length xs) ≡ Some x
-get_push [] x = refl
-get_push (y ∷ xs) x = get_push xs x
-
-last_push : {A : Type 0} (xs : List A) (x : A) → slice_get (xs ++ x ∷ []) (length (xs ++ x ∷ []) - 1) ≡ Some x
-last_push xs x = let e : length (xs ++ x ∷ []) - 1 ≡ length xs = omega (arith, length_push xs x) in ap (slice_get (xs ++ x ∷ [])) e ∙ get_push xs x
-
--- one more entry is the last one where it names the key
-naming_more : (key : List ℕ) (log : List Located) (e : Located) → naming key (log ++ e ∷ []) ≡ naming key log ++ cond (names_key key e.entry) (e ∷ []) []
-naming_more key log e = filter-append (λ x. names_key key x.entry) log (e ∷ [])
-
-last_on : (named : List Located) (b : Bool) (e : Located) (f : Located → Option Place) → option_and_then f (slice_get (named ++ cond b (e ∷ []) []) (length (named ++ cond b (e ∷ []) []) - 1)) ≡ cond b (f e) (option_and_then f (slice_get named (length named - 1)))
-last_on named true e f = ap (option_and_then f) (last_push named e)
-last_on named false e f = ap (λ xs. option_and_then f (slice_get xs (length xs - 1))) (append-nil named)
-
-pub live_place_more : (key : List ℕ) (log : List Located) (e : Located) → live_place key (log ++ e ∷ []) ≡ cond (names_key key e.entry) (put_place e.segment e.at e.entry) (live_place key log)
-unfolding live_place
-live_place_more key log e =
-    let f : Located → Option Place = λ x. put_place x.segment x.at x.entry in
-    ap (λ xs. option_and_then f (slice_get xs (length xs - 1))) (naming_more key log e) ∙ last_on (naming key log) (names_key key e.entry) e f
-
-pub live_place_none : (key : List ℕ) → live_place key [] ≡ None
-unfolding live_place
-live_place_none key = refl
 
 -- ---- Pairs
 
@@ -58,10 +32,13 @@ keys_turned : (a b : List ℕ) → eq_by_cmp key_cmp a b ≡ eq_by_cmp key_cmp b
 keys_turned a b = (eq_by_cmp_equiv nat_list_cmp_total).symm a b
 
 -- what a map has after a change at one key
-changed_at : (old new : Pairs) (key : List ℕ) (place : Option Place) → ((q : List ℕ) → lookup (is_at (key_cmp q)) new ≡ cond (is_at (key_cmp key) q) place (lookup (is_at (key_cmp q)) old))
+changed_at : (old new : Pairs) (key : List ℕ) (place : Option Place)
+    → ((q : List ℕ) → lookup (is_at (key_cmp q)) new ≡ cond (is_at (key_cmp key) q) place (lookup (is_at (key_cmp q)) old))
     → (q : List ℕ) → find key_cmp q new ≡ cond (eq_by_cmp key_cmp q key) place (find key_cmp q old)
 changed_at old new key place h q =
-    find-lookup q new ∙ (h q ∙ (ap (λ b. cond b place (lookup (is_at (key_cmp q)) old)) (keys_turned key q) ∙ ap (cond (eq_by_cmp key_cmp q key) place) (sym (find-lookup q old))))
+    find-lookup q new
+    ∙ (h q
+    ∙ (ap (λ b. cond b place (lookup (is_at (key_cmp q)) old)) (keys_turned key q) ∙ ap (cond (eq_by_cmp key_cmp q key) place) (sym (find-lookup q old))))
 
 module _ (s : ℕ) where
   abbrev size_of_pair : List ℕ × Place → ℕ
@@ -95,8 +72,10 @@ counted_put segment s at key blob sized =
       | false ↦ omega arith
     ]
 
-takes_put : (segment at : ℕ) (key blob : List ℕ) (place : Place) (old new : Pairs) → length key ≡ 32 → place ≡ record { segment = segment; at = at + 41; size = length blob }
-    → ((q : List ℕ) → lookup (is_at (key_cmp q)) new ≡ cond (is_at (key_cmp key) q) (Some place) (lookup (is_at (key_cmp q)) old)) → new ≡ insert_entry key_cmp old key place
+takes_put : (segment at : ℕ) (key blob : List ℕ) (place : Place)
+    (old new : Pairs) → length key ≡ 32 → place ≡ record { segment = segment; at = at + 41; size = length blob }
+    → ((q : List ℕ) → lookup (is_at (key_cmp q)) new ≡ cond (is_at (key_cmp key) q) (Some place) (lookup (is_at (key_cmp q)) old))
+    → new ≡ insert_entry key_cmp old key place
     → TakesEntries (entry_at segment at (PutEntry key blob) ∷ []) old new
 takes_put segment at key blob place old new sized is changes inserted = record {
   places = λ log has q. changed_at old new key (Some place) changes q
@@ -111,7 +90,8 @@ takes_put segment at key blob place old new sized is changes inserted = record {
 }
 
 takes_delete : (segment at : ℕ) (key : List ℕ) (old new : Pairs)
-    → ((q : List ℕ) → lookup (is_at (key_cmp q)) new ≡ cond (is_at (key_cmp key) q) None (lookup (is_at (key_cmp q)) old)) → new ≡ remove_entry (is_at (key_cmp key)) old
+    → ((q : List ℕ) → lookup (is_at (key_cmp q)) new ≡ cond (is_at (key_cmp key) q) None (lookup (is_at (key_cmp q)) old))
+    → new ≡ remove_entry (is_at (key_cmp key)) old
     → TakesEntries (entry_at segment at (DeleteEntry key) ∷ []) old new
 takes_delete segment at key old new changes removed = record {
   places = λ log has q. changed_at old new key None changes q
@@ -131,26 +111,31 @@ takes_commit segment at pairs = record {
 -- the entry with this head is taken, by its tag
 pub taken_put : (segment at : ℕ) (head : Head) (place : Place) (old new : Pairs) (entry : LogEntry) → Fits entry → head ≡ head_of entry → head.tag ≡ 0
     → place ≡ record { segment = segment; at = at + 41; size = head.size - 41 }
-    → ((q : List ℕ) → lookup (is_at (key_cmp q)) new ≡ cond (is_at (key_cmp head.key) q) (Some place) (lookup (is_at (key_cmp q)) old)) → new ≡ insert_entry key_cmp old head.key place
+    → ((q : List ℕ) → lookup (is_at (key_cmp q)) new ≡ cond (is_at (key_cmp head.key) q) (Some place) (lookup (is_at (key_cmp q)) old))
+    → new ≡ insert_entry key_cmp old head.key place
     → TakesEntries (entry_at segment at entry ∷ []) old new
 taken_put segment at head place old new (PutEntry key blob) fits is tag p changes inserted =
     let own : head.key ≡ key = ap (λ h. h.key) is in
     let size : head.size - 41 ≡ length blob = omega (arith, ap (λ h. h.size) is, length-append key blob, fits.0) in
     takes_put segment at key blob place old new fits.0 (p ∙ ap (λ n. record { segment = segment; at = at + 41; size = n }) size)
-    (λ q. changes q ∙ ap (λ k. cond (is_at (key_cmp k) q) (Some place) (lookup (is_at (key_cmp q)) old)) own) (inserted ∙ ap (λ k. insert_entry key_cmp old k place) own)
+    (λ q. changes q ∙ ap (λ k. cond (is_at (key_cmp k) q) (Some place) (lookup (is_at (key_cmp q)) old)) own) (inserted
+    ∙ ap (λ k. insert_entry key_cmp old k place) own)
 taken_put segment at head place old new (DeleteEntry key) fits is tag p changes inserted = absurd (omega (arith, ap (λ h. h.tag) is))
 taken_put segment at head place old new CommitEntry fits is tag p changes inserted = absurd (omega (arith, ap (λ h. h.tag) is))
 
 pub taken_delete : (segment at : ℕ) (head : Head) (old new : Pairs) (entry : LogEntry) → head ≡ head_of entry → head.tag ≡ 1
-    → ((q : List ℕ) → lookup (is_at (key_cmp q)) new ≡ cond (is_at (key_cmp head.key) q) None (lookup (is_at (key_cmp q)) old)) → new ≡ remove_entry (is_at (key_cmp head.key)) old
+    → ((q : List ℕ) → lookup (is_at (key_cmp q)) new ≡ cond (is_at (key_cmp head.key) q) None (lookup (is_at (key_cmp q)) old))
+    → new ≡ remove_entry (is_at (key_cmp head.key)) old
     → TakesEntries (entry_at segment at entry ∷ []) old new
 taken_delete segment at head old new (PutEntry key blob) is tag changes removed = absurd (omega (arith, ap (λ h. h.tag) is))
 taken_delete segment at head old new (DeleteEntry key) is tag changes removed =
     let own : head.key ≡ key = ap (λ h. h.key) is in
-    takes_delete segment at key old new (λ q. changes q ∙ ap (λ k. cond (is_at (key_cmp k) q) None (lookup (is_at (key_cmp q)) old)) own) (removed ∙ ap (λ k. remove_entry (is_at (key_cmp k)) old) own)
+    takes_delete segment at key old new (λ q. changes q
+    ∙ ap (λ k. cond (is_at (key_cmp k) q) None (lookup (is_at (key_cmp q)) old)) own) (removed ∙ ap (λ k. remove_entry (is_at (key_cmp k)) old) own)
 taken_delete segment at head old new CommitEntry is tag changes removed = absurd (omega (arith, ap (λ h. h.tag) is))
 
-pub taken_commit : (segment at : ℕ) (head : Head) (pairs : Pairs) (entry : LogEntry) → head ≡ head_of entry → (head.tag ≡ 0 → ⊥) → (head.tag ≡ 1 → ⊥) → TakesEntries (entry_at segment at entry ∷ []) pairs pairs
+pub taken_commit : (segment at : ℕ) (head : Head) (pairs : Pairs) (entry : LogEntry) → head ≡ head_of entry → (head.tag ≡ 0 → ⊥) → (head.tag ≡ 1 → ⊥)
+    → TakesEntries (entry_at segment at entry ∷ []) pairs pairs
 taken_commit segment at head pairs (PutEntry key blob) is a b = absurd (a (ap (λ h. h.tag) is))
 taken_commit segment at head pairs (DeleteEntry key) is a b = absurd (b (ap (λ h. h.tag) is))
 taken_commit segment at head pairs CommitEntry is a b = takes_commit segment at pairs

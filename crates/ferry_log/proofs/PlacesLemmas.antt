@@ -1,6 +1,7 @@
 -- Lemmas on specs/Live.antt and specs/State.antt: the places of the live keys of a log, entry by entry, so that a log that reads has
 -- a state.
-use Rattle.std.proofs.Common.{◌≡◌, ◌⊎◌, ℕ, ◌+◌, ◌-◌, Bool, true, false, cond, List, [], ◌∷◌, ◌++◌, fold, length, slice_get, Option, Some, None, option_and_then, refl, sym, ◌∙◌, ap, subst, inl, inr, arith}
+use Rattle.std.proofs.Common.{◌≡◌, ◌⊎◌, ℕ, ◌+◌, ◌-◌, Bool, true, false, cond, List, [], ◌∷◌, ◌++◌, fold, length, slice_get, Option, Some, None}
+use Rattle.std.proofs.Common.{option_and_then, refl, sym, ◌∙◌, ap, inl, inr, arith}
 use Rattle.std.proofs.lemmas.List.{append_assoc, append-nil, length_push}
 use Rattle.std.proofs.lemmas.List.Elements.{filter-append}
 use Rattle.std.specs.Cmp.Lexicographic.{nat_list_cmp_total}
@@ -71,7 +72,8 @@ placed_one places log segment at (DeleteEntry k) has key =
     get-remove nat_list_cmp_total places k key ∙ (ap (cond (eq_by_cmp key_cmp key k) None) (has key) ∙ sym (live_place_more key log _))
 placed_one places log segment at CommitEntry has key = has key ∙ sym (live_place_more key log _)
 
-pub places_more : (places : Places) (log : List Located) (e : Located) → HasPlaces places log → HasPlaces (placed places e.segment e.at e.entry) (log ++ e ∷ [])
+pub places_more : (places : Places) (log : List Located) (e : Located) → HasPlaces places log
+    → HasPlaces (placed places e.segment e.at e.entry) (log ++ e ∷ [])
 places_more places log e has = placed_one places log e.segment e.at e.entry has
 
 -- the places after these entries
@@ -81,7 +83,8 @@ placed_all places entries = fold (λ p e. placed p e.segment e.at e.entry) place
 pub places_all : (places : Places) (log entries : List Located) → HasPlaces places log → HasPlaces (placed_all places entries) (log ++ entries)
 places_all places log [] has = λ key. has key ∙ ap (live_place key) (sym (append-nil log))
 places_all places log (e ∷ es) has = λ key.
-    places_all (placed places e.segment e.at e.entry) (log ++ e ∷ []) es (places_more places log e has) key ∙ ap (live_place key) (append_assoc log (e ∷ []) es)
+    places_all (placed places e.segment e.at e.entry) (log ++ e ∷ []) es (places_more places log e has) key
+    ∙ ap (live_place key) (append_assoc log (e ∷ []) es)
 
 -- ---- a log that reads has a state
 

@@ -1,7 +1,8 @@
 -- Lemmas on specs/State.antt: what was taken is the state of the log.
-use Rattle.std.proofs.Common.{◌≡◌, ℕ, zero, suc, nat_le, filter, ◌+◌, ◌-◌, ◌<◌, ◌≤◌, ◌^◌, Bool, true, false, cond, eqb, List, [], ◌∷◌, ◌++◌, length, take, drop, map, get_or, Option, Some, None, IfSome, IsSome, refl, sym, ◌∙◌, ap, subst, inl, inr, arith}
+use Rattle.std.proofs.Common.{◌≡◌, ℕ, zero, suc, nat_le, filter, ◌+◌, ◌-◌, ◌<◌, ◌≤◌, ◌^◌, Bool, true, false, cond, eqb, List, [], ◌∷◌, ◌++◌, length, take}
+use Rattle.std.proofs.Common.{drop, map, get_or, refl, sym, ◌∙◌, ap, subst, inl, inr, arith}
 use Rattle.std.proofs.lemmas.Bool.{ne_eqb, eqb-true, cases_eq, le-leb, lt-leb}
-use Rattle.std.proofs.lemmas.List.{length-append, take_more, drop_more, take-append-drop, length-take, get_or-take}
+use Rattle.std.proofs.lemmas.List.{length-append, drop_more, take-append-drop, length-take, get_or-take}
 use Rattle.std.proofs.lemmas.List.Sums.{sum_by-append, sum_by-cons}
 use Rattle.std.proofs.lemmas.Map.Keys.{sorted_from_strictly_increasing, below_from_sorted, sorted_head, sorted_tail}
 use Rattle.std.specs.Ordering.{nat_cmp}
@@ -17,7 +18,6 @@ use Rattle.ferry_segment.proofs.EntryLemmas.{length-spelling}
 use Rattle.ferry_disk.specs.Files.{Files, segment_numbers, segment_bytes}
 use Rattle.ferry_log.specs.declared.fault.LogFault.{LogFault}
 use Rattle.ferry_log.specs.declared.fault.LogFault.TheVariants.{NoCommit, Damaged, Device, Memory}
-use Rattle.ferry_log.specs.declared.place.Place.{Place}
 use Rattle.ferry_log.specs.declared.place.Extent.{Extent}
 use Rattle.ferry_log.specs.Fault.{IsRefused}
 use Rattle.ferry_log.specs.Log.{Located, located, IsOpen, IsTransaction, numbers_up_to, Joins}
@@ -52,27 +52,42 @@ here : (s n at : ℕ) (es : List LogEntry) → eqb n s ≡ true → entries_in s
 here s n at [] same = refl
 here s n at (e ∷ es) same =
     let first : size_at s (record { segment = n; at = at; entry = e }) ≡ size_of e = ap (λ b. cond b (size_of e) 0) same in
-    omega (arith, in_cons s (record { segment = n; at = at; entry = e }) (located n (at + size_of e) es), here s n (at + size_of e) es same, length-append (spelling e) (spellings es), length-spelling e)
+    omega (
+      arith,
+      in_cons s (record { segment = n; at = at; entry = e }) (located n (at + size_of e) es),
+      here s n (at + size_of e) es same,
+      length-append
+          (spelling e) (spellings es),
+      length-spelling e,
+    )
 
 -- no entry is of a segment below them all
-joins_above : (files : Files) (ns : List ℕ) (log : List Located) (s : ℕ) → AllByRecursion (λ n. nat_cmp s n ≡ Less) ns → Joins files ns log → entries_in s log ≡ 0
+joins_above : (files : Files) (ns : List ℕ) (log : List Located) (s : ℕ) → AllByRecursion (λ n. nat_cmp s n ≡ Less) ns → Joins files ns log
+    → entries_in s log ≡ 0
 joins_above files [] log s all j = ap (entries_in s) j
 joins_above files (n ∷ ns) log s all j =
     let none = elsewhere s n 8 j.0 (above_apart n s all.0) in
-    ap (entries_in s) j.4 ∙ (sum_by-append (size_at s) (located n 8 j.0) j.1 ∙ (let e : entries_in s (located n 8 j.0) + entries_in s j.1 ≡ 0 = omega (arith, none, joins_above files ns j.1 s all.1 j.3) in e))
+    ap (entries_in s) j.4
+    ∙ (sum_by-append (size_at s) (located n 8 j.0) j.1
+    ∙ (let e : entries_in s (located n 8 j.0) + entries_in s j.1 ≡ 0 = omega (arith, none, joins_above files ns j.1 s all.1 j.3) in e))
 
-joins_on : (files : Files) (n : ℕ) (ns : List ℕ) (log rest : List Located) (es : List LogEntry) (s : ℕ) (b : Bool) → eqb n s ≡ b → Splits (segment_bytes files n) es → log ≡ located n 8 es ++ rest → (b ≡ true → entries_in s rest ≡ 0) → entries_in s rest ≤ length (segment_bytes files s) → entries_in s log ≤ length (segment_bytes files s)
+joins_on : (files : Files) (n : ℕ) (ns : List ℕ) (log rest : List Located) (es : List LogEntry) (s : ℕ) (b : Bool) → eqb n s ≡ b
+    → Splits (segment_bytes files n) es → log ≡ located n 8 es ++ rest → (b ≡ true → entries_in s rest ≡ 0)
+    → entries_in s rest ≤ length (segment_bytes files s) → entries_in s log ≤ length (segment_bytes files s)
 joins_on files n ns log rest es s true same split is none bound =
     let joined = ap (entries_in s) is ∙ sum_by-append (size_at s) (located n 8 es) rest in
     let own : n ≡ s = eqb-true n s same in
-    let whole : length (segment_bytes files s) ≡ 8 + length (spellings es) = ap (λ k. length (segment_bytes files k)) (sym own) ∙ (ap length split.whole ∙ (let e : length (magic ++ spellings es) ≡ 8 + length (spellings es) = omega arith in e)) in
+    let whole : length (segment_bytes files s) ≡ 8 + length (spellings es) =
+    ap (λ k. length (segment_bytes files k)) (sym own)
+    ∙ (ap length split.whole ∙ (let e : length (magic ++ spellings es) ≡ 8 + length (spellings es) = omega arith in e)) in
     omega (arith, joined, here s n 8 es same, none refl, whole)
 joins_on files n ns log rest es s false apart split is none bound =
     let joined = ap (entries_in s) is ∙ sum_by-append (size_at s) (located n 8 es) rest in
     omega (arith, joined, elsewhere s n 8 es apart, bound)
 
 -- the entries of a segment are no longer than the segment
-pub joins_bound : (files : Files) (ns : List ℕ) (log : List Located) (s : ℕ) → IsStrictlySortedBy nat_cmp ns → Joins files ns log → entries_in s log ≤ length (segment_bytes files s)
+pub joins_bound : (files : Files) (ns : List ℕ) (log : List Located) (s : ℕ) → IsStrictlySortedBy nat_cmp ns → Joins files ns log
+    → entries_in s log ≤ length (segment_bytes files s)
 joins_bound files [] log s up j = omega (arith, ap (entries_in s) j)
 joins_bound files (n ∷ ns) log s up j =
     joins_on files n ns log j.1 j.0 s (eqb n s) refl j.2 j.4
@@ -81,26 +96,35 @@ joins_bound files (n ∷ ns) log s up j =
 
 -- ---- extents_of
 
-all_counted : (files : Files) (ns : List ℕ) (pairs : Pairs) → IsStrictlySortedBy key_cmp (map (λ e. e.0) pairs) → ((s : ℕ) → sum_in s pairs ≤ length (segment_bytes files s)) → AllByRecursion (λ n. length (segment_bytes files n) < 2 ^ 64) ns
+all_counted : (files : Files) (ns : List ℕ) (pairs : Pairs) → IsStrictlySortedBy key_cmp (map (λ e. e.0) pairs)
+    → ((s : ℕ) → sum_in s pairs ≤ length (segment_bytes files s)) → AllByRecursion (λ n. length (segment_bytes files n) < 2 ^ 64) ns
     → map (counted_live pairs) (map (λ n. uncounted n (length (segment_bytes files n))) ns) ≡ extents_of files (from_entries {R = key_cmp} pairs) ns
 all_counted files [] pairs ordered bound small = refl
 all_counted files (n ∷ ns) pairs ordered bound small =
     let size = length (segment_bytes files n) in
     let first : counted_live pairs (uncounted n size) ≡ record { segment = n; size = size; live = live_size n (from_entries {R = key_cmp} pairs) } =
-    live_counted pairs (uncounted n size) (omega (arith, bound n, small.0)) ∙ ap (λ k. record { segment = n; size = size; live = k }) (let e : 0 + sum_in n pairs ≡ sum_in n pairs = omega arith in e ∙ sym (live_size-pairs n pairs ordered)) in
+    live_counted pairs (uncounted n size) (omega (arith, bound n, small.0))
+    ∙ ap (λ k. record { segment = n; size = size; live = k }) (let e : 0 + sum_in n pairs ≡ sum_in n pairs = omega arith in e
+    ∙ sym (live_size-pairs n pairs ordered)) in
     ap (λ e. e ∷ map (counted_live pairs) (map (λ m. uncounted m (length (segment_bytes files m))) ns)) first
-    ∙ ap (λ es. record { segment = n; size = size; live = live_size n (from_entries {R = key_cmp} pairs) } ∷ es) (all_counted files ns pairs ordered bound small.1)
+    ∙ ap (λ es. record { segment = n; size = size; live = live_size n (from_entries {R = key_cmp} pairs) } ∷ es)
+    (all_counted files ns pairs ordered bound small.1)
 
 -- ---- IsStateOf
 
 -- the transaction of the segments that were counted
-transaction_of : (files : Files) (numbers : List ℕ) (count : ℕ) → 0 < count → count ≤ length numbers → numbers ≡ segment_numbers files → EndsAt files numbers count → IsTransaction files (get_or numbers (count - 1) 0)
+transaction_of : (files : Files) (numbers : List ℕ) (count : ℕ) → 0 < count → count ≤ length numbers → numbers ≡ segment_numbers files
+    → EndsAt files numbers count → IsTransaction files (get_or numbers (count - 1) 0)
 transaction_of files numbers count some within is end =
     let e : count - 1 + 1 ≡ count = omega arith in
     record {
       below = take (count - 1) numbers;
       above = drop count numbers;
-      numbers = sym is ∙ (sym (take-append-drop (count - 1) numbers) ∙ (ap (λ k. take (count - 1) numbers ++ k) (drop_more numbers (count - 1) 0 (omega arith)) ∙ ap (λ k. take (count - 1) numbers ++ get_or numbers (count - 1) 0 ∷ drop k numbers) e));
+      numbers =
+          sym is
+          ∙ (sym (take-append-drop (count - 1) numbers)
+          ∙ (ap (λ k. take (count - 1) numbers ++ k) (drop_more numbers (count - 1) 0 (omega arith))
+          ∙ ap (λ k. take (count - 1) numbers ++ get_or numbers (count - 1) 0 ∷ drop k numbers) e));
       committed = end.committed;
       open_above = end.open_above;
     }
@@ -121,7 +145,8 @@ none_left : (t : ℕ) (ns : List ℕ) → ((i : ℕ) → i < length ns → t < g
 none_left t [] h = refl
 none_left t (n ∷ ns) h = left_out (up_to t n) n (filter (up_to t) ns) (lt-leb n t (h 0 (omega arith))) (none_left t ns (λ i l. h (suc i) (omega arith)))
 
-front_kept : (t count : ℕ) (ns : List ℕ) → ((i : ℕ) → i < count → i < length ns → get_or ns i 0 ≤ t) → ((i : ℕ) → count ≤ i → i < length ns → t < get_or ns i 0)
+front_kept : (t count : ℕ) (ns : List ℕ) → ((i : ℕ) → i < count → i < length ns → get_or ns i 0 ≤ t)
+    → ((i : ℕ) → count ≤ i → i < length ns → t < get_or ns i 0)
     → filter (up_to t) ns ≡ take count ns
 front_kept t zero ns low high = none_left t ns (λ i l. high i (omega arith) l)
 front_kept t (suc count) [] low high = refl
@@ -133,13 +158,18 @@ rises : (ns : List ℕ) → IsStrictlyIncreasing ns → (i j : ℕ) → i < j �
 rises ns up i j below within = below_from_sorted ns i j 0 (sorted_from_strictly_increasing ns up) below within
 
 -- the segments that were counted are those up to the transaction
-numbers_of : (files : Files) (numbers : List ℕ) (count : ℕ) → 0 < count → count ≤ length numbers → IsStrictlyIncreasing numbers → numbers ≡ segment_numbers files
+numbers_of : (files : Files) (numbers : List ℕ) (count : ℕ) → 0 < count → count ≤ length numbers → IsStrictlyIncreasing numbers
+    → numbers ≡ segment_numbers files
     → numbers_up_to files (get_or numbers (count - 1) 0) ≡ take count numbers
 numbers_of files numbers count some within up is =
     let t = get_or numbers (count - 1) 0 in
     ap (filter (up_to t)) (sym is)
     ∙ front_kept t count numbers
-    (λ i a b. elim (cases_eq i (count - 1)) [ inl e ↦ (let same : get_or numbers i 0 ≡ t = ap (λ k. get_or numbers k 0) e in omega arith) | inr n ↦ (let less = rises numbers up i (count - 1) (omega arith) (omega arith) in omega arith) ])
+    (λ i a b. elim (cases_eq i (count - 1)) [
+      | inl e ↦ (let same : get_or numbers i 0 ≡ t = ap (λ k. get_or numbers k 0) e in omega arith)
+      | inr n ↦
+          (let less = rises numbers up i (count - 1) (omega arith) (omega arith) in omega arith)
+    ])
     (λ i a b. rises numbers up (count - 1) i (omega arith) b)
 
 front_rises : (numbers : List ℕ) (count : ℕ) → IsStrictlyIncreasing numbers → IsStrictlyIncreasing (take count numbers)
@@ -150,7 +180,8 @@ front_rises numbers count up = λ k within.
     omega (arith, up k (omega arith))
 
 -- what was taken is the state of the files' log
-pub state_of : (files : Files) (numbers : List ℕ) (count : ℕ) (pairs : Pairs) (extents after : List Extent) (learnt : Places) → 0 < count → count ≤ length numbers
+pub state_of : (files : Files) (numbers : List ℕ) (count : ℕ) (pairs : Pairs) (extents after : List Extent) (learnt : Places) → 0 < count
+    → count ≤ length numbers
     → IsStrictlyIncreasing numbers → numbers ≡ segment_numbers files → EndsAt files numbers count → HasTaken files (take count numbers) pairs extents
     → after ≡ map (counted_live pairs) extents → IsStrictlySortedBy key_cmp (map (λ e. e.0) pairs) → learnt ≡ empty
     → IsStateOf files (record { transaction = get_or numbers (count - 1) 0; opened = from_entries {R = key_cmp} pairs; extents = after; learnt = learnt })
@@ -158,7 +189,8 @@ state_of files numbers count pairs extents after learnt some within up is end h 
     let t = transaction_of files numbers count some within is end in
     let ns = numbers_of files numbers count some within up is in
     let sorted = sorted_from_strictly_increasing (take count numbers) (front_rises numbers count up) in
-    let bound : (s : ℕ) → sum_in s pairs ≤ length (segment_bytes files s) = λ s. omega (arith, h.bound s, joins_bound files (take count numbers) h.log s sorted h.joined) in
+    let bound : (s : ℕ) → sum_in s pairs ≤ length (segment_bytes files s) =
+    λ s. omega (arith, h.bound s, joins_bound files (take count numbers) h.log s sorted h.joined) in
     record {
       log = h.log;
       is = record { is = t; joined = subst (λ k. Joins files k h.log) (sym ns) h.joined };
@@ -187,7 +219,8 @@ damaged_of files numbers count (Damaged segment at) some within up is end h = re
 damaged_of files numbers count Device some within up is end h = tt
 damaged_of files numbers count Memory some within up is end h = tt
 
-pub uncommitted_of : (files : Files) (numbers : List ℕ) (fault : LogFault) → numbers ≡ segment_numbers files → HasNoEnd files numbers fault → IsRefused files fault
+pub uncommitted_of : (files : Files) (numbers : List ℕ) (fault : LogFault) → numbers ≡ segment_numbers files → HasNoEnd files numbers fault
+    → IsRefused files fault
 uncommitted_of files numbers NoCommit is h = subst (AllByRecursion (IsOpen files)) is h
 uncommitted_of files numbers (Damaged segment at) is h = absurd h
 uncommitted_of files numbers Device is h = tt

@@ -1,8 +1,9 @@
 -- Lemmas on specs/Window.antt: what a device tells, and what is read through a window.
-use Rattle.std.proofs.Common.{◌≡◌, ℕ, ◌+◌, ◌-◌, ◌<◌, ◌≤◌, Bool, true, false, List, ◌++◌, length, take, drop, Option, Some, None, IfSome, IsTrue, ◌↔◌, nat_eq}
+use Rattle.std.proofs.Common.{◌≡◌, ℕ, ◌+◌, ◌-◌, ◌≤◌, Bool, true, false, List, ◌++◌, length, take, drop, Option, Some, None, IfSome, IsTrue, ◌↔◌}
+use Rattle.std.proofs.Common.{nat_eq}
 use Rattle.std.proofs.Common.{option_map, refl, sym, ◌∙◌, ap, subst, inl, inr, arith, take-add}
 use Rattle.std.proofs.lemmas.Bool.{cases_lt}
-use Rattle.std.proofs.lemmas.List.{length-append, length-take, length-take-le, length-drop, drop-drop, drop-take, take-take, take_all, take_at}
+use Rattle.std.proofs.lemmas.List.{length-take-le, length-drop, drop-drop, drop-take, take-take, take_all}
 use Rattle.std.specs.Cmp.Lexicographic.{pointwise}
 use Rattle.ferry_segment.specs.Crc.{crc, register_after}
 use Rattle.ferry_segment.specs.Segment.{HasMagic, magic}
@@ -39,10 +40,12 @@ to_told (Some a) P p = p (told_files a) refl
 -- ---- IsWindowOf
 
 -- a window on the same segment as another
-pub window_on : (files : Files) (old mid new : Window) → OnSame old mid → IsWindowOf (segment_bytes files old.segment) new → IsWindowOf (segment_bytes files mid.segment) new
+pub window_on : (files : Files) (old mid new : Window) → OnSame old mid → IsWindowOf (segment_bytes files old.segment) new
+    → IsWindowOf (segment_bytes files mid.segment) new
 window_on files old mid new same is = subst (λ n. IsWindowOf (segment_bytes files n) new) (sym same.0) is
 
-pub window_back : (files : Files) (old mid new : Window) → OnSame old mid → IsWindowOf (segment_bytes files mid.segment) new → IsWindowOf (segment_bytes files old.segment) new
+pub window_back : (files : Files) (old mid new : Window) → OnSame old mid → IsWindowOf (segment_bytes files mid.segment) new
+    → IsWindowOf (segment_bytes files old.segment) new
 window_back files old mid new same is = subst (λ n. IsWindowOf (segment_bytes files n) new) same.0 is
 
 -- ---- fronts
@@ -57,7 +60,8 @@ front_take n part xs is =
     ]
 
 -- the rest of a front
-front_drop : (n at : ℕ) (part bytes : List ℕ) → n ≤ length part → part ≡ take (length part) (drop at bytes) → drop n part ≡ take (length (drop n part)) (drop (at + n) bytes)
+front_drop : (n at : ℕ) (part bytes : List ℕ) → n ≤ length part → part ≡ take (length part) (drop at bytes)
+    → drop n part ≡ take (length (drop n part)) (drop (at + n) bytes)
 front_drop n at part bytes within is =
     let sum : length part ≡ n + (length part - n) = omega arith in
     ap (drop n) (is ∙ ap (λ k. take k (drop at bytes)) sum)
@@ -80,19 +84,22 @@ unfolding crc register_after
 sum_none bytes at = let none : at - at ≡ 0 = omega arith in sym (ap (λ n. crc (take n (drop at bytes))) none)
 
 -- the sum of an entry behind its own checksum
-pub sum_entry : (bytes : List ℕ) (at size sum : ℕ) → 4 ≤ size → Some sum ≡ Some (sum_between bytes (at + 4) (at + size)) → sum ≡ crc (take (size - 4) (drop 4 (drop at bytes)))
+pub sum_entry : (bytes : List ℕ) (at size sum : ℕ) → 4 ≤ size → Some sum ≡ Some (sum_between bytes (at + 4) (at + size))
+    → sum ≡ crc (take (size - 4) (drop 4 (drop at bytes)))
 sum_entry bytes at size sum least e =
     let count : at + size - (at + 4) ≡ size - 4 = omega arith in
     let own : sum ≡ sum_between bytes (at + 4) (at + size) = cc in
     own ∙ (ap (λ n. crc (take n (drop (at + 4) bytes))) count ∙ ap (λ xs. crc (take (size - 4) xs)) (sym (drop-drop 4 at bytes)))
 
 -- a sum goes on with the next part
-pub sum_more : (bytes part : List ℕ) (from at : ℕ) → from ≤ at → part ≡ take (length part) (drop at bytes) → crc (take (at - from) (drop from bytes) ++ part) ≡ sum_between bytes from (at + length part)
+pub sum_more : (bytes part : List ℕ) (from at : ℕ) → from ≤ at → part ≡ take (length part) (drop at bytes)
+    → crc (take (at - from) (drop from bytes) ++ part) ≡ sum_between bytes from (at + length part)
 sum_more bytes part from at forward is =
     let place : from + (at - from) ≡ at = omega arith in
     let count : at - from + length part ≡ at + length part - from = omega arith in
     ap crc
-    (ap (λ p. take (at - from) (drop from bytes) ++ p) (is ∙ ap (take (length part)) (ap (λ k. drop k bytes) (sym place) ∙ sym (drop-drop (at - from) from bytes)))
+    (ap (λ p. take (at - from) (drop from bytes) ++ p) (is
+    ∙ ap (take (length part)) (ap (λ k. drop k bytes) (sym place) ∙ sym (drop-drop (at - from) from bytes)))
     ∙ (sym (take-add (at - from) (length part) (drop from bytes)) ∙ ap (λ k. take k (drop from bytes)) count))
 
 -- ---- HasMagic

@@ -44,7 +44,8 @@ IsSegment files number = (entries : List LogEntry) × Splits (segment_bytes file
 -- the entries of these segments, joined
 abbrev pub Joins : Files → List ℕ → List Located → Type 0
 Joins files [] log = log ≡ []
-Joins files (n ∷ ns) log = (entries : List LogEntry) × (rest : List Located) × Splits (segment_bytes files n) entries × Joins files ns rest × (log ≡ located n 8 entries ++ rest)
+Joins files (n ∷ ns) log =
+    (entries : List LogEntry) × (rest : List Located) × Splits (segment_bytes files n) entries × Joins files ns rest × (log ≡ located n 8 entries ++ rest)
 
 -- the committed log
 pub record IsLog (files : Files) (transaction : ℕ) (log : List Located) : Type 0 where

@@ -1,5 +1,5 @@
 -- The steps of opening a log, for the contracts of its parts.
-use Rattle.std.specs.Prelude.{◌≡◌, ℕ, ◌+◌, ◌-◌, ◌<◌, ◌≤◌, ◌^◌, ◌==◌, if◌then◌else◌, min, fold, List, ◌∷◌, ◌++◌, length, drop, map, slice_index, sum_by, Option}
+use Rattle.std.specs.Prelude.{◌≡◌, ℕ, ◌+◌, ◌-◌, ◌<◌, ◌≤◌, ◌^◌, ◌==◌, if◌then◌else◌, min, fold, List, ◌∷◌, ◌++◌, length, drop, map, slice_index, sum_by}
 use Rattle.std.specs.FinMap.Entries.{find}
 use Rattle.std.specs.List.{AllByRecursion}
 use Rattle.ferry_segment.specs.Entry.{LogEntry, size_of}

@@ -1,9 +1,9 @@
 -- A window on a segment, and what is read through it.
-use Rattle.std.specs.Prelude.{◌≡◌, ℕ, ◌+◌, ◌-◌, ◌≤◌, List, length, take, drop, Option, Some, None, option_map}
+use Rattle.std.specs.Prelude.{◌≡◌, ℕ, ◌+◌, ◌-◌, ◌≤◌, List, length, take, drop, Option, Some, option_map}
 use Rattle.ferry_segment.specs.Crc.{crc}
 use Rattle.ferry_segment.specs.Entry.{first_fault}
 use Rattle.ferry_segment.specs.declared.entry.EntryFault.{EntryFault}
-use Rattle.ferry_disk.specs.Files.{Files}
+use Rattle.ferry_disk.specs.Files.{Files, segment_bytes}
 use Rattle.ferry_disk.specs.Device.{Told, told_files}
 use Rattle.ferry_log.specs.declared.fault.LogFault.{LogFault}
 use Rattle.ferry_log.specs.declared.fault.LogFault.TheVariants.{NoCommit, Damaged, Device, Memory}
@@ -21,6 +21,10 @@ pub record IsWindowOf (bytes : List ℕ) (window : Window) : Type 0 where
 -- a window has so many bytes from this place on
 abbrev pub Holds : Window → ℕ → ℕ → Type 0
 Holds window at count = (window.at ≤ at) × (at + count ≤ window.at + length window.bytes.items)
+
+-- the bytes of the segment that a window is on
+abbrev pub segment_of : Files → Window → List ℕ
+segment_of files window = segment_bytes files window.segment
 
 -- a window is on the same segment as another
 abbrev pub OnSame : Window → Window → Type 0

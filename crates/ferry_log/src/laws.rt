@@ -38,7 +38,8 @@ pub fn fits_laws()
         → (blob : List ℕ) × IsBlobAt (segment_bytes files place.segment) place.at place.size blob }
     // Kept by a plain file that is replaced, by an append to a segment above the transaction, and by the removal of one there that
     // holds no learnt blob. A call that reads and a sync change no file.
-    ensures replaced { (files : Files) (state : LogState) (name : Name) (bytes : List ℕ) → FitsFiles files state → FitsFiles (replaced files name bytes) state }
+    ensures replaced { (files : Files) (state : LogState) (name : Name) (bytes : List ℕ) → FitsFiles files state
+        → FitsFiles (replaced files name bytes) state }
     ensures appended { (files : Files) (state : LogState) (n : ℕ) (bytes : List ℕ) → state.transaction < n → FitsFiles files state
         → FitsFiles (with_file files (FileName.Segment n) (segment_bytes files n ++ bytes)) state }
     ensures removed { (files : Files) (state : LogState) (n : ℕ) → state.transaction < n

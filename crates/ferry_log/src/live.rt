@@ -25,7 +25,8 @@ pub(crate) fn take_entry(
 ) -> Result<(), AllocError>
     requires place { at + head.now.size < 2 ^ 64 }
     requires put { head.now.tag ≡ 0 → 41 ≤ head.now.size }
-    ensures taken { (entry : LogEntry) → Fits entry → head.now ≡ head_of entry → OnOk result (TakesEntries (entry_at segment at entry ∷ []) live.old.entries live.new.entries) }
+    ensures taken { (entry : LogEntry) → Fits entry → head.now ≡ head_of entry → OnOk result
+        (TakesEntries (entry_at segment at entry ∷ []) live.old.entries live.new.entries) }
 {
     match head.tag {
         PUT => {

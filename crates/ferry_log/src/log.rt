@@ -1,8 +1,8 @@
 //! An opened log.
 ghost use Rattle.std.specs.Prelude.{◌≡◌, IfOk, IfErr, IfSome, MatchResult, slice_get};
 ghost use Rattle.std.specs.List.Sorted.{IsStrictlyIncreasing};
-ghost use Rattle.std.specs.FinMap.{empty};
 ghost use Rattle.std.specs.Option.{option_copied};
+ghost use Rattle.std.specs.FinMap.{empty};
 ghost use Rattle.ferry_disk.specs.Files.{Files, segment_numbers};
 ghost use Rattle.ferry_disk.specs.Device.{KeepsTold, HasCause, told_files};
 ghost use Rattle.ferry_log.specs.Fault.{IsRefused, log_failed};
@@ -56,8 +56,8 @@ impl Model for Log {
 /// transaction's own twice, so the memory taken is that of the places of the live keys and of one window.
 pub fn open_log<S: Shelf>(alloc: Global, shelf: &mut S) -> Result<Log, LogFault>
     ensures log { IfOk result (λ log. IfSome (S.told shelf.old) (λ t. IsStateOf (told_files t) log)) }
-    ensures learnt { IfOk result (λ log. log.learnt ≡ empty) }
     ensures refused { IfErr result (λ fault. IfSome (S.told shelf.old) (λ t. IsRefused (told_files t) fault)) }
+    ensures learnt { IfOk result (λ log. log.learnt ≡ empty) }
     ensures same { KeepsTold log_failed (S.told shelf.old) (S.told shelf.new) result }
     ensures cause { HasCause log_failed (S.faults shelf.old) (S.faults shelf.new) result }
 {
@@ -68,7 +68,8 @@ pub fn open_log<S: Shelf>(alloc: Global, shelf: &mut S) -> Result<Log, LogFault>
 /// Reads the log of these segments, which are all that are there.
 fn open_segments<S: Shelf>(alloc: Global, shelf: &mut S, numbers: &[u64]) -> Result<Log, LogFault>
     requires { IsStrictlyIncreasing numbers.now }
-    ensures opened { (files : Files) → Tells (S.told shelf.old) files → numbers.now ≡ segment_numbers files → MatchResult result (IsStateOf files) (IsRefused files) }
+    ensures opened { (files : Files) → Tells (S.told shelf.old) files → numbers.now ≡ segment_numbers files → MatchResult result (IsStateOf files)
+        (IsRefused files) }
     ensures learnt { IfOk result (λ log. log.learnt ≡ empty) }
     ensures same { KeepsTold log_failed (S.told shelf.old) (S.told shelf.new) result }
     ensures cause { HasCause log_failed (S.faults shelf.old) (S.faults shelf.new) result }

@@ -4,7 +4,7 @@ ghost use Rattle.ferry_segment.specs.Segment.{Committed, HasMagic};
 ghost use Rattle.ferry_disk.specs.Files.{Files, segment_bytes};
 ghost use Rattle.ferry_disk.specs.Device.{KeepsTold, HasCause};
 ghost use Rattle.ferry_log.specs.Fault.{log_failed};
-ghost use Rattle.ferry_log.specs.Window.{Tells, IsWindowOf, OnSame};
+ghost use Rattle.ferry_log.specs.Window.{Tells, IsWindowOf, OnSame, segment_of};
 ghost use Rattle.ferry_log.specs.Opening.{EndsAt, HasNoEnd, IsOutside, TakesSegment, IsUnread, uncounted, HasTaken, IsStopped};
 
 use crate::fault::LogFault;
@@ -46,7 +46,8 @@ fn is_committed<S: Shelf>(
     segment: u64,
     window: &mut Window,
 ) -> Result<bool, LogFault>
-    ensures committed { (files : Files) → Tells (S.told shelf.old) files → IfOk result (λ committed. IsTrue committed ↔ Committed (segment_bytes files segment)) }
+    ensures committed { (files : Files) → Tells (S.told shelf.old) files → IfOk result
+        (λ committed. IsTrue committed ↔ Committed (segment_bytes files segment)) }
     ensures outside { IfErr result IsOutside }
     ensures same { KeepsTold log_failed (S.told shelf.old) (S.told shelf.new) result }
     ensures cause { HasCause log_failed (S.faults shelf.old) (S.faults shelf.new) result }
@@ -61,9 +62,9 @@ fn is_committed<S: Shelf>(
 /// Whether the window's segment, which begins with the magic, is committed.
 fn ends_committed<S: Shelf>(shelf: &mut S, window: &mut Window) -> Result<bool, LogFault>
     requires { 8 ≤ window.old.size }
-    ensures committed { (files : Files) → Tells (S.told shelf.old) files → IsWindowOf (segment_bytes files window.old.segment) window.old
-        → HasMagic (segment_bytes files window.old.segment)
-        → IfOk result (λ committed. IsTrue committed ↔ Committed (segment_bytes files window.old.segment)) }
+    ensures committed { (files : Files) → Tells (S.told shelf.old) files → IsWindowOf (segment_of files window.old) window.old
+        → HasMagic (segment_of files window.old)
+        → IfOk result (λ committed. IsTrue committed ↔ Committed (segment_of files window.old)) }
     ensures outside { IfErr result IsOutside }
     ensures same { KeepsTold log_failed (S.told shelf.old) (S.told shelf.new) result }
     ensures cause { HasCause log_failed (S.faults shelf.old) (S.faults shelf.new) result }
@@ -95,10 +96,10 @@ fn take_entries<S: Shelf>(
 ) -> Result<(), LogFault>
     requires { 8 ≤ window.old.size }
     ensures segment { OnSame window.old window.new }
-    ensures taken { (files : Files) → Tells (S.told shelf.old) files → IsWindowOf (segment_bytes files window.old.segment) window.old
-        → HasMagic (segment_bytes files window.old.segment)
-        → MatchResult result (λ _. TakesSegment window.old.segment (segment_bytes files window.old.segment) live.old.entries live.new.entries)
-        (IsUnread window.old.segment (segment_bytes files window.old.segment)) }
+    ensures taken { (files : Files) → Tells (S.told shelf.old) files → IsWindowOf (segment_of files window.old) window.old
+        → HasMagic (segment_of files window.old)
+        → MatchResult result (λ _. TakesSegment window.old.segment (segment_of files window.old) live.old.entries live.new.entries)
+        (IsUnread window.old.segment (segment_of files window.old)) }
     ensures same { KeepsTold log_failed (S.told shelf.old) (S.told shelf.new) result }
     ensures cause { HasCause log_failed (S.faults shelf.old) (S.faults shelf.new) result }
 {

@@ -6,7 +6,7 @@ ghost use Rattle.ferry_disk.specs.Files.{Files, segment_bytes};
 ghost use Rattle.ferry_disk.specs.Device.{KeepsTold, HasCause, store_failed};
 ghost use Rattle.ferry_log.specs.Fault.{log_failed};
 ghost use Rattle.ferry_log.specs.Head.{NamesPlace};
-ghost use Rattle.ferry_log.specs.Window.{Tells, IsWindowOf, Holds, OnSame, sum_between, IsBrokenAt};
+ghost use Rattle.ferry_log.specs.Window.{Tells, IsWindowOf, Holds, OnSame, segment_of, sum_between, IsBrokenAt};
 
 use crate::fault::LogFault;
 use ferry_base::PUT_HEAD;
@@ -68,8 +68,8 @@ fn reach<S: Shelf>(
     requires fits { count ≤ 65536 }
     ensures segment { OnSame window.old window.new }
     ensures holds { IfOk result (λ there. there ≡ true → Holds window.new at count) }
-    ensures window { (files : Files) → Tells (S.told shelf.old) files → IsWindowOf (segment_bytes files window.old.segment) window.old
-        → IfOk result (λ there. (there ≡ true) × IsWindowOf (segment_bytes files window.old.segment) window.new) }
+    ensures window { (files : Files) → Tells (S.told shelf.old) files → IsWindowOf (segment_of files window.old) window.old
+        → IfOk result (λ there. (there ≡ true) × IsWindowOf (segment_of files window.old) window.new) }
     ensures same { KeepsTold store_failed (S.told shelf.old) (S.told shelf.new) result }
     ensures cause { HasCause store_failed (S.faults shelf.old) (S.faults shelf.new) result }
 {
@@ -120,8 +120,8 @@ fn checksum<S: Shelf>(
     requires forward { from ≤ to }
     requires inside { to ≤ window.old.size }
     ensures segment { OnSame window.old window.new }
-    ensures sum { (files : Files) → Tells (S.told shelf.old) files → IsWindowOf (segment_bytes files window.old.segment) window.old
-        → IfOk result (λ sum. (sum ≡ Some (sum_between (segment_bytes files window.old.segment) from to)) × IsWindowOf (segment_bytes files window.old.segment) window.new) }
+    ensures sum { (files : Files) → Tells (S.told shelf.old) files → IsWindowOf (segment_of files window.old) window.old
+        → IfOk result (λ sum. (sum ≡ Some (sum_between (segment_of files window.old) from to)) × IsWindowOf (segment_of files window.old) window.new) }
     ensures same { KeepsTold store_failed (S.told shelf.old) (S.told shelf.new) result }
     ensures cause { HasCause store_failed (S.faults shelf.old) (S.faults shelf.new) result }
 {
@@ -151,9 +151,9 @@ pub(crate) fn entry_head<S: Shelf>(
     ensures within { IfOk result (λ head. (9 ≤ head.size) × (at + head.size ≤ window.old.size)) }
     ensures put { IfOk result (λ head. head.tag ≡ 0 → 41 ≤ head.size) }
     ensures place { IfErr result (NamesPlace window.old.segment at) }
-    ensures read { (files : Files) → Tells (S.told shelf.old) files → IsWindowOf (segment_bytes files window.old.segment) window.old
-        → MatchResult result (λ head. HasHead (segment_bytes files window.old.segment) at head × IsWindowOf (segment_bytes files window.old.segment) window.new)
-        (IsBrokenAt (segment_bytes files window.old.segment) at) }
+    ensures read { (files : Files) → Tells (S.told shelf.old) files → IsWindowOf (segment_of files window.old) window.old
+        → MatchResult result (λ head. HasHead (segment_of files window.old) at head × IsWindowOf (segment_of files window.old) window.new)
+        (IsBrokenAt (segment_of files window.old) at) }
     ensures same { KeepsTold log_failed (S.told shelf.old) (S.told shelf.new) result }
     ensures cause { HasCause log_failed (S.faults shelf.old) (S.faults shelf.new) result }
 {
@@ -184,8 +184,8 @@ pub(crate) fn entry_head<S: Shelf>(
 pub(crate) fn has_magic<S: Shelf>(shelf: &mut S, window: &mut Window) -> Result<bool, StoreFault>
     ensures segment { OnSame window.old window.new }
     ensures sized { IfOk result (λ has. has ≡ true → 8 ≤ window.old.size) }
-    ensures magic { (files : Files) → Tells (S.told shelf.old) files → IsWindowOf (segment_bytes files window.old.segment) window.old
-        → IfOk result (λ has. (IsTrue has ↔ HasMagic (segment_bytes files window.old.segment)) × IsWindowOf (segment_bytes files window.old.segment) window.new) }
+    ensures magic { (files : Files) → Tells (S.told shelf.old) files → IsWindowOf (segment_of files window.old) window.old
+        → IfOk result (λ has. (IsTrue has ↔ HasMagic (segment_of files window.old)) × IsWindowOf (segment_of files window.old) window.new) }
     ensures same { KeepsTold store_failed (S.told shelf.old) (S.told shelf.new) result }
     ensures cause { HasCause store_failed (S.faults shelf.old) (S.faults shelf.new) result }
 {

@@ -7,11 +7,13 @@ pub loop-place-preserved : goal.loop-place-preserved
 loop-place-preserved c = (
   tt,
   tt,
-  counted_next (c.in-Some.field-0-0.now, c.in-Some.place.now) c.in-Some.place.now c.loop-place.place-iterator c.next.new.self c.args.live.now.entries c.args.extents.now c.loop-place.extents c.count_one.new.extents
+  counted_next (c.in-Some.field-0-0.now, c.in-Some.place.now) c.in-Some.place.now c.loop-place.place-iterator c.next.new.self c.args.live.now.entries
+      c.args.extents.now c.loop-place.extents c.count_one.new.extents
       c.in-Some.ensures.steps refl c.loop-place.invariant.2 c.count_one.ensures,
   segments_same c.in-Some.place.now c.loop-place.extents c.count_one.new.extents c.args.numbers.now c.loop-place.invariant.3 c.count_one.ensures,
 )
 
 pub returns-clause-counted : goal.returns-clause-counted
 returns-clause-counted c =
-    sym (counted_all c.loop-place.extents) ∙ (ap (λ ps. map (counted_live ps) c.loop-place.extents) (sym c.in-None.ensures.steps.0) ∙ c.loop-place.invariant.2)
+    sym (counted_all c.loop-place.extents)
+    ∙ (ap (λ ps. map (counted_live ps) c.loop-place.extents) (sym c.in-None.ensures.steps.0) ∙ c.loop-place.invariant.2)

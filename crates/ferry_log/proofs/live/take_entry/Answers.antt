@@ -11,8 +11,11 @@ returns-in_ok-insert-in-0 c = record {
 
 pub returns-in-1 : goal.returns-in-1
 returns-in-1 c = record {
-  taken = λ entry fits is. taken_delete c.args.segment c.args.at c.args.head.now c.args.live.now.entries c.remove.new.self.entries entry is c.in-1.is c.remove.ensures.updates.0 c.remove.ensures.entries;
+  taken =
+      λ entry fits is. taken_delete c.args.segment c.args.at c.args.head.now c.args.live.now.entries c.remove.new.self.entries entry is c.in-1.is
+      c.remove.ensures.updates.0 c.remove.ensures.entries;
 }
 
 pub returns-in_default : goal.returns-in_default
-returns-in_default c = record { taken = λ entry fits is. taken_commit c.args.segment c.args.at c.args.head.now c.args.live.now.entries entry is (omega arith) (omega arith) }
+returns-in_default c =
+    record { taken = λ entry fits is. taken_commit c.args.segment c.args.at c.args.head.now c.args.live.now.entries entry is (omega arith) (omega arith) }

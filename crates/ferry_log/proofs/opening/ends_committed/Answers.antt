@@ -1,11 +1,11 @@
-use Rattle.std.proofs.Common.{◌≡◌, ◌∙◌, ◌+◌, Bool, true, false, eqb, refl, sym, ap, subst, inl, inr, arith}
+use Rattle.std.proofs.Common.{◌≡◌, ◌∙◌, ◌+◌, false, eqb, refl, sym, ap, subst, inl, inr, arith}
 use Rattle.std.proofs.lemmas.Bool.{ne_eqb, eq-eqb}
-use Rattle.ferry_segment.specs.Entry.{LogEntry, IsEntryAt, size_of}
+use Rattle.ferry_segment.specs.Entry.{IsEntryAt, size_of}
 use Rattle.ferry_segment.specs.Segment.{commits}
 use Rattle.ferry_segment.proofs.HeadLemmas.{head_size}
 use Rattle.ferry_segment.proofs.SegmentLemmas.{Scanned, scanned_none, scanned_more, scanned_broken, scanned_data, scanned_whole, answers_no}
 use Rattle.ferry_disk.specs.Files.{segment_bytes}
-use Rattle.ferry_log.proofs.OpeningLemmas.{broken_on, broken_fault, head_on, commits_tag, outside}
+use Rattle.ferry_log.proofs.OpeningLemmas.{broken_on, broken_fault, head_on, commits_tag}
 use Rattle.ferry_log.proofs.WindowLemmas.{tells_on, window_on, window_back}
 use Rattle.ferry_log.proofs.opening.ends_committed.Goals as goal
 
@@ -27,7 +27,8 @@ returns-in-Err-Damaged-clause-committed g c files tells is has =
     let read = c.in-Err-Damaged.ensures.read files (tells_on (g.S.Shelf.told c.args.shelf.now) (g.S.Shelf.told c.loop-at.shelf) files old.same tells)
     (window_on files c.args.window.now c.loop-at.window c.loop-at.window old.segment before.1) in
     let here = broken_on files c.args.window.now c.loop-at.window c.loop-at.at c.in-Err-Damaged.field-0 old.segment read in
-    let broken = broken_fault bytes c.loop-at.at c.in-Err-Damaged.field-0 c.in-Err-Damaged.field-0-0 c.in-Err-Damaged.field-0-1 c.in-Err-Damaged.field-0-is here in
+    let broken =
+    broken_fault bytes c.loop-at.at c.in-Err-Damaged.field-0 c.in-Err-Damaged.field-0-0 c.in-Err-Damaged.field-0-1 c.in-Err-Damaged.field-0-is here in
     answers_no false refl (scanned_broken bytes c.loop-at.at c.loop-at.closed broken.0 before.0 (omega (arith, is.sized, old.size)) broken.1)
 
 pub returns-then-not-commits-clause-committed : goal.returns-then-not-commits-clause-committed
@@ -39,7 +40,8 @@ returns-then-not-commits-clause-committed g c files tells is has =
     (window_on files c.args.window.now c.loop-at.window c.loop-at.window old.segment before.1) in
     let here = head_on files c.args.window.now c.loop-at.window c.loop-at.at c.in-Ok.head old.segment read.0 in
     let other : commits here.0 ≡ false = commits_tag here.0 ∙ (ap (λ h. eqb h.tag 2) (sym here.2) ∙ ne_eqb c.in-Ok.head.tag 2 c.if-not-commits.true) in
-    answers_no false refl (scanned_data bytes c.loop-at.at (c.loop-at.at + size_of here.0) here.0 (subst (Scanned bytes c.loop-at.at) c.if-closed.true before.0) here.1 other)
+    answers_no false refl
+    (scanned_data bytes c.loop-at.at (c.loop-at.at + size_of here.0) here.0 (subst (Scanned bytes c.loop-at.at) c.if-closed.true before.0) here.1 other)
 
 pub loop-at-preserved : goal.loop-at-preserved
 loop-at-preserved g c =
@@ -61,7 +63,11 @@ loop-at-preserved g c =
           let same : commits here.0 ≡ eqb c.in-Ok.head.tag 2 = commits_tag here.0 ∙ ap (λ h. eqb h.tag 2) (sym here.2) in (
             subst (Scanned bytes (c.loop-at.at + c.from-at.result)) same
                 (scanned_more bytes c.loop-at.at (c.loop-at.at + c.from-at.result) c.loop-at.closed here.0 before.0 entry
-                (λ closed. elim c.else-closed.either [ inl both ↦ same ∙ eq-eqb c.in-Ok.head.tag 2 both.1 | inr apart ↦ (let none : ⊥ = cc in absurd none) ])),
+                (λ closed. elim c.else-closed.either [
+                  | inl both ↦ same
+                      ∙ eq-eqb c.in-Ok.head.tag 2 both.1
+                  | inr apart ↦ (let none : ⊥ = cc in absurd none)
+                ])),
             window_back files c.args.window.now c.loop-at.window c.entry_head.new.window old.segment read.1,
           );
       same = read_of.same ∙ old.same;

@@ -1,8 +1,8 @@
-use Rattle.std.proofs.Common.{◌≡◌, ◌∙◌, ◌+◌, refl, sym, ap, subst, arith}
+use Rattle.std.proofs.Common.{◌≡◌, ◌∙◌, ◌+◌, sym, ap, subst, arith}
 use Rattle.ferry_segment.specs.Entry.{IsEntryAt, size_of}
 use Rattle.ferry_segment.proofs.HeadLemmas.{head_size}
 use Rattle.ferry_disk.specs.Files.{segment_bytes}
-use Rattle.ferry_log.proofs.OpeningLemmas.{broken_on, head_on, err_matches, taken_none, taken_more, taken_all, unread}
+use Rattle.ferry_log.proofs.OpeningLemmas.{head_on, taken_more}
 use Rattle.ferry_log.proofs.WindowLemmas.{tells_on, window_on, window_back}
 use Rattle.ferry_log.proofs.opening.take_entries.Goals as goal
 
@@ -31,7 +31,8 @@ loop-at-preserved g c =
           let end : c.loop-at.at + size_of here.0 ≡ c.loop-at.at + c.from-at.result = ap (λ n. c.loop-at.at + n) (sizes ∙ sym c.from-at.ensures) in
           let entry = subst (IsEntryAt bytes c.loop-at.at here.0) end here.1 in
           let step = c.in_ok-take_entry.ensures.taken here.0 here.1.fits here.2 in (
-            taken_more c.args.window.now.segment bytes c.loop-at.at (c.loop-at.at + c.from-at.result) here.0 c.args.live.now.entries c.loop-at.live.entries c.take_entry.new.live.entries before.0 entry step,
+            taken_more c.args.window.now.segment bytes c.loop-at.at
+                (c.loop-at.at + c.from-at.result) here.0 c.args.live.now.entries c.loop-at.live.entries c.take_entry.new.live.entries before.0 entry step,
             window_back files c.args.window.now c.loop-at.window c.entry_head.new.window old.segment read.1,
           );
       same = read_of.same ∙ old.same;

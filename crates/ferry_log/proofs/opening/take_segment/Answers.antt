@@ -1,4 +1,4 @@
-use Rattle.std.proofs.Common.{◌≡◌, ◌∙◌, ◌+◌, ◌∷◌, ◌++◌, [], length, sym, ap, subst, arith}
+use Rattle.std.proofs.Common.{◌≡◌, ◌∙◌, ◌∷◌, ◌++◌, [], length, sym, ap, subst, arith}
 use Rattle.ferry_segment.specs.Segment.{HasMagic}
 use Rattle.ferry_disk.specs.Files.{segment_bytes}
 use Rattle.ferry_log.specs.Opening.{TakesSegment, IsUnread, uncounted}
@@ -16,7 +16,9 @@ returns-in_err-take_entries-clause-taken g c files tells =
     let magic = magic_of.magic files tells_1 (window_at files c.open_window.new.window c.args.segment opened.segment first) in
     let tells_2 = tells_on (g.S.Shelf.told c.open_window.new.shelf) (g.S.Shelf.told c.has_magic.new.shelf) files magic_of.same tells_1 in
     let has = subst (λ n. HasMagic (segment_bytes files n)) (sym magic_of.segment.0) (magic.0.0 c.if-not-branch.false) in
-    let read = c.in_err-take_entries.ensures.taken files tells_2 (window_on files c.open_window.new.window c.has_magic.new.window c.has_magic.new.window magic_of.segment magic.1) has in
+    let read =
+    c.in_err-take_entries.ensures.taken files tells_2
+    (window_on files c.open_window.new.window c.has_magic.new.window c.has_magic.new.window magic_of.segment magic.1) has in
     err_matches c.from_residual-in_err-take_entries.result c.in_err-take_entries.field-0.0 _ _ c.from_residual-in_err-take_entries.ensures.1
     (subst (λ n. IsUnread n (segment_bytes files n) c.in_err-take_entries.field-0.0) own read)
 
@@ -31,7 +33,8 @@ returns-clause-taken g c files tells =
     let magic = magic_of.magic files tells_1 (window_at files c.open_window.new.window c.args.segment opened.segment first) in
     let tells_2 = tells_on (g.S.Shelf.told c.open_window.new.shelf) (g.S.Shelf.told c.has_magic.new.shelf) files magic_of.same tells_1 in
     let has = subst (λ n. HasMagic (segment_bytes files n)) (sym magic_of.segment.0) (magic.0.0 c.if-not-branch.false) in
-    let read = taken_of.taken files tells_2 (window_on files c.open_window.new.window c.has_magic.new.window c.has_magic.new.window magic_of.segment magic.1) has in
+    let read =
+    taken_of.taken files tells_2 (window_on files c.open_window.new.window c.has_magic.new.window c.has_magic.new.window magic_of.segment magic.1) has in
     let size : c.take_entries.new.window.size ≡ length (segment_bytes files c.args.segment) = taken_of.segment.1 ∙ (magic_of.segment.1 ∙ first.sized) in (
       subst (λ n. TakesSegment n (segment_bytes files n) c.args.live.now.entries c.take_entries.new.live.entries) own read,
       omega (arith, first.sized, opened.small),

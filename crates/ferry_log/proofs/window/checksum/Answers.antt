@@ -1,4 +1,4 @@
-use Rattle.std.proofs.Common.{◌≡◌, ℕ, ◌+◌, ◌∙◌, ap, length, refl, arith}
+use Rattle.std.proofs.Common.{ℕ, ◌∙◌, ap, length, refl, arith}
 use Rattle.std.proofs.lemmas.List.{length-take, length-drop}
 use Rattle.ferry_disk.specs.Files.{segment_bytes}
 use Rattle.ferry_log.proofs.WindowLemmas.{tells_on, window_on, window_back, part_is, sum_none, sum_more}
@@ -29,8 +29,13 @@ loop-at-preserved g c =
           let now = reached.window files tells_now (window_on files c.args.window.now c.loop-at.window c.loop-at.window old.segment before.1) in
           let window = window_back files c.args.window.now c.loop-at.window c.reach.new.window old.segment now.1 in
           let holds = reached.holds now.0 in
-          let part = part_is (segment_bytes files c.args.window.now.segment) c.reach.new.window c.loop-at.at c.args.to c.part_of-part.result.now window holds.0 (omega (arith, holds.1)) c.part_of-part.ensures in
-          (c.crc32_more-sum.ensures.joined _ before.0 ∙ sum_more (segment_bytes files c.args.window.now.segment) c.part_of-part.result.now c.args.from c.loop-at.at old.forward part, window);
+          let part =
+          part_is (segment_bytes files c.args.window.now.segment) c.reach.new.window c.loop-at.at c.args.to c.part_of-part.result.now window holds.0
+          (omega (arith, holds.1)) c.part_of-part.ensures in (
+            c.crc32_more-sum.ensures.joined _ before.0
+                ∙ sum_more (segment_bytes files c.args.window.now.segment) c.part_of-part.result.now c.args.from c.loop-at.at old.forward part,
+            window,
+          );
       same = reached.same ∙ old.same;
       faults = reached.cause ∙ old.faults;
     }

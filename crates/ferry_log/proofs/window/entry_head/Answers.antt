@@ -30,8 +30,11 @@ returns-in-Ok-check-clause-read g c files tells is =
     sym c.in-Some.is ∙ (sums.0
     ∙ (ap (λ s. Some (sum_between (segment_bytes files s) (c.args.at + 4) (c.args.at + c.from.result))) reached.segment.0
     ∙ ap (λ n. Some (sum_between bytes (c.args.at + 4) (c.args.at + n))) c.from.ensures)) in
-    let sum = sum_entry bytes c.args.at c.in-Ok.stated.head.size c.in-Some.sum (omega (arith, c.in-Ok.ensures.within.0)) own in
-    (c.in-Ok-check.ensures.decided bytes c.args.at (omega (arith, is.sized)) stated sum, window_back files c.args.window.now c.reach.new.window c.checksum.new.window reached.segment sums.1)
+    let sum = sum_entry bytes c.args.at c.in-Ok.stated.head.size c.in-Some.sum (omega (arith, c.in-Ok.ensures.within.0)) own in (
+      c.in-Ok-check.ensures.decided bytes c.args.at
+          (omega (arith, is.sized)) stated sum,
+      window_back files c.args.window.now c.reach.new.window c.checksum.new.window reached.segment sums.1,
+    )
 
 pub returns-in-Err-clause-read : goal.returns-in-Err-clause-read
 returns-in-Err-clause-read g c files tells is =

@@ -1,4 +1,4 @@
-use Rattle.std.proofs.Common.{◌≡◌, ℕ, List, sym, ◌∙◌, ap}
+use Rattle.std.proofs.Common.{sym, ◌∙◌, ap}
 use Rattle.std.specs.BTreeMap.{get}
 use Rattle.std.specs.FinMap.{from_entries}
 use Rattle.std.specs.FinMap as map
@@ -20,4 +20,6 @@ returns-in-None c =
     let key = c.args.key.now in
     c.place_at-in-None.ensures
     ∙ (sym (get-entries_of inside.opened.entries key)
-    ∙ (ap (λ p. first_place p (map.get (from_entries {R = key_cmp} inside.opened.entries) key)) (sym c.in-None.is ∙ (c.place_at.ensures ∙ sym (get-entries_of inside.learnt.entries key))) ∙ ap (λ (s : LogState). place_in s key) c.self.view_is))
+    ∙ (ap (λ p. first_place p (map.get (from_entries {R = key_cmp} inside.opened.entries) key)) (sym c.in-None.is
+    ∙ (c.place_at.ensures ∙ sym (get-entries_of inside.learnt.entries key)))
+    ∙ ap (λ (s : LogState). place_in s key) c.self.view_is))

@@ -2,7 +2,7 @@ use Rattle.std.proofs.Common.{◌≡◌, ℕ, List, Option, sym, ◌∙◌, ap, 
 use Rattle.std.specs.BTreeMap.{get}
 use Rattle.std.specs.Option.{option_copied}
 use Rattle.ferry_log.specs.Live.{key_cmp}
-use Rattle.ferry_log.specs.State.{LogState, IsLeastAbove, IsLeastWhere, place_in, first_place}
+use Rattle.ferry_log.specs.State.{LogState, IsLeastWhere, place_in, first_place}
 use Rattle.ferry_log.specs.declared.place.Place.{Place}
 use Rattle.ferry_log.proofs.LeastLemmas.{either, least_of_two, least_same, get-entries_of}
 use Rattle.ferry_log.proofs.log.Log.next_key.Goals as goal
