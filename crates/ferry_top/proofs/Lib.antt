@@ -1,2 +1,3 @@
 mod KeysLemmas
 mod ListLemmas
+mod StatusLemmas

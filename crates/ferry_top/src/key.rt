@@ -18,6 +18,7 @@ use ferry_view::send;
 use std::alloc::{AllocError, Global};
 
 /// Opens the key in the source's `config` with a passphrase, and prints its repository id and iterations.
+#[tactic(auto, using(crate::proofs::StatusLemmas::causes))]
 pub(crate) fn key<S: Shelf, K: Sink>(
     alloc: Global,
     passphrase: &[u8],

@@ -18,6 +18,7 @@ use ferry_view::{ViewFault, send, send_full};
 use std::alloc::Global;
 
 /// Lists the source's live keys, each with the size of its blob.
+#[tactic(auto, using(crate::proofs::StatusLemmas::causes))]
 pub(crate) fn keys<S: Shelf, K: Sink>(
     alloc: Global,
     passphrase: &[u8],

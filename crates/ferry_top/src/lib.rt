@@ -10,6 +10,8 @@ mod lines;
 mod list;
 mod report;
 mod status;
+#[cfg(test)]
+mod tests;
 mod top;
 mod words;
 

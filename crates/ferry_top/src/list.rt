@@ -12,6 +12,7 @@ use ferry_repo::Repo;
 use std::alloc::Global;
 
 /// Opens the source with a passphrase and lists its archives.
+#[tactic(auto, using(crate::proofs::StatusLemmas::causes))]
 pub(crate) fn list<S: Shelf, K: Sink>(
     alloc: Global,
     passphrase: &[u8],

@@ -352,6 +352,7 @@ fn archives_are_listed_on_a_line_each(rt: HostRuntime) -> Result<(), Fail> {
 }
 
 /// A shelf in memory that tells nothing, so that its files may change.
+#[derive(Drop)]
 struct Silent {
     shelf: MemoryShelf,
 }

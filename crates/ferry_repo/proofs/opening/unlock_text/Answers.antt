@@ -12,7 +12,7 @@ returns-in_err-envelope-clause-refused c =
     let pass = c.args.passphrase.now in
     let config = c.in_ok-config.config in
     let fault = c.in_err-envelope.field-0.0 in
-    let same = ap envelope_of (sym c.as_slice.ensures.bytes) in
+    let same = ap envelope_of (sym c.as_slice.ensures) in
     gives_err c.from_residual-in_err-envelope.result _ _ c.from_residual-in_err-envelope.ensures.1 (λ f is.
     subst (RefusesKey bytes pass) (sym is)
     (key_refuses bytes pass config fault c.in_ok-config.ensures.config (λ other. key_of-envelope pass config.key fault (same ∙ c.in_err-envelope.ensures.fault other))))
@@ -24,7 +24,7 @@ returns-in_err-key-clause-refused c =
     let config = c.in_ok-config.config in
     let envelope = c.in_ok-envelope.envelope in
     let fault = c.in_err-key.field-0.0 in
-    let read = ap envelope_of (sym c.as_slice.ensures.bytes) ∙ c.in_ok-envelope.ensures.envelope in
+    let read = ap envelope_of (sym c.as_slice.ensures) ∙ c.in_ok-envelope.ensures.envelope in
     gives_err c.from_residual-in_err-key.result _ _ c.from_residual-in_err-key.ensures.1 (λ f is.
     subst (RefusesKey bytes pass) (sym is)
     (key_refuses bytes pass config fault c.in_ok-config.ensures.config (λ other. key_of-opened pass config.key envelope (Err fault) read (c.in_err-key.ensures.fault other))))
@@ -34,7 +34,7 @@ returns-clause-unlocked c =
     let pass = c.args.passphrase.now in
     let config = c.in_ok-config.config in
     let envelope = c.in_ok-envelope.envelope in
-    let read = ap envelope_of (sym c.as_slice.ensures.bytes) ∙ c.in_ok-envelope.ensures.envelope in
+    let read = ap envelope_of (sym c.as_slice.ensures) ∙ c.in_ok-envelope.ensures.envelope in
     record {
       config_is = c.in_ok-config.ensures.config;
       envelope = envelope;
