@@ -1,12 +1,14 @@
 #!/usr/bin/env python3
-"""Writes a repository's log for measuring: make_log.py FOLDER COUNT BYTES SEGMENT
+"""Writes a log for measuring: make_log.py FOLDER KEYS SIZE SEGMENT
 
-So many PUTs of random keys, each with a blob of so many random bytes, in segments of at most SEGMENT bytes (one PUT or more),
-and a COMMIT in a segment of its own.
+So many random keys, each with a blob of SIZE bytes, in segments that are closed once they have SEGMENT bytes; the last segment is
+a commit. All keys are live.
 """
 import os
 import random
+import struct
 import sys
+import zlib
 
 sys.dont_write_bytecode = True
 sys.path.insert(0, os.path.join(os.path.dirname(os.path.abspath(__file__)), "..", "checks"))
@@ -15,26 +17,31 @@ import segments
 PER_FOLDER = 1000
 
 
-def write(folder, number, parts):
+def opened(folder, number):
+    """A new segment's file, with the magic."""
     path = os.path.join(folder, "data", str(number // PER_FOLDER), str(number))
     os.makedirs(os.path.dirname(path), exist_ok=True)
-    with open(path, "wb") as file:
-        file.writelines(parts)
+    file = open(path, "wb")
+    file.write(segments.MAGIC)
+    return file
 
 
-def main(folder, count, size, segment):
+def main(folder, keys, size, most):
     numbers = random.Random(1)
-    parts, length, number = [segments.MAGIC], 8, 0
-    for _ in range(count):
-        entry = segments.put(numbers.randbytes(32), numbers.randbytes(size))
-        if length > 8 and length + len(entry) > segment:
-            write(folder, number, parts)
-            parts, length, number = [segments.MAGIC], 8, number + 1
-        parts.append(entry)
-        length += len(entry)
-    write(folder, number, parts)
-    write(folder, number + 1, [segments.COMMIT_SEGMENT])
-    print(f"{count} keys, blobs of {size} bytes, {number + 1} segments")
+    noise = numbers.randbytes(size)
+    head = struct.pack("<IB", 41 + size, segments.PUT)
+    number = 0
+    file = opened(folder, number)
+    for _ in range(keys):
+        rest = head + numbers.randbytes(32) + noise
+        file.write(struct.pack("<I", zlib.crc32(rest)) + rest)
+        if file.tell() >= most:
+            file.close()
+            number += 1
+            file = opened(folder, number)
+    file.close()
+    with opened(folder, number + 1) as file:
+        file.write(segments.COMMIT)
 
 
 main(sys.argv[1], *map(int, sys.argv[2:]))

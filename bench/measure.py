@@ -7,7 +7,6 @@ the mark that the system keeps of the process, which is asked for as long as it 
 """
 import os
 import re
-import resource
 import subprocess
 import sys
 import time
@@ -30,7 +29,6 @@ def timed(words):
 
 def watched(words):
     """The same where that isn't there, by the system's own marks."""
-    user = resource.getrusage(resource.RUSAGE_CHILDREN).ru_utime
     begin = time.perf_counter()
     peak, ran = 0, subprocess.Popen(words, stdout=subprocess.DEVNULL, stderr=subprocess.DEVNULL)
     while not (ended := os.wait4(ran.pid, os.WNOHANG))[0]:

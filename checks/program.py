@@ -223,9 +223,9 @@ def logs():
     far = {"data/0/3": one, "data/1/1000": segment(put(L, b"x")), f"data/{GREATEST // 1000}/{GREATEST}": commit}
     case("gaps up to the greatest number", far, line((K, 3), (L, 1)))
     numbers = random.Random(4)
-    names = [bytes([numbers.randrange(256)]) + b"\x33" * 31 for _ in range(400)]
+    names = [bytes([numbers.randrange(256)]) + b"\x33" * 30 + bytes([numbers.randrange(256)]) for _ in range(1600)]
     entries = [put(name, b"x" * numbers.randrange(300)) if numbers.randrange(3) else delete(name) for name in names * 2]
-    many = {f"data/{number // 10}/{number}": segment(*entries[number * 8 : number * 8 + 8]) for number in range(100)}
+    many = {f"data/{number // 10}/{number}": segment(*entries[number * 32 : number * 32 + 32]) for number in range(100)}
     case("many keys", {**many, "data/10/100": commit})
 
 

@@ -5,6 +5,7 @@ use crate::entropy::NoEntropy;
 use crate::lines::{HELP, VERSION};
 use crate::shelf::FolderShelf;
 use crate::stdout::StdSink;
+use ferry_base::Bytes;
 use ferry_top::{Secrets, places_fit, run};
 use std::alloc::{AllocError, AllocGlobal, Global};
 use std::env;
@@ -100,10 +101,10 @@ fn words<R: Runtime + AllocGlobal>(rt: &R) -> Result<Vec<String>, StartFault> {
 }
 
 /// The passphrase that a variable has, empty where it is absent.
-fn passphrase<R: Runtime + AllocGlobal>(rt: &R, name: &'static str) -> Result<Vec<u8>, StartFault> {
+fn passphrase<R: Runtime + AllocGlobal>(rt: &R, name: &'static str) -> Result<Bytes, StartFault> {
     match env::var(rt, name) {
-        Ok(text) => Ok(text.into_bytes()),
-        Err(VarError::NotPresent) => Ok(Vec::new(rt.alloc())),
+        Ok(text) => Ok(Bytes::new(text.into_bytes())),
+        Err(VarError::NotPresent) => Ok(Bytes::new(Vec::new(rt.alloc()))),
         Err(VarError::NotUnicode) => Err(StartFault::NotText(name)),
         Err(VarError::OutOfMemory) => Err(StartFault::Memory),
     }

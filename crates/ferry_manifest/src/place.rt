@@ -3,7 +3,8 @@
 ghost use Rattle.std.specs.Prelude.{◌≡◌, ◌-◌, ◌≤◌, ◌++◌, IfOk, IfErr, IfSome, length, option_map, replicate, take};
 ghost use Rattle.std.specs.Int.{w16, w32};
 ghost use Rattle.ferry_msgpack.specs.View.{value_view};
-ghost use Rattle.ferry_manifest.specs.Walk.{behind_name, behind_name_in_map, behind_raw64, behind_tag, count_front, is_raw, is_raw64, map_front, value_front, zeroed};
+ghost use Rattle.ferry_manifest.specs.Walk.{behind_name, behind_name_in_map, behind_raw64, behind_tag, count_front, is_raw, is_raw64, map_front, value_front};
+ghost use Rattle.ferry_manifest.specs.Walk.{zeroed};
 
 use crate::fault::MetaFault;
 use ferry_msgpack::{PackFault, Value, read};

@@ -26,7 +26,7 @@ use Rattle.ferry_log.specs.Live.{live_blob}
 use Rattle.ferry_log.proofs.LawLemmas.{one_place, uncommitted_apart, damaged_apart, one_state}
 use Rattle.ferry_log.proofs.PlacesLemmas.{some_state}
 use Rattle.ferry_mac.specs.declared.keys.Keys.{Keys}
-use Rattle.ferry_manifest.specs.Manifest.{ManifestText, manifest_of}
+use Rattle.ferry_manifest.specs.Manifest.Text.{ManifestText, manifest_of}
 use Rattle.ferry_manifest.specs.declared.fault.MetaFault.{MetaFault}
 use Rattle.ferry_segment.specs.Entry.{IsBytes}
 use Rattle.ferry_repo.proofs.OpeningLemmas.{key_of-envelope}

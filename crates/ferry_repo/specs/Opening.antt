@@ -13,7 +13,7 @@ use Rattle.ferry_keyblob.specs.declared.envelope.Envelope.{Envelope}
 use Rattle.ferry_log.specs.Log.{IsUncommitted, IsDamaged}
 use Rattle.ferry_log.specs.State.{LogState, IsStateOf, FitsFiles}
 use Rattle.ferry_mac.specs.declared.keys.Keys.{Keys}
-use Rattle.ferry_manifest.specs.Manifest.{ManifestText, manifest_of, shown}
+use Rattle.ferry_manifest.specs.Manifest.Text.{ManifestText, manifest_of, manifest_view}
 use Rattle.ferry_repo.specs.Objects.{HoldsObject, RefusesObject, HoldsChunk}
 use Rattle.ferry_repo.specs.declared.fault.RepoFault.{RepoFault}
 use Rattle.ferry_repo.specs.declared.fault.RepoFault.TheVariants as Fault
@@ -53,7 +53,7 @@ repo_view repo = record {
   log = repo.log;
   config = repo.config;
   keys = repo.keys;
-  manifest = shown repo.manifest;
+  manifest = manifest_view repo.manifest;
   cached = [];
 }
 

@@ -3,8 +3,8 @@ ghost use Rattle.std.specs.Prelude.{◌≡◌, IfOk, IfErr, IfSome, Ok, false};
 ghost use Rattle.ferry_disk.specs.Files.{contents_at};
 ghost use Rattle.ferry_disk.specs.Device.{KeepsTold, HasCause, told_files};
 ghost use Rattle.ferry_disk.specs.declared.name.Name.TheVariants as FileName;
-ghost use Rattle.ferry_keyblob.specs.Opening.{shown as key_view};
-ghost use Rattle.ferry_manifest.specs.Manifest.{manifest_of, shown};
+ghost use Rattle.ferry_keyblob.specs.Opening.{key_view};
+ghost use Rattle.ferry_manifest.specs.Manifest.Text.{manifest_of, manifest_view};
 ghost use Rattle.ferry_repo.specs.Fault.{repo_failed};
 ghost use Rattle.ferry_repo.specs.Opening.{UnlocksTo, RefusesKey, IsNoManifest};
 
@@ -68,7 +68,7 @@ fn unlock_text(alloc: Global, config: &[u8], passphrase: &[u8]) -> Result<Unlock
 
 /// The manifest that a content is.
 pub(crate) fn manifest(alloc: Global, keys: &Keys, content: &[u8]) -> Result<Manifest, RepoFault>
-    ensures manifest { IfOk result (λ manifest. manifest_of keys.now content.now ≡ Ok (shown manifest)) }
+    ensures manifest { IfOk result (λ manifest. manifest_of keys.now content.now ≡ Ok (manifest_view manifest)) }
     ensures refused { IfErr result (IsNoManifest keys.now content.now) }
     ensures still { IfErr result (λ fault. repo_failed fault ≡ false) }
 {

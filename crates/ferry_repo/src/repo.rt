@@ -1,7 +1,7 @@
 //! An opened repository.
 ghost use Rattle.std.specs.Prelude.{◌≡◌, IfOk, IfErr, IfSome};
 ghost use Rattle.ferry_disk.specs.Device.{KeepsTold, HasCause, told_files};
-ghost use Rattle.ferry_manifest.specs.Manifest.{shown};
+ghost use Rattle.ferry_manifest.specs.Manifest.Text.{manifest_view};
 ghost use Rattle.ferry_repo.specs.Fault.{repo_failed};
 ghost use Rattle.ferry_repo.specs.Objects.{HoldsChunk, RefusesChunk};
 ghost use Rattle.ferry_repo.specs.Opening.{repo_view, OpensFilesTo, RefusesRepo, FitsRepo};
@@ -66,7 +66,7 @@ impl Repo {
 
     /// The manifest.
     pub fn manifest(&self) -> &Manifest
-        ensures manifest { shown result.now ≡ (repo_view self.now).manifest }
+        ensures manifest { manifest_view result.now ≡ (repo_view self.now).manifest }
     {
         &self.manifest
     }

@@ -2,7 +2,7 @@
 ghost use Rattle.std.specs.Prelude.{IfOk};
 ghost use Rattle.ferry_disk.specs.Device.{KeptWhere, RoseWhere, heard};
 ghost use Rattle.ferry_disk.specs.declared.name.Name.TheVariants as FileName;
-ghost use Rattle.ferry_keyblob.specs.Opening.{shown as key_view};
+ghost use Rattle.ferry_keyblob.specs.Opening.{key_view};
 ghost use Rattle.ferry_top.specs.Devices.{written};
 ghost use Rattle.ferry_top.specs.Keys.{key_line};
 ghost use Rattle.ferry_top.specs.Run.{DoesTask};

@@ -18,7 +18,12 @@ use ferry_view::{ViewFault, send, send_full};
 use std::alloc::Global;
 
 /// Lists the source's live keys, each with the size of its blob.
-pub(crate) fn keys<S: Shelf, K: Sink>(alloc: Global, passphrase: &[u8], source: &mut S, out: &mut K) -> Status
+pub(crate) fn keys<S: Shelf, K: Sink>(
+    alloc: Global,
+    passphrase: &[u8],
+    source: &mut S,
+    out: &mut K,
+) -> Status
     ensures out { DoesTask (Ok TheTask.Keys) passphrase.now (S.told source.old) (written (K.written out.old) (K.faults out.old)) result (written (K.written out.new) (K.faults out.new)) }
     ensures same { KeptWhere (source_failed result) (heard (S.told source.old)) (S.told source.new) }
     ensures cause { RoseWhere (source_failed result) (S.faults source.old) (S.faults source.new) }

@@ -33,10 +33,10 @@ pub fn run<S: Shelf, D: Depot, E: Entropy, K: Sink>(
     ensures idle { IfErr (words_of (map string_bytes words.now)) (λ _. source.new ≡ source.old) }
     ensures runs { Runs (words_of (map string_bytes words.now)) secrets.now.source
         (devices (store (S.told source.old) (S.faults source.old)) (store (D.told target.old) (D.faults target.old))
-            (drawn (E.drawn entropy.old) (E.faults entropy.old)) (written (K.written out.old) (K.faults out.old)))
+        (drawn (E.drawn entropy.old) (E.faults entropy.old)) (written (K.written out.old) (K.faults out.old)))
         result
         (devices (store (S.told source.new) (S.faults source.new)) (store (D.told target.new) (D.faults target.new))
-            (drawn (E.drawn entropy.new) (E.faults entropy.new)) (written (K.written out.new) (K.faults out.new))) }
+        (drawn (E.drawn entropy.new) (E.faults entropy.new)) (written (K.written out.new) (K.faults out.new))) }
 {
     let status = match read_words(words) {
         Ok(Task::Keys) => keys(alloc, secrets.source.as_slice(), source, out),

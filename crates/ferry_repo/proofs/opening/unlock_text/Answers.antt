@@ -1,6 +1,6 @@
 use Rattle.std.proofs.Common.{◌≡◌, Ok, Err, refl, sym, ◌∙◌, ap, subst}
 use Rattle.ferry_keyblob.specs.Envelope.{envelope_of}
-use Rattle.ferry_keyblob.specs.Opening.{shown as key_view}
+use Rattle.ferry_keyblob.specs.Opening.{key_view}
 use Rattle.ferry_repo.specs.Opening.{RefusesKey}
 use Rattle.ferry_repo.proofs.FaultLemmas.{gives_err}
 use Rattle.ferry_repo.proofs.OpeningLemmas.{key_of-envelope, key_of-opened, key_refuses}

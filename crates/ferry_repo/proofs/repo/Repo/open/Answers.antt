@@ -5,11 +5,11 @@ use Rattle.ferry_disk.specs.Device.{told_files}
 use Rattle.ferry_disk.specs.Files.{contents_at}
 use Rattle.ferry_disk.specs.declared.name.Name.TheVariants as Name
 use Rattle.ferry_disk.proofs.DeviceLemmas.{told_same, told_then, told_with}
-use Rattle.ferry_keyblob.specs.Opening.{shown as key_view}
+use Rattle.ferry_keyblob.specs.Opening.{key_view}
 use Rattle.ferry_log.specs.State.{IsStateOf, FitsFiles}
 use Rattle.ferry_log.proofs.FitsLemmas.{opened_fits}
 use Rattle.ferry_mac.specs.declared.keys.Keys.{Keys}
-use Rattle.ferry_manifest.specs.Manifest.{shown, manifest_of}
+use Rattle.ferry_manifest.specs.Manifest.Text.{manifest_view, manifest_of}
 use Rattle.ferry_repo.specs.Objects.{HoldsObject, RefusesObject}
 use Rattle.ferry_repo.specs.Opening.{OpensFilesTo, RefusesRepo, RefusesKey, UnlocksTo, UnlocksFiles, IsNoManifest}
 use Rattle.ferry_repo.specs.declared.fault.RepoFault.{RepoFault}
@@ -79,7 +79,7 @@ returns-clause-repository g c =
     let u = c.in_ok-unlocked.unlocked in
     let keys = u.key.keys in
     let content = c.in_ok-content.content.items in
-    let text = shown c.in_ok-manifest.manifest in
+    let text = manifest_view c.in_ok-manifest.manifest in
     let read = subst (λ s. manifest_of keys s ≡ Ok text) c.deref.ensures.value c.in_ok-manifest.ensures.manifest in
     let unlocks = told_with (told c.args.shelf.now) (told c.open_log.new.shelf) (λ f. IsStateOf f log) (λ f. UnlocksTo (contents_at f Name.Config) pass u.config u.iterations (key_view u.key))
     (λ f. UnlocksFiles f pass log u.config keys) c.in_ok-log.ensures.same

@@ -1,0 +1,470 @@
+use crate::{Refusal, RepoFault, Secrets, Status, places_fit, run};
+use ferry_base::{BLOB_LIMIT, Bytes, Id};
+use ferry_disk::{MemoryDepot, MemoryEntropy, MemoryShelf, MemorySink, Name, Shelf, StoreFault};
+use ferry_repo::Repo;
+use ferry_segment::{COMMIT, COMMIT_SEGMENT, MAGIC, delete_entry, put_head};
+use std::alloc::{AllocError, Global};
+use std::test::Fail;
+
+const KEY: Id = [0x11; 32];
+
+/// The lines of blobs of 3, 5 and no bytes under the key.
+const THREE: &str = "1111111111111111111111111111111111111111111111111111111111111111 3\n";
+
+const FIVE: &str = "1111111111111111111111111111111111111111111111111111111111111111 5\n";
+
+const EMPTY: &str = "1111111111111111111111111111111111111111111111111111111111111111 0\n";
+
+/// The passphrase that each run gets for its source.
+const PASSPHRASE: &[u8] = b"passphrase";
+
+/// The lines of a `config` before its key.
+const CONFIG: &str = "[repository]\nversion = 1\n\
+    id = 0000000000000000000000000000000000000000000000000000000000000000\n";
+
+/// A key that Python's `hashlib` and openssl sealed under the passphrase, with 100000 iterations. Its repository id is 32 bytes 22.
+const SEALED: &str =
+    "key = hqd2ZXJzaW9uAaRzYWx02gAgZmZmZmZmZmZmZmZmZmZmZmZmZmZmZmZmZmZmZmZmZmaqaX\n\
+\tRlcmF0aW9uc84AAYagqWFsZ29yaXRobaZzaGEyNTakaGFzaNoAILDJPG5Zma0aMbCTe7tS\n\
+\tNjG+0WKDHFJfzlugCtcFueIvpGRhdGHaAMytdpWAKM9J+8gugegTOByyVrJRbW1Js+LL8+\n\
+\t7dcLwW0rbfY1BP6kVcZHksRYA5+rlHW58alHT7O1lEfhS/WA9bwVwuPuagA62TEkVguGo5\n\
+\tGDcr8Nylz04mfETHKfFHM+Qv/E0NtmygTOP6YAaMK2wPMgezILYWqJjfM9/EVMoTqFgHJN\n\
+\tp250ekiS2oMoR6nl2Lnq7zcwb2eAC1zx0nODAnidO60Y/nv0QliqHLtdlsGplThO+tVc0s\n\
+\tbEd1pil1rWi37qviJ9M+UagJxlU=\n";
+
+/// The same key in an envelope that states no iterations.
+const NO_ITERATIONS: &str =
+    "key = hqd2ZXJzaW9uAaRzYWx02gAgZmZmZmZmZmZmZmZmZmZmZmZmZmZmZmZmZmZmZmZmZmaqaX\n\
+\tRlcmF0aW9ucwCpYWxnb3JpdGhtpnNoYTI1NqRoYXNo2gAgsMk8blmZrRoxsJN7u1I2Mb7R\n\
+\tYoMcUl/OW6AK1wW54i+kZGF0YdoAzK12lYAoz0n7yC6B6BM4HLJWslFtbUmz4svz7t1wvB\n\
+\tbStt9jUE/qRVxkeSxFgDn6uUdbnxqUdPs7WUR+FL9YD1vBXC4+5qADrZMSRWC4ajkYNyvw\n\
+\t3KXPTiZ8RMcp8Ucz5C/8TQ22bKBM4/pgBowrbA8yB7MgthaomN8z38RUyhOoWAck2nbnR6\n\
+\tSJLagyhHqeXYuervNzBvZ4ALXPHSc4MCeJ07rRj+e/RCWKocu12WwamVOE761VzSxsR3Wm\n\
+\tKXWtaLfuq+In0z5RqAnGVQ==\n";
+
+/// The key of the manifests below, under the same passphrase with one iteration. Python sealed it and them, by
+/// `checks/repositories.py`.
+const OPEN_KEY: &str =
+    "key = 3wAAAAbbAAAACWFsZ29yaXRobdsAAAAGc2hhMjU22wAAAARkYXRh2wAAARINUwE2Ll7fdW1b3j+A1ntd\
+    QpVf3UWmNLbIYOnV464GEZ6VRWMPNBhexZ0I/az+zrUkV1iQly8Dh2gPuSmUJ+/ynJiOkBhKvoVWdgxz\
+    Sv00BS+fIpBbiCStXe7hed2AJpQW2Ap2lIWprOn0Lt2mRCVMxoCTTlIopLlBhPZ/iFB96He379lOQiqr\
+    mNaDThD6ieDt6pUKU/Y17WIIYB1nO4ZixHdj+dFyEz9umis9FxFPQt14roYuyIAEdp7PflAICv8PMhcL\
+    yZjdsBjbs1mfzsdm/8XcMvafPVvC5YDNY6Rt2W7DMzFmDjlEIQaFg1M+5GbSFZl2Mn6ak3rVFkw/goQk\
+    r4LyjLtltERXwmqOop6jQIhx2wAAAARoYXNo2wAAACA2y6QnWTNKlvyLg2qDMeCMTJPWjc5H6Xri0/oT\
+    frIxVtsAAAAKaXRlcmF0aW9uc88AAAAAAAAAAdsAAAAEc2FsdNsAAAAgAAECAwQFBgcICQoLDA0ODxAR\
+    EhMUFRYXGBkaGxwdHh/bAAAAB3ZlcnNpb27PAAAAAAAAAAE=\n";
+
+/// A manifest without archives, sealed.
+const NO_ARCHIVES: &str =
+    "03399e5d15146fb2c9298f755896cacc927590c1bb12096dff62a905317707a98400000000000000009ae86c824ffdde9633\
+    2cf8d9add0dbc2c697f2fac4c1c6562462883c5a0d74447d4f0b9f1b65001097cf67ac8897f48a27931b32a84031cdc9a4ba\
+    d70fcb82337721e9fe545551aeda7396b6de75086a4c223f9a99f480e3180674661579c1f3d36ebe6abc7e4a717ce79c5232\
+    8eb82cc269c6b8379eff0fed4d14283ae530c3148180725c09e25ac9557b959db40499838db14a7c451c5e1d70a87b03d4fc\
+    81af7cbcf914a078b0249f62efc05f593f9b3961b31bd2b249fbfc92e79cf9c0c17be0e9d5699bfdb13858461236f1513f8c\
+    442e88868af2dac27c5c433767eba6ba05f3f43f00aada9e98f92504d4ee69b470caa98de850c412df6c98b9fe3f050baed8\
+    25a11334a07e8ac491c5a269c721904ff14b1e2d0617248f5d01b5a88afea50247a7a843bac90cdbd10d8589276a127d5fea\
+    eadcb48f8ef02efe927e0fc787152651934c60066467742185";
+
+/// A manifest with the archives `a` and a line feed, and `b`.
+const TWO_ARCHIVES: &str =
+    "0330538bae9b50460269fac8f56a2a4e5a3ce5fd8bd5d2f1db5cabdb7837eddb3500000000000000151b62ba01fada65c3d3\
+    4b96c14bfe287ed961dd1f50eadb52a35b348e88f980d3f8ecf4bc691d73815fa1f6da9e24395429a09d6c6a3e3466a5daae\
+    7d35b83353fe335e5f3d0770d6d70ce41d3c1f2b8d16d9461760827b8ecab2e893d76b5269e843ac6dff34edb0f43dd313cb\
+    3b5e70991cc461320c576297d07d32f5afbe51920a5eff64c6772599b8980b75cafb5bd12b29612cf46ccc1d0668dbf99021\
+    fbf09e18afea75143bb6fd4c8a80dcaface2d0f5754821321c7e950fbcda159413fb93f5cb27fb3ba584b41e7c2794811609\
+    4d628e922097f391f1e346b0936d6929aa535c79c1a36aff05928eaff9c7fd784dbccf96b76bf9d0fe469541b1421e7800c7\
+    fd08f45c4be8670e6ebfcdfaf300e5ba64c736a71e387b57f6913dc34b3150ee599bb3888799356979ab70e54803c70d3c0e\
+    42e4d11b12ce0acdc3a3b813e389a09b444d7644edcd0d0dbf6a0e779d190cbf2a808ec017ad77c1038390de83f9ff977e7c\
+    f18207497551daeffd7d384bf1f0bee2e833fb16bf7cfab8e8313efa5492762680f822c6db60b5a1ea7e42c7a8300c52bd05\
+    07fe3616fef13b6f15f312bc387999619906e06d1a5ace0e4447023867846caf684fc2a9dda67e7e76c92a09bd2e100b041e\
+    209749b3e122febf662331786cbe927242866aeaa5528543a8d1ef178fa0ce09b5a794cc5f2f700ca41ec5e7f382f4c94bab\
+    cf5f7e5fcd5e7e3f261fea913cb815bf";
+
+/// A manifest without an authentication tag.
+const UNTAGGED: &str =
+    "03e84b582391c19eea147e116b3b951ff7751483530533f23a78e729c627a551cc0000000000000036c735876d3403ae8d3d\
+    9b83b9c4a65c8ff13ea118cf8fecb512a5cfb513caab1cf3d2a006efc5c3c9e9275caa4bace0547fbba50e5bc6b70db4a627\
+    afabe8af93234287f8256f4229539e4d728821347607265197b17a1de1eb43ca5e3c5cea868ac4b68e6c539cf0a2d7244998\
+    8774e48e65fe6b7516a3b5f2d6ef5dbfbe00f5e8c2e15378dab2";
+
+/// A manifest behind the header of a compressed content.
+const COMPRESSED: &str =
+    "030ae9f05db2ed15e494692dda2aa8c18acd318aa77be968e0f71ca5299ed50c7c000000000000003f2dd91c211b5b38795e\
+    c0a2e819308483b469ef3fddcc6605664223999c47ce41ae354189a996a47f0e01565dbd1450cf89450bb4969798fb12b232\
+    4063d3d6245064e59d1feda23362263e140a8e05ba905dbda61dd238013a2f472b86b5e44bbfe139b0feaafcb80093bbe84c\
+    9900940a1079b5520cef23e30c62ed766b9f6c862e083de2a08e8aa0a70615e2f2c1cdef0f7c955720b35db942076922cbff\
+    5ac06df15155cab132cf8bd7b35d70a6cc88d93996dcda051b6f542554a5bbecaf6960eb2758579cd9744c6a85b3c15f09c7\
+    936ecc0d0951b572719331596db154113ed229f4c8d22750121ff1f33ab699ce936e36beeb8ea4ba5e6ff10f833ab6f062d6\
+    eb72ba86695cdad41013a50a1338ed95b4e68c44e8cf6022fa9107ada7f357eab7282ac5587f6b354bc0be1944d3ab6e13c6\
+    83c782b1307cc53bc4a0a52cd93d43623404e37cb7ed400242";
+
+/// The chunk `hello` of that repository, sealed, and its id.
+const CHUNK: &str =
+    "0300de9c6700c3edd6dad9fef9c4822d92f988438d177093e95bd166de64a69cee00000000000000649dcdba5740209b";
+
+const CHUNK_ID: &str = "04985b39cf4b04ada01f70e336bbd872152b429321dfb8576f6108e5f9ecf112";
+
+/// What a segment of a case holds behind its magic.
+#[derive(Clone, Copy)]
+enum Part {
+    Put(&'static [u8]),
+    /// A PUT whose last byte is changed.
+    Changed(&'static [u8]),
+    Delete,
+    Commit,
+}
+
+/// Appends a PUT.
+fn push_put(bytes: &mut Vec<u8>, key: &Id, blob: &[u8]) -> Result<(), AllocError> {
+    if blob.len() <= BLOB_LIMIT {
+        bytes.extend_from_slice(&put_head(key, blob))?;
+        bytes.extend_from_slice(blob)?;
+    }
+    Ok(())
+}
+
+fn segment(alloc: Global, part: Part) -> Result<Vec<u8>, AllocError> {
+    let mut bytes = Vec::from_slice(alloc, &MAGIC)?;
+    match part {
+        Part::Put(blob) | Part::Changed(blob) => push_put(&mut bytes, &KEY, blob)?,
+        Part::Delete => bytes.extend_from_slice(&delete_entry(&KEY))?,
+        Part::Commit => bytes.extend_from_slice(&COMMIT)?,
+    }
+    if let (Part::Changed(_), Some(last)) = (part, bytes.last_mut()) {
+        *last ^= 1;
+    }
+    Ok(bytes)
+}
+
+/// The files of segments, from number 0 on, that hold one part each.
+fn segments(alloc: Global, parts: &[Part]) -> Result<Vec<(Name, Vec<u8>)>, AllocError> {
+    let mut files = Vec::new(alloc);
+    let mut number = 0u64;
+    for part in parts {
+        files.push((Name::Segment(number), segment(alloc, *part)?))?;
+        number = number.wrapping_add(1);
+    }
+    Ok(files)
+}
+
+/// A file `config` of these texts.
+fn config(alloc: Global, texts: &[&str]) -> Result<(Name, Vec<u8>), AllocError> {
+    let mut bytes = Vec::new(alloc);
+    for text in texts {
+        bytes.extend_from_slice(text.as_bytes())?;
+    }
+    Ok((Name::Config, bytes))
+}
+
+/// A repository with this sealed manifest, or none where the text is empty, and the chunk.
+fn repository(alloc: Global, manifest: &str) -> Result<Vec<(Name, Vec<u8>)>, Fail> {
+    let mut bytes = Vec::from_slice(alloc, &MAGIC)?;
+    push_put(&mut bytes, &id(alloc)?, &hex::decode(alloc, CHUNK)?)?;
+    let blob = hex::decode(alloc, manifest)?;
+    if !blob.is_empty() {
+        push_put(&mut bytes, &[0; 32], &blob)?;
+    }
+    let mut files = Vec::new(alloc);
+    files.push((Name::Segment(0), bytes))?;
+    files.push((Name::Segment(1), Vec::from_slice(alloc, &COMMIT_SEGMENT)?))?;
+    files.push(config(alloc, &[CONFIG, OPEN_KEY])?)?;
+    Ok(files)
+}
+
+/// The id of the chunk.
+fn id(alloc: Global) -> Result<Id, Fail> {
+    let mut id = [0; 32];
+    let bytes = hex::decode(alloc, CHUNK_ID)?;
+    if bytes.len() == 32 {
+        id.copy_from_slice(&bytes);
+    }
+    Ok(id)
+}
+
+fn strings(alloc: Global, words: &[&str]) -> Result<Vec<String>, AllocError> {
+    let mut strings = Vec::new(alloc);
+    for word in words {
+        strings.push(String::from_str(alloc, *word)?)?;
+    }
+    Ok(strings)
+}
+
+/// Runs the words under a passphrase over a source and an output, and answers the status.
+fn status_of(
+    alloc: Global,
+    passphrase: &[u8],
+    words: &[&str],
+    source: &mut MemoryShelf,
+    out: &mut MemorySink,
+) -> Result<Status, AllocError> {
+    let words = strings(alloc, words)?;
+    let secrets = Secrets {
+        source: Bytes::new(Vec::from_slice(alloc, passphrase)?),
+        target: Bytes::new(Vec::new(alloc)),
+    };
+    let mut target = MemoryDepot::new(alloc, Vec::new(alloc), Vec::new(alloc))?;
+    let mut entropy = MemoryEntropy::new(alloc, Vec::new(alloc))?;
+    Ok(run(
+        alloc,
+        &words,
+        &secrets,
+        source,
+        &mut target,
+        &mut entropy,
+        out,
+    ))
+}
+
+/// Whether the words under a passphrase over these files, of whose calls those listed fail, end with this number and print this text.
+fn prints(
+    alloc: Global,
+    passphrase: &[u8],
+    words: &[&str],
+    files: Vec<(Name, Vec<u8>)>,
+    failing: &[u64],
+    number: u8,
+    text: &str,
+) -> Result<bool, AllocError> {
+    let mut source = MemoryShelf::new(alloc, files, Vec::from_slice(alloc, failing)?)?;
+    let mut out = MemorySink::new(alloc, Vec::new(alloc))?;
+    let status = status_of(alloc, passphrase, words, &mut source, &mut out)?;
+    Ok(status.number() == number && out.bytes() == text.as_bytes())
+}
+
+/// Whether `keys` over each of these lists of parts ends with its number and prints its text.
+fn keys_print(alloc: Global, cases: &[(&[Part], u8, &str)]) -> Result<bool, AllocError> {
+    let mut all = true;
+    for (parts, number, text) in cases {
+        let files = segments(alloc, parts)?;
+        all &= prints(alloc, PASSPHRASE, &["keys"], files, &[], *number, text)?;
+    }
+    Ok(all)
+}
+
+/// The first is the smallest repository, as Borg spells its segment: the magic and a COMMIT.
+#[test]
+fn keys_are_listed_up_to_the_last_commit(rt: HostRuntime) -> Result<(), Fail> {
+    let spelled = b"BORG_SEG\x40\xf4\x3c\x25\x09\x00\x00\x00\x02";
+    assert_eq!(rt; spelled, &COMMIT_SEGMENT);
+    let (put, then) = (Part::Put(b"abc"), Part::Put(b"abcde"));
+    let none = "source refused: no commit\n";
+    let damaged = "source refused: damaged segment 0 at 8\n";
+    let cases: [(&[Part], u8, &str); 8] = [
+        (&[Part::Commit], 0, ""),
+        (&[put, Part::Delete, then, Part::Commit], 0, FIVE),
+        (&[put, Part::Delete, Part::Commit], 0, ""),
+        (&[Part::Put(b""), Part::Commit], 0, EMPTY),
+        (&[put, Part::Commit, then], 0, THREE),
+        (&[put, Part::Commit, Part::Changed(b"abcde")], 0, THREE),
+        (&[put, Part::Delete, then], 8, none),
+        (&[Part::Changed(b"abc"), Part::Commit, then], 8, damaged),
+    ];
+    assert!(rt; keys_print(rt.alloc(), &cases)?);
+    Ok(())
+}
+
+/// Whether `key` under each passphrase over a `config` of its texts, or without one where there are none, ends with its number and
+/// prints its text, also where each call of the source but the length and the bytes of `config` fails.
+fn key_prints(alloc: Global, cases: &[(&[u8], &[&str], u8, &str)]) -> Result<bool, AllocError> {
+    let mut all = true;
+    for (passphrase, texts, number, text) in cases {
+        let mut files = Vec::new(alloc);
+        if !texts.is_empty() {
+            files.push(config(alloc, texts)?)?;
+        }
+        let failing = [3, 4, 5, 6, 7, 8];
+        all &= prints(alloc, passphrase, &["key"], files, &failing, *number, text)?;
+    }
+    Ok(all)
+}
+
+#[test]
+fn a_key_opens_with_its_passphrase_alone(rt: HostRuntime) -> Result<(), Fail> {
+    let line = "2222222222222222222222222222222222222222222222222222222222222222 100000\n";
+    let cases: [(&[u8], &[&str], u8, &str); 7] = [
+        (PASSPHRASE, &[CONFIG, SEALED], 0, line),
+        (
+            b"Passphrase",
+            &[CONFIG, SEALED],
+            8,
+            "source refused: key 5\n",
+        ),
+        (
+            PASSPHRASE,
+            &[CONFIG, NO_ITERATIONS],
+            8,
+            "source refused: key 4\n",
+        ),
+        (
+            PASSPHRASE,
+            &[CONFIG, "key = AAAA\n"],
+            8,
+            "source refused: key 1\n",
+        ),
+        (PASSPHRASE, &[], 8, "source refused: config 1\n"),
+        (
+            PASSPHRASE,
+            &["[repository]\nversion = 2\n"],
+            8,
+            "source refused: config 2\n",
+        ),
+        (
+            PASSPHRASE,
+            &[CONFIG, "key = *\n"],
+            8,
+            "source refused: config 4\n",
+        ),
+    ];
+    assert!(rt; key_prints(rt.alloc(), &cases)?);
+    Ok(())
+}
+
+/// Whether `list` under each passphrase over a repository with its sealed manifest ends with its number and prints its text.
+fn list_prints(alloc: Global, cases: &[(&[u8], &str, u8, &str)]) -> Result<bool, Fail> {
+    let mut all = true;
+    for (passphrase, manifest, number, text) in cases {
+        let files = repository(alloc, manifest)?;
+        all &= prints(alloc, passphrase, &["list"], files, &[], *number, text)?;
+    }
+    Ok(all)
+}
+
+#[test]
+fn archives_are_listed_on_a_line_each(rt: HostRuntime) -> Result<(), Fail> {
+    let lines = "2222222222222222222222222222222222222222222222222222222222222222 \
+        2020-01-01T00:00:00.000000 a\\x0a\n\
+        1111111111111111111111111111111111111111111111111111111111111111 \
+        2021-01-01T00:00:00.000000 b\n";
+    let missing = "source refused: missing \
+        0000000000000000000000000000000000000000000000000000000000000000\n";
+    let compressed = "source refused: blob 4 \
+        0000000000000000000000000000000000000000000000000000000000000000\n";
+    let cases: [(&[u8], &str, u8, &str); 6] = [
+        (PASSPHRASE, NO_ARCHIVES, 0, ""),
+        (PASSPHRASE, TWO_ARCHIVES, 0, lines),
+        (PASSPHRASE, "", 8, missing),
+        (PASSPHRASE, COMPRESSED, 8, compressed),
+        (PASSPHRASE, UNTAGGED, 8, "source refused: manifest 3\n"),
+        (b"Passphrase", NO_ARCHIVES, 8, "source refused: key 5\n"),
+    ];
+    assert!(rt; list_prints(rt.alloc(), &cases)?);
+    Ok(())
+}
+
+/// A shelf in memory that tells nothing, so that its files may change.
+struct Silent {
+    shelf: MemoryShelf,
+}
+
+impl Shelf for Silent {
+    ghost use Rattle.std.specs.Prelude.{None};
+
+    ghost told = { λ _. None };
+
+    ghost faults = { λ s. s.shelf.faults };
+
+    fn segments(&mut self, alloc: Global) -> Result<Vec<u64>, StoreFault> {
+        self.shelf.segments(alloc)
+    }
+
+    fn size(&mut self, name: Name) -> Result<Option<u64>, StoreFault> {
+        self.shelf.size(name)
+    }
+
+    fn read_at(&mut self, name: Name, at: u64, into: &mut [u8]) -> Result<usize, StoreFault> {
+        self.shelf.read_at(name, at, into)
+    }
+}
+
+#[test]
+fn a_chunk_opens_under_its_id_where_it_still_lies(rt: HostRuntime) -> Result<(), Fail> {
+    let alloc = rt.alloc();
+    let id = id(alloc)?;
+    let shelf = MemoryShelf::new(alloc, repository(alloc, TWO_ARCHIVES)?, Vec::new(alloc))?;
+    let mut source = Silent { shelf };
+    let mut repo = Repo::open(alloc, &mut source, PASSPHRASE)?;
+    assert_eq!(rt; repo.log().transaction(), 1);
+    assert_eq!(rt; repo.config().per_dir, 1000);
+    assert_eq!(rt; repo.manifest().archives.as_slice().len(), 2);
+    assert_eq!(rt;
+        repo.chunk(&mut source, &id)?.as_slice(),
+        b"hello".as_slice()
+    );
+    for other in [[0; 32], [7; 32]] {
+        let missing = repo.chunk(&mut source, &other);
+        assert!(rt; missing.is_err_and(|fault| fault == RepoFault::Missing(other)));
+    }
+    let cut = vec![in alloc; (Name::Segment(0), Vec::from_slice(alloc, &MAGIC)?)]?;
+    source.shelf = MemoryShelf::new(alloc, cut, Vec::new(alloc))?;
+    let damaged = RepoFault::Damaged { segment: 0, at: 49 };
+    assert!(rt;
+        repo.chunk(&mut source, &id)
+            .is_err_and(|fault| fault == damaged)
+    );
+    Ok(())
+}
+
+/// Whether each of these lists of words, none of which is a command, ends with the number of its first wrong word and its line.
+fn words_are_wrong(alloc: Global, cases: &[(&[&str], &str)]) -> Result<bool, AllocError> {
+    let mut all = true;
+    for (words, line) in cases {
+        let files = segments(alloc, &[Part::Commit])?;
+        all &= prints(alloc, PASSPHRASE, words, files, &[1], 2, line)?;
+    }
+    Ok(all)
+}
+
+#[test]
+fn the_first_wrong_word_is_told(rt: HostRuntime) -> Result<(), Fail> {
+    let alloc = rt.alloc();
+    let cases: [(&[&str], &str); 7] = [
+        (&[], "usage: word 1\n"),
+        (&["list", "x"], "usage: word 2\n"),
+        (&["Keys", "x"], "usage: word 1\n"),
+        (&["keys", "x"], "usage: word 2\n"),
+        (&["keys", "--block", "64"], "usage: word 2\n"),
+        (&["keys", "--", "--"], "usage: word 3\n"),
+        (&["key", "x"], "usage: word 2\n"),
+    ];
+    assert!(rt; words_are_wrong(alloc, &cases)?);
+    let files = segments(alloc, &[Part::Commit])?;
+    assert!(rt; prints(alloc, PASSPHRASE, &["keys", "--"], files, &[], 0, "")?);
+    for (words, fits) in [
+        (["a", "b", "keys"].as_slice(), true),
+        (["a", "b"].as_slice(), false),
+        (["a", "a", "keys"].as_slice(), false),
+        (["-", "-", "keys"].as_slice(), true),
+    ] {
+        assert_eq!(rt; places_fit(&strings(alloc, words)?), fits);
+    }
+    Ok(())
+}
+
+/// A failed call of the source, then of the output, and a fault line that the output doesn't take, which leaves the status as it is.
+#[test]
+fn a_failing_device_is_told_by_its_status(rt: HostRuntime) -> Result<(), Fail> {
+    let alloc = rt.alloc();
+    let parts = [Part::Put(b"abc"), Part::Commit];
+    for call in 1..6u64 {
+        let files = segments(alloc, &parts)?;
+        let line = "source device failed\n";
+        assert!(rt;
+            prints(alloc, PASSPHRASE, &["keys"], files, &[call], 4, line)?,
+            "{call}"
+        );
+    }
+    for (parts, want) in [
+        (parts.as_slice(), Status::OutputDevice),
+        (
+            [Part::Put(b"abc")].as_slice(),
+            Status::SourceRefused(Refusal::Repo(RepoFault::NoCommit)),
+        ),
+    ] {
+        let mut source = MemoryShelf::new(alloc, segments(alloc, parts)?, Vec::new(alloc))?;
+        let mut out = MemorySink::new(alloc, Vec::from_slice(alloc, &[1])?)?;
+        let status = status_of(alloc, PASSPHRASE, &["keys"], &mut source, &mut out)?;
+        assert_eq!(rt; status, want);
+        assert!(rt; out.bytes().is_empty());
+    }
+    Ok(())
+}
