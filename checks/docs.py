@@ -4,7 +4,7 @@
 Each public definition of a crate's specs/ stands in docs/DEFINITIONS.md with its sentence and its file; each named clause of a
 public call stands in the README.md of its crate beside the call, and each that the front page names is one; crates.txt is the
 table of docs/ARCHITECTURE.md; the links of the papers, and the files, wrong bodies and tests that they name, are there; no line
-of code or proofs has more than 160 columns. One line for each thing that is missing, and at the end 'N passed, M failed';
+of code or proofs has more than 160 columns, texts in quotes apart. One line for each thing that is missing, and at the end 'N passed, M failed';
 status 1 where M isn't 0. With names of crates, those alone are looked at. With --write the rows of definitions that are missing
 are first put at the end of their crate's section, and the table of crates gets what crates.txt says.
 """
@@ -19,6 +19,7 @@ DEFINITION = re.compile(r"^(?:(?:abbrev|unfoldable) pub|pub (?:record|data)) ([^
 DEFINITION_OF_SEVERAL = re.compile(r"^  pub (?:data )?([^\s:({]+)")
 FILE = re.compile(r"(?<![\w/.])((?:src|specs|proofs|must-fail|checks|bench|docs)/[\w./-]+\.(?:rt|antt|py|sh|md|edit)(?:\.in)?)")
 SHORT_HEAD = "| Name | One sentence | File |"
+QUOTED = re.compile(r'"(?:[^"\\]|\\.)*"')
 TICKED = re.compile(r"`([^`]+)`")
 
 PAPERS = sorted(path for form in ("*.md", "docs/*.md", "bench/*.md", "crates/*/*.md") for path in glob.glob(form, root_dir=TOP))
@@ -265,11 +266,12 @@ def look_at_evidence():
 
 
 def look_at_widths(crate):
-    """No line of code, definitions or proofs is wider than 160 columns."""
+    """No line of code, definitions or proofs is wider than 160 columns, texts in quotes apart."""
     for end in ("rt", "antt"):
         for path in sorted(glob.glob(f"crates/{crate}/**/*.{end}", root_dir=TOP, recursive=True)):
             if "/out/" not in path:
-                wide = [number for number, line in enumerate(read(path).splitlines(), 1) if len(line) > WIDEST]
+                lines = [QUOTED.sub("", line) for line in read(path).splitlines()]
+                wide = [number for number, line in enumerate(lines, 1) if len(line) > WIDEST]
                 judge(not wide, f"{path}: more than {WIDEST} columns in line {', '.join(map(str, wide))}")
 
 

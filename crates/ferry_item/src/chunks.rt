@@ -8,13 +8,10 @@ ghost use Rattle.ferry_item.specs.Item.{chunk_from, chunk_of, chunks_of, chunks_
 ghost use Rattle.ferry_item.specs.declared.fault.ItemFault.{ItemFault};
 
 use crate::fault::ItemFault;
-use crate::item::{ChunkRef, ChunkRefs, Id};
+use crate::item::{ChunkRef, ChunkRefs};
+use ferry_base::{CONTENT_LIMIT, Id};
 use ferry_msgpack::Value;
 use std::alloc::Global;
-
-/// The most bytes of a content: 20 MiB, less the 41 bytes of a log entry's head and the 43 of a
-/// sealed content's.
-const MOST_BYTES: i128 = 20_971_436;
 
 /// What the value of `chunks` says: nil is no chunks, and an array of chunks is these.
 pub(crate) fn chunks_said(alloc: Global, value: &Value) -> Result<Option<ChunkRefs>, ItemFault>
@@ -25,10 +22,7 @@ pub(crate) fn chunks_said(alloc: Global, value: &Value) -> Result<Option<ChunkRe
 {
     match value {
         Value::Nil => Ok(None),
-        Value::Array(items) => match chunks_of(alloc, items.as_slice()) {
-            Ok(chunks) => Ok(Some(chunks)),
-            Err(fault) => Err(fault),
-        },
+        Value::Array(items) => Ok(Some(chunks_of(alloc, items.as_slice())?)),
         _ => Err(ItemFault::Chunks),
     }
 }
@@ -99,12 +93,14 @@ fn id_of_bytes(content: &[u8]) -> Option<Id>
     Some(id)
 }
 
-/// The size that a value is: a number from 0 to 20971436.
+/// The size that a value is: a number from 0 to the most bytes of a content.
 fn size_of(value: &Value) -> Option<u64>
     ensures { result ≡ size_of (value_view value.now) }
 {
     match value {
-        Value::Number(number) if 0 <= *number && *number <= MOST_BYTES => Some(*number as u64),
+        Value::Number(number) if 0 <= *number && *number <= CONTENT_LIMIT as i128 => {
+            Some(*number as u64)
+        }
         _ => None,
     }
 }

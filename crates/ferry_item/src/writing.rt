@@ -5,7 +5,7 @@ ghost use Rattle.ferry_msgpack.specs.Tree.{table, no_pairs};
 ghost use Rattle.ferry_msgpack.specs.View.{value_view, items_view, pairs_view};
 ghost use Rattle.ferry_msgpack.specs.Writable.{IsWritable};
 ghost use Rattle.ferry_fields.specs.Fields.{pairs_in};
-ghost use Rattle.ferry_item.specs.Item.{is_healed, shown};
+ghost use Rattle.ferry_item.specs.Item.{is_healed, item_view};
 ghost use Rattle.ferry_item.specs.Stream.{an_item, front_item};
 ghost use Rattle.ferry_item.specs.Writing.{AreInRange, IsPackable, RangeOf, chunk_tree, chunk_trees, field_pairs, item_pairs, item_text, with_chunks};
 
@@ -23,12 +23,12 @@ use std::collections::BTreeMap;
 /// Source: BorgBackup 1.2, Internals, "Data structures and file formats", Archives.
 #[tactic(auto, unfolding(crate::specs::Writing::item_text))]
 pub fn write_item(item: &Item, into: &mut Vec<u8>) -> Result<(), AllocError>
-    requires packable { IsPackable (shown item.now) }
-    ensures ok { OnOk result (into.new.items ≡ into.old.items ++ item_text (shown item.now)) }
+    requires packable { IsPackable (item_view item.now) }
+    ensures ok { OnOk result (into.new.items ≡ into.old.items ++ item_text (item_view item.now)) }
     ensures err { OnErr result (into.new.items ≡ into.old.items) }
     // What is written is read as the same item, whatever follows it.
-    ensures again { OnOk result (is_healed (field_pairs (shown item.now)) ≡ false → (rest : List ℕ)
-        → front_item (item_text (shown item.now) ++ rest) ≡ an_item (shown item.now) rest) }
+    ensures again { OnOk result (is_healed (field_pairs (item_view item.now)) ≡ false → (rest : List ℕ)
+        → front_item (item_text (item_view item.now) ++ rest) ≡ an_item (item_view item.now) rest) }
 {
     let alloc = *into.allocator();
     let value = item_value(alloc, item)?;
@@ -37,8 +37,8 @@ pub fn write_item(item: &Item, into: &mut Vec<u8>) -> Result<(), AllocError>
 
 /// The map of an item.
 fn item_value(alloc: Global, item: &Item) -> Result<Value, AllocError>
-    requires { IsPackable (shown item.now) }
-    ensures value { IfOk result (λ value. value_view value ≡ table (item_pairs (shown item.now))) }
+    requires { IsPackable (item_view item.now) }
+    ensures value { IfOk result (λ value. value_view value ≡ table (item_pairs (item_view item.now))) }
     ensures range { IfOk result (λ _. RangeOf item.now.chunks) }
 {
     let mut pairs = pairs_of_table(alloc, &item.fields)?;

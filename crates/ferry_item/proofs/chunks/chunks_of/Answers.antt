@@ -28,7 +28,9 @@ loop-place-preserved c =
     let vs = c.args.items.now in
     let place = c.loop-place.place in
     let some : chunk_of (value_view (get_or vs place c.index-items-place.result)) ≡ Some c.in-Some.chunk = search rules in
-    rw c.in_ok-push.ensures.items (chunks_more c.loop-place.chunks.items c.in-Some.chunk vs place c.index-items-place.result (omega arith) some ∙ c.loop-place.invariant)
+    rw c.in_ok-push.ensures.items (chunks_more c.loop-place.chunks.items c.in-Some.chunk vs place c.index-items-place.result (omega arith) some
+    ∙ c.loop-place.invariant)
 
 pub returns-clause-chunks : goal.returns-clause-chunks
-returns-clause-chunks c = rw c.new.ensures.chunks (sym c.loop-place.invariant ∙ chunks_done c.loop-place.chunks.items c.args.items.now c.loop-place.place (omega arith))
+returns-clause-chunks c =
+    rw c.new.ensures.chunks (sym c.loop-place.invariant ∙ chunks_done c.loop-place.chunks.items c.args.items.now c.loop-place.place (omega arith))
