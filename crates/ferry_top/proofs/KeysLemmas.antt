@@ -1,5 +1,5 @@
 -- Lemmas on specs/Keys.antt: the keys that are written so far, and those that are left.
-use Rattle.std.proofs.Common.{◌≡◌, ◌⊎◌, ℕ, ◌<◌, Result, Ok, Err, OnOk, OnErr, Bool, true, false, cond, ◌&&◌, T, List, [], ◌∷◌, ◌++◌, length, take, drop, filter, Option, Some, None, IsSome, IfSome, option_map, refl, sym, ◌∙◌, ap, subst, inl, inr, arith}
+use Rattle.std.proofs.Common.{◌≡◌, ◌⊎◌, ℕ, ◌<◌, Bool, true, false, cond, ◌&&◌, T, List, [], ◌∷◌, ◌++◌, length, filter, Option, Some, None, IsSome, IfSome, option_map, refl, sym, ◌∙◌, ap, subst, inl, inr, arith}
 use Rattle.std.specs.Ordering.{is_lt, is_eq, eq_by_cmp}
 use Rattle.std.specs.declared.cmp.Ordering.{Ordering}
 use Rattle.std.specs.declared.cmp.Ordering.TheVariants.{Less, Equal, Greater}
@@ -8,7 +8,7 @@ use Rattle.std.specs.Cmp.Lexicographic.{nat_list_cmp_total}
 use Rattle.std.specs.List.{AllByRecursion}
 use Rattle.std.specs.FinMap.{entries, entries_sorted, get, get-entries, find, is_sorted, empty, slice_cmp-IsAntisymmetric, nat_cmp-IsAntisymmetric}
 use Rattle.std.specs.FinMap.Entries.{below_all}
-use Rattle.std.proofs.lemmas.List.{append_assoc, append-nil, take-append-drop, take_at}
+use Rattle.std.proofs.lemmas.List.{append_assoc, append-nil}
 use Rattle.ferry_disk.specs.Device.{Told, WritesSome, told_files}
 use Rattle.ferry_disk.proofs.DeviceLemmas.{told_then}
 use Rattle.ferry_log.specs.declared.place.Place.{Place}

@@ -1,5 +1,5 @@
 -- Lemmas on specs/List.antt: an opened repository's archives are the listing of the files that it was opened on.
-use Rattle.std.proofs.Common.{◌≡◌, ℕ, List, Option, IfSome, refl}
+use Rattle.std.proofs.Common.{ℕ, List, Option, IfSome, refl}
 use Rattle.ferry_disk.specs.Device.{Told, told_files}
 use Rattle.ferry_disk.proofs.DeviceLemmas.{told_then}
 use Rattle.ferry_repo.specs.Opening.{RepoState, OpensFilesTo}

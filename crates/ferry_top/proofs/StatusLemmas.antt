@@ -1,5 +1,5 @@
 -- Lemmas on specs/Status.antt and specs/Run.antt: what a fault says, its status says.
-use Rattle.std.proofs.Common.{◌≡◌, ℕ, true, false, List, Option, IfSome, refl, inr}
+use Rattle.std.proofs.Common.{◌≡◌, ℕ, false, List, Option, IfSome, refl, inr}
 use Rattle.ferry_disk.specs.Files.{Files}
 use Rattle.ferry_disk.specs.Device.{Told, told_files, WritesSome, RoseWhere}
 use Rattle.ferry_log.specs.Fault.{log_failed}

@@ -1,5 +1,5 @@
 -- What the four devices of a run tell and count, and what each status says of them.
-use Rattle.std.specs.Prelude.{◌≡◌, ℕ, Bool, true, false, List, Option}
+use Rattle.std.specs.Prelude.{◌≡◌, ℕ, true, List, Option}
 use Rattle.ferry_disk.specs.Device.{Told, Rose, RoseWhere, KeptWhere, heard}
 use Rattle.ferry_top.specs.Status.{source_failed, output_failed}
 use Rattle.ferry_top.specs.declared.status.Status.{Status}

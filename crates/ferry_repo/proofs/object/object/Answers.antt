@@ -1,4 +1,4 @@
-use Rattle.std.proofs.Common.{◌≡◌, IfErr, IfOk, IfSome, take, drop, sym, ◌∙◌, refl, subst}
+use Rattle.std.proofs.Common.{◌≡◌, IfSome, take, drop, sym, ◌∙◌, refl, subst}
 use Rattle.std.proofs.lemmas.Result.{IfOk-weaker, IfErr-weaker}
 use Rattle.ferry_repo.specs.declared.fault.RepoFault.{RepoFault}
 use Rattle.ferry_repo.proofs.FaultLemmas.{gives_err}

@@ -1,4 +1,4 @@
-use Rattle.std.proofs.Common.{◌≡◌, Ok, Err, refl, sym, ◌∙◌, ap, subst}
+use Rattle.std.proofs.Common.{Ok, Err, refl, sym, ◌∙◌, ap, subst}
 use Rattle.ferry_keyblob.specs.Envelope.{envelope_of}
 use Rattle.ferry_keyblob.specs.Opening.{key_view}
 use Rattle.ferry_repo.specs.Opening.{RefusesKey}

@@ -1,4 +1,4 @@
-use Rattle.std.proofs.Common.{◌≡◌, Ok, [], IfSome, refl, sym, ◌∙◌, ap, subst}
+use Rattle.std.proofs.Common.{◌≡◌, Ok, [], IfSome, refl, sym, ◌∙◌, subst}
 use Rattle.ferry_base.specs.Limits.{zero_id}
 use Rattle.ferry_config.specs.declared.config.Config.{Config}
 use Rattle.ferry_disk.specs.Device.{told_files}
