@@ -20,7 +20,7 @@ over() {
 
 over "20,000 live keys of 60 bytes" 20000 60 8000000
 over "200,000 live keys of 60 bytes" 200000 60 8000000
-over "400,000 live keys of 60 bytes" 400000 60 8000000
+over "500,000 live keys of 60 bytes" 500000 60 8000000
 over "1,000,000 live keys of 60 bytes" 1000000 60 8000000
 over "500 live keys in one segment of 500 MB" 500 1000000 1000000000
 over "500 live keys of 60 bytes, for the memory of the keys" 500 60 1000000000
