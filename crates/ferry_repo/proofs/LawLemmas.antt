@@ -1,5 +1,6 @@
 -- Lemmas on specs/Opening.antt and specs/Objects.antt: one answer holds, and one alone.
-use Rattle.std.proofs.Common.{◌≡◌, ◌≢◌, ℕ, ◌⊎◌, Bool, true, false, List, [], take, drop, Option, Some, None, Result, Ok, Err, refl, sym, ◌∙◌, ap, subst, inl, inr}
+use Rattle.std.proofs.Common.{◌≡◌, ◌≢◌, ℕ, ◌⊎◌, Bool, true, false, List, [], take, drop, Option, Some, None, Result, Ok, Err, refl, sym, ◌∙◌, ap}
+use Rattle.std.proofs.Common.{subst, inl, inr}
 use Rattle.std.proofs.lemmas.Slice.Eq.{bytes_eq-Decides}
 use Rattle.std.specs.List.{AllByRecursion}
 use Rattle.std.specs.Str.{bytes_eq}
@@ -52,13 +53,15 @@ one_object files log keys id a b ha hb =
     let same = one_blob files log id ha.blob hb.blob ha.has hb.has in
     one_content keys id hb.blob a b (subst (λ (k : List ℕ). OpensBlob keys id k a) same ha.opens) hb.opens
 
-not_broken : (files : Files) (log : LogState) (keys : Keys) (id content : List ℕ) (fault : BlobFault) → HoldsObject files log keys id content → BreaksObject files log keys id fault → ⊥
+not_broken : (files : Files) (log : LogState) (keys : Keys) (id content : List ℕ) (fault : BlobFault) → HoldsObject files log keys id content
+    → BreaksObject files log keys id fault → ⊥
 not_broken files log keys id content fault holds breaks =
     let same = one_blob files log id holds.blob breaks.blob holds.has breaks.has in
     let none : None ≡ Some fault = sym (opens_no_fault keys id holds.blob content holds.opens) ∙ ap (blob_fault keys id) same ∙ breaks.breaks in
     cc
 
-one_break : (files : Files) (log : LogState) (keys : Keys) (id : List ℕ) (f g : BlobFault) → BreaksObject files log keys id f → BreaksObject files log keys id g → f ≡ g
+one_break : (files : Files) (log : LogState) (keys : Keys) (id : List ℕ) (f g : BlobFault) → BreaksObject files log keys id f
+    → BreaksObject files log keys id g → f ≡ g
 one_break files log keys id f g hf hg =
     let same = one_blob files log id hf.blob hg.blob hf.has hg.has in
     let both : Some f ≡ Some g = sym hf.breaks ∙ ap (blob_fault keys id) same ∙ hg.breaks in
@@ -66,13 +69,16 @@ one_break files log keys id f g hf hg =
 
 -- what an object answers: it isn't live, it has a content, or it breaks a rule
 abbrev SomeObject : Files → LogState → Keys → List ℕ → Type 0
-SomeObject files log keys id = IsMissing log id ⊎ (((content : List ℕ) × HoldsObject files log keys id content) ⊎ ((fault : BlobFault) × BreaksObject files log keys id fault))
+SomeObject files log keys id = IsMissing log id
+    ⊎ (((content : List ℕ) × HoldsObject files log keys id content) ⊎ ((fault : BlobFault) × BreaksObject files log keys id fault))
 
-blob_answer : (files : Files) (log : LogState) (keys : Keys) (id blob : List ℕ) (fault : Option BlobFault) → HasBlob files log id blob → blob_fault keys id blob ≡ fault → SomeObject files log keys id
+blob_answer : (files : Files) (log : LogState) (keys : Keys) (id blob : List ℕ) (fault : Option BlobFault) → HasBlob files log id blob
+    → blob_fault keys id blob ≡ fault → SomeObject files log keys id
 blob_answer files log keys id blob None has is = inr (inl (_, record { blob = blob; has = has; opens = opened_at keys id blob _ is refl }))
 blob_answer files log keys id blob (Some fault) has is = inr (inr (fault, record { blob = blob; has = has; breaks = is }))
 
-place_answer : (files : Files) (log : LogState) (keys : Keys) (id : List ℕ) (place : Option Place) → FitsFiles files log → place_in log id ≡ place → SomeObject files log keys id
+place_answer : (files : Files) (log : LogState) (keys : Keys) (id : List ℕ) (place : Option Place) → FitsFiles files log → place_in log id ≡ place
+    → SomeObject files log keys id
 place_answer files log keys id None fits is = inl is
 place_answer files log keys id (Some place) fits is =
     let lies = place_holds files log id place fits is in
@@ -90,7 +96,8 @@ live_there files log is id blob has =
     let live = place_of_blob files log is id has.place has.placed in
     live.1 ∙ ap Some (sym live.2.holds ∙ has.lies.holds)
 
-blob_there : (files : Files) (log : LogState) (is : IsStateOf files log) (id blob : List ℕ) (place : Option Place) → place_in log id ≡ place → live_blob id is.log ≡ Some blob → HasBlob files log id blob
+blob_there : (files : Files) (log : LogState) (is : IsStateOf files log) (id blob : List ℕ) (place : Option Place) → place_in log id ≡ place
+    → live_blob id is.log ≡ Some blob → HasBlob files log id blob
 blob_there files log is id blob None none live = absurd (let no : None ≡ Some blob = sym (no_place files log is id none) ∙ live in cc)
 blob_there files log is id blob (Some place) placed live =
     let lies = place_of_blob files log is id place placed in
@@ -126,11 +133,13 @@ some_chunk files log keys id read = chunk_answer files log keys id read (zero_or
 pub one_chunk : (files : Files) (log : LogState) (keys : Keys) (id a b : List ℕ) → HoldsChunk files log keys id a → HoldsChunk files log keys id b → a ≡ b
 one_chunk files log keys id a b ha hb = one_object files log keys id a b ha.object hb.object
 
-chunk_there : (files : Files) (log : LogState) (keys : Keys) (id content : List ℕ) → HoldsChunk files log keys id content → (id ≡ zero_id) ⊎ IsMissing log id → ⊥
+chunk_there : (files : Files) (log : LogState) (keys : Keys) (id content : List ℕ) → HoldsChunk files log keys id content → (id ≡ zero_id)
+    ⊎ IsMissing log id → ⊥
 chunk_there files log keys id content holds (inl zero) = holds.chunk zero
 chunk_there files log keys id content holds (inr missing) = not_missing files log id holds.object.blob holds.object.has missing
 
-pub chunk_apart : (files : Files) (log : LogState) (keys : Keys) (id content : List ℕ) (fault : RepoFault) → HoldsChunk files log keys id content → IsOfFiles fault → RefusesChunk files log keys id fault → ⊥
+pub chunk_apart : (files : Files) (log : LogState) (keys : Keys) (id content : List ℕ) (fault : RepoFault) → HoldsChunk files log keys id content
+    → IsOfFiles fault → RefusesChunk files log keys id fault → ⊥
 chunk_apart files log keys id content (Fault.Missing named) holds of_files refuses = chunk_there files log keys id content holds refuses.1
 chunk_apart files log keys id content (Fault.Blob named fault) holds of_files refuses = not_broken files log keys id content fault holds.object refuses.2
 chunk_apart files log keys id content Fault.NoCommit holds of_files refuses = refuses
@@ -141,11 +150,13 @@ chunk_apart files log keys id content (Fault.Manifest fault) holds of_files refu
 chunk_apart files log keys id content Fault.Device holds of_files refuses = of_files
 chunk_apart files log keys id content Fault.Memory holds of_files refuses = of_files
 
-missing_unbroken : (files : Files) (log : LogState) (keys : Keys) (id : List ℕ) (fault : BlobFault) → id ≢ zero_id → (id ≡ zero_id) ⊎ IsMissing log id → BreaksObject files log keys id fault → ⊥
+missing_unbroken : (files : Files) (log : LogState) (keys : Keys) (id : List ℕ) (fault : BlobFault) → id ≢ zero_id → (id ≡ zero_id) ⊎ IsMissing log id
+    → BreaksObject files log keys id fault → ⊥
 missing_unbroken files log keys id fault other (inl zero) breaks = other zero
 missing_unbroken files log keys id fault other (inr missing) breaks = not_missing files log id breaks.blob breaks.has missing
 
-pub one_chunk_fault : (files : Files) (log : LogState) (keys : Keys) (id : List ℕ) (f g : RepoFault) → IsOfFiles f → IsOfFiles g → RefusesChunk files log keys id f → RefusesChunk files log keys id g → f ≡ g
+pub one_chunk_fault : (files : Files) (log : LogState) (keys : Keys) (id : List ℕ) (f g : RepoFault) → IsOfFiles f → IsOfFiles g
+    → RefusesChunk files log keys id f → RefusesChunk files log keys id g → f ≡ g
 one_chunk_fault files log keys id (Fault.Missing m) (Fault.Missing n) of_f of_g hf hg = ap Fault.Missing (hf.0 ∙ sym hg.0)
 one_chunk_fault files log keys id (Fault.Missing m) (Fault.Blob n g) of_f of_g hf hg = absurd (missing_unbroken files log keys id g hg.0 hf.1 hg.2)
 one_chunk_fault files log keys id (Fault.Blob m f) (Fault.Missing n) of_f of_g hf hg = absurd (missing_unbroken files log keys id f hf.0 hg.1 hf.2)
@@ -170,14 +181,16 @@ one_chunk_fault files log keys id f Fault.Memory of_f of_g hf hg = absurd of_g
 
 -- ---- repositories
 
-reads_of : {files : Files} {passphrase : List ℕ} {log : LogState} {config : Config} {keys : Keys} → UnlocksFiles files passphrase log config keys → ReadsLog files
+reads_of : {files : Files} {passphrase : List ℕ} {log : LogState} {config : Config} {keys : Keys} → UnlocksFiles files passphrase log config keys
+    → ReadsLog files
 reads_of {log = log} unlocks = (log, unlocks.reads)
 
 -- what a passphrase unlocks is one
 one_config : (files : Files) (a b : Config) → config_of (contents_at files Name.Config) ≡ Ok a → config_of (contents_at files Name.Config) ≡ Ok b → a ≡ b
 one_config files a b ha hb = let both : Ok a ≡ Ok b = sym ha ∙ hb in cc
 
-one_key : (files : Files) (passphrase : List ℕ) (l m : LogState) (c d : Config) (k q : Keys) → UnlocksFiles files passphrase l c k → UnlocksFiles files passphrase m d q
+one_key : (files : Files) (passphrase : List ℕ) (l m : LogState) (c d : Config) (k q : Keys) → UnlocksFiles files passphrase l c k
+    → UnlocksFiles files passphrase m d q
     → (l ≡ m) × (c ≡ d) × (k ≡ q)
 one_key files passphrase l m c d k q hc hd =
     let same : c ≡ d = one_config files c d hc.unlocks.config_is hd.unlocks.config_is in
@@ -220,9 +233,11 @@ opens_fits files passphrase repo opens = record {
 
 -- the answers on a repository
 abbrev SomeRepo : Files → List ℕ → Type 0
-SomeRepo files passphrase = ((repo : RepoState) × OpensFilesTo files passphrase repo) ⊎ ((fault : RepoFault) × IsOfFiles fault × RefusesRepo files passphrase fault)
+SomeRepo files passphrase = ((repo : RepoState) × OpensFilesTo files passphrase repo)
+    ⊎ ((fault : RepoFault) × IsOfFiles fault × RefusesRepo files passphrase fault)
 
-manifest_answer : (files : Files) (passphrase : List ℕ) (log : LogState) (config : Config) (keys : Keys) (content : List ℕ) (answer : Result ManifestText MetaFault)
+manifest_answer : (files : Files) (passphrase : List ℕ) (log : LogState) (config : Config) (keys : Keys) (content : List ℕ)
+    (answer : Result ManifestText MetaFault)
     → UnlocksFiles files passphrase log config keys → HoldsObject files log keys zero_id content → manifest_of keys content ≡ answer → SomeRepo files passphrase
 manifest_answer files passphrase log config keys content (Ok manifest) unlocks holds is =
     inl (
@@ -236,16 +251,20 @@ root_answer : (files : Files) (passphrase : List ℕ) (log : LogState) (config :
     → SomeObject files log keys zero_id → SomeRepo files passphrase
 root_answer files passphrase log config keys unlocks (inl missing) =
     inr (Fault.Missing zero_id, tt, record { log = log; config = config; keys = keys; unlocks = unlocks; object = (refl, missing) })
-root_answer files passphrase log config keys unlocks (inr (inl holds)) = manifest_answer files passphrase log config keys holds.0 (manifest_of keys holds.0) unlocks holds.1 refl
+root_answer files passphrase log config keys unlocks (inr (inl holds)) = manifest_answer files passphrase log config keys holds.0
+    (manifest_of keys holds.0) unlocks holds.1 refl
 root_answer files passphrase log config keys unlocks (inr (inr breaks)) =
     inr (Fault.Blob zero_id breaks.0, tt, record { log = log; config = config; keys = keys; unlocks = unlocks; object = (refl, breaks.1) })
 
-envelope_answer : (files : Files) (passphrase : List ℕ) (log : LogState) (config : Config) (key : Opened) (answer : Result Envelope KeyFault) → IsStateOf files log
-    → config_of (contents_at files Name.Config) ≡ Ok config → key_of passphrase config.key ≡ Ok key → envelope_of config.key ≡ answer → SomeRepo files passphrase
+envelope_answer : (files : Files) (passphrase : List ℕ) (log : LogState) (config : Config) (key : Opened) (answer : Result Envelope KeyFault)
+    → IsStateOf files log
+    → config_of (contents_at files Name.Config) ≡ Ok config → key_of passphrase config.key ≡ Ok key → envelope_of config.key ≡ answer
+    → SomeRepo files passphrase
 envelope_answer files passphrase log config key (Ok envelope) read config_is is envelope_is =
     let opened : UnlocksTo (contents_at files Name.Config) passphrase config envelope.iterations key =
     record { config_is = config_is; envelope = envelope; envelope_is = envelope_is; iterations_are = refl; key_is = is } in
-    let unlocks : UnlocksFiles files passphrase log config key.keys = record { reads = read; iterations = envelope.iterations; key = key; unlocks = opened; keys_are = refl } in
+    let unlocks : UnlocksFiles files passphrase log config key.keys = record
+    { reads = read; iterations = envelope.iterations; key = key; unlocks = opened; keys_are = refl } in
     root_answer files passphrase log config key.keys unlocks (some_object files log key.keys zero_id (opened_fits files log read))
 envelope_answer files passphrase log config key (Err fault) read config_is is envelope_is =
     let none : Err fault ≡ Ok key = sym (key_of-envelope passphrase config.key fault envelope_is) ∙ is in
@@ -253,7 +272,8 @@ envelope_answer files passphrase log config key (Err fault) read config_is is en
 
 key_answer : (files : Files) (passphrase : List ℕ) (log : LogState) (config : Config) (answer : Result Opened KeyFault) → IsStateOf files log
     → config_of (contents_at files Name.Config) ≡ Ok config → key_of passphrase config.key ≡ answer → SomeRepo files passphrase
-key_answer files passphrase log config (Ok key) read config_is is = envelope_answer files passphrase log config key (envelope_of config.key) read config_is is refl
+key_answer files passphrase log config (Ok key) read config_is is = envelope_answer files passphrase log config key (envelope_of config.key) read
+    config_is is refl
 key_answer files passphrase log config (Err fault) read config_is is = inr (Fault.Key fault, tt, ((log, read), (config, config_is, is)))
 
 config_answer : (files : Files) (passphrase : List ℕ) (log : LogState) (answer : Result Config ConfigFault) → IsStateOf files log
@@ -261,7 +281,8 @@ config_answer : (files : Files) (passphrase : List ℕ) (log : LogState) (answer
 config_answer files passphrase log (Ok config) read is = key_answer files passphrase log config (key_of passphrase config.key) read is refl
 config_answer files passphrase log (Err fault) read is = inr (Fault.Config fault, tt, ((log, read), is))
 
-log_answer : (files : Files) (passphrase : List ℕ) → IsUncommitted files ⊎ (ReadsLog files ⊎ ((s : ℕ) × (at : ℕ) × IsDamaged files s at)) → SomeRepo files passphrase
+log_answer : (files : Files) (passphrase : List ℕ) → IsUncommitted files ⊎ (ReadsLog files ⊎ ((s : ℕ) × (at : ℕ) × IsDamaged files s at))
+    → SomeRepo files passphrase
 log_answer files passphrase (inl none) = inr (Fault.NoCommit, tt, none)
 log_answer files passphrase (inr (inl read)) = config_answer files passphrase read.0 (config_of (contents_at files Name.Config)) read.1 refl
 log_answer files passphrase (inr (inr damaged)) = inr (Fault.Damaged damaged.0 damaged.1, tt, damaged.2)
@@ -276,10 +297,12 @@ read_committed files read none = uncommitted_apart files read.0.transaction none
 read_whole : (files : Files) (segment at : ℕ) → ReadsLog files → IsDamaged files segment at → ⊥
 read_whole files segment at read damaged = damaged_apart files segment at read.0.transaction read.1.log damaged read.1.is
 
-config_reads : (files : Files) (config : Config) (fault : ConfigFault) → config_of (contents_at files Name.Config) ≡ Ok config → config_of (contents_at files Name.Config) ≡ Err fault → ⊥
+config_reads : (files : Files) (config : Config) (fault : ConfigFault) → config_of (contents_at files Name.Config) ≡ Ok config
+    → config_of (contents_at files Name.Config) ≡ Err fault → ⊥
 config_reads files config fault ok err = let none : Ok config ≡ Err fault = sym ok ∙ err in cc
 
-key_opens : {files : Files} {passphrase : List ℕ} {log : LogState} {config : Config} {keys : Keys} (other : Config) (fault : KeyFault) → UnlocksFiles files passphrase log config keys
+key_opens : {files : Files} {passphrase : List ℕ} {log : LogState} {config : Config} {keys : Keys} (other : Config) (fault : KeyFault)
+    → UnlocksFiles files passphrase log config keys
     → config_of (contents_at files Name.Config) ≡ Ok other → key_of passphrase other.key ≡ Err fault → ⊥
 key_opens {files} {passphrase} {log} {config} {keys} other fault unlocks is err =
     let same = one_config files config other unlocks.unlocks.config_is is in
@@ -287,62 +310,77 @@ key_opens {files} {passphrase} {log} {config} {keys} other fault unlocks is err 
     cc
 
 -- an object that is there isn't missing under the same passphrase
-missing_there : (files : Files) (passphrase : List ℕ) (l m : LogState) (c d : Config) (k q : Keys) (blob : List ℕ) → UnlocksFiles files passphrase l c k → UnlocksFiles files passphrase m d q
+missing_there : (files : Files) (passphrase : List ℕ) (l m : LogState) (c d : Config) (k q : Keys) (blob : List ℕ)
+    → UnlocksFiles files passphrase l c k → UnlocksFiles files passphrase m d q
     → HasBlob files l zero_id blob → IsMissing m zero_id → ⊥
 missing_there files passphrase l m c d k q blob hc hd has missing =
     not_missing files m zero_id blob (subst (λ (o : LogState). HasBlob files o zero_id blob) (one_key files passphrase l m c d k q hc hd).0 has) missing
 
-broken_there : (files : Files) (passphrase : List ℕ) (l m : LogState) (c d : Config) (k q : Keys) (content : List ℕ) (fault : BlobFault) → UnlocksFiles files passphrase l c k
+broken_there : (files : Files) (passphrase : List ℕ) (l m : LogState) (c d : Config) (k q : Keys) (content : List ℕ) (fault : BlobFault)
+    → UnlocksFiles files passphrase l c k
     → UnlocksFiles files passphrase m d q → HoldsObject files l k zero_id content → BreaksObject files m q zero_id fault → ⊥
 broken_there files passphrase l m c d k q content fault hc hd holds breaks =
     not_broken files m q zero_id content fault (root_there files passphrase l m c d k q content hc hd holds) breaks
 
-manifest_there : (files : Files) (passphrase : List ℕ) (l m : LogState) (c d : Config) (k q : Keys) (a b : List ℕ) (answer other : Result ManifestText MetaFault) → UnlocksFiles files passphrase l c k
-    → UnlocksFiles files passphrase m d q → HoldsObject files l k zero_id a → HoldsObject files m q zero_id b → manifest_of k a ≡ answer → manifest_of q b ≡ other → answer ≡ other
+manifest_there : (files : Files) (passphrase : List ℕ) (l m : LogState) (c d : Config) (k q : Keys) (a b : List ℕ)
+    (answer other : Result ManifestText MetaFault) → UnlocksFiles files passphrase l c k
+    → UnlocksFiles files passphrase m d q → HoldsObject files l k zero_id a → HoldsObject files m q zero_id b → manifest_of k a ≡ answer
+    → manifest_of q b ≡ other → answer ≡ other
 manifest_there files passphrase l m c d k q a b answer other hc hd ha hb is his =
     let same = (one_key files passphrase l m c d k q hc hd).2 in
     let content = one_content_of_root files passphrase l m c d k q a b hc hd ha hb in
     sym is ∙ (ap (λ (o : Keys). manifest_of o a) same ∙ (ap (manifest_of q) content ∙ his))
 
-pub repo_apart : (files : Files) (passphrase : List ℕ) (repo : RepoState) (fault : RepoFault) → OpensFilesTo files passphrase repo → IsOfFiles fault → RefusesRepo files passphrase fault → ⊥
+pub repo_apart : (files : Files) (passphrase : List ℕ) (repo : RepoState) (fault : RepoFault) → OpensFilesTo files passphrase repo → IsOfFiles fault
+    → RefusesRepo files passphrase fault → ⊥
 repo_apart files passphrase repo Fault.NoCommit opens of_files refuses = read_committed files (reads_of opens.opens.unlocks) refuses
 repo_apart files passphrase repo (Fault.Damaged segment at) opens of_files refuses = read_whole files segment at (reads_of opens.opens.unlocks) refuses
-repo_apart files passphrase repo (Fault.Config fault) opens of_files refuses = config_reads files repo.config fault opens.opens.unlocks.unlocks.config_is refuses.1
+repo_apart files passphrase repo (Fault.Config fault) opens of_files refuses = config_reads files repo.config fault
+    opens.opens.unlocks.unlocks.config_is refuses.1
 repo_apart files passphrase repo (Fault.Key fault) opens of_files refuses = key_opens refuses.1.0 fault opens.opens.unlocks refuses.1.1 refuses.1.2
 repo_apart files passphrase repo (Fault.Missing id) opens of_files refuses =
-    missing_there files passphrase repo.log refuses.log repo.config refuses.config repo.keys refuses.keys opens.opens.object.blob opens.opens.unlocks refuses.unlocks opens.opens.object.has refuses.object.1
+    missing_there files passphrase repo.log refuses.log repo.config refuses.config repo.keys refuses.keys opens.opens.object.blob opens.opens.unlocks
+    refuses.unlocks opens.opens.object.has refuses.object.1
 repo_apart files passphrase repo (Fault.Blob id fault) opens of_files refuses =
-    broken_there files passphrase repo.log refuses.log repo.config refuses.config repo.keys refuses.keys opens.opens.content fault opens.opens.unlocks refuses.unlocks opens.opens.object refuses.object.1
+    broken_there files passphrase repo.log refuses.log repo.config refuses.config repo.keys refuses.keys opens.opens.content fault opens.opens.unlocks
+    refuses.unlocks opens.opens.object refuses.object.1
 repo_apart files passphrase repo (Fault.Manifest fault) opens of_files refuses =
     let both : Ok repo.manifest ≡ Err fault =
-    manifest_there files passphrase repo.log refuses.log repo.config refuses.config repo.keys refuses.keys opens.opens.content refuses.content (Ok repo.manifest) (Err fault)
+    manifest_there files passphrase repo.log refuses.log repo.config refuses.config repo.keys refuses.keys opens.opens.content refuses.content
+    (Ok repo.manifest) (Err fault)
     opens.opens.unlocks refuses.unlocks opens.opens.object refuses.object opens.opens.manifest_is refuses.refused in
     cc
 repo_apart files passphrase repo Fault.Device opens of_files refuses = of_files
 repo_apart files passphrase repo Fault.Memory opens of_files refuses = of_files
 
-one_key_fault : (files : Files) (passphrase : List ℕ) (c d : Config) (f g : KeyFault) → config_of (contents_at files Name.Config) ≡ Ok c → config_of (contents_at files Name.Config) ≡ Ok d
+one_key_fault : (files : Files) (passphrase : List ℕ) (c d : Config) (f g : KeyFault) → config_of (contents_at files Name.Config) ≡ Ok c
+    → config_of (contents_at files Name.Config) ≡ Ok d
     → key_of passphrase c.key ≡ Err f → key_of passphrase d.key ≡ Err g → f ≡ g
 one_key_fault files passphrase c d f g hc hd hf hg =
     let same = one_config files c d hc hd in
     let both : Err f ≡ Err g = sym hf ∙ ap (λ (e : Config). key_of passphrase e.key) same ∙ hg in
     cc
 
-one_root_fault : (files : Files) (passphrase m n : List ℕ) (f g : BlobFault) → RefusesRoot files passphrase (Fault.Blob m f) → RefusesRoot files passphrase (Fault.Blob n g) → Fault.Blob m f ≡ Fault.Blob n g
+one_root_fault : (files : Files) (passphrase m n : List ℕ) (f g : BlobFault) → RefusesRoot files passphrase (Fault.Blob m f)
+    → RefusesRoot files passphrase (Fault.Blob n g) → Fault.Blob m f ≡ Fault.Blob n g
 one_root_fault files passphrase m n f g hf hg =
     let same = one_key files passphrase hf.log hg.log hf.config hg.config hf.keys hg.keys hf.unlocks hg.unlocks in
-    let there = subst (λ (o : LogState). BreaksObject files o hg.keys zero_id f) same.0 (subst (λ (o : Keys). BreaksObject files hf.log o zero_id f) same.2 hf.object.1) in
+    let there = subst (λ (o : LogState). BreaksObject files o hg.keys zero_id f) same.0
+    (subst (λ (o : Keys). BreaksObject files hf.log o zero_id f) same.2 hf.object.1) in
     let broken = one_break files hg.log hg.keys zero_id f g there hg.object.1 in
     let named : m ≡ n = hf.object.0 ∙ sym hg.object.0 in
     rw (named, broken) refl
 
-one_manifest_fault : (files : Files) (passphrase : List ℕ) (f g : MetaFault) → RefusesManifest files passphrase (Fault.Manifest f) → RefusesManifest files passphrase (Fault.Manifest g) → f ≡ g
+one_manifest_fault : (files : Files) (passphrase : List ℕ) (f g : MetaFault) → RefusesManifest files passphrase (Fault.Manifest f)
+    → RefusesManifest files passphrase (Fault.Manifest g) → f ≡ g
 one_manifest_fault files passphrase f g hf hg =
-    let both : Err f ≡ Err g = manifest_there files passphrase hf.log hg.log hf.config hg.config hf.keys hg.keys hf.content hg.content (Err f) (Err g) hf.unlocks hg.unlocks hf.object hg.object hf.refused hg.refused in
+    let both : Err f ≡ Err g = manifest_there files passphrase hf.log hg.log hf.config hg.config hf.keys hg.keys hf.content hg.content (Err f) (Err g)
+    hf.unlocks hg.unlocks hf.object hg.object hf.refused hg.refused in
     cc
 
 -- files are refused for one cause
-pub one_repo_fault : (files : Files) (passphrase : List ℕ) (f g : RepoFault) → IsOfFiles f → IsOfFiles g → RefusesRepo files passphrase f → RefusesRepo files passphrase g → f ≡ g
+pub one_repo_fault : (files : Files) (passphrase : List ℕ) (f g : RepoFault) → IsOfFiles f → IsOfFiles g → RefusesRepo files passphrase f
+    → RefusesRepo files passphrase g → f ≡ g
 one_repo_fault files passphrase Fault.NoCommit Fault.NoCommit of_f of_g hf hg = refl
 one_repo_fault files passphrase Fault.NoCommit (Fault.Damaged u b) of_f of_g hf hg = absurd (uncommitted_apart files hg.transaction hf hg.is)
 one_repo_fault files passphrase Fault.NoCommit (Fault.Config g) of_f of_g hf hg = absurd (read_committed files hg.0 hf)

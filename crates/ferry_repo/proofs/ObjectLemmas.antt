@@ -16,7 +16,9 @@ use Rattle.ferry_repo.specs.Objects.{HasBlob, RefusesObject, LosesBlob, BreaksBl
 pub moved_front : (bytes : List ℕ) (n : ℕ) → n ≤ length bytes → take (length bytes - n) (copy_within bytes n (length bytes) 0) ≡ drop n bytes
 moved_front bytes n within =
     let count = length bytes - n in
-    ap (λ k. take k (copy_within bytes n (length bytes) 0)) (sym (zero-add count)) ∙ take-paste bytes 0 (drop n bytes) count (omega arith) (omega (arith, length-drop n bytes)) ∙ take_all count (drop n bytes) (omega (arith, length-drop n bytes))
+    ap (λ k. take k (copy_within bytes n (length bytes) 0)) (sym (zero-add count))
+    ∙ take-paste bytes 0 (drop n bytes) count (omega arith) (omega (arith, length-drop n bytes))
+    ∙ take_all count (drop n bytes) (omega (arith, length-drop n bytes))
 
 -- what is read at the place of a key is its blob
 pub has_blob : (files : Files) (log : LogState) (id blob : List ℕ) (place : Place) → FitsFiles files log → place_in log id ≡ Some place
@@ -25,7 +27,8 @@ has_blob files log id blob place fits found at =
     record { place = place; placed = found; lies = record { holds = sym at; within = (place_holds files log id place fits found).1.within } }
 
 -- a blob that is live isn't lost from its place
-pub not_lost : (files : Files) (log : LogState) (id : List ℕ) (place : Place) (keys : Keys) (fault : RepoFault) → FitsFiles files log → place_in log id ≡ Some place
+pub not_lost : (files : Files) (log : LogState) (id : List ℕ) (place : Place) (keys : Keys) (fault : RepoFault) → FitsFiles files log
+    → place_in log id ≡ Some place
     → LosesBlob (segment_bytes files place.segment) place fault → RefusesObject files log keys id fault
 not_lost files log id place keys (Damaged segment at) fits found lost =
     let within = (place_holds files log id place fits found).1.within in
@@ -40,7 +43,8 @@ not_lost files log id place keys (Blob named fault) fits found lost = absurd los
 not_lost files log id place keys (Manifest fault) fits found lost = lost
 
 -- what a blob's refusal says of the object
-pub breaks_object : (files : Files) (log : LogState) (keys : Keys) (id blob : List ℕ) (fault : RepoFault) → HasBlob files log id blob → BreaksBlob keys id blob fault
+pub breaks_object : (files : Files) (log : LogState) (keys : Keys) (id blob : List ℕ) (fault : RepoFault) → HasBlob files log id blob
+    → BreaksBlob keys id blob fault
     → RefusesObject files log keys id fault
 breaks_object files log keys id blob (Blob named fault) has broken = (broken.0, record { blob = blob; has = has; breaks = broken.1 })
 breaks_object files log keys id blob NoCommit has broken = broken

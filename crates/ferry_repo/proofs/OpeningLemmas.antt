@@ -41,12 +41,16 @@ key_refused files passphrase log (Fault.Manifest fault) is refused = absurd refu
 
 pub unlocks_files : (files : Files) (passphrase : List ℕ) (log : LogState) (config : Config) (iterations : ℕ) (key : Opened) → IsStateOf files log
     → UnlocksTo (contents_at files Name.Config) passphrase config iterations key → UnlocksFiles files passphrase log config key.keys
-unlocks_files files passphrase log config iterations key is unlocks = record { reads = is; iterations = iterations; key = key; unlocks = unlocks; keys_are = refl }
+unlocks_files files passphrase log config iterations key is unlocks = record
+    { reads = is; iterations = iterations; key = key; unlocks = unlocks; keys_are = refl }
 
-pub object_refused : (files : Files) (passphrase : List ℕ) (log : LogState) (config : Config) (keys : Keys) (fault : RepoFault) → UnlocksFiles files passphrase log config keys
+pub object_refused : (files : Files) (passphrase : List ℕ) (log : LogState) (config : Config) (keys : Keys) (fault : RepoFault)
+    → UnlocksFiles files passphrase log config keys
     → RefusesObject files log keys zero_id fault → RefusesRepo files passphrase fault
-object_refused files passphrase log config keys (Fault.Missing id) unlocks refused = record { log = log; config = config; keys = keys; unlocks = unlocks; object = refused }
-object_refused files passphrase log config keys (Fault.Blob id fault) unlocks refused = record { log = log; config = config; keys = keys; unlocks = unlocks; object = refused }
+object_refused files passphrase log config keys (Fault.Missing id) unlocks refused = record
+    { log = log; config = config; keys = keys; unlocks = unlocks; object = refused }
+object_refused files passphrase log config keys (Fault.Blob id fault) unlocks refused = record
+    { log = log; config = config; keys = keys; unlocks = unlocks; object = refused }
 object_refused files passphrase log config keys Fault.Device unlocks refused = tt
 object_refused files passphrase log config keys Fault.Memory unlocks refused = tt
 object_refused files passphrase log config keys Fault.NoCommit unlocks refused = absurd refused
@@ -56,7 +60,8 @@ object_refused files passphrase log config keys (Fault.Key fault) unlocks refuse
 object_refused files passphrase log config keys (Fault.Manifest fault) unlocks refused = absurd refused
 
 pub manifest_refused : (files : Files) (passphrase : List ℕ) (log : LogState) (config : Config) (keys : Keys) (content : List ℕ) (fault : RepoFault)
-    → UnlocksFiles files passphrase log config keys → HoldsObject files log keys zero_id content → IsNoManifest keys content fault → RefusesRepo files passphrase fault
+    → UnlocksFiles files passphrase log config keys → HoldsObject files log keys zero_id content → IsNoManifest keys content fault
+    → RefusesRepo files passphrase fault
 manifest_refused files passphrase log config keys content (Fault.Manifest fault) unlocks holds refused =
     record { log = log; config = config; keys = keys; content = content; unlocks = unlocks; object = holds; refused = refused }
 manifest_refused files passphrase log config keys content Fault.Memory unlocks holds refused = tt
@@ -76,12 +81,14 @@ unfolding key_of
 key_of-envelope passphrase text fault is = ap (key_inside passphrase) is
 
 -- a key is what its envelope holds
-pub key_of-opened : (passphrase text : List ℕ) (envelope : Envelope) (answer : Result Opened KeyFault) → envelope_of text ≡ Ok envelope → opened passphrase envelope ≡ answer
+pub key_of-opened : (passphrase text : List ℕ) (envelope : Envelope) (answer : Result Opened KeyFault) → envelope_of text ≡ Ok envelope
+    → opened passphrase envelope ≡ answer
     → key_of passphrase text ≡ answer
 unfolding key_of
 key_of-opened passphrase text envelope answer is inside = ap (key_inside passphrase) is ∙ inside
 
-pub key_refuses : (bytes passphrase : List ℕ) (config : Config) (fault : KeyFault) → config_of bytes ≡ Ok config → (fault ≢ Key.Memory → key_of passphrase config.key ≡ Err fault)
+pub key_refuses : (bytes passphrase : List ℕ) (config : Config) (fault : KeyFault) → config_of bytes ≡ Ok config
+    → (fault ≢ Key.Memory → key_of passphrase config.key ≡ Err fault)
     → RefusesKey bytes passphrase (key_fault fault)
 key_refuses bytes passphrase config Key.Pack is err = (config, is, err (λ e. let no : ⊥ = cc in no))
 key_refuses bytes passphrase config Key.Field is err = (config, is, err (λ e. let no : ⊥ = cc in no))

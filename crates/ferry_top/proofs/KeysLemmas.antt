@@ -1,5 +1,6 @@
 -- Lemmas on specs/Keys.antt: the keys that are written so far, and those that are left.
-use Rattle.std.proofs.Common.{◌≡◌, ◌⊎◌, ℕ, ◌<◌, Bool, true, false, cond, ◌&&◌, T, List, [], ◌∷◌, ◌++◌, length, filter, Option, Some, None, IsSome, IfSome, option_map, refl, sym, ◌∙◌, ap, subst, inl, inr, arith}
+use Rattle.std.proofs.Common.{◌≡◌, ◌⊎◌, ℕ, ◌<◌, Bool, true, false, cond, ◌&&◌, T, List, [], ◌∷◌, ◌++◌, length, filter, Option, Some, None}
+use Rattle.std.proofs.Common.{IsSome, IfSome, option_map, refl, sym, ◌∙◌, ap, subst, inl, inr, arith}
 use Rattle.std.specs.Ordering.{is_lt, is_eq, eq_by_cmp}
 use Rattle.std.specs.declared.cmp.Ordering.{Ordering}
 use Rattle.std.specs.declared.cmp.Ordering.TheVariants.{Less, Equal, Greater}
@@ -111,7 +112,8 @@ found_above k q (p ∷ ps) on some =
     ]
 
 -- a key above the last isn't found among those that aren't
-found_behind : (last : Option (List ℕ)) (k : List ℕ) (before after : Pairs) → IsOff last before → is_above last k ≡ true → find key_cmp k (before ++ after) ≡ find key_cmp k after
+found_behind : (last : Option (List ℕ)) (k : List ℕ) (before after : Pairs) → IsOff last before → is_above last k ≡ true
+    → find key_cmp k (before ++ after) ≡ find key_cmp k after
 found_behind last k [] after off on = refl
 found_behind last k (p ∷ ps) after off on =
     elim (key_cases k p.0) [
@@ -161,7 +163,8 @@ all_on : (ps : Pairs) → IsOn None ps
 all_on [] = tt
 all_on (p ∷ ps) = (refl, all_on ps)
 
-found_least : (live : Places) (last : Option (List ℕ)) (least : List ℕ × Place) (before after : Pairs) → IsLeastWhere (get live) last (Some least) → entries live ≡ before ++ after → IsOff last before → is_above last least.0 ≡ true → find key_cmp least.0 after ≡ Some least.1
+found_least : (live : Places) (last : Option (List ℕ)) (least : List ℕ × Place) (before after : Pairs) → IsLeastWhere (get live) last (Some least)
+    → entries live ≡ before ++ after → IsOff last before → is_above last least.0 ≡ true → find key_cmp least.0 after ≡ Some least.1
 found_least live last least before after h all off on =
     sym (found_behind last least.0 before after off on) ∙ (ap (find key_cmp least.0) (sym all) ∙ (sym (get-entries live least.0) ∙ h.0))
 
@@ -170,16 +173,19 @@ above_true None key h = refl
 above_true (Some a) key h = less_is (key_cmp a key) h
 
 -- the first of the pairs above the last is live
-head_live : (live : Places) (last : Option (List ℕ)) (before es : Pairs) (e : List ℕ × Place) → entries live ≡ before ++ e ∷ es → IsOff last before → is_above last e.0 ≡ true → IsSome (get live e.0)
+head_live : (live : Places) (last : Option (List ℕ)) (before es : Pairs) (e : List ℕ × Place) → entries live ≡ before ++ e ∷ es → IsOff last before
+    → is_above last e.0 ≡ true → IsSome (get live e.0)
 head_live live last before es e all off on =
-    let found : get live e.0 ≡ Some e.1 = get-entries live e.0 ∙ (ap (find key_cmp e.0) all ∙ (found_behind last e.0 before (e ∷ es) off on ∙ ap (λ t. cond t (Some e.1) (find key_cmp e.0 es)) (key_itself e.0))) in
+    let found : get live e.0 ≡ Some e.1 = get-entries live e.0
+    ∙ (ap (find key_cmp e.0) all ∙ (found_behind last e.0 before (e ∷ es) off on ∙ ap (λ t. cond t (Some e.1) (find key_cmp e.0 es)) (key_itself e.0))) in
     subst IsSome (sym found) refl
 
 some_place : (p q : Place) → Some p ≡ Some q → p ≡ q
 some_place p q e = cc
 
 -- the least pair is the first of those above the last
-is_head : (live : Places) (last : Option (List ℕ)) (least e : List ℕ × Place) (before es : Pairs) → IsLeastWhere (get live) last (Some least) → entries live ≡ before ++ e ∷ es → IsOff last before → is_above last e.0 ≡ true → IsOn (Some e.0) es → e ≡ least
+is_head : (live : Places) (last : Option (List ℕ)) (least e : List ℕ × Place) (before es : Pairs) → IsLeastWhere (get live) last (Some least)
+    → entries live ≡ before ++ e ∷ es → IsOff last before → is_above last e.0 ≡ true → IsOn (Some e.0) es → e ≡ least
 is_head live last least e before es h all off on behind =
     let found = found_least live last least before (e ∷ es) h all off (above_true last least.0 h.1) in
     elim (key_cases least.0 e.0) [
@@ -207,7 +213,8 @@ lists_on live last least text before (e ∷ es) h all off on is =
     let split : entries live ≡ (before ++ least ∷ []) ++ es = all ∙ (ap (λ k. before ++ k ∷ es) same ∙ sym (append_assoc before (least ∷ []) es)) in
     let shorter : length (above (Some least.0) (entries live)) ≡ length es =
     ap (λ k. length (above (Some least.0) k)) split ∙ ap length (above_split (Some least.0) (before ++ least ∷ []) es off_now on_now) in
-    let longer : length (above last (entries live)) ≡ length (e ∷ es) = ap (λ k. length (above last k)) all ∙ ap length (above_split last before (e ∷ es) off on) in (
+    let longer : length (above last (entries live)) ≡ length (e ∷ es) = ap (λ k. length (above last k)) all
+    ∙ ap length (above_split last before (e ∷ es) off on) in (
       record {
         before = before ++ least ∷ [];
         after = es;
@@ -239,15 +246,19 @@ writes_more live old now last least lines new h w is =
       sends = subst (λ k. Sends old now k (w.text ++ line)) (sym is) (sends_more old now lines w.text line w.sends);
     }
 
-pub fewer_left : (live : Places) (old now last : Option (List ℕ)) (least : List ℕ × Place) (lines : List ℕ) → IsLeastWhere (get live) last (Some least) → Writes live old now last lines
+pub fewer_left : (live : Places) (old now last : Option (List ℕ)) (least : List ℕ × Place) (lines : List ℕ)
+    → IsLeastWhere (get live) last (Some least) → Writes live old now last lines
     → length (above (Some least.0) (entries live)) < length (above last (entries live))
 fewer_left live old now last least lines h w = let l = w.lists in (lists_on live last least w.text l.before l.after h l.all l.off l.on l.text_is).1
 
 -- a part of what is gathered goes out
-pub writes_out : (live : Places) (old now after last : Option (List ℕ)) (lines left : List ℕ) → Writes live old now last lines → Sends now after left lines → Writes live old after last left
-writes_out live old now after last lines left w sends = record { text = w.text; lists = w.lists; sends = sends_then old now after lines left w.text w.sends sends }
+pub writes_out : (live : Places) (old now after last : Option (List ℕ)) (lines left : List ℕ) → Writes live old now last lines
+    → Sends now after left lines → Writes live old after last left
+writes_out live old now after last lines left w sends = record
+    { text = w.text; lists = w.lists; sends = sends_then old now after lines left w.text w.sends sends }
 
-none_left : (live : Places) (last : Option (List ℕ)) (before after : Pairs) → IsLeastWhere (get live) last None → entries live ≡ before ++ after → IsOff last before → IsOn last after → after ≡ []
+none_left : (live : Places) (last : Option (List ℕ)) (before after : Pairs) → IsLeastWhere (get live) last None → entries live ≡ before ++ after
+    → IsOff last before → IsOn last after → after ≡ []
 none_left live last before [] h all off on = refl
 none_left live last before (e ∷ es) h all off on = absurd (h e.0 (head_live live last before es e all off on.0) (above_is last e.0 on.0))
 
@@ -270,16 +281,19 @@ written_some live old now after last lines w some =
     subst (λ t. WritesSome old t after) (all_lines live last w.text w.lists) (sent_some old now after lines w.text (key_lines w.lists.after) w.sends some)
 
 -- nothing more is out
-pub written_still : (live : Places) (old now last : Option (List ℕ)) (lines : List ℕ) → Writes live old now last lines → WritesSome old (key_lines (entries live)) now
+pub written_still : (live : Places) (old now last : Option (List ℕ)) (lines : List ℕ) → Writes live old now last lines
+    → WritesSome old (key_lines (entries live)) now
 written_still live old now last lines w =
     subst (λ t. WritesSome old t now) (all_lines live last w.text w.lists) (sent_still old now lines w.text (key_lines w.lists.after) w.sends)
 
 -- the least live key of a log that has learnt none is the least that was live at opening
-pub least_opened : (log : LogState) (last : Option (List ℕ)) (found : Option (List ℕ × Place)) → log.learnt ≡ empty → IsLeastAbove log last found → IsLeastWhere (get log.opened) last found
+pub least_opened : (log : LogState) (last : Option (List ℕ)) (found : Option (List ℕ × Place)) → log.learnt ≡ empty → IsLeastAbove log last found
+    → IsLeastWhere (get log.opened) last found
 least_opened log last found none least = least_same _ (get log.opened) last found (λ key. place_opened log key none) least
 
 -- the lines of a state's keys are the listing of the files whose state it is
 pub listing_of : (source : Option Told) (state : LogState) → IfSome source (λ t. IsStateOf (told_files t) state)
     → IfSome source (λ t. IsListing (told_files t) (key_lines (entries state.opened)))
 listing_of source state h =
-    told_then source (λ files. IsStateOf files state) (λ files. IsListing files (key_lines (entries state.opened))) (λ files is. record { state = state; is = is; lines = refl }) h
+    told_then source (λ files. IsStateOf files state) (λ files. IsListing files (key_lines (entries state.opened)))
+    (λ files is. record { state = state; is = is; lines = refl }) h

@@ -7,6 +7,8 @@ use Rattle.ferry_view.specs.Lines.{archive_lines}
 use Rattle.ferry_top.specs.List.{IsArchiveListing}
 
 -- the lines of an opened repository's archives are the listing of its files
-pub archives_of : (source : Option Told) (passphrase : List ℕ) (repo : RepoState) → IfSome source (λ t. OpensFilesTo (told_files t) passphrase repo) → IfSome source (λ t. IsArchiveListing passphrase (told_files t) (archive_lines repo.manifest.archives))
+pub archives_of : (source : Option Told) (passphrase : List ℕ) (repo : RepoState) → IfSome source (λ t. OpensFilesTo (told_files t) passphrase repo)
+    → IfSome source (λ t. IsArchiveListing passphrase (told_files t) (archive_lines repo.manifest.archives))
 archives_of source passphrase repo h =
-    told_then source (λ files. OpensFilesTo files passphrase repo) (λ files. IsArchiveListing passphrase files (archive_lines repo.manifest.archives)) (λ files opens. record { repo = repo; opens = opens; lines = refl }) h
+    told_then source (λ files. OpensFilesTo files passphrase repo) (λ files. IsArchiveListing passphrase files (archive_lines repo.manifest.archives))
+    (λ files opens. record { repo = repo; opens = opens; lines = refl }) h

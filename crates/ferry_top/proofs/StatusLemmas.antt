@@ -44,7 +44,8 @@ pub ruleset causes = (failed_of_log, failed_of_repo, failed_of_view)
 -- ---- what was written
 
 -- a text that isn't out whole
-pub cut_text : (IsText : Files → List ℕ → Type 0) (Refuses : Files → Refusal → Type 0) (source : Option Told) (before after : Written) (text : List ℕ) (fault : ViewFault)
+pub cut_text : (IsText : Files → List ℕ → Type 0) (Refuses : Files → Refusal → Type 0) (source : Option Told) (before after : Written) (text : List ℕ)
+    (fault : ViewFault)
     → IfSome source (λ t. IsText (told_files t) text) → WritesSome before.bytes text after.bytes → RoseWhere (view_failed fault) before.faults after.faults
     → Prints IsText Refuses source before (view_status fault) after
 cut_text IsText Refuses source before after text View.Output is some cause = (text, is, some, cause)

@@ -19,10 +19,12 @@ use Rattle.ferry_top.specs.declared.status.Status.TheVariants.{Done, Usage, Memo
 -- source's files: all of the text, nothing, or a front of it where the output or memory failed.
 abbrev pub Prints : (Files → List ℕ → Type 0) → (Files → Refusal → Type 0) → Option Told → Written → Status → Written → Type 0
 Prints IsText Refuses source before Done after =
-    (text : List ℕ) × IfSome source (λ t. IsText (told_files t) text) × (after.bytes ≡ option_map (λ w. w ++ text) before.bytes) × (after.faults ≡ before.faults)
+    (text : List ℕ) × IfSome source (λ t. IsText (told_files t) text) × (after.bytes ≡ option_map (λ w. w ++ text) before.bytes)
+    × (after.faults ≡ before.faults)
 Prints IsText Refuses source before (Usage word) after = ⊥
 Prints IsText Refuses source before Memory after =
-    (after ≡ before) ⊎ ((text : List ℕ) × IfSome source (λ t. IsText (told_files t) text) × WritesSome before.bytes text after.bytes × (after.faults ≡ before.faults))
+    (after ≡ before) ⊎ ((text : List ℕ) × IfSome source (λ t. IsText (told_files t) text) × WritesSome before.bytes text after.bytes
+    × (after.faults ≡ before.faults))
 Prints IsText Refuses source before SourceDevice after = after ≡ before
 Prints IsText Refuses source before OutputDevice after =
     (text : List ℕ) × IfSome source (λ t. IsText (told_files t) text) × WritesSome before.bytes text after.bytes × Rose before.faults after.faults
@@ -32,7 +34,8 @@ Prints IsText Refuses source before (SourceRefused refusal) after = IfSome sourc
 abbrev pub DoesTask : Result Task ℕ → List ℕ → Option Told → Written → Status → Written → Type 0
 DoesTask (Ok Keys) passphrase source before status after = Prints IsListing RefusesKeys source before status after
 DoesTask (Ok Key) passphrase source before status after =
-    Prints (λ files text. IsIdLine passphrase (contents_at files Name.Config) text) (λ files refusal. RefusesUnlocking passphrase (contents_at files Name.Config) refusal)
+    Prints (λ files text. IsIdLine passphrase (contents_at files Name.Config) text)
+    (λ files refusal. RefusesUnlocking passphrase (contents_at files Name.Config) refusal)
     source before status after
 DoesTask (Ok ListTask) passphrase source before status after = Prints (IsArchiveListing passphrase) (RefusesOpening passphrase) source before status after
 DoesTask (Err word) passphrase source before status after = after ≡ before

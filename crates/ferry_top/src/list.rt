@@ -19,7 +19,8 @@ pub(crate) fn list<S: Shelf, K: Sink>(
     source: &mut S,
     out: &mut K,
 ) -> Status
-    ensures out { DoesTask (Ok TheTask.List) passphrase.now (S.told source.old) (written (K.written out.old) (K.faults out.old)) result (written (K.written out.new) (K.faults out.new)) }
+    ensures out { DoesTask (Ok TheTask.List) passphrase.now (S.told source.old)
+        (written (K.written out.old) (K.faults out.old)) result (written (K.written out.new) (K.faults out.new)) }
     ensures same { KeptWhere (source_failed result) (heard (S.told source.old)) (S.told source.new) }
     ensures cause { RoseWhere (source_failed result) (S.faults source.old) (S.faults source.new) }
 {

@@ -9,7 +9,10 @@ loop-filled-preserved g c =
     let read = c.in_ok-count.ensures in
     record {
       within = omega (arith, read.within);
-      front = told_more (g.S.Shelf.told c.args.shelf.now) (g.S.Shelf.told c.loop-filled.shelf) c.args.name c.args.at c.loop-filled.filled c.in_ok-count.count c.loop-filled.into _ c.read_at.new.into old.same old.within (length-take-le _ (drop c.loop-filled.filled c.loop-filled.into) (omega (arith, length-drop c.loop-filled.filled c.loop-filled.into))) old.front read.bytes;
+      front = told_more (g.S.Shelf.told c.args.shelf.now) (g.S.Shelf.told c.loop-filled.shelf) c.args.name c.args.at c.loop-filled.filled
+          c.in_ok-count.count c.loop-filled.into _ c.read_at.new.into old.same old.within
+          (length-take-le _ (drop c.loop-filled.filled c.loop-filled.into) (omega (arith, length-drop c.loop-filled.filled c.loop-filled.into)))
+          old.front read.bytes;
       same = read.same ∙ old.same;
       faults = read.cause ∙ old.faults;
     }

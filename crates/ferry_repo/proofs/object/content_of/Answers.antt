@@ -16,5 +16,6 @@ returns-clause-content c =
     let shifted : c.copy_within.new.self.items ≡ copy_within plain 43 (length plain) 0 =
     c.copy_within.ensures.items ∙ ap (λ b. copy_within b 43 c.args.blob.len 0) whole ∙ ap (λ n. copy_within plain 43 n 0) held in
     let kept : 43 ≤ length plain = search rules in
-    let moved : c.truncate.new.self.items ≡ drop 43 plain = c.truncate.ensures.items ∙ ap (λ n. take (n - 43) c.copy_within.new.self.items) size ∙ ap (take (length plain - 43)) shifted ∙ moved_front plain 43 kept in
+    let moved : c.truncate.new.self.items ≡ drop 43 plain = c.truncate.ensures.items ∙ ap (λ n. take (n - 43) c.copy_within.new.self.items) size
+    ∙ ap (take (length plain - 43)) shifted ∙ moved_front plain 43 kept in
     subst (OpensBlob keys id c.args.blob.items) (sym moved) (subst (λ b. OpensBlob keys id b (drop 43 plain)) c.deref_mut.ensures.value c.in-Ok.ensures.opened)

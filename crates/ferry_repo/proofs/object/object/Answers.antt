@@ -20,7 +20,8 @@ returns-in_err-blob-clause-refused g c =
     subst (λ (f : RepoFault). IfSome told (λ t. RefusesObject (told_files t) c.args.log.now c.args.keys.now id f)) (sym is)
     (told_with told told (λ f. FitsFiles f c.args.log.now) (λ f. LosesBlob (segment_bytes f place.segment) place lost)
     (λ f. RefusesObject f c.args.log.now c.args.keys.now id lost) refl
-    (λ f fits h. not_lost f c.args.log.now id place c.args.keys.now lost fits (sym c.find.ensures ∙ c.in-Some.is) h) c.requires.fits c.in_err-blob.ensures.refused))
+    (λ f fits h. not_lost f c.args.log.now id place c.args.keys.now lost fits (sym c.find.ensures ∙ c.in-Some.is) h) c.requires.fits
+    c.in_err-blob.ensures.refused))
 
 pub returns-clause-content : goal.returns-clause-content
 returns-clause-content g c =
@@ -43,5 +44,6 @@ returns-clause-refused g c =
     IfErr-weaker c.content_of.result _ _ (λ fault broken.
     told_with told told (λ f. FitsFiles f c.args.log.now) (λ f. blob ≡ take place.size (drop place.at (segment_bytes f place.segment)))
     (λ f. RefusesObject f c.args.log.now c.args.keys.now id fault) refl
-    (λ f fits read. breaks_object f c.args.log.now c.args.keys.now id blob fault (has_blob f c.args.log.now id blob place fits (sym c.find.ensures ∙ c.in-Some.is) read) broken)
+    (λ f fits read. breaks_object f c.args.log.now c.args.keys.now id blob fault
+    (has_blob f c.args.log.now id blob place fits (sym c.find.ensures ∙ c.in-Some.is) read) broken)
     c.requires.fits c.in_ok-blob.ensures.blob) c.content_of.ensures.refused

@@ -15,7 +15,8 @@ returns-in_err-envelope-clause-refused c =
     let same = ap envelope_of (sym c.as_slice.ensures) in
     gives_err c.from_residual-in_err-envelope.result _ _ c.from_residual-in_err-envelope.ensures.1 (λ f is.
     subst (RefusesKey bytes pass) (sym is)
-    (key_refuses bytes pass config fault c.in_ok-config.ensures.config (λ other. key_of-envelope pass config.key fault (same ∙ c.in_err-envelope.ensures.fault other))))
+    (key_refuses bytes pass config fault c.in_ok-config.ensures.config
+    (λ other. key_of-envelope pass config.key fault (same ∙ c.in_err-envelope.ensures.fault other))))
 
 pub returns-in_err-key-clause-refused : goal.returns-in_err-key-clause-refused
 returns-in_err-key-clause-refused c =
@@ -27,7 +28,8 @@ returns-in_err-key-clause-refused c =
     let read = ap envelope_of (sym c.as_slice.ensures) ∙ c.in_ok-envelope.ensures.envelope in
     gives_err c.from_residual-in_err-key.result _ _ c.from_residual-in_err-key.ensures.1 (λ f is.
     subst (RefusesKey bytes pass) (sym is)
-    (key_refuses bytes pass config fault c.in_ok-config.ensures.config (λ other. key_of-opened pass config.key envelope (Err fault) read (c.in_err-key.ensures.fault other))))
+    (key_refuses bytes pass config fault c.in_ok-config.ensures.config
+    (λ other. key_of-opened pass config.key envelope (Err fault) read (c.in_err-key.ensures.fault other))))
 
 pub returns-clause-unlocked : goal.returns-clause-unlocked
 returns-clause-unlocked c =

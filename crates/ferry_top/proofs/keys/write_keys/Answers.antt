@@ -12,7 +12,8 @@ loop-found-init g c =
 
 pub returns-in_err-push_line-clause-err : goal.returns-in_err-push_line-clause-err
 returns-in_err-push_line-clause-err g c =
-    err_holds _ _ (written_still c.args.log.now.opened (g.K.Sink.written c.args.out.now) (g.K.Sink.written c.loop-found.out) c.loop-found.last c.loop-found.lines.items
+    err_holds _ _ (written_still c.args.log.now.opened (g.K.Sink.written c.args.out.now) (g.K.Sink.written c.loop-found.out) c.loop-found.last
+    c.loop-found.lines.items
     c.loop-found.invariant.writes)
 
 pub returns-in_err-send_full-clause-err : goal.returns-in_err-send_full-clause-err
@@ -33,7 +34,8 @@ loop-found-smaller g c =
     let last = c.loop-found.last in
     let found = c.in-Some.found in
     let least = least_opened log last (Some found) c.requires (subst (λ k. IsLeastAbove log k (Some found)) c.as_ref.ensures.value c.in-Some.ensures) in
-    fewer_left log.opened (g.K.Sink.written c.args.out.now) (g.K.Sink.written c.loop-found.out) last found c.loop-found.lines.items least c.loop-found.invariant.writes
+    fewer_left log.opened (g.K.Sink.written c.args.out.now) (g.K.Sink.written c.loop-found.out) last found c.loop-found.lines.items least
+    c.loop-found.invariant.writes
 
 pub loop-found-preserved : goal.loop-found-preserved
 loop-found-preserved g c =
@@ -46,7 +48,8 @@ loop-found-preserved g c =
     let least = least_opened log last (Some found) c.requires (subst (λ k. IsLeastAbove log k (Some found)) c.as_ref.ensures.value c.in-Some.ensures) in
     let more = writes_more log.opened old now last found c.loop-found.lines.items lines least c.loop-found.invariant.writes c.in_ok-push_line.ensures in
     record {
-      writes = writes_out log.opened old now (g.K.Sink.written c.send_full.new.out) (Some found.0) lines c.send_full.new.text.items more c.in_ok-send_full.ensures.ok;
+      writes = writes_out log.opened old now (g.K.Sink.written c.send_full.new.out) (Some found.0) lines c.send_full.new.text.items more
+          c.in_ok-send_full.ensures.ok;
       faults = c.in_ok-send_full.ensures.cause ∙ c.loop-found.invariant.faults;
     }
 

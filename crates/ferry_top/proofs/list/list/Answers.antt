@@ -27,5 +27,6 @@ returns-clause-out g c =
     let repo = repo_view c.in-Ok.repo in
     let fault = c.in-Err-list.fault in
     subst (λ (s : Status). Prints (IsArchiveListing pass) (RefusesOpening pass) source before s after) (sym c.of_view.ensures)
-    (cut_text (IsArchiveListing pass) (RefusesOpening pass) source before after (archive_lines repo.manifest.archives) fault (archives_of source pass repo c.in-Ok.ensures.repository)
+    (cut_text (IsArchiveListing pass) (RefusesOpening pass) source before after (archive_lines repo.manifest.archives) fault
+    (archives_of source pass repo c.in-Ok.ensures.repository)
     c.in-Err-list.ensures.err c.in-Err-list.ensures.cause)

@@ -8,5 +8,6 @@ pub returns-in_ok-insert-in-Segment : goal.returns-in_ok-insert-in-Segment
 returns-in_ok-insert-in-Segment c =
     let old = c.args.self.now in
     let files = files_of old in
-    ap (λ s. record files { segments = s }) (insert-seen (λ v. v.items) old.segments.entries c.insert.new.self.entries c.in-Segment.number c.args.bytes c.in_ok-insert-in-Segment.ensures.updates.0)
+    ap (λ s. record files { segments = s })
+    (insert-seen (λ v. v.items) old.segments.entries c.insert.new.self.entries c.in-Segment.number c.args.bytes c.in_ok-insert-in-Segment.ensures.updates.0)
     ∙ ap (λ n. with_file files n c.args.bytes.items) (sym c.in-Segment.is)
