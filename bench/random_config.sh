@@ -12,10 +12,10 @@ seed=${1:-$(date +%s)}
 folder=$(mktemp -d)
 trap 'rm -rf "$folder"' EXIT
 mkdir -p "$folder/crates/config_cases/src"
-cp -r crates/ferry_config "$folder/crates/"
-rm -rf "$folder/crates/ferry_config/out"
+cp -r crates/ferry_base crates/ferry_config "$folder/crates/"
+rm -rf "$folder/crates/ferry_base/out" "$folder/crates/ferry_config/out"
 cp HANDLES "$folder/"
-printf 'ferry_config: hex base64 thiserror\nconfig_cases: ferry_config hex anyhow\n' > "$folder/crates.txt"
+printf 'ferry_base:\nferry_config: ferry_base hex base64 thiserror\nconfig_cases: ferry_config hex anyhow\n' > "$folder/crates.txt"
 
 cat > "$folder/crates/config_cases/src/main.rt" <<'PROGRAM'
 //! Reads configs in hex, one a line, and prints what each says, or the number of its fault.

@@ -2,13 +2,15 @@
 """The program's own cases: program.py PROGRAM
 
 Each case makes a folder, runs the program in the folder above it with the words and variables given, and compares status and
-output. What a repository has to print stands in the case, or comes from segments.keys. Nothing may be written: the folder is
-compared before and after. One line for each case that differs, and at the end 'N passed, M failed'; status 1 where M isn't 0.
+output. What a repository has to print stands in the case, or comes from segments.keys. What standard error has to say beside it
+comes from the table in docs/FORMATS.md, of which each row is met. Nothing may be written: the folder is compared before and
+after. One line for each case that differs, and at the end 'N passed, M failed'; status 1 where M isn't 0.
 """
 import base64
 import hashlib
 import os
 import random
+import re
 import resource
 import stat
 import struct
@@ -32,6 +34,20 @@ GREATEST = 2**64 - 1
 KEYS = ("source", "-", "keys")
 
 passed = failed = 0
+
+
+def plain_words():
+    """The rows of the table of plain words in docs/FORMATS.md: the line on standard output, where, and the line on standard error."""
+    formats = os.path.join(os.path.dirname(os.path.abspath(__file__)), "..", "docs", "FORMATS.md")
+    with open(formats, encoding="utf-8") as file:
+        section = file.read().split("\n## Plain words on standard error\n")[1].split("\n## ")[0]
+    rows = [[cell.strip() for cell in row.strip("| ").split(" | ")] for row in re.findall(r"(?m)^\| (.*) \|$", section)[1:]]
+    return {(row[0].strip("`"), row[1] if len(row) == 3 else ""): row[-1] for row in rows}
+
+
+PLAIN = plain_words()
+NOT_TODAY = "another id, which no command of today asks for"
+met = set()
 
 
 def line(*pairs):
@@ -74,16 +90,51 @@ def state(root):
     return all_of_it
 
 
-def run(words, cwd, variables=None, stdout=subprocess.PIPE, limit=None):
+def run(words, cwd, variables=None, stdout=subprocess.PIPE, limit=None, stderr=subprocess.PIPE):
     """The status and the output of one run."""
     env = {name: value for name, value in os.environb.items() if not name.startswith(b"BORG_")}
     env.update(variables or {})
     before = lambda: limit and resource.setrlimit(resource.RLIMIT_AS, (limit, limit))
     try:
-        ran = subprocess.run([PROGRAM, *words], cwd=cwd, env=env, stdin=subprocess.DEVNULL, stdout=stdout, stderr=subprocess.PIPE, timeout=60, preexec_fn=before)
+        ran = subprocess.run([PROGRAM, *words], cwd=cwd, env=env, stdin=subprocess.DEVNULL, stdout=stdout, stderr=stderr, timeout=60, preexec_fn=before)
     except subprocess.TimeoutExpired:
         return "no answer", b""
-    return ran.returncode, (ran.stdout or b"") + ran.stderr
+    if stderr == subprocess.PIPE:
+        explained(words, cwd, ran.returncode, ran.stdout, ran.stderr)
+    return ran.returncode, ran.stdout or b""
+
+
+def row_of(words, cwd, status, out):
+    """The row of the table of plain words that a run comes under, None where it says nothing there."""
+    if status in (0, 7):
+        return ("none", "standard output failed, status 7") if status else None
+    line = re.sub(r"\b[0-9a-f]{64}$", "ID", out.decode("utf-8", "replace").rstrip("\n"))
+    line = re.sub(r"segment \d+ at \d+$", "segment S at A", re.sub(r"^usage: word \d+$", "usage: word N", line))
+    where, source = "", os.fsdecode(words[0]) if words else ""
+    if line == "usage":
+        where = "no two places and a command"
+    elif line == "usage: word N":
+        where = f"the command {words[2]}" if words[2] in ("keys", "key", "list") else "another word"
+    elif line in ("source refused: no commit", "source refused: config 1") and source in ("-", ""):
+        where = "`-` or an empty word"
+    elif line in ("source refused: no commit", "source refused: config 1") and not os.path.exists(os.path.join(cwd, source)):
+        where = "the folder isn't there"
+    elif line in ("source refused: missing ID", "source refused: blob 4 ID"):
+        where = "the zero id" if out.endswith(b"0" * 64 + b"\n") else NOT_TODAY
+    return line, where
+
+
+def explained(words, cwd, status, out, err):
+    """Looks whether standard error has what the table says of a run, and no more."""
+    if out is None:
+        want = {b"%s\n" % text.encode() for text in PLAIN.values()}
+        is_right = err in want and (status != 7 or err == b"%s\n" % PLAIN["none", "standard output failed, status 7"].encode())
+    else:
+        row = row_of(words, cwd, status, out)
+        is_right = err == (b"" if row is None else b"%s\n" % PLAIN.get(row, "no such row").encode())
+        met.add(row)
+    if not is_right:
+        judge(f"standard error of {words}", (status, err), (status, b"what docs/FORMATS.md says"))
 
 
 def judge(name, got, want):
@@ -172,9 +223,9 @@ def logs():
     far = {"data/0/3": one, "data/1/1000": segment(put(L, b"x")), f"data/{GREATEST // 1000}/{GREATEST}": commit}
     case("gaps up to the greatest number", far, line((K, 3), (L, 1)))
     numbers = random.Random(4)
-    names = [bytes([numbers.randrange(256)]) + b"\x33" * 31 for _ in range(400)]
+    names = [bytes([numbers.randrange(256)]) + b"\x33" * 30 + bytes([numbers.randrange(256)]) for _ in range(1600)]
     entries = [put(name, b"x" * numbers.randrange(300)) if numbers.randrange(3) else delete(name) for name in names * 2]
-    many = {f"data/{number // 10}/{number}": segment(*entries[number * 8 : number * 8 + 8]) for number in range(100)}
+    many = {f"data/{number // 10}/{number}": segment(*entries[number * 32 : number * 32 + 32]) for number in range(100)}
     case("many keys", {**many, "data/10/100": commit})
 
 
@@ -219,11 +270,11 @@ def damage():
 def memory():
     """Less and less memory: each run prints what it should, or the line of want of memory; both come."""
     with tempfile.TemporaryDirectory() as root:
-        blob = b"\0" * (segments.LARGEST - 41)
-        make(root, inside("source", log(segment(put(K, b"abc"), put(L, blob)), COMMIT_SEGMENT)))
+        keys = [number.to_bytes(32, "big") for number in range(60000)]
+        make(root, inside("source", log(segment(*(put(key, b"") for key in keys)), COMMIT_SEGMENT)))
         want = segments.keys(os.path.join(root, "source"))
-        answers = {run(KEYS, root, limit=megabytes << 20) for megabytes in range(8, 120, 8)}
-        judge("want of memory", (sorted(answers), b""), (sorted([want, (3, b"memory\n")]), b""))
+        answers = {run(KEYS, root, limit=megabytes << 20) for megabytes in range(6, 26, 2)}
+        judge("want of memory", (len(answers), b"".join(answer[1] for answer in sorted(answers))), (2, want[1] + b"memory\n"))
 
 
 def names():
@@ -326,6 +377,8 @@ def keys_of_configs():
         make(root, {"source/config": config(good).encode()})
         judge("key: words", run(("source", "-", "key", "x"), root), wrong_word(2))
         judge("key: a passphrase that isn't UTF-8", run(words, root, {b"BORG_OTHER_PASSPHRASE": b"\xff"}), (2, b"BORG_OTHER_PASSPHRASE isn't UTF-8\n"))
+    for place in ("-", ""):
+        case(f"key: the place {place!r}", {"config": config(good).encode()}, (8, b"source refused: config 1\n"), (place, "source", "key"))
     case("key: a folder as config", {"config": None}, (8, b"source refused: config 1\n"), words)
 
 
@@ -421,9 +474,23 @@ def outputs():
             os.close(read)
             judge(f"a pipe that nobody reads: {words}", run(words, root, stdout=write), (want, b""))
             os.close(write)
+        for words in (("-", "-", "keys"), ("source", "-", "nothing"), ("source",)):
+            want = run(words, root)
+            with open("/dev/full", "wb") as full:
+                judge(f"a full standard error: {words}", run(words, root, stderr=full), want)
+            closed = subprocess.run(["sh", "-c", 'exec "$@" 2>&-', "", PROGRAM, *words], cwd=root, stdin=subprocess.DEVNULL, stdout=subprocess.PIPE, timeout=60)
+            judge(f"a closed standard error: {words}", (closed.returncode, closed.stdout), want)
 
 
-for cases in (folders, logs, damage, memory, names, words, keys_of_configs, listings, variables, outputs):
+def rows():
+    """Each row of the table of plain words was met, but for those that no command of today comes to."""
+    met.add(("none", "standard output failed, status 7"))
+    for row in PLAIN:
+        if row[1] != NOT_TODAY:
+            judge(f"plain words: {row}", (row in met, b""), (True, b""))
+
+
+for cases in (folders, logs, damage, memory, names, words, keys_of_configs, listings, variables, outputs, rows):
     cases()
 print(f"{passed} passed, {failed} failed")
 sys.exit(1 if failed or not passed else 0)

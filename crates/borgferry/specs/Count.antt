@@ -1,18 +1,8 @@
--- Which answers of a device are counted.
-use Rattle.std.specs.Prelude.{Bool, true, false, Result, Ok, Err}
-use Rattle.ferry_disk.specs.declared.shelf.StoreFault.{StoreFault}
-use Rattle.ferry_disk.specs.declared.shelf.StoreFault.TheVariants as Store
-use Rattle.ferry_disk.specs.declared.sink.SinkFault.{SinkFault}
-use Rattle.ferry_disk.specs.declared.sink.SinkFault.TheVariants as Sink
+-- How the devices of the program count their faults.
+use Rattle.std.specs.Prelude.{ℕ, Bool, if◌then◌else◌, Result, Ok, Err}
+use Rattle.ferry_disk.specs.Device.{counted}
 
--- a shelf failed
-abbrev pub is_failed : {T : Type 0} → Result T StoreFault → Bool
-is_failed (Ok x) = false
-is_failed (Err Store.Failed) = true
-is_failed (Err Store.Memory) = false
-
--- a sink failed
-abbrev pub is_refused : {T : Type 0} → Result T SinkFault → Bool
-is_refused (Ok x) = false
-is_refused (Err Sink.Failed) = true
-is_refused (Err Sink.Memory) = false
+-- the count of faults after an answer: one more, up to 2^64 - 1, where the device failed
+abbrev pub count_after : {T F : Type 0} → (F → Bool) → ℕ → Result T F → ℕ
+count_after is_device before (Ok x) = before
+count_after is_device before (Err fault) = if is_device fault then counted before else before

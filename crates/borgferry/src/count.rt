@@ -1,8 +1,8 @@
 //! Counts of faults, and which errors of the system are want of memory.
-ghost use Rattle.std.specs.Prelude.{◌≡◌, ◌↔◌, if◌then◌else◌};
+ghost use Rattle.std.specs.Prelude.{◌≡◌, ◌↔◌};
 ghost use Rattle.std.specs.IoError.{error_kind};
-ghost use Rattle.ferry_disk.specs.Device.{counted, HasStoreCause, HasSinkCause};
-ghost use Rattle.borgferry.specs.Count.{is_failed, is_refused};
+ghost use Rattle.ferry_disk.specs.Device.{HasCause, sink_failed, store_failed};
+ghost use Rattle.borgferry.specs.Count.{count_after};
 
 use ferry_disk::{SinkFault, StoreFault};
 use std::io::{Error, ErrorKind};
@@ -10,8 +10,8 @@ use std::io::{Error, ErrorKind};
 /// Counts an answer of a shelf that is `Failed`, and no other.
 pub fn count_store<T>(faults: &mut u64, outcome: Result<T, StoreFault>) -> Result<T, StoreFault>
     ensures outcome { result ≡ outcome }
-    ensures count { faults.new ≡ (if is_failed result then counted faults.old else faults.old) }
-    ensures cause { HasStoreCause faults.old faults.new result }
+    ensures count { faults.new ≡ count_after store_failed faults.old result }
+    ensures cause { HasCause store_failed faults.old faults.new result }
 {
     if let Err(StoreFault::Failed) = &outcome {
         *faults = faults.saturating_add(1);
@@ -22,8 +22,8 @@ pub fn count_store<T>(faults: &mut u64, outcome: Result<T, StoreFault>) -> Resul
 /// Counts an answer of a sink that is `Failed`, and no other.
 pub fn count_sink(faults: &mut u64, outcome: Result<(), SinkFault>) -> Result<(), SinkFault>
     ensures outcome { result ≡ outcome }
-    ensures count { faults.new ≡ (if is_refused result then counted faults.old else faults.old) }
-    ensures cause { HasSinkCause faults.old faults.new result }
+    ensures count { faults.new ≡ count_after sink_failed faults.old result }
+    ensures cause { HasCause sink_failed faults.old faults.new result }
 {
     if let Err(SinkFault::Failed) = &outcome {
         *faults = faults.saturating_add(1);

@@ -17,6 +17,17 @@ use std::rt::Runtime;
 /// The word that stands for no folder.
 const NO_FOLDER: &str = "-";
 
+/// Whether there is anything at a repository's place.
+#[derive(Clone, Copy, Debug, PartialEq, Eq)]
+pub enum Presence {
+    /// Something is there, or it can't be told.
+    There,
+    /// Nothing is there.
+    Absent,
+    /// The word stands for no folder.
+    Unnamed,
+}
+
 /// A repository's folder.
 #[derive(Drop)]
 pub struct Folder<R: Runtime> {
@@ -52,6 +63,17 @@ impl<R: Runtime> Folder<R> {
             found: None,
             opened: None,
         })
+    }
+
+    /// Whether the folder is there now. Nothing in it is looked at.
+    pub fn presence(&self) -> Presence {
+        let Some(path) = &self.path else {
+            return Presence::Unnamed;
+        };
+        match fs::metadata(&self.rt, path.as_str()) {
+            Err(error) if error.kind() == ErrorKind::NotFound => Presence::Absent,
+            _ => Presence::There,
+        }
     }
 
     /// The numbers of the segments that are there now, increasing.

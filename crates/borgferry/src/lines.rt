@@ -22,6 +22,8 @@ variables:
   BORG_OTHER_PASSPHRASE    the source's passphrase, empty where the variable is absent
   BORG_PASSPHRASE          the target's passphrase, empty where the variable is absent
 
+A refusal is one line on standard output, and one in plain words on standard error, which says what it means and what to do.
+
 status:
   0    done
   2    the words are no command

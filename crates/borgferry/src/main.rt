@@ -5,6 +5,7 @@
 //! list numbers that increase, and count their faults.
 #![tactic(auto)]
 
+mod advice;
 mod count;
 mod entropy;
 mod folder;

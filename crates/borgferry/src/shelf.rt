@@ -2,7 +2,7 @@
 ghost use Rattle.std.specs.Prelude.{None};
 
 use crate::count::count_store;
-use crate::folder::Folder;
+use crate::folder::{Folder, Presence};
 use ferry_disk::{Depot, Name, Shelf, StoreFault};
 use std::alloc::{AllocError, Global};
 use std::rt::Runtime;
@@ -19,6 +19,11 @@ impl<R: Runtime> FolderShelf<R> {
     pub fn new(rt: R, alloc: Global, place: &str) -> Result<FolderShelf<R>, AllocError> {
         let folder = Folder::new(rt, alloc, place)?;
         Ok(FolderShelf { folder, faults: 0 })
+    }
+
+    /// Whether the repository's folder is there now. This is no call of the device, and counts no fault.
+    pub fn presence(&self) -> Presence {
+        self.folder.presence()
     }
 }
 

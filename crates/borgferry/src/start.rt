@@ -1,9 +1,11 @@
 //! What the program does before and after its command: words, passphrases, devices, and the status at the end.
 
+use crate::advice::{FORM, MEMORY, NOT_TEXT, OUTPUT, advice};
 use crate::entropy::NoEntropy;
 use crate::lines::{HELP, VERSION};
 use crate::shelf::FolderShelf;
 use crate::stdout::StdSink;
+use ferry_base::Bytes;
 use ferry_top::{Secrets, places_fit, run};
 use std::alloc::{AllocError, AllocGlobal, Global};
 use std::env;
@@ -18,11 +20,11 @@ const SOURCE_PASSPHRASE: &str = "BORG_OTHER_PASSPHRASE";
 const TARGET_PASSPHRASE: &str = "BORG_PASSPHRASE";
 
 /// The status where standard output can't be written.
-const OUTPUT: u8 = 7;
+const OUTPUT_STATUS: u8 = 7;
 
 /// Why the program ends before its command.
 #[derive(Drop)]
-enum Refusal {
+enum StartFault {
     /// The words name no source, target and command.
     Usage,
     /// The variable of this name isn't UTF-8.
@@ -31,9 +33,9 @@ enum Refusal {
     Memory,
 }
 
-impl From<AllocError> for Refusal {
-    fn from(_error: AllocError) -> Refusal {
-        Refusal::Memory
+impl From<AllocError> for StartFault {
+    fn from(_error: AllocError) -> StartFault {
+        StartFault::Memory
     }
 }
 
@@ -41,12 +43,12 @@ impl From<AllocError> for Refusal {
 pub fn start<R: Runtime + AllocGlobal>(rt: &R) -> u8 {
     match carry_out(rt) {
         Ok(status) => status,
-        Err(refusal) => refuse(rt, &refusal),
+        Err(fault) => refuse(rt, &fault),
     }
 }
 
 /// Does what the words say, or answers why not.
-fn carry_out<R: Runtime + AllocGlobal>(rt: &R) -> Result<u8, Refusal> {
+fn carry_out<R: Runtime + AllocGlobal>(rt: &R) -> Result<u8, StartFault> {
     let words = words(rt)?;
     match words.as_slice() {
         [word] if word.as_str() == "--help" => Ok(print(rt, HELP)),
@@ -54,7 +56,7 @@ fn carry_out<R: Runtime + AllocGlobal>(rt: &R) -> Result<u8, Refusal> {
         [source, target, command @ ..] if places_fit(words.as_slice()) => {
             run_command(rt, source.as_str(), target.as_str(), command)
         }
-        _ => Err(Refusal::Usage),
+        _ => Err(StartFault::Usage),
     }
 }
 
@@ -64,7 +66,7 @@ fn run_command<R: Runtime + AllocGlobal>(
     source: &str,
     target: &str,
     command: &[String],
-) -> Result<u8, Refusal> {
+) -> Result<u8, StartFault> {
     let alloc = rt.alloc();
     let secrets = Secrets {
         source: passphrase(rt, SOURCE_PASSPHRASE)?,
@@ -82,48 +84,56 @@ fn run_command<R: Runtime + AllocGlobal>(
         &mut NoEntropy,
         &mut out,
     );
+    let word = command.first().map_or("", |word| word.as_str());
+    if let Some(line) = advice(&status, word, source.presence()) {
+        advise(rt, line);
+    }
     Ok(status.number())
 }
 
 /// The program's words, without its own name.
-fn words<R: Runtime + AllocGlobal>(rt: &R) -> Result<Vec<String>, Refusal> {
+fn words<R: Runtime + AllocGlobal>(rt: &R) -> Result<Vec<String>, StartFault> {
     match env::args(rt) {
         Ok(words) => Ok(words.skip(1).collect(rt.alloc())?),
-        Err(error) if error.kind() == ErrorKind::InvalidData => Err(Refusal::Usage),
-        Err(_) => Err(Refusal::Memory),
+        Err(error) if error.kind() == ErrorKind::InvalidData => Err(StartFault::Usage),
+        Err(_) => Err(StartFault::Memory),
     }
 }
 
 /// The passphrase that a variable has, empty where it is absent.
-fn passphrase<R: Runtime + AllocGlobal>(rt: &R, name: &'static str) -> Result<Vec<u8>, Refusal> {
+fn passphrase<R: Runtime + AllocGlobal>(rt: &R, name: &'static str) -> Result<Bytes, StartFault> {
     match env::var(rt, name) {
-        Ok(text) => Ok(text.into_bytes()),
-        Err(VarError::NotPresent) => Ok(Vec::new(rt.alloc())),
-        Err(VarError::NotUnicode) => Err(Refusal::NotText(name)),
-        Err(VarError::OutOfMemory) => Err(Refusal::Memory),
+        Ok(text) => Ok(Bytes::new(text.into_bytes())),
+        Err(VarError::NotPresent) => Ok(Bytes::new(Vec::new(rt.alloc()))),
+        Err(VarError::NotUnicode) => Err(StartFault::NotText(name)),
+        Err(VarError::OutOfMemory) => Err(StartFault::Memory),
     }
 }
 
 /// Prints a text, and answers the status to end with.
-fn print<P: Print>(rt: &P, text: &str) -> u8 {
+fn print<R: Runtime>(rt: &R, text: &str) -> u8 {
     match rt.write_all(text.as_bytes()) {
         Ok(()) => 0,
-        Err(_) => OUTPUT,
+        Err(_) => {
+            advise(rt, OUTPUT);
+            OUTPUT_STATUS
+        }
     }
 }
 
-/// Prints why the program ends before its command, and answers the status to end with, also where the line isn't taken.
-fn refuse<P: Print>(rt: &P, refusal: &Refusal) -> u8 {
-    let (line, status) = match refusal {
-        Refusal::Usage => ("usage", 2),
-        Refusal::NotText(name) => return refuse_variable(rt, name),
-        Refusal::Memory => ("memory", 3),
+/// Prints why the program ends before its command, and answers the status to end with, also where a line isn't taken.
+fn refuse<R: Runtime>(rt: &R, fault: &StartFault) -> u8 {
+    let (said, line, status) = match fault {
+        StartFault::Usage => (rt.println("usage"), FORM, 2),
+        StartFault::NotText(name) => (println!(rt; "{name} isn't UTF-8"), NOT_TEXT, 2),
+        StartFault::Memory => (rt.println("memory"), MEMORY, 3),
     };
-    let _ = rt.println(line);
+    let _ = said;
+    advise(rt, line);
     status
 }
 
-fn refuse_variable<P: Print>(rt: &P, name: &str) -> u8 {
-    let _ = println!(rt; "{name} isn't UTF-8");
-    2
+/// Prints a line in plain words on standard error. Where it can't be written, the status and the fault line tell alone.
+fn advise<P: Eprint>(rt: &P, line: &str) {
+    let _ = rt.eprintln(line);
 }

@@ -5,6 +5,7 @@ use crate::shelf::FolderShelf;
 use crate::stdout::write_all;
 use ferry_disk::{Name, Shelf, SinkFault, StoreFault};
 use std::io::{Cursor, Error, ErrorKind, Read, Seek, SeekFrom, Write};
+use std::process::Abort;
 use std::test::Fail;
 use std::{env, fs, io, process};
 
@@ -44,6 +45,24 @@ fn make_folder(rt: &HostRuntime) -> io::Result<String> {
     Ok(place)
 }
 
+/// Asserts that the device has these files with these contents, from any place on.
+fn are_read(
+    rt: &impl Abort,
+    shelf: &mut FolderShelf<HostRuntime>,
+    files: &[(Name, &str)],
+) -> Result<(), Fail> {
+    for (name, content) in files {
+        let mut bytes = [0u8; 32];
+        let length = content.len();
+        assert_eq!(rt; shelf.size(*name)?, Some(length as u64));
+        assert_eq!(rt; shelf.read_at(*name, 0, &mut bytes)?, length);
+        assert!(rt; bytes.starts_with(content.as_bytes()));
+        assert_eq!(rt; shelf.read_at(*name, length as u64, &mut bytes)?, 0);
+        assert_eq!(rt; shelf.read_at(*name, u64::MAX, &mut bytes)?, 0);
+    }
+    Ok(())
+}
+
 #[test]
 fn a_folders_files_are_read_where_they_lie(rt: HostRuntime) -> Result<(), Fail> {
     let place = make_folder(&rt)?;
@@ -53,42 +72,11 @@ fn a_folders_files_are_read_where_they_lie(rt: HostRuntime) -> Result<(), Fail> 
     assert_eq!(rt; (count, &early), (3, b"its"));
     let numbers = shelf.segments(rt.alloc())?;
     assert_eq!(rt; numbers.as_slice(), [2, 7, 1001].as_slice());
-    for (name, content) in SEEN {
-        let mut bytes = [0u8; 32];
-        let length = content.len();
-        assert_eq!(rt; shelf.size(name)?, Some(length as u64));
-        assert_eq!(rt; shelf.read_at(name, 0, &mut bytes)?, length);
-        assert!(rt; bytes.starts_with(content.as_bytes()));
-        assert_eq!(rt; shelf.read_at(name, length as u64, &mut bytes)?, 0);
-        assert_eq!(rt; shelf.read_at(name, u64::MAX, &mut bytes)?, 0);
-    }
+    are_read(&rt, &mut shelf, &SEEN)?;
     assert_eq!(rt; shelf.size(Name::Nonce)?, None);
     assert_eq!(rt; shelf.read_at(Name::Segment(9), 0, &mut early)?, 0);
     fs::remove_dir_all(&rt, place.as_str())?;
     Ok(())
-}
-
-/// A place that is no folder, or whose `data` is none, fails at each listing; one that isn't there has no files.
-#[test]
-fn what_is_no_folder_is_told_from_none(rt: HostRuntime) -> Result<(), Fail> {
-    let place = make_file(&rt)?;
-    for (end, fails) in [("", true), ("/data", true), ("-none", false)] {
-        let path = format!(in rt.alloc(); "{place}{end}")?;
-        let mut shelf = FolderShelf::new(rt.clone()?, rt.alloc(), path.as_str())?;
-        let failed = matches!(shelf.segments(rt.alloc()), Err(StoreFault::Failed));
-        assert_eq!(rt; failed, fails, "{end}");
-    }
-    fs::remove_file(&rt, place.as_str())?;
-    Ok(())
-}
-
-/// Makes a file that stands where a folder is looked for.
-fn make_file(rt: &HostRuntime) -> io::Result<String> {
-    let temporary = env::temp_dir(rt)?;
-    let number = process::id(rt.process());
-    let place = format!(in rt.alloc(); "{}/borgferry-file-{number}", temporary.as_str())?;
-    fs::write(rt, place.as_str(), "text")?;
-    Ok(place)
 }
 
 /// A file that gives at most two bytes a read, is interrupted at its second, and fails at the one that is told.

@@ -32,7 +32,8 @@ xor_lists_twice (x ∷ xs) (y ∷ ys) same = rw (xor_twice x y, xor_lists_twice 
 
 pub length-ctr : (key : List ℕ) (n : ℕ) (text : List ℕ) → length (ctr key n text) ≡ length text
 unfolding ctr
-length-ctr key n text = length-xor_lists text (key_stream (key_expansion key) n (length text)) ∙ omega (arith, length-key_stream (key_expansion key) n (length text))
+length-ctr key n text = length-xor_lists text (key_stream (key_expansion key) n (length text))
+    ∙ omega (arith, length-key_stream (key_expansion key) n (length text))
 
 -- a text that is encrypted twice at the same counter is the text again
 pub ctr-ctr : (key : List ℕ) (n : ℕ) (text : List ℕ) → ctr key n (ctr key n text) ≡ text

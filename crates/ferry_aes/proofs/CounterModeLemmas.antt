@@ -1,5 +1,6 @@
 -- Lemmas on specs/CounterMode.antt.
-use Rattle.std.proofs.Common.{◌≡◌, ℕ, zero, suc, ◌+◌, ◌-◌, ◌*◌, ◌/◌, ◌<◌, ◌≤◌, min, List, [], ◌∷◌, ◌++◌, length, take, drop, refl, sym, ap, subst, ◌∙◌, inl, inr, arith, length-append}
+use Rattle.std.proofs.Common.{◌≡◌, ℕ, zero, suc, ◌+◌, ◌-◌, ◌*◌, ◌/◌, ◌<◌, ◌≤◌, min, List, [], ◌∷◌, ◌++◌, length, take, drop, refl, sym, ap, subst, ◌∙◌, inl}
+use Rattle.std.proofs.Common.{inr, arith, length-append}
 use borrow.Rule.Slice.PartMut.{put_mid}
 use Rattle.std.specs.List.{range_with_len}
 use Rattle.std.proofs.lemmas.List.{map-id, append-nil, flat_map_more, take_all, drop_all, drop-drop, length-take-le}
@@ -40,7 +41,8 @@ pub front_more : (w : List (List ℕ)) (n count len : ℕ) (before after block :
     → take (16 * (count + 1)) after ≡ take len (output_blocks w n (count + 1))
 front_more w n count len before after block within same so_far is put =
     let e : 16 * (count + 1) ≡ 16 * count + 16 = omega arith in
-    let f : take len (output_blocks w n count) ≡ output_blocks w n count = take_all len (output_blocks w n count) (omega (arith, length-output_blocks w n count)) in
+    let f : take len (output_blocks w n count) ≡ output_blocks w n count =
+    take_all len (output_blocks w n count) (omega (arith, length-output_blocks w n count)) in
     rw (e, put, so_far, f, is, same, output_blocks_more) refl
 
 pub key_stream_at_end : (w : List (List ℕ)) (n count len : ℕ) (into : List ℕ) → length into ≡ len → count ≡ (len + 15) / 16
@@ -69,14 +71,16 @@ front_of_short xs block at count within sum short long =
     (take_all (at + 16) (take at xs ++ take count block) (omega arith) ∙ sym (take_joined (take at xs) block at count (length xs) front sum))
 
 -- 16 bytes or more are left
-front_of_whole : (xs block : List ℕ) (at : ℕ) → at + 16 ≤ length xs → length block ≡ 16 → take (at + 16) (put_mid at 16 xs block) ≡ take (length xs) (take at xs ++ block)
+front_of_whole : (xs block : List ℕ) (at : ℕ) → at + 16 ≤ length xs → length block ≡ 16
+    → take (at + 16) (put_mid at 16 xs block) ≡ take (length xs) (take at xs ++ block)
 front_of_whole xs block at room sixteen =
     let front : length (take at xs) ≡ at = length-take-le at xs (omega arith) in
     let joined = length-append (take at xs) block in
     take-put_mid at 16 xs block (at + 16) (omega arith) (omega arith) ∙ sym (take_all (length xs) (take at xs ++ block) (omega arith))
 
 -- what put_block leaves: count bytes from at on are those of the block
-pub front_of_put : (xs block written : List ℕ) (at count : ℕ) → at < length xs → length block ≡ 16 → count ≡ min (length xs - at) 16 → written ≡ take count block
+pub front_of_put : (xs block written : List ℕ) (at count : ℕ) → at < length xs → length block ≡ 16 → count ≡ min (length xs - at) 16
+    → written ≡ take count block
     → take (at + 16) (put_mid at count xs written) ≡ take (length xs) (take at xs ++ block)
 front_of_put xs block written at count within sixteen is put =
     elim (cases_lt (length xs - at) 16) [

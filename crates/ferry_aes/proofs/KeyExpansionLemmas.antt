@@ -1,5 +1,6 @@
 -- Lemmas on specs/KeyExpansion.antt.
-use Rattle.std.proofs.Common.{◌≡◌, ℕ, zero, suc, ◌+◌, ◌-◌, ◌/◌, ◌%◌, ◌<◌, ◌≤◌, List, [], ◌∷◌, length, get_or, take, refl, sym, ap, ◌∙◌, arith, true, eqb, eq-eqb, lt-ltb, subst, inl, inr, set}
+use Rattle.std.proofs.Common.{◌≡◌, ℕ, zero, suc, ◌+◌, ◌-◌, ◌/◌, ◌%◌, ◌<◌, ◌≤◌, List, [], ◌∷◌, length, get_or, take, refl, sym, ap, ◌∙◌, arith, true, eqb}
+use Rattle.std.proofs.Common.{eq-eqb, lt-ltb, subst, inl, inr, set}
 use Rattle.std.proofs.lemmas.List.{get_or-take, take_all, take_more_set, length_push}
 use Rattle.std.proofs.lemmas.Bool.{cases_lt}
 use Rattle.ferry_aes.specs.KeyExpansion.{add_words, sub_word, rot_word, rcon, addend, next_word, first_words, key_expansion}
@@ -52,7 +53,8 @@ first_words_more key w i made within so_far is =
     let n = next_word-take key w i in
     rw (take_more_set w i made within, e, is, ← n, so_far) refl
 
-pub key_expansion_from_words : (key : List ℕ) (w : List (List ℕ)) (i : ℕ) → length w ≡ 60 → 60 ≤ i → i ≤ 60 → take i w ≡ first_words key i → w ≡ key_expansion key
+pub key_expansion_from_words : (key : List ℕ) (w : List (List ℕ)) (i : ℕ) → length w ≡ 60 → 60 ≤ i → i ≤ 60 → take i w ≡ first_words key i
+    → w ≡ key_expansion key
 unfolding key_expansion
 key_expansion_from_words key w i long low high all =
     let e : i ≡ 60 = omega arith in

@@ -1,5 +1,6 @@
 -- Facts on single bytes that the checker computes at each of the 256.
-use Rattle.std.proofs.Common.{◌≡◌, ℕ, zero, suc, ◌+◌, ◌-◌, ◌*◌, ◌%◌, ◌<◌, ◌≤◌, Bool, true, ◌&&◌, T, eqb, bit_xor, get_or, subst, inl, inr, arith, eq-zero-or-pos, eqb→eq}
+use Rattle.std.proofs.Common.{◌≡◌, ℕ, zero, suc, ◌+◌, ◌-◌, ◌*◌, ◌%◌, ◌<◌, ◌≤◌, Bool, true, ◌&&◌, T, eqb, bit_xor, get_or, subst, inl, inr, arith}
+use Rattle.std.proofs.Common.{eq-zero-or-pos, eqb→eq}
 use lib.Ieee.Fits.{and_l, and_r}
 use Rattle.ferry_aes.specs.Field.{multiply, power}
 use Rattle.ferry_aes.specs.SBox.{inverse, affine_bit, affine, sbox}

@@ -1,5 +1,6 @@
 -- Lemmas on specs/Blob.antt.
-use Rattle.std.proofs.Common.{◌≡◌, ◌≢◌, ◌⊎◌, ◌↔◌, ℕ, ◌+◌, ◌-◌, ◌<◌, ◌≤◌, Bool, true, false, List, [], ◌++◌, length, take, drop, slice_index, Option, Some, None, refl, sym, ap, subst, ◌∙◌, inl, inr, arith, eq-eqb, eqb-true, length-append, rules}
+use Rattle.std.proofs.Common.{◌≡◌, ◌≢◌, ◌⊎◌, ◌↔◌, ℕ, ◌+◌, ◌-◌, ◌<◌, ◌≤◌, Bool, true, false, List, [], ◌++◌, length, take, drop, slice_index, Option, Some}
+use Rattle.std.proofs.Common.{None, refl, sym, ap, subst, ◌∙◌, inl, inr, arith, eq-eqb, eqb-true, length-append, rules}
 use Rattle.std.specs.Prelude.{◌==◌, nat_lt, not, ◌||◌, if◌then◌else◌}
 use Rattle.std.specs.Bool.{Decides}
 use Rattle.std.specs.Str.{bytes_eq}
@@ -10,7 +11,8 @@ use Rattle.std.proofs.lemmas.Slice.Eq.{bytes_eq-Decides}
 use Rattle.ferry_mac.specs.Hmac.{hmac256}
 use Rattle.ferry_mac.specs.declared.keys.Keys.{Keys}
 use Rattle.ferry_aes.proofs.CallerLemmas.{length-ctr}
-use Rattle.ferry_blob.specs.Blob.{Opens, blob_fault, content_id, decrypted, has_mac, is_named, is_plain, no_compression, nonce_of, plaintext, zero_id}
+use Rattle.ferry_base.specs.Limits.{zero_id}
+use Rattle.ferry_blob.specs.Blob.{OpensTo, blob_fault, content_id, decrypted, has_mac, is_named, is_plain, no_compression, nonce_of, plaintext}
 use Rattle.ferry_blob.specs.declared.fault.BlobFault.{BlobFault}
 use Rattle.ferry_blob.specs.declared.fault.BlobFault.TheVariants.{Kind, Short, Mac, Compressed, Id}
 
@@ -96,7 +98,8 @@ pub told_by : (keys : Keys) (id blob : List ℕ) (r : Option BlobFault) → blob
 unfolding blob_fault
 told_by keys id blob r e =
     subst (ToldOf keys id blob) e
-    (told_by_chain (nat_lt (length blob) 43) (slice_index blob 0 == 3) (has_mac keys blob) (is_plain keys blob) (is_named keys id (drop 2 (plaintext keys blob))))
+    (told_by_chain (nat_lt (length blob) 43) (slice_index blob 0 == 3) (has_mac keys blob) (is_plain keys blob)
+    (is_named keys id (drop 2 (plaintext keys blob))))
 
 pub fault_short : (keys : Keys) (id blob : List ℕ) → length blob < 43 → blob_fault keys id blob ≡ Some Short
 unfolding blob_fault
@@ -106,7 +109,8 @@ pub fault_kind : (keys : Keys) (id blob : List ℕ) → 43 ≤ length blob → s
 unfolding blob_fault
 fault_kind keys id blob room other = rw (le-ltb (length blob) 43 room, ne_eqb (slice_index blob 0) 3 other) refl
 
-pub fault_mac : (keys : Keys) (id blob : List ℕ) → 43 ≤ length blob → slice_index blob 0 ≡ 3 → has_mac keys blob ≡ false → blob_fault keys id blob ≡ Some Mac
+pub fault_mac : (keys : Keys) (id blob : List ℕ) → 43 ≤ length blob → slice_index blob 0 ≡ 3 → has_mac keys blob ≡ false
+    → blob_fault keys id blob ≡ Some Mac
 unfolding blob_fault
 fault_mac keys id blob room kind mac = rw (le-ltb (length blob) 43 room, eq-eqb (slice_index blob 0) 3 kind, mac) refl
 
@@ -115,26 +119,29 @@ pub fault_compressed : (keys : Keys) (id blob : List ℕ) → 43 ≤ length blob
 unfolding blob_fault
 fault_compressed keys id blob room kind mac plain = rw (le-ltb (length blob) 43 room, eq-eqb (slice_index blob 0) 3 kind, mac, plain) refl
 
-pub fault_by_name : (keys : Keys) (id blob : List ℕ) (named : Bool) → 43 ≤ length blob → slice_index blob 0 ≡ 3 → has_mac keys blob ≡ true → is_plain keys blob ≡ true
+pub fault_by_name : (keys : Keys) (id blob : List ℕ) (named : Bool) → 43 ≤ length blob → slice_index blob 0 ≡ 3 → has_mac keys blob ≡ true
+    → is_plain keys blob ≡ true
     → is_named keys id (drop 2 (plaintext keys blob)) ≡ named → blob_fault keys id blob ≡ (if named then None else Some Id)
 unfolding blob_fault
 fault_by_name keys id blob true room kind mac plain named = rw (le-ltb (length blob) 43 room, eq-eqb (slice_index blob 0) 3 kind, mac, plain, named) refl
 fault_by_name keys id blob false room kind mac plain named = rw (le-ltb (length blob) 43 room, eq-eqb (slice_index blob 0) 3 kind, mac, plain, named) refl
 
 -- what the two bytes behind byte 41 tell once a blob is decrypted
-pub plain_read : (keys : Keys) (blob now : List ℕ) (r : Bool) → 43 ≤ length blob → now ≡ decrypted keys blob → (r ≡ true) ↔ (take 2 (drop 41 now) ≡ no_compression) → is_plain keys blob ≡ r
+pub plain_read : (keys : Keys) (blob now : List ℕ) (r : Bool) → 43 ≤ length blob → now ≡ decrypted keys blob
+    → (r ≡ true) ↔ (take 2 (drop 41 now) ≡ no_compression) → is_plain keys blob ≡ r
 unfolding is_plain
 plain_read keys blob now r room is told =
     let e : drop 41 now ≡ plaintext keys blob = ap (drop 41) is ∙ drop-decrypted keys blob (omega arith) in
     ap (λ text. bytes_eq (take 2 text) no_compression) (sym e) ∙ sym (tested (take 2 (drop 41 now)) no_compression r told)
 
 -- what the bytes from byte 43 on tell then
-pub name_read : (keys : Keys) (id blob now : List ℕ) (r : Bool) → 43 ≤ length blob → now ≡ decrypted keys blob → r ≡ is_named keys id (drop 43 now) → is_named keys id (drop 2 (plaintext keys blob)) ≡ r
+pub name_read : (keys : Keys) (id blob now : List ℕ) (r : Bool) → 43 ≤ length blob → now ≡ decrypted keys blob → r ≡ is_named keys id (drop 43 now)
+    → is_named keys id (drop 2 (plaintext keys blob)) ≡ r
 name_read keys id blob now r room is told =
     let e : drop 43 now ≡ drop 2 (plaintext keys blob) = ap (drop 43) is ∙ content-decrypted keys blob (omega arith) in
     ap (is_named keys id) (sym e) ∙ sym told
 
--- ---- Opens
+-- ---- OpensTo
 
 pub has_mac-Decides : (keys : Keys) (blob : List ℕ) → Decides (has_mac keys blob) (take 32 (drop 1 blob) ≡ hmac256 keys.enc_hmac_key (drop 33 blob))
 unfolding has_mac
@@ -164,7 +171,7 @@ by_name keys id content (inr own) = rw ((bytes_eq-Decides id (content_id keys co
 pub is_named-Decides : (keys : Keys) (id content : List ℕ) → Decides (is_named keys id content) ((id ≡ zero_id) ⊎ (id ≡ content_id keys content))
 is_named-Decides keys id content = (named_by keys id content, by_name keys id content)
 
-pub no_fault_opens : (keys : Keys) (id blob : List ℕ) → blob_fault keys id blob ≡ None → Opens keys id blob (drop 2 (plaintext keys blob))
+pub no_fault_opens : (keys : Keys) (id blob : List ℕ) → blob_fault keys id blob ≡ None → OpensTo keys id blob (drop 2 (plaintext keys blob))
 no_fault_opens keys id blob e =
     let text = plaintext keys blob in
     let told = told_by keys id blob None e in
@@ -176,15 +183,16 @@ no_fault_opens keys id blob e =
       named = (is_named-Decides keys id (drop 2 text)).0 told.4;
     }
 
-pub content_is : (keys : Keys) (id blob content : List ℕ) → Opens keys id blob content → content ≡ drop 2 (plaintext keys blob)
+pub content_is : (keys : Keys) (id blob content : List ℕ) → OpensTo keys id blob content → content ≡ drop 2 (plaintext keys blob)
 content_is keys id blob content h = sym (ap (drop 2) h.plain ∙ drop_at no_compression content 2 refl)
 
-pub opens_no_fault : (keys : Keys) (id blob content : List ℕ) → Opens keys id blob content → blob_fault keys id blob ≡ None
+pub opens_no_fault : (keys : Keys) (id blob content : List ℕ) → OpensTo keys id blob content → blob_fault keys id blob ≡ None
 opens_no_fault keys id blob content h =
     let plain = (is_plain-Decides keys blob).1 (ap (take 2) h.plain ∙ take_at no_compression content 2 refl) in
     let named = ap (is_named keys id) (sym (content_is keys id blob content h)) ∙ (is_named-Decides keys id content).1 h.named in
     fault_by_name keys id blob true h.size h.kind ((has_mac-Decides keys blob).1 h.mac) plain named
 
 -- a content that is what stands behind the header, where no rule is broken
-pub opened_at : (keys : Keys) (id blob content : List ℕ) → blob_fault keys id blob ≡ None → content ≡ drop 2 (plaintext keys blob) → Opens keys id blob content
-opened_at keys id blob content none is = subst (Opens keys id blob) (sym is) (no_fault_opens keys id blob none)
+pub opened_at : (keys : Keys) (id blob content : List ℕ) → blob_fault keys id blob ≡ None → content ≡ drop 2 (plaintext keys blob)
+    → OpensTo keys id blob content
+opened_at keys id blob content none is = subst (OpensTo keys id blob) (sym is) (no_fault_opens keys id blob none)

@@ -1,9 +1,10 @@
 -- What a crate above cites of blobs, beside `blob_laws` and `block_laws`.
 use Rattle.std.proofs.Common.{◌≡◌, ◌≢◌, ℕ, ◌+◌, ◌≤◌, List, ◌++◌, length, ap, inl, inr, refl, arith, length-append}
 use Rattle.ferry_mac.specs.declared.keys.Keys.{Keys}
-use Rattle.ferry_blob.specs.Blob.{Opens, blocks, content_id, no_compression, plaintext, zero_id}
+use Rattle.ferry_base.specs.Limits.{content_limit, zero_id}
+use Rattle.ferry_blob.specs.Blob.{OpensTo, blocks, content_id, no_compression, plaintext}
 use Rattle.ferry_blob.proofs.BlobLemmas.{length-plaintext}
-use Rattle.ferry_blob.proofs.SealLemmas.{length-hmac256}
+use Rattle.ferry_mac.proofs.CallerLemmas.{length-hmac256}
 
 -- ---- content_id
 
@@ -11,10 +12,10 @@ pub length-content_id : (keys : Keys) (content : List ℕ) → length (content_i
 unfolding content_id
 length-content_id keys content = length-hmac256 keys.id_key content
 
--- ---- Opens
+-- ---- OpensTo
 
 -- a content has 43 bytes fewer than its blob
-pub length-opened : (keys : Keys) (id blob content : List ℕ) → Opens keys id blob content → length blob ≡ 43 + length content
+pub length-opened : (keys : Keys) (id blob content : List ℕ) → OpensTo keys id blob content → length blob ≡ 43 + length content
 length-opened keys id blob content h =
     let text : length (plaintext keys blob) ≡ length (no_compression ++ content) = ap length h.plain in
     let joined = length-append no_compression content in
@@ -22,7 +23,7 @@ length-opened keys id blob content h =
     omega (arith, length-plaintext keys blob)
 
 -- under another id than the zero id stands the content of that id
-pub opened_id : (keys : Keys) (id blob content : List ℕ) → Opens keys id blob content → id ≢ zero_id → id ≡ content_id keys content
+pub opened_id : (keys : Keys) (id blob content : List ℕ) → OpensTo keys id blob content → id ≢ zero_id → id ≡ content_id keys content
 opened_id keys id blob content h other =
     elim h.named [
       | inl zero ↦ absurd (other zero)
@@ -30,7 +31,7 @@ opened_id keys id blob content h other =
     ]
 
 -- what opens under any id opens under that of its content
-pub opens_own : (keys : Keys) (id blob content : List ℕ) → Opens keys id blob content → Opens keys (content_id keys content) blob content
+pub opens_own : (keys : Keys) (id blob content : List ℕ) → OpensTo keys id blob content → OpensTo keys (content_id keys content) blob content
 opens_own keys id blob content h = record { size = h.size; kind = h.kind; mac = h.mac; plain = h.plain; named = inr refl }
 
 -- ---- blocks
@@ -46,6 +47,6 @@ unfolding blocks
 blocks_grow small large less = omega arith
 
 -- the most that a blob in one entry of a segment takes
-pub blocks_most : (content : ℕ) → content ≤ 20971436 → blocks content ≤ 1310715
+pub blocks_most : (content : ℕ) → content ≤ content_limit → blocks content ≤ 1310715
 unfolding blocks
 blocks_most content less = omega arith

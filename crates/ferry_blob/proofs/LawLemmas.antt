@@ -1,5 +1,6 @@
 -- When each fault comes, and which counter blocks a blob takes.
-use Rattle.std.proofs.Common.{◌≡◌, ◌≢◌, ◌⊎◌, ◌↔◌, ℕ, ◌+◌, ◌-◌, ◌/◌, ◌%◌, ◌^◌, ◌<◌, ◌≤◌, Bool, true, false, List, ◌++◌, length, take, drop, replicate, slice_index, Some, None, refl, sym, ◌∙◌, inl, inr, arith, eqb-true}
+use Rattle.std.proofs.Common.{◌≡◌, ◌≢◌, ◌⊎◌, ◌↔◌, ℕ, ◌+◌, ◌-◌, ◌/◌, ◌%◌, ◌^◌, ◌<◌, ◌≤◌, Bool, true, false, List, ◌++◌, length, take, drop, replicate}
+use Rattle.std.proofs.Common.{slice_index, Some, None, refl, sym, ◌∙◌, inl, inr, arith, eqb-true}
 use Rattle.std.specs.Bool.{Decides}
 use Rattle.std.specs.Int.{w64, to_be_bytes}
 use Rattle.std.proofs.lemmas.Bool.{eqb-false, le-ltb, lt-ltb, ltb-false, ltb-true}
@@ -8,9 +9,12 @@ use Rattle.ferry_aes.specs.KeyExpansion.{key_expansion}
 use Rattle.ferry_aes.specs.CounterMode.{counter_block, ctr, key_stream, output_blocks, xor_lists}
 use Rattle.ferry_mac.specs.Hmac.{hmac256}
 use Rattle.ferry_mac.specs.declared.keys.Keys.{Keys}
-use Rattle.ferry_blob.specs.Blob.{IsAuthentic, IsBlockOf, Opens, blob_fault, block_count, blocks, content_id, has_mac, is_named, is_plain, no_compression, nonce_of, plaintext, sealed, zero_id}
+use Rattle.ferry_base.specs.Limits.{zero_id}
+use Rattle.ferry_blob.specs.Blob.{IsAuthentic, IsBlockOf, OpensTo, blob_fault, block_count, blocks, content_id, has_mac, is_named, is_plain, no_compression}
+use Rattle.ferry_blob.specs.Blob.{nonce_of, plaintext, sealed}
 use Rattle.ferry_blob.specs.declared.fault.BlobFault.TheVariants.{Kind, Short, Mac, Compressed, Id}
-use Rattle.ferry_blob.proofs.BlobLemmas.{content_is, fault_by_name, fault_compressed, fault_mac, has_mac-Decides, opens_no_fault, is_named-Decides, is_plain-Decides, opened_at, told_by}
+use Rattle.ferry_blob.proofs.BlobLemmas.{content_is, fault_by_name, fault_compressed, fault_mac, has_mac-Decides, opens_no_fault, is_named-Decides}
+use Rattle.ferry_blob.proofs.BlobLemmas.{is_plain-Decides, opened_at, told_by}
 use Rattle.ferry_blob.proofs.SealLemmas.{length-sealed, sealed-nonce}
 
 -- ---- a test that fails, and a fact that doesn't hold
@@ -23,12 +27,12 @@ off_by : (P : Type 0) (b : Bool) → Decides b P → (P → ⊥) → b ≡ false
 off_by P true told other = absurd (other (told.0 refl))
 off_by P false told other = refl
 
--- ---- Opens
+-- ---- OpensTo
 
-pub one_content : (keys : Keys) (id blob a b : List ℕ) → Opens keys id blob a → Opens keys id blob b → a ≡ b
+pub one_content : (keys : Keys) (id blob a b : List ℕ) → OpensTo keys id blob a → OpensTo keys id blob b → a ≡ b
 one_content keys id blob a b h k = content_is keys id blob a h ∙ sym (content_is keys id blob b k)
 
-pub opens_zero : (keys : Keys) (id blob content : List ℕ) → Opens keys id blob content → Opens keys zero_id blob content
+pub opens_zero : (keys : Keys) (id blob content : List ℕ) → OpensTo keys id blob content → OpensTo keys zero_id blob content
 opens_zero keys id blob content h = record { size = h.size; kind = h.kind; mac = h.mac; plain = h.plain; named = inl refl }
 
 -- ---- when each fault comes
@@ -54,16 +58,19 @@ is_mac keys id blob room kind other = fault_mac keys id blob room kind (off_by _
 authentic_by : (keys : Keys) (blob : List ℕ) → 43 ≤ length blob → slice_index blob 0 ≡ 3 → has_mac keys blob ≡ true → IsAuthentic keys blob
 authentic_by keys blob room kind mac = record { size = room; kind = kind; mac = (has_mac-Decides keys blob).0 mac }
 
-pub compressed_is : (keys : Keys) (id blob : List ℕ) → blob_fault keys id blob ≡ Some Compressed → IsAuthentic keys blob × (take 2 (plaintext keys blob) ≢ no_compression)
+pub compressed_is : (keys : Keys) (id blob : List ℕ) → blob_fault keys id blob ≡ Some Compressed
+    → IsAuthentic keys blob × (take 2 (plaintext keys blob) ≢ no_compression)
 compressed_is keys id blob e =
     let told = told_by keys id blob (Some Compressed) e in (
       authentic_by keys blob (ltb-false (length blob) 43 told.0) (eqb-true (slice_index blob 0) 3 told.1) told.2,
       refuted _ (is_plain keys blob) (is_plain-Decides keys blob) told.3,
     )
 
-pub is_compressed : (keys : Keys) (id blob : List ℕ) → IsAuthentic keys blob → take 2 (plaintext keys blob) ≢ no_compression → blob_fault keys id blob ≡ Some Compressed
+pub is_compressed : (keys : Keys) (id blob : List ℕ) → IsAuthentic keys blob → take 2 (plaintext keys blob) ≢ no_compression
+    → blob_fault keys id blob ≡ Some Compressed
 is_compressed keys id blob right other =
-    fault_compressed keys id blob right.size right.kind ((has_mac-Decides keys blob).1 right.mac) (off_by _ (is_plain keys blob) (is_plain-Decides keys blob) other)
+    fault_compressed keys id blob right.size right.kind ((has_mac-Decides keys blob).1 right.mac)
+    (off_by _ (is_plain keys blob) (is_plain-Decides keys blob) other)
 
 -- the zero id names each content
 zero_named : (keys : Keys) (content : List ℕ) → is_named keys zero_id content ≡ true
@@ -75,19 +82,22 @@ zero_unrefused keys blob e =
     refuted _ (is_named keys zero_id content) (is_named-Decides keys zero_id content) (told_by keys zero_id blob (Some Id) e).4 (inl refl)
 
 pub id_is : (keys : Keys) (id blob : List ℕ) → blob_fault keys id blob ≡ Some Id
-    → Opens keys zero_id blob (drop 2 (plaintext keys blob)) × (id ≢ zero_id) × (id ≢ content_id keys (drop 2 (plaintext keys blob)))
+    → OpensTo keys zero_id blob (drop 2 (plaintext keys blob)) × (id ≢ zero_id) × (id ≢ content_id keys (drop 2 (plaintext keys blob)))
 id_is keys id blob e =
     let content = drop 2 (plaintext keys blob) in
     let told = told_by keys id blob (Some Id) e in
     let other = refuted _ (is_named keys id content) (is_named-Decides keys id content) told.4 in
-    let none = fault_by_name keys zero_id blob true (ltb-false (length blob) 43 told.0) (eqb-true (slice_index blob 0) 3 told.1) told.2 told.3 (zero_named keys content) in
+    let none =
+    fault_by_name keys zero_id blob true (ltb-false (length blob) 43 told.0) (eqb-true (slice_index blob 0) 3 told.1) told.2 told.3
+    (zero_named keys content) in
     (opened_at keys zero_id blob content none refl, λ zero. other (inl zero), λ own. other (inr own))
 
 neither : {P Q : Type 0} → (P → ⊥) → (Q → ⊥) → P ⊎ Q → ⊥
 neither p q (inl x) = p x
 neither p q (inr y) = q y
 
-pub is_id : (keys : Keys) (id blob : List ℕ) → Opens keys zero_id blob (drop 2 (plaintext keys blob)) → id ≢ zero_id → id ≢ content_id keys (drop 2 (plaintext keys blob))
+pub is_id : (keys : Keys) (id blob : List ℕ) → OpensTo keys zero_id blob (drop 2 (plaintext keys blob)) → id ≢ zero_id
+    → id ≢ content_id keys (drop 2 (plaintext keys blob))
     → blob_fault keys id blob ≡ Some Id
 is_id keys id blob h zero own =
     let content = drop 2 (plaintext keys blob) in
@@ -111,7 +121,8 @@ first_block nonce small =
     rw (whole, byte8, byte9, byte10, byte11, byte12, byte13, byte14, byte15) refl
 
 pub block_outputs : (keys : Keys) (blob : List ℕ) → 43 ≤ length blob
-    → plaintext keys blob ≡ xor_lists (drop 41 blob) (take (length blob - 41) (output_blocks (key_expansion keys.enc_key) (nonce_of blob) (block_count blob)))
+    → plaintext keys blob
+    ≡ xor_lists (drop 41 blob) (take (length blob - 41) (output_blocks (key_expansion keys.enc_key) (nonce_of blob) (block_count blob)))
 unfolding plaintext ctr key_stream block_count
 block_outputs keys blob room =
     let many = le-ltb (length blob) 43 room in

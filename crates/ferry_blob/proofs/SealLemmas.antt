@@ -1,25 +1,18 @@
 -- What is sealed opens, and has the nonce that was given.
-use Rattle.std.proofs.Common.{◌≡◌, ◌⊎◌, ℕ, ◌+◌, ◌-◌, ◌^◌, ◌<◌, ◌≤◌, List, ◌∷◌, ◌++◌, length, take, drop, slice_index, refl, sym, ap, ◌∙◌, arith, length-append}
+use Rattle.std.proofs.Common.{◌≡◌, ◌⊎◌, ℕ, ◌+◌, ◌-◌, ◌^◌, ◌<◌, ◌≤◌, List, ◌∷◌, ◌++◌, length, take, drop, slice_index, refl, sym, ap, ◌∙◌, arith}
+use Rattle.std.proofs.Common.{length-append}
 use Rattle.std.specs.Int.{w64, to_be_bytes, from_be_bytes}
 use Rattle.std.proofs.lemmas.List.{take_at, drop_at, drop-drop, length-take-le}
 use Rattle.std.proofs.lemmas.Nat.{from_be_bytes-to_be_bytes_8}
-use Rattle.sha2.specs.Sha256.{sha256}
-use Rattle.sha2.proofs.Facts256.{length-sha256}
 use Rattle.ferry_aes.specs.CounterMode.{ctr}
 use Rattle.ferry_aes.proofs.CallerLemmas.{length-ctr, ctr-ctr}
-use Rattle.ferry_mac.specs.Hmac.{hmac256, block_key, xored_with, inner_pad, outer_pad}
+use Rattle.ferry_mac.specs.Hmac.{hmac256}
+use Rattle.ferry_mac.proofs.CallerLemmas.{length-hmac256}
 use Rattle.ferry_mac.specs.declared.keys.Keys.{Keys}
 use borrow.Rule.Slice.PartMut.{put_mid}
 use Rattle.ferry_blob.proofs.BlobLemmas.{put_rest}
-use Rattle.ferry_blob.specs.Blob.{Opens, authenticated, blob_type, content_id, no_compression, nonce_of, plaintext, sealed, zero_id}
-
--- ---- HMAC
-
-pub length-hmac256 : (key text : List ℕ) → length (hmac256 key text) ≡ 32
-unfolding hmac256
-length-hmac256 key text =
-    let block = block_key sha256 64 key in
-    length-sha256 (xored_with outer_pad block ++ sha256 (xored_with inner_pad block ++ text))
+use Rattle.ferry_base.specs.Limits.{zero_id}
+use Rattle.ferry_blob.specs.Blob.{OpensTo, authenticated, blob_type, content_id, no_compression, nonce_of, plaintext, sealed}
 
 -- ---- authenticated
 
@@ -59,7 +52,8 @@ sealed-part keys nonce content =
     let part = authenticated keys.enc_key nonce content in
     drop_at (hmac256 keys.enc_hmac_key part) part 32 (length-hmac256 keys.enc_hmac_key part)
 
-sealed-mac : (keys : Keys) (nonce : ℕ) (content : List ℕ) → take 32 (drop 1 (sealed keys nonce content)) ≡ hmac256 keys.enc_hmac_key (authenticated keys.enc_key nonce content)
+sealed-mac : (keys : Keys) (nonce : ℕ) (content : List ℕ)
+    → take 32 (drop 1 (sealed keys nonce content)) ≡ hmac256 keys.enc_hmac_key (authenticated keys.enc_key nonce content)
 unfolding sealed
 sealed-mac keys nonce content =
     let part = authenticated keys.enc_key nonce content in
@@ -75,7 +69,8 @@ sealed-nonce keys nonce content small =
     ap (λ part. from_be_bytes w64 (take 8 part)) (sealed-part keys nonce content) ∙ ap (from_be_bytes w64) (take-authenticated keys.enc_key nonce content)
     ∙ from_be_bytes-to_be_bytes_8 nonce small
 
-pub sealed-plaintext : (keys : Keys) (nonce : ℕ) (content : List ℕ) → nonce < 2 ^ 64 → plaintext keys (sealed keys nonce content) ≡ no_compression ++ content
+pub sealed-plaintext : (keys : Keys) (nonce : ℕ) (content : List ℕ) → nonce < 2 ^ 64
+    → plaintext keys (sealed keys nonce content) ≡ no_compression ++ content
 unfolding plaintext
 sealed-plaintext keys nonce content small =
     let blob = sealed keys nonce content in
@@ -85,7 +80,7 @@ sealed-plaintext keys nonce content small =
 
 -- what is sealed opens to its content, under the zero id and its own
 pub sealed-opens : (keys : Keys) (nonce : ℕ) (id content : List ℕ) → nonce < 2 ^ 64 → (id ≡ zero_id) ⊎ (id ≡ content_id keys content)
-    → Opens keys id (sealed keys nonce content) content
+    → OpensTo keys id (sealed keys nonce content) content
 sealed-opens keys nonce id content small named = record {
   size = omega (arith, length-sealed keys nonce content);
   kind = sealed-kind keys nonce content;
@@ -96,8 +91,10 @@ sealed-opens keys nonce id content small named = record {
 
 -- ---- what the code puts together
 
-pub sealed_by : (keys : Keys) (nonce : ℕ) (buffer part blob : List ℕ) → 43 ≤ length buffer → part ≡ authenticated keys.enc_key nonce (drop 10 (drop 33 buffer))
-    → blob ≡ blob_type ∷ (hmac256 keys.enc_hmac_key (drop 33 (put_mid 33 (length buffer - 33) buffer part)) ++ drop 33 (put_mid 33 (length buffer - 33) buffer part))
+pub sealed_by : (keys : Keys) (nonce : ℕ) (buffer part blob : List ℕ) → 43 ≤ length buffer
+    → part ≡ authenticated keys.enc_key nonce (drop 10 (drop 33 buffer))
+    → blob
+    ≡ blob_type ∷ (hmac256 keys.enc_hmac_key (drop 33 (put_mid 33 (length buffer - 33) buffer part)) ++ drop 33 (put_mid 33 (length buffer - 33) buffer part))
     → blob ≡ sealed keys nonce (drop 43 buffer)
 unfolding sealed
 sealed_by keys nonce buffer part blob room is put =

@@ -3,9 +3,11 @@
 -- 8 bytes the nonce, the highest first; and the plaintext, encrypted by AES-256 in counter mode from
 -- the block of 8 zero bytes and the nonce on. The plaintext is the compression header, 00 00 for
 -- none, and the content. The type isn't under the MAC.
-use Rattle.std.specs.Prelude.{◌≡◌, ◌⊎◌, ℕ, ◌+◌, ◌-◌, ◌/◌, ◌<◌, ◌≤◌, ◌==◌, nat_lt, ◌||◌, not, Bool, true, false, if◌then◌else◌, List, [], ◌∷◌, ◌++◌, length, take, drop, replicate, slice_index, Option, Some, None}
+use Rattle.std.specs.Prelude.{◌≡◌, ◌⊎◌, ℕ, ◌+◌, ◌-◌, ◌/◌, ◌<◌, ◌≤◌, ◌==◌, nat_lt, ◌||◌, not, Bool, true, false, if◌then◌else◌, List, [], ◌∷◌, ◌++◌, length}
+use Rattle.std.specs.Prelude.{take, drop, slice_index, Option, Some, None}
 use Rattle.std.specs.Int.{w64, to_be_bytes, from_be_bytes}
 use Rattle.std.specs.Str.{bytes_eq}
+use Rattle.ferry_base.specs.Limits.{zero_id}
 use Rattle.ferry_aes.specs.CounterMode.{ctr}
 use Rattle.ferry_mac.specs.Hmac.{hmac256}
 use Rattle.ferry_mac.specs.declared.keys.Keys.{Keys}
@@ -13,10 +15,6 @@ use Rattle.ferry_blob.specs.declared.fault.BlobFault.{BlobFault}
 use Rattle.ferry_blob.specs.declared.fault.BlobFault.TheVariants.{Kind, Short, Mac, Compressed, Id}
 
 -- ---- ids
-
--- the id of the manifest, 32 zero bytes
-abbrev pub zero_id : List ℕ
-zero_id = replicate 32 0
 
 -- the id of a content: its HMAC-SHA-256 under the id key
 unfoldable pub content_id : Keys → List ℕ → List ℕ
@@ -49,7 +47,7 @@ pub record IsAuthentic (keys : Keys) (blob : List ℕ) : Type 0 where
 -- A blob opens under an id to a content: it has room for each field, the type 03, and the MAC of all
 -- that follows the MAC; the plaintext is the header 00 00 and the content; and the id is the zero id
 -- or that of the content.
-pub record Opens (keys : Keys) (id blob content : List ℕ) : Type 0 where
+pub record OpensTo (keys : Keys) (id blob content : List ℕ) : Type 0 where
   pub size : 43 ≤ length blob
   pub kind : slice_index blob 0 ≡ blob_type
   pub mac : take 32 (drop 1 blob) ≡ hmac256 keys.enc_hmac_key (drop 33 blob)

@@ -8,19 +8,19 @@ use thiserror::Error;
 pub enum BlobFault {
     /// The type isn't 03.
     #[error("the type of the blob isn't 03")]
-    Kind,
+    Kind = 1,
     /// Fewer than 43 bytes.
     #[error("the blob has fewer than 43 bytes")]
-    Short,
+    Short = 2,
     /// The MAC is another one.
     #[error("the MAC of the blob is another one")]
-    Mac,
+    Mac = 3,
     /// The compression header isn't 00 00, which stands for no compression.
     #[error("the content of the blob is compressed")]
-    Compressed,
+    Compressed = 4,
     /// The id isn't that of the content.
     #[error("the id isn't that of the content")]
-    Id,
+    Id = 5,
 }
 
 impl BlobFault {
@@ -30,12 +30,6 @@ impl BlobFault {
     pub fn number(&self) -> u8
         ensures number { result ≡ number_of_fault self.now }
     {
-        match self {
-            BlobFault::Kind => 1,
-            BlobFault::Short => 2,
-            BlobFault::Mac => 3,
-            BlobFault::Compressed => 4,
-            BlobFault::Id => 5,
-        }
+        *self as u8
     }
 }

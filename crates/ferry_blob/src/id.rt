@@ -1,14 +1,9 @@
 ghost use Rattle.std.specs.Prelude.{◌≡◌};
 ghost use Rattle.ferry_blob.specs.Blob.{content_id, is_named};
 
+use ferry_base::{Id, ZERO_ID};
 use ferry_lanes::same;
 use ferry_mac::{Keys, hmac256};
-
-/// The 32 bytes that name an object.
-pub type Id = [u8; 32];
-
-/// The id of the manifest, which its content doesn't make.
-const ZERO_ID: Id = [0; 32];
 
 /// The id of a content: its HMAC-SHA-256 under the id key.
 ///

@@ -2,11 +2,13 @@
 
 ghost use Rattle.std.specs.Prelude.{◌≡◌, ◌≢◌, ◌↔◌, ℕ, ◌+◌, ◌-◌, ◌^◌, ◌<◌, ◌≤◌, ◌++◌, List, None, Some, length, drop, replicate, slice_index, take};
 ghost use Rattle.std.specs.Int.{w64, to_be_bytes};
+ghost use Rattle.ferry_base.specs.Limits.{zero_id};
 ghost use Rattle.ferry_aes.specs.KeyExpansion.{key_expansion};
 ghost use Rattle.ferry_aes.specs.CounterMode.{counter_block, output_blocks, xor_lists};
 ghost use Rattle.ferry_mac.specs.Hmac.{hmac256};
 ghost use Rattle.ferry_mac.specs.declared.keys.Keys.{Keys};
-ghost use Rattle.ferry_blob.specs.Blob.{IsAuthentic, IsBlockOf, Opens, blob_fault, block_count, blocks, content_id, no_compression, nonce_of, plaintext, sealed, zero_id};
+ghost use Rattle.ferry_blob.specs.Blob.{IsAuthentic, IsBlockOf, OpensTo, blob_fault, block_count, blocks};
+ghost use Rattle.ferry_blob.specs.Blob.{content_id, no_compression, nonce_of, plaintext, sealed};
 ghost use Rattle.ferry_blob.specs.declared.fault.BlobFault.{BlobFault};
 
 /// Laws with nothing to run: a blob opens under an id to one content, or breaks one rule first.
@@ -14,14 +16,14 @@ ghost use Rattle.ferry_blob.specs.declared.fault.BlobFault.{BlobFault};
 /// `blob_fault` is a function, so its answers exclude each other, and one of them always holds.
 pub fn blob_laws()
     // A blob opens exactly where it breaks no rule, and then to what follows the header.
-    ensures opens { (keys : Keys) (id blob content : List ℕ) → Opens keys id blob content
+    ensures opens { (keys : Keys) (id blob content : List ℕ) → OpensTo keys id blob content
         ↔ ((blob_fault keys id blob ≡ None) × (content ≡ drop 2 (plaintext keys blob))) }
     ensures one { (keys : Keys) (id blob a b : List ℕ)
-        → Opens keys id blob a → Opens keys id blob b → a ≡ b }
+        → OpensTo keys id blob a → OpensTo keys id blob b → a ≡ b }
 
     // With the zero id the id isn't looked at: what opens under any id opens under it, and no id is wrong.
     ensures zero { (keys : Keys) (id blob content : List ℕ)
-        → Opens keys id blob content → Opens keys zero_id blob content }
+        → OpensTo keys id blob content → OpensTo keys zero_id blob content }
     ensures unnamed { (keys : Keys) (blob : List ℕ) → blob_fault keys zero_id blob ≢ Some BlobFault.Id }
 
     // When each fault comes.
@@ -39,7 +41,7 @@ pub fn blob_laws()
         ↔ (IsAuthentic keys blob × (take 2 (plaintext keys blob) ≢ no_compression)) }
     ensures id { (keys : Keys) (id blob : List ℕ)
         → (blob_fault keys id blob ≡ Some BlobFault.Id)
-        ↔ (Opens keys zero_id blob (drop 2 (plaintext keys blob))
+        ↔ (OpensTo keys zero_id blob (drop 2 (plaintext keys blob))
         × (id ≢ zero_id) × (id ≢ content_id keys (drop 2 (plaintext keys blob)))) }
 {}
 

@@ -1,7 +1,7 @@
 //! The blobs of a repository: contents opened, sealed, and named by their ids.
 //!
 //! The layers above may rely on this: `open_blob` answers `Ok` exactly where the blob opens by
-//! `Opens`, and leaves the content behind byte 43; each refusal is the first broken rule by
+//! `OpensTo`, and leaves the content behind byte 43; each refusal is the first broken rule by
 //! `blob_fault`. What `seal` makes opens, and has the nonce that was given. The format is that of
 //! BorgBackup 1.2 (Internals, "Data structures and file formats", Encryption). No call takes memory.
 #![tactic(auto)]
@@ -16,7 +16,7 @@ mod stream;
 mod tests;
 
 pub use fault::BlobFault;
-pub use id::{Id, id_of};
+pub use id::id_of;
 pub use laws::{blob_laws, block_laws};
 pub use opening::open_blob;
 pub use sealing::{blocks_of, seal};

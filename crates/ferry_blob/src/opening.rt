@@ -1,16 +1,17 @@
 //! From a blob to its content.
 
 ghost use Rattle.std.specs.Prelude.{◌≡◌, ◌≤◌, OnOk, IfErr, None, Some, true, false, drop, length};
-ghost use Rattle.ferry_blob.specs.Blob.{Opens, blob_fault, decrypted, has_mac, is_decrypted, nonce_of};
+ghost use Rattle.ferry_blob.specs.Blob.{OpensTo, blob_fault, decrypted, has_mac, is_decrypted, nonce_of};
 
 use crate::fault::BlobFault;
-use crate::id::{Id, is_named};
+use crate::id::is_named;
 use crate::stream::add_key_stream;
+use ferry_base::Id;
 use ferry_lanes::same;
 use ferry_mac::{Keys, hmac256};
 
 /// The number of bytes before the content: type, MAC, nonce and compression header.
-const HEAD: usize = 43;
+const BLOB_HEAD: usize = 43;
 
 /// The compression header of a content that isn't compressed.
 const NO_COMPRESSION: [u8; 2] = [0, 0];
@@ -25,7 +26,7 @@ const REPOKEY: u8 = 3;
 ///
 /// Source: BorgBackup 1.2, Internals, "Data structures and file formats", Encryption.
 pub fn open_blob(keys: &Keys, id: &Id, blob: &mut [u8]) -> Result<(), BlobFault>
-    ensures opened { OnOk result (Opens keys.now id.now blob.old (drop 43 blob.new)) }
+    ensures opened { OnOk result (OpensTo keys.now id.now blob.old (drop 43 blob.new)) }
     ensures fault { IfErr result (λ fault. blob_fault keys.now id.now blob.old ≡ Some fault) }
     ensures ok { OnOk result (blob_fault keys.now id.now blob.old ≡ None) }
 
@@ -37,7 +38,7 @@ pub fn open_blob(keys: &Keys, id: &Id, blob: &mut [u8]) -> Result<(), BlobFault>
     ensures refused { IfErr result (λ fault.
         is_decrypted fault ≡ true → blob.new ≡ decrypted keys.now blob.old) }
 {
-    if blob.len() < HEAD {
+    if blob.len() < BLOB_HEAD {
         return Err(BlobFault::Short);
     }
     if blob[0] != REPOKEY {
@@ -47,10 +48,10 @@ pub fn open_blob(keys: &Keys, id: &Id, blob: &mut [u8]) -> Result<(), BlobFault>
         return Err(BlobFault::Mac);
     }
     decrypt(keys, blob);
-    if !same(&blob[41..HEAD], &NO_COMPRESSION) {
+    if !same(&blob[41..BLOB_HEAD], &NO_COMPRESSION) {
         return Err(BlobFault::Compressed);
     }
-    if !is_named(keys, id, &blob[HEAD..]) {
+    if !is_named(keys, id, &blob[BLOB_HEAD..]) {
         return Err(BlobFault::Id);
     }
     Ok(())

@@ -1,8 +1,9 @@
 //! From a content to its blob.
 
 ghost use Rattle.std.specs.Prelude.{◌≡◌, ◌⊎◌, ℕ, ◌+◌, ◌-◌, ◌^◌, ◌≤◌, ◌++◌, ◌∷◌, List, drop, length};
+ghost use Rattle.ferry_base.specs.Limits.{blob_limit, content_limit, zero_id};
 ghost use Rattle.ferry_mac.specs.Hmac.{hmac256};
-ghost use Rattle.ferry_blob.specs.Blob.{Opens, authenticated, blob_type, blocks, content_id, nonce_of, sealed, zero_id};
+ghost use Rattle.ferry_blob.specs.Blob.{OpensTo, authenticated, blob_type, blocks, content_id, nonce_of, sealed};
 
 use crate::stream::add_key_stream;
 use ferry_mac::{Keys, hmac256};
@@ -13,7 +14,7 @@ use ferry_mac::{Keys, hmac256};
 /// Source: BorgBackup 1.2, Internals, "Data structures and file formats", Encryption.
 #[tactic(auto, unfolding(crate::specs::Blob::blocks))]
 pub fn blocks_of(content: u64) -> u64
-    requires { content ≤ 20971436 }
+    requires { content ≤ content_limit }
     ensures blocks { result ≡ blocks content }
 {
     (2 + content).div_ceil(16)
@@ -27,11 +28,11 @@ pub fn blocks_of(content: u64) -> u64
 /// Source: BorgBackup 1.2, Internals, "Data structures and file formats", Encryption.
 pub fn seal(keys: &Keys, nonce: u64, buffer: &mut [u8])
     requires head { 43 ≤ length buffer.old }
-    requires limit { length buffer.old ≤ 20971479 }
+    requires limit { length buffer.old ≤ blob_limit }
     requires blocks { nonce + blocks (length buffer.old - 43) ≤ 2 ^ 64 - 1 }
     ensures blob { buffer.new ≡ sealed keys.now nonce (drop 43 buffer.old) }
     ensures opens { (id : List ℕ) → (id ≡ zero_id) ⊎ (id ≡ content_id keys.now (drop 43 buffer.old))
-        → Opens keys.now id buffer.new (drop 43 buffer.old) }
+        → OpensTo keys.now id buffer.new (drop 43 buffer.old) }
     ensures nonce { nonce_of buffer.new ≡ nonce }
 {
     encrypt(&keys.enc_key, nonce, &mut buffer[33..]);

@@ -1,5 +1,6 @@
 -- Lemmas on the forms of a line, for the loops that trim a text.
-use Rattle.std.proofs.Common.{◌≡◌, ℕ, zero, suc, ◌+◌, ◌<◌, Bool, true, false, ◌&&◌, List, [], ◌∷◌, ◌++◌, length, take, drop, get_or, refl, ap, arith, add-one, inl, inr}
+use Rattle.std.proofs.Common.{◌≡◌, ℕ, zero, suc, ◌+◌, ◌<◌, Bool, true, false, ◌&&◌, List, [], ◌∷◌, ◌++◌, length, take, drop, get_or, refl, ap, arith}
+use Rattle.std.proofs.Common.{add-one, inl, inr}
 use Rattle.std.proofs.lemmas.Bool.{cases_Bool}
 use Rattle.std.proofs.lemmas.List.{take_more}
 use Rattle.std.specs.List.{list_all}
@@ -14,7 +15,8 @@ front_suc (byte ∷ rest) zero within space = rw space refl
 front_suc (byte ∷ rest) (suc i) within space = front_suc rest i (omega arith) space
 
 -- one more space in front
-pub trimmed_front-drop : (text : List ℕ) (i : ℕ) → i < length text → is_space (get_or text i 0) ≡ true → trimmed_front (drop i text) ≡ trimmed_front (drop (i + 1) text)
+pub trimmed_front-drop : (text : List ℕ) (i : ℕ) → i < length text → is_space (get_or text i 0) ≡ true
+    → trimmed_front (drop i text) ≡ trimmed_front (drop (i + 1) text)
 trimmed_front-drop text i within space = rw (add-one i) (front_suc text i within space)
 
 -- no space at place i
@@ -57,11 +59,13 @@ trimmed_end-same (first ∷ rest) byte other =
     ]
 
 -- a space at place i
-pub trimmed_end-take : (text : List ℕ) (i : ℕ) → i < length text → is_space (get_or text i 0) ≡ true → trimmed_end (take (i + 1) text) ≡ trimmed_end (take i text)
+pub trimmed_end-take : (text : List ℕ) (i : ℕ) → i < length text → is_space (get_or text i 0) ≡ true
+    → trimmed_end (take (i + 1) text) ≡ trimmed_end (take i text)
 trimmed_end-take text i within space = rw (take_more text i 0 within) (trimmed_end-push (take i text) (get_or text i 0) space)
 
 -- no space at place i
-pub trimmed_end-take_same : (text : List ℕ) (i : ℕ) → i < length text → is_space (get_or text i 0) ≡ false → trimmed_end (take (i + 1) text) ≡ take (i + 1) text
+pub trimmed_end-take_same : (text : List ℕ) (i : ℕ) → i < length text → is_space (get_or text i 0) ≡ false
+    → trimmed_end (take (i + 1) text) ≡ take (i + 1) text
 trimmed_end-take_same text i within other = rw (take_more text i 0 within) (trimmed_end-same (take i text) (get_or text i 0) other)
 
 -- nothing but spaces

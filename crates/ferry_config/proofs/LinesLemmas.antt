@@ -1,5 +1,6 @@
 -- Lemmas on the lines of a text.
-use Rattle.std.proofs.Common.{◌≡◌, ℕ, ◌+◌, ◌<◌, Bool, true, false, ◌==◌, nat_lt, ◌≤◌, cond, List, [], ◌∷◌, length, take, drop, Some, None, refl, arith, inl, inr}
+use Rattle.std.proofs.Common.{◌≡◌, ℕ, ◌+◌, ◌<◌, Bool, true, false, ◌==◌, nat_lt, ◌≤◌, cond, List, [], ◌∷◌, length, take, drop, Some, None, refl, arith, inl}
+use Rattle.std.proofs.Common.{inr}
 use Rattle.std.specs.List.{onto_first, position, position_or_len, slice_split}
 use Rattle.std.specs.Str.Lines.{lines, lines_of_parts, strip_carriage_return}
 use Rattle.std.proofs.lemmas.List.Splits.{slice_split_first, slice_split_none}
@@ -45,7 +46,8 @@ past_the_end false at e = refl
 -- where no element passes, the list is the one part
 place_none : (p : ℕ → Bool) (text : List ℕ) → position p text ≡ None → slice_split p text ≡ text ∷ []
 place_none p text none =
-    let past : length text ≤ position_or_len p text = ltb-false _ _ (past_the_end (nat_lt (position_or_len p text) (length text)) (position_or_len p text) none) in
+    let past : length text ≤ position_or_len p text =
+    ltb-false _ _ (past_the_end (nat_lt (position_or_len p text) (length text)) (position_or_len p text) none) in
     slice_split_none p text (λ k d within. fails_before_first p text k d (omega arith))
 
 -- the first line and those behind it, where the first end of a line stands at this place
@@ -55,7 +57,8 @@ lines-first text at found =
     let is_end = λ (byte : ℕ). byte == 10 in
     let here = place_some is_end text at found in
     let within : position_or_len is_end text < length text = rw here.0 here.1 in
-    rw (slice_split_first is_end text 0 within, here.0) (parts-cons (take at text) (slice_split is_end (drop (at + 1) text)) (some_parts is_end (drop (at + 1) text)))
+    rw (slice_split_first is_end text 0 within, here.0)
+    (parts-cons (take at text) (slice_split is_end (drop (at + 1) text)) (some_parts is_end (drop (at + 1) text)))
 
 one_part : (text : List ℕ) → 0 < length text → lines_of_parts (text ∷ []) ≡ text ∷ []
 one_part text some = grind (arith, nat_tests)

@@ -1,8 +1,10 @@
 -- What a text means, by the conditions of each answer.
-use Rattle.std.proofs.Common.{◌≡◌, ◌≢◌, ℕ, ◌||◌, Bool, true, false, not, List, [], codes, if◌then◌else◌, Option, Some, None, is_none, unwrap_or, Ok, Err, refl, ap, ◌∙◌}
+use Rattle.std.proofs.Common.{◌≡◌, ◌≢◌, ℕ, ◌||◌, Bool, true, false, not, List, [], codes, if◌then◌else◌, Option, Some, None, is_none, unwrap_or, Ok, Err}
+use Rattle.std.proofs.Common.{refl, ap, ◌∙◌}
 use Rattle.std.proofs.lemmas.Slice.Eq.{bytes_eq-Decides}
 use Rattle.std.specs.Option.{option_map_or}
-use Rattle.ferry_config.specs.Config.{Says, assignments_of, config_in, config_of, fault_of_section, fault_or, first_fault, has_version_1, id_in, key_in, limit_in, per_dir_in, repeats_known_name}
+use Rattle.ferry_config.specs.Config.{SaysConfig, assignments_of, config_in, config_of, fault_of_section, fault_or, first_fault, has_version_1, id_in}
+use Rattle.ferry_config.specs.Config.{key_in, limit_in, per_dir_in, repeats_known_name}
 use Rattle.ferry_config.specs.Section.{Assignment, value_of}
 use Rattle.ferry_config.specs.Value.{is_version_1}
 use Rattle.ferry_config.specs.declared.config.Config.{Config}
@@ -31,7 +33,8 @@ record Found (repeats version : Bool) (id key : Option (List ℕ)) (per_dir limi
   says_limit : limit ≡ Some config.limit
 
 found_of : (repeats version : Bool) (id key : Option (List ℕ)) (per_dir limit : Option ℕ) (config : Config)
-    → fault_or (fault_among repeats version id key per_dir limit) (config_among id key per_dir limit) ≡ Ok config → Found repeats version id key per_dir limit config
+    → fault_or (fault_among repeats version id key per_dir limit) (config_among id key per_dir limit) ≡ Ok config
+    → Found repeats version id key per_dir limit config
 found_of true version id key per_dir limit config read = cc
 found_of false false id key per_dir limit config read = cc
 found_of false true None key per_dir limit config read = cc
@@ -49,7 +52,8 @@ found_of false true (Some id) (Some key) (Some per_dir) (Some limit) config read
       says_limit = ap (λ (c : Config). Some c.limit) same;
     }
 
-no_memory : (repeats version : Bool) (id key : Option (List ℕ)) (per_dir limit : Option ℕ) → fault_among repeats version id key per_dir limit ≡ Some Memory → ⊥
+no_memory : (repeats version : Bool) (id key : Option (List ℕ)) (per_dir limit : Option ℕ) → fault_among repeats version id key per_dir limit ≡ Some Memory
+    → ⊥
 no_memory true version id key per_dir limit e = cc
 no_memory false false id key per_dir limit e = cc
 no_memory false true None key per_dir limit e = cc
@@ -81,7 +85,7 @@ first_is_err text fault e = rw e refl
 -- ---- a config
 
 says_from : (text : List ℕ) (config : Config) (found : Option (List Assignment)) → assignments_of text ≡ found
-    → fault_or (fault_of_section found) (config_in (unwrap_or found [])) ≡ Ok config → Says text config
+    → fault_or (fault_of_section found) (config_in (unwrap_or found [])) ≡ Ok config → SaysConfig text config
 says_from text config None e read = cc
 says_from text config (Some all) e read =
     let facts = found_of (repeats_known_name all) (has_version_1 all) (id_in all) (key_in all) (per_dir_in all) (limit_in all) config read in
@@ -96,16 +100,17 @@ says_from text config (Some all) e read =
       limit = facts.says_limit;
     }
 
-pub read_says : (text : List ℕ) (config : Config) → config_of text ≡ Ok config → Says text config
+pub read_says : (text : List ℕ) (config : Config) → config_of text ≡ Ok config → SaysConfig text config
 unfolding config_of first_fault
 read_says text config read = says_from text config (assignments_of text) refl read
 
-among_ok : (repeats version : Bool) (id key : Option (List ℕ)) (per_dir limit : Option ℕ) (config : Config) → Found repeats version id key per_dir limit config
+among_ok : (repeats version : Bool) (id key : Option (List ℕ)) (per_dir limit : Option ℕ) (config : Config)
+    → Found repeats version id key per_dir limit config
     → fault_or (fault_among repeats version id key per_dir limit) (config_among id key per_dir limit) ≡ Ok config
 among_ok repeats version id key per_dir limit config found =
     rw (found.once, found.right, found.says_id, found.says_key, found.says_per_dir, found.says_limit) refl
 
-pub says_read : (text : List ℕ) (config : Config) → Says text config → config_of text ≡ Ok config
+pub says_read : (text : List ℕ) (config : Config) → SaysConfig text config → config_of text ≡ Ok config
 unfolding config_of first_fault
 says_read text config says =
     let all = says.all in

@@ -1,5 +1,6 @@
 -- A text that is printed is read as its config.
-use Rattle.std.proofs.Common.{◌≡◌, ◌≢◌, ℕ, ◌-◌, ◌/◌, ◌<◌, ◌≤◌, true, false, List, [], ◌∷◌, ◌++◌, length, map, codes, Some, Ok, unwrap_or, refl, ap, ◌∙◌, arith, append-nil}
+use Rattle.std.proofs.Common.{◌≡◌, ◌≢◌, ℕ, ◌-◌, ◌/◌, ◌<◌, ◌≤◌, true, false, List, [], ◌∷◌, ◌++◌, length, map, codes, Some, Ok, unwrap_or, refl, ap, ◌∙◌}
+use Rattle.std.proofs.Common.{arith, append-nil}
 use Rattle.std.specs.Fmt.{decimal}
 use Rattle.std.specs.List.{before_first, concat, flat_map, list_all, list_any}
 use Rattle.std.specs.Option.{option_map}
@@ -10,13 +11,17 @@ use Rattle.base64.specs.Engines.{standard}
 use Rattle.base64.specs.GeneralPurpose.{decode_of, encode_of}
 use Rattle.base64.specs.Rfc4648.{encode_symbols}
 use Rattle.ferry_config.proofs.BoolLemmas.{or_left, or_right}
-use Rattle.ferry_config.proofs.PrintedLemmas.{concat-pieces, is_line, line_of-additional_free_space, line_of-append_only, line_of-id, line_of-key, line_of-limit, line_of-per_dir, line_of-repository, line_of-storage_quota, line_of-version, lines-flat_map, lines-further, lines_inner-further}
-use Rattle.ferry_config.proofs.SectionLemmas.{before_first-fails, continuation-assigned, continuation-nil, continuation-other, repository_sections-named, repository_sections-nil, repository_sections-other}
+use Rattle.ferry_config.proofs.PrintedLemmas.{concat-pieces, is_line, line_of-additional_free_space, line_of-append_only, line_of-id, line_of-key}
+use Rattle.ferry_config.proofs.PrintedLemmas.{line_of-limit, line_of-per_dir, line_of-repository, line_of-storage_quota, line_of-version, lines-flat_map}
+use Rattle.ferry_config.proofs.PrintedLemmas.{lines-further, lines_inner-further}
+use Rattle.ferry_config.proofs.SectionLemmas.{before_first-fails, continuation-assigned, continuation-nil, continuation-other, repository_sections-named}
+use Rattle.ferry_config.proofs.SectionLemmas.{repository_sections-nil, repository_sections-other}
 use Rattle.ferry_config.proofs.SolidLemmas.{is_solid_text, solid-base64, solid-digits, solid-hex, solid-inner, solid-take}
 use Rattle.ferry_config.proofs.ValueLemmas.{digits-decimal, number_of-decimal}
 use Rattle.ferry_config.specs.Config.{assignments_of, config_in, config_of, fault_in, fault_of_section, fault_or, first_fault, formed_lines}
 use Rattle.ferry_config.specs.Line.{Line, assigned, continued, header, line_of}
-use Rattle.ferry_config.specs.Section.{Assignment, assignments, continuation, has_forms, is_formless, is_header, only_one, repository_lines, repository_sections, values_to}
+use Rattle.ferry_config.specs.Section.{Assignment, assignments, continuation, has_forms, is_formless, is_header, only_one, repository_lines}
+use Rattle.ferry_config.specs.Section.{repository_sections, values_to}
 use Rattle.ferry_config.specs.Text.{config_text, ended, further_pieces, head_lines, key_lines, piece}
 use Rattle.ferry_config.specs.Value.{greatest, id_of, key_of}
 use Rattle.ferry_config.specs.declared.config.Config.{Config}
@@ -38,7 +43,8 @@ no_assignments (piece ∷ rest) = no_assignments rest
 
 continuation-pieces : (pieces : List (List ℕ)) → continuation (map continued pieces) ≡ concat pieces
 continuation-pieces [] = continuation-nil
-continuation-pieces (piece ∷ rest) = continuation-other (continued piece) (map continued rest) refl ∙ ap (λ others. piece ++ others) (continuation-pieces rest)
+continuation-pieces (piece ∷ rest) =
+    continuation-other (continued piece) (map continued rest) refl ∙ ap (λ others. piece ++ others) (continuation-pieces rest)
 
 -- ---- a section to the end of the text
 
@@ -86,14 +92,16 @@ section_lines : (config : Config) (first : List ℕ) (further : List (List ℕ))
 section_lines config first further =
     let all = section_of config first further in
     let none : list_any is_header all ≡ false = none_header further in
-    ap only_one (repository_sections-named (codes "repository") all refl ∙ ap (λ rest. before_first is_header all ∷ rest) (repository_sections-none all none))
+    ap only_one (repository_sections-named (codes "repository") all refl
+    ∙ ap (λ rest. before_first is_header all ∷ rest) (repository_sections-none all none))
     ∙ ap Some (before_first-none all none)
 
 section_forms : (config : Config) (first : List ℕ) (further : List (List ℕ)) → has_forms (section_of config first further) ≡ true
 unfolding has_forms
 section_forms config first further = rw (none_formless further) refl
 
-section_assignments : (config : Config) (first : List ℕ) (further : List (List ℕ)) → assignments (section_of config first further) ≡ assigned_of config (first ++ concat further)
+section_assignments : (config : Config) (first : List ℕ) (further : List (List ℕ))
+    → assignments (section_of config first further) ≡ assigned_of config (first ++ concat further)
 unfolding assignments
 section_assignments config first further = simp (continuation-assigned, append-nil) (rw (continuation-pieces further, no_assignments further) refl)
 
@@ -101,14 +109,16 @@ section_assignments config first further = simp (continuation-assigned, append-n
 
 -- the forms of all lines
 config_forms : (config : Config) → config.per_dir ≤ greatest → config.limit ≤ greatest → (key : List ℕ) → 0 < length key → is_solid_text key ≡ true
-    → map line_of (head_lines config ++ key_lines key) ≡ header (codes "repository") ∷ section_of config (piece key 0) (further_pieces key ((length key - 1) / 70))
+    → map line_of (head_lines config ++ key_lines key)
+    ≡ header (codes "repository") ∷ section_of config (piece key 0) (further_pieces key ((length key - 1) / 70))
 config_forms config small_dir small_limit key some solid =
     let per_dir = line_of-per_dir (decimal config.per_dir) (solid-digits (decimal config.per_dir) (digits-decimal config.per_dir small_dir)) in
     let limit = line_of-limit (decimal config.limit) (solid-digits (decimal config.limit) (digits-decimal config.limit small_limit)) in
     let id = line_of-id (encode_lower config.id) (solid-hex config.id) in
     let first = line_of-key (piece key 0) (solid-take 70 key solid) in
     let further = lines-further key ((length key - 1) / 70) solid (omega arith) in
-    rw (line_of-repository, line_of-version, per_dir, limit, line_of-append_only, line_of-storage_quota, line_of-additional_free_space, id, first, further) refl
+    rw (line_of-repository, line_of-version, per_dir, limit, line_of-append_only, line_of-storage_quota, line_of-additional_free_space, id, first, further)
+    refl
 
 -- no line has an end in it
 config_inner : (config : Config) → config.per_dir ≤ greatest → config.limit ≤ greatest → (key : List ℕ) → is_solid_text key ≡ true
@@ -166,12 +176,14 @@ read_assigned config key printable some decoded =
     rw (per_dir, limit, id, bytes) refl
 
 -- a printed config is read as itself
-pub config_of-config_text : (config : Config) → IsPrintable config → 0 < length (encode_of standard config.key) → decode_of standard (encode_of standard config.key) ≡ Ok config.key
+pub config_of-config_text : (config : Config) → IsPrintable config → 0 < length (encode_of standard config.key)
+    → decode_of standard (encode_of standard config.key) ≡ Ok config.key
     → config_of (config_text config) ≡ Ok config
 unfolding config_of config_text first_fault
 config_of-config_text config printable some decoded =
     let key = encode_of standard config.key in
-    ap (λ all. fault_or (fault_of_section all) (config_in (unwrap_or all []))) (config_assignments config printable.dir_most printable.limit_most key some (solid-base64 config.key))
+    ap (λ all. fault_or (fault_of_section all) (config_in (unwrap_or all [])))
+    (config_assignments config printable.dir_most printable.limit_most key some (solid-base64 config.key))
     ∙ read_assigned config key printable some decoded
 
 -- ---- a key text that isn't empty

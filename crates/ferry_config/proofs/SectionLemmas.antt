@@ -1,39 +1,41 @@
 -- Lemmas on the section `repository`, for the loops over its lines.
-use Rattle.std.proofs.Common.{◌≡◌, ℕ, suc, ◌+◌, ◌<◌, Bool, true, false, not, List, [], ◌∷◌, ◌++◌, length, map, drop, take, get_or, codes, Bor, refl, ap, arith, add-one, drop-cons, append_assoc}
+use Rattle.std.proofs.Common.{◌≡◌, ℕ, suc, ◌+◌, ◌<◌, Bool, true, false, not, List, [], ◌∷◌, ◌++◌, length, map, drop, take, get_or, codes, Bor, refl, ap}
+use Rattle.std.proofs.Common.{arith, add-one, drop-cons, append_assoc}
 use Rattle.std.proofs.lemmas.List.{map_more}
 use Rattle.std.specs.List.{before_first, flat_map, prefix_len}
 use Rattle.std.specs.Str.{bytes_eq}
 use Rattle.ferry_config.specs.Line as spec
 use Rattle.ferry_config.specs.Section.{assignments, continuation, is_assigned, is_header, piece_of, repository_sections, sections, values_to}
-use Rattle.ferry_config.specs.Shown.{shown}
+use Rattle.ferry_config.specs.View.{line_view}
 use Rattle.ferry_config.specs.declared.line.Line.{Line}
 use Rattle.ferry_config.specs.declared.line.Line.TheVariants.{Passed, Header, Continued, Assigned, Formless}
 
 -- ---- the lines from place i on
 
-pub shown-drop : (lines : List Line) (i : ℕ) → i < length lines → map shown (drop i lines) ≡ shown (get_or lines i Passed) ∷ map shown (drop (i + 1) lines)
-shown-drop lines i within = rw (add-one i) (ap (map shown) (drop-cons lines i Passed within))
+pub line_view-drop : (lines : List Line) (i : ℕ) → i < length lines
+    → map line_view (drop i lines) ≡ line_view (get_or lines i Passed) ∷ map line_view (drop (i + 1) lines)
+line_view-drop lines i within = rw (add-one i) (ap (map line_view) (drop-cons lines i Passed within))
 
-pub is_header-shown : (line : Line) → ((name : Bor (List ℕ)) → line ≡ Header name → ⊥) → is_header (shown line) ≡ false
-is_header-shown Passed other = refl
-is_header-shown (Header name) other = absurd (other name refl)
-is_header-shown (Continued piece) other = refl
-is_header-shown (Assigned name value) other = refl
-is_header-shown Formless other = refl
+pub is_header-line_view : (line : Line) → ((name : Bor (List ℕ)) → line ≡ Header name → ⊥) → is_header (line_view line) ≡ false
+is_header-line_view Passed other = refl
+is_header-line_view (Header name) other = absurd (other name refl)
+is_header-line_view (Continued piece) other = refl
+is_header-line_view (Assigned name value) other = refl
+is_header-line_view Formless other = refl
 
-pub is_assigned-shown : (line : Line) → ((name value : Bor (List ℕ)) → line ≡ Assigned name value → ⊥) → is_assigned (shown line) ≡ false
-is_assigned-shown Passed other = refl
-is_assigned-shown (Header name) other = refl
-is_assigned-shown (Continued piece) other = refl
-is_assigned-shown (Assigned name value) other = absurd (other name value refl)
-is_assigned-shown Formless other = refl
+pub is_assigned-line_view : (line : Line) → ((name value : Bor (List ℕ)) → line ≡ Assigned name value → ⊥) → is_assigned (line_view line) ≡ false
+is_assigned-line_view Passed other = refl
+is_assigned-line_view (Header name) other = refl
+is_assigned-line_view (Continued piece) other = refl
+is_assigned-line_view (Assigned name value) other = absurd (other name value refl)
+is_assigned-line_view Formless other = refl
 
-pub piece_of-shown : (line : Line) → ((piece : Bor (List ℕ)) → line ≡ Continued piece → ⊥) → piece_of (shown line) ≡ []
-piece_of-shown Passed other = refl
-piece_of-shown (Header name) other = refl
-piece_of-shown (Continued piece) other = absurd (other piece refl)
-piece_of-shown (Assigned name value) other = refl
-piece_of-shown Formless other = refl
+pub piece_of-line_view : (line : Line) → ((piece : Bor (List ℕ)) → line ≡ Continued piece → ⊥) → piece_of (line_view line) ≡ []
+piece_of-line_view Passed other = refl
+piece_of-line_view (Header name) other = refl
+piece_of-line_view (Continued piece) other = absurd (other piece refl)
+piece_of-line_view (Assigned name value) other = refl
+piece_of-line_view Formless other = refl
 
 -- ---- before_first
 
@@ -46,16 +48,24 @@ before_first-fails p x xs fails =
     rw (fails, one_more) refl
 
 -- one more line that doesn't pass
-pub before_first-drop : (p : spec.Line → Bool) (lines : List Line) (i : ℕ) → i < length lines → p (shown (get_or lines i Passed)) ≡ false
-    → map shown (take i lines) ++ before_first p (map shown (drop i lines)) ≡ map shown (take (i + 1) lines) ++ before_first p (map shown (drop (i + 1) lines))
+pub before_first-drop : (p : spec.Line → Bool) (lines : List Line) (i : ℕ) → i < length lines → p (line_view (get_or lines i Passed)) ≡ false
+    → map line_view (take i lines) ++ before_first p (map line_view (drop i lines))
+    ≡ map line_view (take (i + 1) lines) ++ before_first p (map line_view (drop (i + 1) lines))
 before_first-drop p lines i within fails =
     let line = get_or lines i Passed in
-    let rest = map shown (drop (i + 1) lines) in
-    rw (shown-drop lines i within, before_first-fails p (shown line) rest fails, map_more shown lines i Passed within, append_assoc (map shown (take i lines)) (shown line ∷ []) (before_first p rest)) refl
+    let rest = map line_view (drop (i + 1) lines) in
+    rw (
+      line_view-drop lines i within,
+      before_first-fails p (line_view line) rest fails,
+      map_more line_view lines i Passed within,
+      append_assoc
+          (map line_view (take i lines)) (line_view line ∷ []) (before_first p rest),
+    ) refl
 
 -- ---- repository_sections
 
-pub repository_sections-other : (line : spec.Line) (rest : List spec.Line) → is_header line ≡ false → repository_sections (line ∷ rest) ≡ repository_sections rest
+pub repository_sections-other : (line : spec.Line) (rest : List spec.Line) → is_header line ≡ false
+    → repository_sections (line ∷ rest) ≡ repository_sections rest
 unfolding repository_sections sections
 repository_sections-other spec.passed rest other = refl
 repository_sections-other (spec.header name) rest other = cc
@@ -99,7 +109,8 @@ pub continuation-assigned : (name value : List ℕ) (rest : List spec.Line) → 
 unfolding continuation
 continuation-assigned name value rest = refl
 
-pub continuation-other : (line : spec.Line) (rest : List spec.Line) → is_assigned line ≡ false → continuation (line ∷ rest) ≡ piece_of line ++ continuation rest
+pub continuation-other : (line : spec.Line) (rest : List spec.Line) → is_assigned line ≡ false
+    → continuation (line ∷ rest) ≡ piece_of line ++ continuation rest
 unfolding continuation
 continuation-other line rest other = ap (flat_map piece_of) (before_first-fails is_assigned line rest other)
 

@@ -1,5 +1,6 @@
 -- Texts without spaces, tabs and ends of lines: what decimal, hex and base64 write.
-use Rattle.std.proofs.Common.{◌≡◌, ℕ, zero, suc, ◌+◌, ◌*◌, ◌/◌, ◌%◌, ◌≤◌, ◌==◌, ◌&&◌, Bool, true, false, not, List, [], ◌∷◌, ◌++◌, length, take, drop, get_or, replicate, refl, ap, ◌∙◌, arith, nat_le}
+use Rattle.std.proofs.Common.{◌≡◌, ℕ, zero, suc, ◌+◌, ◌*◌, ◌/◌, ◌%◌, ◌≤◌, ◌==◌, ◌&&◌, Bool, true, false, not, List, [], ◌∷◌, ◌++◌, length, take, drop}
+use Rattle.std.proofs.Common.{get_or, replicate, refl, ap, ◌∙◌, arith, nat_le}
 use Rattle.std.proofs.lemmas.Bool.{leb-true}
 use Rattle.ferry_config.proofs.BoolLemmas.{and_left, and_right, not_equal, not_true}
 use Rattle.std.proofs.lemmas.List.Folds.{list_all-append}
@@ -116,7 +117,13 @@ solid-symbols table (a ∷ []) solid =
 solid-symbols table (a ∷ b ∷ []) solid =
     rw (solid-get_or table (a / 4) solid, solid-get_or table (a % 4 * 16 + b / 16) solid, solid-get_or table (b % 16 * 4) solid) refl
 solid-symbols table (a ∷ b ∷ c ∷ rest) solid =
-    rw (solid-get_or table (a / 4) solid, solid-get_or table (a % 4 * 16 + b / 16) solid, solid-get_or table (b % 16 * 4 + c / 64) solid, solid-get_or table (c % 64) solid)
+    rw (
+      solid-get_or table (a / 4) solid,
+      solid-get_or table (a % 4 * 16 + b / 16) solid,
+      solid-get_or table (b % 16 * 4 + c / 64) solid,
+      solid-get_or table
+          (c % 64) solid,
+    )
     (solid-symbols table rest solid)
 
 solid-replicate : (n : ℕ) → is_solid_text (replicate n 61) ≡ true
@@ -124,14 +131,23 @@ solid-replicate zero = refl
 solid-replicate (suc n) = solid-replicate n
 
 pub solid-base64 : (bytes : List ℕ) → is_solid_text (encode_of standard bytes) ≡ true
-solid-base64 bytes = solid-append (encode_symbols (engine_symbols standard) bytes) (replicate (padding_len (length bytes)) 61) (solid-symbols (engine_symbols standard) bytes refl) (solid-replicate (padding_len (length bytes)))
+solid-base64 bytes =
+    solid-append (encode_symbols (engine_symbols standard) bytes) (replicate (padding_len (length bytes)) 61)
+    (solid-symbols (engine_symbols standard) bytes refl) (solid-replicate (padding_len (length bytes)))
 
 digit_solid : (byte : ℕ) → is_ascii_digit byte ≡ true → is_solid byte ≡ true
 digit_solid byte digit =
     let least : 48 ≤ byte = leb-true _ _ (and_left (nat_le 48 byte) (nat_le byte 57) digit) in
-    rw (not_equal byte 9 (λ e. omega arith), not_equal byte 10 (λ e. omega arith), not_equal byte 13 (λ e. omega arith), not_equal byte 32 (λ e. omega arith)) refl
+    rw (
+      not_equal byte 9 (λ e. omega arith),
+      not_equal byte 10 (λ e. omega arith),
+      not_equal byte 13 (λ e. omega arith),
+      not_equal byte 32
+          (λ e. omega arith),
+    ) refl
 
 pub solid-digits : (text : List ℕ) → all_ascii_digits text ≡ true → is_solid_text text ≡ true
 solid-digits [] digits = refl
 solid-digits (byte ∷ rest) digits =
-    rw (digit_solid byte (and_left (is_ascii_digit byte) (all_ascii_digits rest) digits)) (solid-digits rest (and_right (is_ascii_digit byte) (all_ascii_digits rest) digits))
+    rw (digit_solid byte (and_left (is_ascii_digit byte) (all_ascii_digits rest) digits))
+    (solid-digits rest (and_right (is_ascii_digit byte) (all_ascii_digits rest) digits))

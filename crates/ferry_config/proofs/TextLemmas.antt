@@ -23,7 +23,8 @@ map-append_one [] y = refl
 map-append_one (x ∷ xs) y = ap (λ rest. (9 ∷ x) ∷ rest) (map-append_one xs y)
 
 -- one more piece
-pub key_lines_to-next : (key : List ℕ) (n : ℕ) → flat_map ended (key_lines_to key (n + 1)) ≡ flat_map ended (key_lines_to key n) ++ ended (9 ∷ piece key (n + 1))
+pub key_lines_to-next : (key : List ℕ) (n : ℕ)
+    → flat_map ended (key_lines_to key (n + 1)) ≡ flat_map ended (key_lines_to key n) ++ ended (9 ∷ piece key (n + 1))
 unfolding further_pieces
 key_lines_to-next key n =
     let first = ended (codes "key = " ++ piece key 0) in

@@ -1,5 +1,6 @@
 -- Lemmas on the numbers of a config.
-use Rattle.std.proofs.Common.{◌≡◌, ℕ, ◌+◌, ◌-◌, ◌*◌, ◌<◌, ◌≤◌, true, false, ◌&&◌, List, [], ◌∷◌, length, drop, get_or, refl, ap, sym, ◌∙◌, arith, add-one, drop-cons, Some, None, if◌then◌else◌, nat_le, ◌==◌, ◌≢◌, inl, inr, rules, ◌^◌, not, eq-eqb}
+use Rattle.std.proofs.Common.{◌≡◌, ℕ, ◌+◌, ◌-◌, ◌*◌, ◌<◌, ◌≤◌, true, false, ◌&&◌, List, [], ◌∷◌, length, drop, get_or, refl, ap, sym, ◌∙◌, arith, add-one}
+use Rattle.std.proofs.Common.{drop-cons, Some, None, if◌then◌else◌, nat_le, ◌==◌, ◌≢◌, inl, inr, rules, ◌^◌, not, eq-eqb}
 use Rattle.std.proofs.lemmas.Bool.{cases_Bool, le-leb, leb-true}
 use Rattle.std.proofs.lemmas.Fmt.{digits_decimal, digits_value-decimal, first_decimal, decimal-digits_value}
 use Rattle.std.proofs.lemmas.Str.Parse.{IsNumeralModel, numerals_by_fold}
@@ -23,7 +24,8 @@ unfolding number_from
 number_from-drop before text i within = rw (add-one i, drop-cons text i 0 within) refl
 
 -- one more byte that is a digit
-pub digits-drop : (text : List ℕ) (i : ℕ) → i < length text → is_ascii_digit (get_or text i 0) ≡ true → all_ascii_digits (drop i text) ≡ all_ascii_digits (drop (i + 1) text)
+pub digits-drop : (text : List ℕ) (i : ℕ) → i < length text → is_ascii_digit (get_or text i 0) ≡ true
+    → all_ascii_digits (drop i text) ≡ all_ascii_digits (drop (i + 1) text)
 digits-drop text i within digit = rw (add-one i, drop-cons text i 0 within, digit) refl
 
 pub number_from-nil : (before : ℕ) → number_from before [] ≡ before

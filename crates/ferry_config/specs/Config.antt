@@ -1,5 +1,6 @@
 -- What a `config` means: its first fault, or what it says.
-use Rattle.std.specs.Prelude.{◌≡◌, ℕ, ◌||◌, not, Bool, false, if◌then◌else◌, List, [], ◌∷◌, codes, map, Option, Some, None, is_none, unwrap_or, option_and_then, Result, Ok, Err}
+use Rattle.std.specs.Prelude.{◌≡◌, ℕ, ◌||◌, not, Bool, false, if◌then◌else◌, List, [], ◌∷◌, codes, map, Option, Some, None, is_none, unwrap_or}
+use Rattle.std.specs.Prelude.{option_and_then, Result, Ok, Err}
 use Rattle.std.specs.List.{list_any}
 use Rattle.std.specs.Option.{option_map, option_map_or}
 use Rattle.std.specs.Str.Lines.{lines}
@@ -94,7 +95,7 @@ config_of text = fault_or (first_fault text) (config_in (unwrap_or (assignments_
 
 -- the text has no fault and says this: one section `repository` whose lines have their forms, with
 -- these assignments, no known name twice, version 1, and the four values
-pub record Says (text : List ℕ) (config : Config) : Type 0 where
+pub record SaysConfig (text : List ℕ) (config : Config) : Type 0 where
   pub all : List Assignment
   pub section : assignments_of text ≡ Some all
   pub once : repeats_known_name all ≡ false

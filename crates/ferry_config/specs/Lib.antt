@@ -2,6 +2,6 @@ pub mod Line
 pub mod Section
 pub mod Value
 pub mod Config
-pub mod Shown
+pub mod View
 pub mod Fault
 pub mod Text

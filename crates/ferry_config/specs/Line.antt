@@ -1,6 +1,7 @@
 -- The forms of a line of `config`. The grammar is this repository's own, a part of what Python's
 -- `configparser` reads, which BorgBackup 1.2 writes the file with.
-use Rattle.std.specs.Prelude.{ℕ, ◌+◌, ◌-◌, ◌==◌, ◌&&◌, ◌||◌, nat_le, not, Bool, if◌then◌else◌, List, [], ◌∷◌, length, take, drop, slice_index, slice_range, position, Option, Some, None}
+use Rattle.std.specs.Prelude.{ℕ, ◌+◌, ◌-◌, ◌==◌, ◌&&◌, ◌||◌, nat_le, not, Bool, if◌then◌else◌, List, [], ◌∷◌, length, take, drop, slice_index, slice_range}
+use Rattle.std.specs.Prelude.{position, Option, Some, None}
 use Rattle.std.specs.List.{list_all, list_any}
 
 -- a space or a tab

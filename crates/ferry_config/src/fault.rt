@@ -10,25 +10,25 @@ use thiserror::Error;
 pub enum ConfigFault {
     /// There is no section `repository`, or more than one, or one of its lines has no form.
     #[error("no section `repository`, more than one, or a line of it that has no form")]
-    Section,
+    Section = 1,
     /// `version` is absent or isn't 1.
     #[error("`version` isn't 1")]
-    Version,
+    Version = 2,
     /// `id` is absent or isn't 64 hex digits.
     #[error("`id` isn't 64 hex digits")]
-    Id,
+    Id = 3,
     /// `key` is absent, empty or no base64 text.
     #[error("`key` is no base64 text")]
-    Key,
+    Key = 4,
     /// A number isn't decimal, or isn't from 1 to 4294967295.
     #[error("a number isn't from 1 to 4294967295")]
-    Number,
+    Number = 5,
     /// A known name stands twice.
     #[error("a known name stands twice")]
-    Repeat,
+    Repeat = 6,
     /// Memory ran out.
     #[error("out of memory")]
-    Memory,
+    Memory = 7,
 }
 
 impl ConfigFault {
@@ -38,15 +38,7 @@ impl ConfigFault {
     pub fn number(&self) -> u8
         ensures number { result ≡ number_of_fault self.now }
     {
-        match self {
-            ConfigFault::Section => 1,
-            ConfigFault::Version => 2,
-            ConfigFault::Id => 3,
-            ConfigFault::Key => 4,
-            ConfigFault::Number => 5,
-            ConfigFault::Repeat => 6,
-            ConfigFault::Memory => 7,
-        }
+        *self as u8
     }
 }
 

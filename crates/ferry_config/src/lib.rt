@@ -18,7 +18,7 @@ mod section;
 mod tests;
 mod values;
 
-pub use config::{Config, Id, KeyBytes};
+pub use config::Config;
 pub use fault::ConfigFault;
 pub use meaning::one_meaning;
 pub use printing::print_config;

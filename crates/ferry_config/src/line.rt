@@ -4,7 +4,7 @@ ghost use Rattle.std.specs.Prelude.{◌≡◌, ◌<◌, ◌==◌, length, positi
 ghost use Rattle.std.specs.List.{list_all};
 ghost use Rattle.std.specs.Option.{option_copied};
 ghost use Rattle.ferry_config.specs.Line.{header_name, inner_line, is_passed, is_space, line_of, trimmed, trimmed_end, trimmed_front};
-ghost use Rattle.ferry_config.specs.Shown.{shown};
+ghost use Rattle.ferry_config.specs.View.{line_view};
 
 /// What a line is. The texts borrow from the line.
 #[derive(Clone, Copy)]
@@ -31,7 +31,7 @@ pub(crate) fn place_of(text: &[u8], wanted: u8) -> Option<usize>
 /// The form of the line `text`, which is given without its end.
 #[tactic(auto, unfolding(crate::specs::Line::line_of))]
 pub(crate) fn line_of(text: &[u8]) -> Line<'_>
-    ensures line { shown result ≡ line_of text.now }
+    ensures line { line_view result ≡ line_of text.now }
 {
     if is_passed(text) {
         return Line::Passed;
@@ -45,7 +45,7 @@ pub(crate) fn line_of(text: &[u8]) -> Line<'_>
 /// The form of a line of a section that is neither passed over nor the beginning of one.
 fn inner_line(text: &[u8]) -> Line<'_>
     requires { 0 < length text.now }
-    ensures line { shown result ≡ inner_line text.now }
+    ensures line { line_view result ≡ inner_line text.now }
 {
     if is_space(text[0]) {
         return Line::Continued(trimmed(text));

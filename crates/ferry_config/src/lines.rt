@@ -3,14 +3,14 @@
 ghost use Rattle.std.specs.Prelude.{◌≡◌, ◌<◌, ◌∷◌, IfOk, length, map};
 ghost use Rattle.std.specs.Str.Lines.{lines, strip_carriage_return};
 ghost use Rattle.ferry_config.specs.Line.{line_of};
-ghost use Rattle.ferry_config.specs.Shown.{shown};
+ghost use Rattle.ferry_config.specs.View.{line_view};
 
 use crate::line::{Line, line_of, place_of};
 use std::alloc::{AllocError, Global};
 
 /// The forms of all lines of `text`, in order.
 pub(crate) fn lines_of(alloc: Global, text: &[u8]) -> Result<Vec<Line<'_>>, AllocError>
-    ensures lines { IfOk result (λ all. map shown all.items ≡ map line_of (lines text.now)) }
+    ensures lines { IfOk result (λ all. map line_view all.items ≡ map line_of (lines text.now)) }
 {
     let mut all = Vec::new(alloc);
     let mut rest = text;

@@ -3,14 +3,15 @@
 ghost use Rattle.std.specs.Prelude.{◌≡◌, ◌≢◌, ℕ, List, Option, Some, IfOk, IfErr, map};
 ghost use Rattle.ferry_config.specs.Config.{config_in, config_of, fault_in, fault_or, has_version_1, id_in, key_in, number_in, repeats_known_name};
 ghost use Rattle.ferry_config.specs.Section.{assignments};
-ghost use Rattle.ferry_config.specs.Shown.{shown};
+ghost use Rattle.ferry_config.specs.View.{line_view};
 
-use crate::config::{Config, Id, KeyBytes};
+use crate::config::Config;
 use crate::fault::ConfigFault;
 use crate::line::Line;
 use crate::lines::lines_of;
 use crate::section::{has_forms, repository_lines, stands_twice, value_of};
 use crate::values::{read_id, read_key, read_number};
+use ferry_base::{Bytes, Id};
 use std::alloc::{AllocError, Global};
 
 /// How many segments a folder holds where the text doesn't say.
@@ -43,9 +44,9 @@ pub fn read_config(alloc: Global, bytes: &[u8]) -> Result<Config, ConfigFault>
 
 /// What the lines of the section `repository` say, each of which has its form.
 fn config_in(alloc: Global, section: &[Line<'_>]) -> Result<Config, ConfigFault>
-    ensures config { IfOk result (λ config. let all = assignments (map shown section.now) in
+    ensures config { IfOk result (λ config. let all = assignments (map line_view section.now) in
         fault_or (fault_in all) (config_in all) ≡ Ok config) }
-    ensures fault { IfErr result (λ fault. let all = assignments (map shown section.now) in
+    ensures fault { IfErr result (λ fault. let all = assignments (map line_view section.now) in
         fault ≢ ConfigFault.Memory → fault_or (fault_in all) (config_in all) ≡ Err fault) }
 {
     if repeats_known_name(section) {
@@ -76,7 +77,7 @@ fn config_in(alloc: Global, section: &[Line<'_>]) -> Result<Config, ConfigFault>
 
 /// Whether a name that means something stands twice.
 fn repeats_known_name(section: &[Line<'_>]) -> bool
-    ensures repeats { result ≡ repeats_known_name (assignments (map shown section.now)) }
+    ensures repeats { result ≡ repeats_known_name (assignments (map line_view section.now)) }
 {
     stands_twice(section, b"version")
         || stands_twice(section, b"id")
@@ -88,7 +89,7 @@ fn repeats_known_name(section: &[Line<'_>]) -> bool
 /// Whether `version` is 1.
 fn has_version_1(alloc: Global, section: &[Line<'_>]) -> Result<bool, AllocError>
     ensures version { IfOk result (λ right.
-        right ≡ has_version_1 (assignments (map shown section.now))) }
+        right ≡ has_version_1 (assignments (map line_view section.now))) }
 {
     match value_of(alloc, section, b"version")? {
         Some(text) => Ok(text.as_slice() == b"1".as_slice()),
@@ -98,7 +99,7 @@ fn has_version_1(alloc: Global, section: &[Line<'_>]) -> Result<bool, AllocError
 
 /// What `id` says.
 fn id_in(alloc: Global, section: &[Line<'_>]) -> Result<Option<Id>, AllocError>
-    ensures id { IfOk result (λ id. id ≡ id_in (assignments (map shown section.now))) }
+    ensures id { IfOk result (λ id. id ≡ id_in (assignments (map line_view section.now))) }
 {
     match value_of(alloc, section, b"id")? {
         Some(text) => Ok(read_id(text.as_slice())),
@@ -107,8 +108,8 @@ fn id_in(alloc: Global, section: &[Line<'_>]) -> Result<Option<Id>, AllocError>
 }
 
 /// What `key` says.
-fn key_in(alloc: Global, section: &[Line<'_>]) -> Result<Option<KeyBytes>, AllocError>
-    ensures key { IfOk result (λ key. key ≡ key_in (assignments (map shown section.now))) }
+fn key_in(alloc: Global, section: &[Line<'_>]) -> Result<Option<Bytes>, AllocError>
+    ensures key { IfOk result (λ key. key ≡ key_in (assignments (map line_view section.now))) }
 {
     match value_of(alloc, section, b"key")? {
         Some(text) => read_key(alloc, text.as_slice()),
@@ -124,7 +125,7 @@ fn number_in(
     default: u64,
 ) -> Result<Option<u64>, AllocError>
     ensures number { IfOk result (λ number.
-        number ≡ number_in name.now default (assignments (map shown section.now))) }
+        number ≡ number_in name.now default (assignments (map line_view section.now))) }
 {
     match value_of(alloc, section, name)? {
         Some(text) => Ok(read_number(text.as_slice())),

@@ -4,16 +4,29 @@ ghost use Rattle.std.specs.Prelude.{◌≡◌, ℕ, ◌∷◌, [], ◌++◌, Lis
 ghost use Rattle.std.specs.List.{before_first, list_any};
 ghost use Rattle.std.specs.Option.{option_map};
 ghost use Rattle.std.specs.Str.{bytes_eq};
-ghost use Rattle.ferry_config.specs.Section.{assignments, continuation, has_forms, is_assigned, is_continued, is_formless, is_header, repository_lines, repository_sections, stands_twice, value_of, values_to};
-ghost use Rattle.ferry_config.specs.Shown.{shown};
+ghost use Rattle.ferry_config.specs.Section.{
+  assignments,
+  continuation,
+  has_forms,
+  is_assigned,
+  is_continued,
+  is_formless,
+  is_header,
+  repository_lines,
+  repository_sections,
+  stands_twice,
+  value_of,
+  values_to,
+};
+ghost use Rattle.ferry_config.specs.View.{line_view};
 
 use crate::line::Line;
 use std::alloc::{AllocError, Global};
 
 /// The lines of the section `repository`, where there is one and no other.
 pub(crate) fn repository_lines<'b, 'a>(lines: &'b [Line<'a>]) -> Option<&'b [Line<'a>]>
-    ensures lines { option_map (λ found. map shown found.now) result
-        ≡ repository_lines (map shown lines.now) }
+    ensures lines { option_map (λ found. map line_view found.now) result
+        ≡ repository_lines (map line_view lines.now) }
 {
     let behind = behind_repository(lines)?;
     match behind_repository(behind) {
@@ -24,10 +37,10 @@ pub(crate) fn repository_lines<'b, 'a>(lines: &'b [Line<'a>]) -> Option<&'b [Lin
 
 /// The lines behind the first that begins a section `repository`.
 fn behind_repository<'b, 'a>(lines: &'b [Line<'a>]) -> Option<&'b [Line<'a>]>
-    ensures found { IfSome result (λ behind. repository_sections (map shown lines.now)
-        ≡ before_first is_header (map shown behind.now)
-        ∷ repository_sections (map shown behind.now)) }
-    ensures none { IfNone result (repository_sections (map shown lines.now) ≡ []) }
+    ensures found { IfSome result (λ behind. repository_sections (map line_view lines.now)
+        ≡ before_first is_header (map line_view behind.now)
+        ∷ repository_sections (map line_view behind.now)) }
+    ensures none { IfNone result (repository_sections (map line_view lines.now) ≡ []) }
 {
     for place in 0..lines.len() {
         if let Line::Header(name) = lines[place] {
@@ -41,7 +54,7 @@ fn behind_repository<'b, 'a>(lines: &'b [Line<'a>]) -> Option<&'b [Line<'a>]>
 
 /// The lines before the first that begins a section.
 fn before_header<'b, 'a>(lines: &'b [Line<'a>]) -> &'b [Line<'a>]
-    ensures front { map shown result.now ≡ before_first is_header (map shown lines.now) }
+    ensures front { map line_view result.now ≡ before_first is_header (map line_view lines.now) }
 {
     for place in 0..lines.len() {
         if let Line::Header(_) = lines[place] {
@@ -53,7 +66,7 @@ fn before_header<'b, 'a>(lines: &'b [Line<'a>]) -> &'b [Line<'a>]
 
 /// The lines before the first that begins a value.
 fn before_assigned<'b, 'a>(lines: &'b [Line<'a>]) -> &'b [Line<'a>]
-    ensures front { map shown result.now ≡ before_first is_assigned (map shown lines.now) }
+    ensures front { map line_view result.now ≡ before_first is_assigned (map line_view lines.now) }
 {
     for place in 0..lines.len() {
         if let Line::Assigned(_, _) = lines[place] {
@@ -66,14 +79,14 @@ fn before_assigned<'b, 'a>(lines: &'b [Line<'a>]) -> &'b [Line<'a>]
 /// Whether each line of a section has one of the forms, and none continues a value where none is.
 #[tactic(auto, unfolding(crate::specs::Section::has_forms))]
 pub(crate) fn has_forms(lines: &[Line<'_>]) -> bool
-    ensures forms { result ≡ has_forms (map shown lines.now) }
+    ensures forms { result ≡ has_forms (map line_view lines.now) }
 {
     !has_formless(lines) && !has_continued(before_assigned(lines))
 }
 
 /// Whether one of the lines has no form.
 fn has_formless(lines: &[Line<'_>]) -> bool
-    ensures formless { result ≡ list_any is_formless (map shown lines.now) }
+    ensures formless { result ≡ list_any is_formless (map line_view lines.now) }
 {
     for place in 0..lines.len() {
         if let Line::Formless = lines[place] {
@@ -85,7 +98,7 @@ fn has_formless(lines: &[Line<'_>]) -> bool
 
 /// Whether one of the lines continues a value.
 fn has_continued(lines: &[Line<'_>]) -> bool
-    ensures continued { result ≡ list_any is_continued (map shown lines.now) }
+    ensures continued { result ≡ list_any is_continued (map line_view lines.now) }
 {
     for place in 0..lines.len() {
         if let Line::Continued(_) = lines[place] {
@@ -104,10 +117,10 @@ struct Begun<'b, 'a> {
 
 /// The first assignment to `name`.
 fn assignment_to<'b, 'a>(lines: &'b [Line<'a>], name: &[u8]) -> Option<Begun<'b, 'a>>
-    ensures found { IfSome result (λ begun. values_to name.now (assignments (map shown lines.now))
-        ≡ (begun.value.now ++ continuation (map shown begun.behind.now))
-        ∷ values_to name.now (assignments (map shown begun.behind.now))) }
-    ensures none { IfNone result (values_to name.now (assignments (map shown lines.now)) ≡ []) }
+    ensures found { IfSome result (λ begun. values_to name.now (assignments (map line_view lines.now))
+        ≡ (begun.value.now ++ continuation (map line_view begun.behind.now))
+        ∷ values_to name.now (assignments (map line_view begun.behind.now))) }
+    ensures none { IfNone result (values_to name.now (assignments (map line_view lines.now)) ≡ []) }
 {
     for place in 0..lines.len() {
         if let Line::Assigned(found, value) = lines[place] {
@@ -122,7 +135,7 @@ fn assignment_to<'b, 'a>(lines: &'b [Line<'a>], name: &[u8]) -> Option<Begun<'b,
 
 /// Whether `name` stands twice or more.
 pub(crate) fn stands_twice(lines: &[Line<'_>], name: &[u8]) -> bool
-    ensures twice { result ≡ stands_twice name.now (assignments (map shown lines.now)) }
+    ensures twice { result ≡ stands_twice name.now (assignments (map line_view lines.now)) }
 {
     match assignment_to(lines, name) {
         Some(begun) => assignment_to(begun.behind, name).is_some(),
@@ -137,7 +150,7 @@ pub(crate) fn value_of(
     name: &[u8],
 ) -> Result<Option<Vec<u8>>, AllocError>
     ensures value { IfOk result (λ found. option_map (λ value. value.items) found
-        ≡ value_of name.now (assignments (map shown lines.now))) }
+        ≡ value_of name.now (assignments (map line_view lines.now))) }
 {
     let Some(begun) = assignment_to(lines, name) else {
         return Ok(None);
@@ -150,7 +163,7 @@ pub(crate) fn value_of(
 /// Appends the pieces that continue a value, which are those before the next value.
 fn append_pieces(value: &mut Vec<u8>, lines: &[Line<'_>]) -> Result<(), AllocError>
     ensures ok { OnOk result (
-        value.new.items ≡ value.old.items ++ continuation (map shown lines.now)) }
+        value.new.items ≡ value.old.items ++ continuation (map line_view lines.now)) }
 {
     for place in 0..lines.len() {
         match lines[place] {

@@ -4,9 +4,9 @@ ghost use Rattle.std.specs.Prelude.{◌≡◌, ◌&&◌, nat_le, if◌then◌els
 ghost use Rattle.std.specs.Str.{all_ascii_digits};
 ghost use Rattle.ferry_config.specs.Value.{greatest, id_of, key_of, number_from, number_of};
 
-use crate::config::{Id, KeyBytes};
 use base64::DecodeAllocError;
 use base64::engine::general_purpose::STANDARD;
+use ferry_base::{Bytes, Id};
 use std::alloc::{AllocError, Global};
 
 /// The greatest number that is taken.
@@ -26,14 +26,14 @@ pub(crate) fn read_id(text: &[u8]) -> Option<Id>
 
 /// The bytes of a base64 text that isn't empty.
 #[tactic(auto, unfolding(crate::specs::Value::key_of))]
-pub(crate) fn read_key(alloc: Global, text: &[u8]) -> Result<Option<KeyBytes>, AllocError>
+pub(crate) fn read_key(alloc: Global, text: &[u8]) -> Result<Option<Bytes>, AllocError>
     ensures key { IfOk result (λ key. key ≡ key_of text.now) }
 {
     if text.is_empty() {
         return Ok(None);
     }
     match STANDARD.decode(alloc, text) {
-        Ok(bytes) => Ok(Some(KeyBytes::new(bytes))),
+        Ok(bytes) => Ok(Some(Bytes::new(bytes))),
         Err(DecodeAllocError::DecodeError(_)) => Ok(None),
         Err(DecodeAllocError::OutOfMemory) => Err(AllocError),
     }

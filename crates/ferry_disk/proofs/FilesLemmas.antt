@@ -1,10 +1,10 @@
 -- Lemmas on specs/Files.antt and specs/Memory.antt: a map of the program and the finite map of the contracts.
-use Rattle.std.proofs.Common.{◌≡◌, ℕ, Bool, true, false, cond, List, [], ◌∷◌, map, Option, Some, None, option_map, Bor, Result, Ok, Err, IfOk, refl, sym, ◌∙◌, ap, subst}
-use Rattle.std.specs.Ordering.{nat_cmp, eq_by_cmp, is_eq}
-use Rattle.std.specs.declared.cmp.Ordering.{Ordering}
-use Rattle.std.specs.declared.cmp.Ordering.TheVariants.{Less, Equal, Greater}
+use Rattle.std.proofs.Common.{◌≡◌, ℕ, Bool, true, false, cond, List, [], ◌∷◌, map, Option, Some, None, option_map, Bor, refl, sym, ◌∙◌, ap, subst}
+use Rattle.std.specs.Ordering.{nat_cmp}
+use Rattle.std.specs.declared.cmp.Ordering.TheVariants.{Less}
 use Rattle.std.specs.Cmp.{nat_cmp_total, eq_by_cmp_equiv}
-use Rattle.std.specs.FinMap.{FinMap, entries, from_entries, insert, get, get-from_entries, get-insert, entries-insert, same_map, len-entries, len-empty, empty, nat_cmp-IsAntisymmetric}
+use Rattle.std.specs.FinMap.{entries, from_entries, insert, get, get-from_entries, get-insert, entries-insert, same_map, len-entries, len-empty}
+use Rattle.std.specs.FinMap.{empty, nat_cmp-IsAntisymmetric}
 use Rattle.std.specs.FinMap.Entries.{find, put, by_order}
 use Rattle.std.proofs.lemmas.List.{nil_from_length}
 use Rattle.std.specs.List.Sorted.{IsStrictlySortedBy}
@@ -47,7 +47,9 @@ module _ {V X : Type 0} (f : V → X) where
   get-seen es q = get-from_entries nat_cmp_total (seen es) q ∙ find-seen es q
 
   -- entries that differ at one key make finite maps that differ there
-  pub insert-seen : (es fs : List (ℕ × V)) (k : ℕ) (v : V) → ((q : ℕ) → lookup (is_at (nat_cmp q)) fs ≡ cond (is_at (nat_cmp k) q) (Some v) (lookup (is_at (nat_cmp q)) es)) → from_entries {R = nat_cmp} (seen fs) ≡ insert (from_entries (seen es)) k (f v)
+  pub insert-seen : (es fs : List (ℕ × V)) (k : ℕ) (v : V)
+      → ((q : ℕ) → lookup (is_at (nat_cmp q)) fs ≡ cond (is_at (nat_cmp k) q) (Some v) (lookup (is_at (nat_cmp q)) es))
+      → from_entries {R = nat_cmp} (seen fs) ≡ insert (from_entries (seen es)) k (f v)
   insert-seen es fs k v h = same_map nat_cmp_total nat_cmp-IsAntisymmetric _ _ (λ q.
       get-seen fs q ∙ (ap (option_map f) (h q) ∙ (sym (mapped (is_at (nat_cmp k) q) v (lookup (is_at (nat_cmp q)) es))
       ∙ (ap (λ b. cond b (Some (f v)) (option_map f (lookup (is_at (nat_cmp q)) es))) ((eq_by_cmp_equiv nat_cmp_total).symm k q)
@@ -58,7 +60,8 @@ module _ {V X : Type 0} (f : V → X) where
   keys-seen (e ∷ es) = ap (λ k. e.0 ∷ k) (keys-seen es)
 
   -- the keys of the finite map are those of entries in order
-  pub numbers-seen : (es : List (ℕ × V)) → IsStrictlySortedBy nat_cmp (map (λ e. e.0) es) → map (λ e. e.0) (entries (from_entries {R = nat_cmp} (seen es))) ≡ map (λ e. e.0) es
+  pub numbers-seen : (es : List (ℕ × V)) → IsStrictlySortedBy nat_cmp (map (λ e. e.0) es)
+      → map (λ e. e.0) (entries (from_entries {R = nat_cmp} (seen es))) ≡ map (λ e. e.0) es
   numbers-seen es s = ap (map (λ e. e.0)) (entries-from_entries (seen es) (subst (IsStrictlySortedBy nat_cmp) (sym (keys-seen es)) s)) ∙ keys-seen es
 
 -- what is pointed to, mapped

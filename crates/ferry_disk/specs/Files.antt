@@ -1,8 +1,8 @@
 -- The files of a repository (BorgBackup 1.2, Internals, Repository): `config`, `nonce`, `README`, and the numbered
 -- segments below `data`.
-use Rattle.std.specs.Prelude.{◌≡◌, ℕ, List, [], Option, Some, None, unwrap_or, refl}
+use Rattle.std.specs.Prelude.{ℕ, List, [], Option, Some, None, unwrap_or, refl}
 use Rattle.std.specs.Ordering.{nat_cmp}
-use Rattle.std.specs.FinMap.{FinMap, get, insert, empty, keys, code}
+use Rattle.std.specs.FinMap.{FinMap, get, insert, remove, empty, keys, code}
 use Rattle.std.specs.Coded.{Coded, code_by, coded×, coded_ℕ, coded_list, coded_option}
 use Rattle.ferry_disk.specs.declared.name.Name.{Name}
 use Rattle.ferry_disk.specs.declared.name.Name.TheVariants.{Config, Nonce, Readme, Segment}
@@ -43,6 +43,10 @@ with_file files Config bytes = record files { config = Some bytes }
 with_file files Nonce bytes = record files { nonce = Some bytes }
 with_file files Readme bytes = record files { readme = Some bytes }
 with_file files (Segment number) bytes = record files { segments = insert files.segments number bytes }
+
+-- the files without this segment
+abbrev pub without_segment : Files → ℕ → Files
+without_segment files number = record files { segments = remove files.segments number }
 
 -- files are stored as the tuple of their parts
 abbrev pub coded_file : Coded (Option (List ℕ))

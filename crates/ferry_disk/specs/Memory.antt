@@ -1,8 +1,6 @@
 -- The files that the program keeps in memory, as the files of the contracts.
 use Rattle.std.specs.Prelude.{ℕ, List, map, fold, option_map}
 use Rattle.std.specs.FinMap.{from_entries}
-use Rattle.std.specs.declared.vec.Vec.{Vec}
-use Rattle.std.specs.declared.alloc.Global.{Global}
 use Rattle.ferry_disk.specs.Files.{Files, no_files, with_file}
 use Rattle.ferry_disk.specs.declared.name.Name.{Name}
 use Rattle.ferry_disk.specs.declared.files.MemoryFiles.{MemoryFiles}

@@ -1,25 +1,28 @@
 //! The calls of a device in memory, and which of them fail.
-ghost use Rattle.std.specs.Prelude.{◌≡◌, if◌then◌else◌};
-ghost use Rattle.ferry_disk.specs.Device.{counted};
+ghost use Rattle.std.specs.Prelude.{◌≡◌, None, if◌then◌else◌};
+ghost use Rattle.ferry_disk.specs.Device.{counted, first_failed};
 ghost use Rattle.ferry_disk.specs.Calls.{fails};
 
-/// How many calls a device has had, how many have failed, and the numbers, from 1, of those that fail.
+/// How many calls a device has had, how many have failed, the number of the first that did, and the numbers, from 1, of those
+/// that fail.
 #[derive(Drop)]
 pub(crate) struct Calls {
     pub failing: Vec<u64>,
     pub calls: u64,
     pub faults: u64,
+    pub failed: Option<u64>,
 }
 
 impl Calls {
     pub fn new(failing: Vec<u64>) -> Calls
         ensures failing { result.failing.items ≡ failing.items }
-        ensures none { (result.calls ≡ 0) × (result.faults ≡ 0) }
+        ensures none { (result.calls ≡ 0) × (result.faults ≡ 0) × (result.failed ≡ None) }
     {
         Calls {
             failing,
             calls: 0,
             faults: 0,
+            failed: None,
         }
     }
 
@@ -28,6 +31,7 @@ impl Calls {
         ensures fails { result ≡ fails self.old.failing.items self.old.calls }
         ensures counted { self.new.calls ≡ counted self.old.calls }
         ensures faults { self.new.faults ≡ (if result then counted self.old.faults else self.old.faults) }
+        ensures failed { self.new.failed ≡ (if result then first_failed self.old.failed (counted self.old.calls) else self.old.failed) }
         ensures failing { self.new.failing.items ≡ self.old.failing.items }
     {
         self.calls = self.calls.saturating_add(1);
@@ -35,6 +39,9 @@ impl Calls {
         let fails = self.failing.iter().any(|failing| *failing == number);
         if fails {
             self.faults = self.faults.saturating_add(1);
+            if self.failed.is_none() {
+                self.failed = Some(number);
+            }
         }
         fails
     }

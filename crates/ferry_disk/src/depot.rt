@@ -1,8 +1,8 @@
 //! A repository's files as they are written.
-ghost use Rattle.std.specs.Prelude.{◌≡◌, ◌↔◌, Some, map, length, IsTrue, IfOk, IsErrOf, option_map};
+ghost use Rattle.std.specs.Prelude.{◌≡◌, ◌↔◌, Some, None, map, length, IsTrue, IfOk, IsErrOf, option_map};
 ghost use Rattle.std.specs.List.Sorted.{IsStrictlyIncreasing};
 ghost use Rattle.ferry_disk.specs.Files.{file_at, segment_numbers};
-ghost use Rattle.ferry_disk.specs.Device.{HasStoreCause, ReadsAt};
+ghost use Rattle.ferry_disk.specs.Device.{HasCause, store_failed, ReadsAt};
 ghost use Rattle.ferry_disk.specs.Calls.{told_by, after_call, will_fail};
 
 use crate::name::Name;
@@ -40,7 +40,7 @@ impl MemoryDepot {
     ) -> Result<MemoryDepot, AllocError>
         ensures files { IfOk result (λ depot. depot.files ≡ files_given (map (λ e. (e.0, e.1.items)) files.items)) }
         ensures failing { IfOk result (λ depot. depot.failing ≡ failing.items) }
-        ensures unused { IfOk result (λ depot. (depot.calls ≡ 0) × (depot.faults ≡ 0)) }
+        ensures unused { IfOk result (λ depot. (depot.calls ≡ 0) × (depot.faults ≡ 0) × (depot.failed ≡ None)) }
     {
         let shelf = MemoryShelf::new(alloc, files, failing)?;
         Ok(MemoryDepot { shelf })
@@ -56,7 +56,7 @@ impl Shelf for MemoryDepot {
         ensures increasing { IfOk result (λ numbers. IsStrictlyIncreasing numbers.items) }
         ensures numbers { IfOk result (λ numbers. numbers.items ≡ segment_numbers self.old.files) }
         ensures after { self.new ≡ after_call self.old }
-        ensures cause { HasStoreCause self.old.faults self.new.faults result }
+        ensures cause { HasCause store_failed self.old.faults self.new.faults result }
         ensures failed { IsErrOf result StoreFault.Failed ↔ IsTrue (will_fail self.old) }
     {
         self.shelf.segments(alloc)
@@ -65,7 +65,7 @@ impl Shelf for MemoryDepot {
     fn size(&mut self, name: Name) -> Result<Option<u64>, StoreFault>
         ensures size { IfOk result (λ size. size ≡ option_map length (file_at self.old.files name)) }
         ensures after { self.new ≡ after_call self.old }
-        ensures cause { HasStoreCause self.old.faults self.new.faults result }
+        ensures cause { HasCause store_failed self.old.faults self.new.faults result }
         ensures failed { IsErrOf result StoreFault.Failed ↔ IsTrue (will_fail self.old) }
     {
         self.shelf.size(name)
@@ -74,7 +74,7 @@ impl Shelf for MemoryDepot {
     fn read_at(&mut self, name: Name, at: u64, into: &mut [u8]) -> Result<usize, StoreFault>
         ensures bytes { IfOk result (λ count. ReadsAt self.old.files name at into.old into.new count) }
         ensures after { self.new ≡ after_call self.old }
-        ensures cause { HasStoreCause self.old.faults self.new.faults result }
+        ensures cause { HasCause store_failed self.old.faults self.new.faults result }
         ensures failed { IsErrOf result StoreFault.Failed ↔ IsTrue (will_fail self.old) }
     {
         self.shelf.read_at(name, at, into)

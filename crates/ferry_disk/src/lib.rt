@@ -13,9 +13,11 @@ mod shelf;
 mod sink;
 #[cfg(test)]
 mod tests;
+mod whole;
 
 pub use depot::{Depot, MemoryDepot};
 pub use entropy::{Entropy, MemoryEntropy};
 pub use name::Name;
 pub use shelf::{MemoryShelf, Shelf, StoreFault};
 pub use sink::{MemorySink, Sink, SinkFault};
+pub use whole::{fill, length_of, read_part, read_whole};

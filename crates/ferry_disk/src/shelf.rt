@@ -1,8 +1,8 @@
 //! A repository's files as they are read.
-ghost use Rattle.std.specs.Prelude.{◌≡◌, ◌≤◌, ◌↔◌, ℕ, Option, Some, map, length, IsTrue, IfOk, IfSome, IsErrOf, option_map};
+ghost use Rattle.std.specs.Prelude.{◌≡◌, ◌≤◌, ◌↔◌, ℕ, Option, Some, None, map, length, IsTrue, IfOk, IfSome, IsErrOf, option_map};
 ghost use Rattle.std.specs.List.Sorted.{IsStrictlyIncreasing};
 ghost use Rattle.ferry_disk.specs.Files.{Files, file_at, segment_numbers};
-ghost use Rattle.ferry_disk.specs.Device.{Told, called, HasStoreCause, ReadsAt};
+ghost use Rattle.ferry_disk.specs.Device.{Told, told_files, calls_told, counted, KeepsTold, HasCause, store_failed, ReadsAt};
 ghost use Rattle.ferry_disk.specs.Calls.{Device, told_by, after_call, will_fail};
 
 use crate::calls::Calls;
@@ -25,8 +25,8 @@ pub enum StoreFault {
 
 /// A repository's files, which may fail to be read.
 ///
-/// `told` is what a device over memory tells; a device over a folder tells nothing. `faults` counts the calls that
-/// failed. A call that answers `Memory` changes neither.
+/// `told` is what a device over memory tells; a device over a folder tells nothing. `faults` counts the calls that failed. A call
+/// that answers `Memory` changes neither but for the count of calls.
 pub trait Shelf {
     ghost told: { Self → Option Told };
 
@@ -35,23 +35,26 @@ pub trait Shelf {
     /// The numbers of the segments that are there, increasing.
     fn segments(&mut self, alloc: Global) -> Result<Vec<u64>, StoreFault>
         ensures increasing { IfOk result (λ numbers. IsStrictlyIncreasing numbers.items) }
-        ensures numbers { IfOk result (λ numbers. IfSome (told self.old) (λ t. numbers.items ≡ segment_numbers t.files)) }
-        ensures same { told self.new ≡ option_map called (told self.old) }
-        ensures cause { HasStoreCause (faults self.old) (faults self.new) result };
+        ensures numbers { IfOk result (λ numbers. IfSome (told self.old) (λ t. numbers.items ≡ segment_numbers (told_files t))) }
+        ensures same { KeepsTold store_failed (told self.old) (told self.new) result }
+        ensures calls { calls_told (told self.new) ≡ option_map counted (calls_told (told self.old)) }
+        ensures cause { HasCause store_failed (faults self.old) (faults self.new) result };
 
     /// A file's length in bytes, `None` where it is absent.
     fn size(&mut self, name: Name) -> Result<Option<u64>, StoreFault>
-        ensures size { IfOk result (λ size. IfSome (told self.old) (λ t. size ≡ option_map length (file_at t.files name))) }
-        ensures same { told self.new ≡ option_map called (told self.old) }
-        ensures cause { HasStoreCause (faults self.old) (faults self.new) result };
+        ensures size { IfOk result (λ size. IfSome (told self.old) (λ t. size ≡ option_map length (file_at (told_files t) name))) }
+        ensures same { KeepsTold store_failed (told self.old) (told self.new) result }
+        ensures calls { calls_told (told self.new) ≡ option_map counted (calls_told (told self.old)) }
+        ensures cause { HasCause store_failed (faults self.old) (faults self.new) result };
 
     /// Fills the front of `into` with the file's bytes from byte `at` on, and answers how many: none at the file's end, or
     /// where it is absent. Takes no memory of the caller's.
     fn read_at(&mut self, name: Name, at: u64, into: &mut [u8]) -> Result<usize, StoreFault>
         ensures within { IfOk result (λ count. count ≤ length into.old) }
-        ensures bytes { IfOk result (λ count. IfSome (told self.old) (λ t. ReadsAt t.files name at into.old into.new count)) }
-        ensures same { told self.new ≡ option_map called (told self.old) }
-        ensures cause { HasStoreCause (faults self.old) (faults self.new) result };
+        ensures bytes { IfOk result (λ count. IfSome (told self.old) (λ t. ReadsAt (told_files t) name at into.old into.new count)) }
+        ensures same { KeepsTold store_failed (told self.old) (told self.new) result }
+        ensures calls { calls_told (told self.new) ≡ option_map counted (calls_told (told self.old)) }
+        ensures cause { HasCause store_failed (faults self.old) (faults self.new) result };
 }
 
 /// A shelf in memory. Its calls are numbered from 1; those whose numbers are listed fail, no other.
@@ -75,6 +78,7 @@ impl Model for MemoryShelf {
       failing = s.calls.failing.items;
       calls = s.calls.calls;
       faults = s.calls.faults;
+      failed = s.calls.failed;
     } };
 }
 
@@ -89,7 +93,7 @@ impl MemoryShelf {
     ) -> Result<MemoryShelf, AllocError>
         ensures files { IfOk result (λ shelf. shelf.files ≡ files_given (map (λ e. (e.0, e.1.items)) files.items)) }
         ensures failing { IfOk result (λ shelf. shelf.failing ≡ failing.items) }
-        ensures unused { IfOk result (λ shelf. (shelf.calls ≡ 0) × (shelf.faults ≡ 0)) }
+        ensures unused { IfOk result (λ shelf. (shelf.calls ≡ 0) × (shelf.faults ≡ 0) × (shelf.failed ≡ None)) }
     {
         let files = MemoryFiles::of(alloc, files)?;
         let calls = Calls::new(failing);
@@ -106,7 +110,7 @@ impl Shelf for MemoryShelf {
         ensures increasing { IfOk result (λ numbers. IsStrictlyIncreasing numbers.items) }
         ensures numbers { IfOk result (λ numbers. numbers.items ≡ segment_numbers self.old.files) }
         ensures after { self.new ≡ after_call self.old }
-        ensures cause { HasStoreCause self.old.faults self.new.faults result }
+        ensures cause { HasCause store_failed self.old.faults self.new.faults result }
         ensures failed { IsErrOf result StoreFault.Failed ↔ IsTrue (will_fail self.old) }
     {
         if self.calls.next_fails() {
@@ -121,7 +125,7 @@ impl Shelf for MemoryShelf {
     fn size(&mut self, name: Name) -> Result<Option<u64>, StoreFault>
         ensures size { IfOk result (λ size. size ≡ option_map length (file_at self.old.files name)) }
         ensures after { self.new ≡ after_call self.old }
-        ensures cause { HasStoreCause self.old.faults self.new.faults result }
+        ensures cause { HasCause store_failed self.old.faults self.new.faults result }
         ensures failed { IsErrOf result StoreFault.Failed ↔ IsTrue (will_fail self.old) }
     {
         if self.calls.next_fails() {
@@ -136,7 +140,7 @@ impl Shelf for MemoryShelf {
     fn read_at(&mut self, name: Name, at: u64, into: &mut [u8]) -> Result<usize, StoreFault>
         ensures bytes { IfOk result (λ count. ReadsAt self.old.files name at into.old into.new count) }
         ensures after { self.new ≡ after_call self.old }
-        ensures cause { HasStoreCause self.old.faults self.new.faults result }
+        ensures cause { HasCause store_failed self.old.faults self.new.faults result }
         ensures failed { IsErrOf result StoreFault.Failed ↔ IsTrue (will_fail self.old) }
     {
         if self.calls.next_fails() {

@@ -1,6 +1,6 @@
 //! Where output goes.
 ghost use Rattle.std.specs.Prelude.{◌≡◌, ◌++◌, ◌↔◌, ℕ, List, Option, Some, [], if◌then◌else◌, IsTrue, IfOk, OnOk, OnErr, IsErrOf, option_map};
-ghost use Rattle.ferry_disk.specs.Device.{HasSinkCause, WritesSome, counted};
+ghost use Rattle.ferry_disk.specs.Device.{HasCause, sink_failed, WritesSome, counted};
 ghost use Rattle.ferry_disk.specs.Calls.{fails};
 
 use crate::calls::Calls;
@@ -31,7 +31,7 @@ pub trait Sink {
     fn write(&mut self, bytes: &[u8]) -> Result<(), SinkFault>
         ensures ok { OnOk result (written self.new ≡ option_map (λ w. w ++ bytes.now) (written self.old)) }
         ensures err { OnErr result (WritesSome (written self.old) bytes.now (written self.new)) }
-        ensures cause { HasSinkCause (faults self.old) (faults self.new) result };
+        ensures cause { HasCause sink_failed (faults self.old) (faults self.new) result };
 }
 
 /// A sink in memory. Its calls are numbered from 1; those whose numbers are listed fail, no other.
@@ -88,7 +88,7 @@ impl Sink for MemorySink {
         ensures failing { self.new.failing ≡ self.old.failing }
         ensures calls { self.new.calls ≡ counted self.old.calls }
         ensures faults { self.new.faults ≡ (if fails self.old.failing self.old.calls then counted self.old.faults else self.old.faults) }
-        ensures cause { HasSinkCause self.old.faults self.new.faults result }
+        ensures cause { HasCause sink_failed self.old.faults self.new.faults result }
         ensures failed { IsErrOf result SinkFault.Failed ↔ IsTrue (fails self.old.failing self.old.calls) }
     {
         if self.calls.next_fails() {

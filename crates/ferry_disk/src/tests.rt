@@ -1,5 +1,6 @@
 use crate::{
     MemoryDepot, MemoryEntropy, MemoryShelf, MemorySink, Name, Shelf, Sink, SinkFault, StoreFault,
+    read_whole,
 };
 use std::alloc::{AllocError, Global};
 use std::test::Fail;
@@ -21,7 +22,7 @@ fn read<S: Shelf>(shelf: &mut S, segment: u64, at: u64) -> Result<(usize, [u8; 4
 }
 
 #[test]
-fn a_shelf_answers_each_call_and_fails_where_listed(rt: HostRuntime) -> Result<(), Fail> {
+fn a_shelf_and_a_depot_answer_each_call_and_fail_where_listed(rt: HostRuntime) -> Result<(), Fail> {
     let alloc = rt.alloc();
     let mut shelf = MemoryShelf::new(alloc, files(alloc)?, vec![in alloc; 4, 9]?)?;
     assert_eq!(rt; shelf.segments(alloc)?.as_slice(), [1u64, 3].as_slice());
@@ -33,18 +34,14 @@ fn a_shelf_answers_each_call_and_fails_where_listed(rt: HostRuntime) -> Result<(
     assert_eq!(rt; read(&mut shelf, 3, 6), Ok((0, *b"....")));
     assert_eq!(rt; read(&mut shelf, 2, 0), Ok((0, *b"....")));
     assert_eq!(rt; read(&mut shelf, 3, 0), Err(StoreFault::Failed));
-    Ok(())
-}
-
-#[test]
-fn a_depot_answers_as_a_shelf_does(rt: HostRuntime) -> Result<(), Fail> {
-    let alloc = rt.alloc();
-    let mut depot = MemoryDepot::new(alloc, files(alloc)?, vec![in alloc; 4]?)?;
+    let mut bytes = Vec::new(alloc);
+    read_whole(&mut shelf, Name::Config, &mut bytes)?;
+    assert_eq!(rt; bytes.as_slice(), b"[repository]".as_slice());
+    let mut depot = MemoryDepot::new(alloc, files(alloc)?, vec![in alloc; 3]?)?;
     assert_eq!(rt; depot.segments(alloc)?.as_slice(), [1u64, 3].as_slice());
-    assert_eq!(rt; depot.size(Name::Config), Ok(Some(12)));
     assert_eq!(rt; read(&mut depot, 3, 4), Ok((2, *b"ef..")));
     assert_eq!(rt; depot.size(Name::Config), Err(StoreFault::Failed));
-    assert!(rt; MemoryEntropy::new(alloc, vec![in alloc; 1]?).is_ok());
+    assert_eq!(rt; depot.size(Name::Config), Ok(Some(12)));
     Ok(())
 }
 
@@ -56,5 +53,6 @@ fn a_sink_has_what_was_written(rt: HostRuntime) -> Result<(), Fail> {
     assert_eq!(rt; sink.write(b"cd"), Err(SinkFault::Failed));
     sink.write(b"ef")?;
     assert_eq!(rt; sink.bytes(), b"abef".as_slice());
+    assert!(rt; MemoryEntropy::new(alloc, vec![in alloc; 1]?).is_ok());
     Ok(())
 }

@@ -1,8 +1,9 @@
 -- The value of a name among the pairs of a map.
-use Rattle.std.proofs.Common.{◌≡◌, ℕ, zero, suc, ◌+◌, ◌<◌, true, false, List, [], ◌∷◌, length, drop, get_or, codes, ℤ, pos, Some, None, refl, ap, arith, add-one, drop-cons}
+use Rattle.std.proofs.Common.{◌≡◌, ℕ, zero, suc, ◌+◌, ◌<◌, true, false, List, [], ◌∷◌, length, drop, get_or, codes, ℤ, pos, Some, None, refl, ap, arith}
+use Rattle.std.proofs.Common.{add-one, drop-cons}
 use Rattle.std.specs.Str.{bytes_eq}
 use Rattle.ferry_msgpack.specs.Tree.{Tree, number, raw, table, Pairs, no_pairs, pair}
-use Rattle.ferry_msgpack.specs.View.{view, pairs_view}
+use Rattle.ferry_msgpack.specs.View.{value_view, pairs_view}
 use Rattle.ferry_msgpack.proofs.ViewLemmas.{Entry}
 use Rattle.ferry_fields.specs.Fields.{value_of, number_in, raw_in, raw32_in, raw64_in, map_in, has_version_1}
 
@@ -20,7 +21,7 @@ value_of-none name = refl
 
 -- the pairs from a place on are the one there and those behind it
 pub pairs-drop : (es : List Entry) (place : ℕ) (e : Entry) → place < length es
-    → pairs_view (drop place es) ≡ pair (get_or es place e).0.items (view (get_or es place e).1) (pairs_view (drop (place + 1) es))
+    → pairs_view (drop place es) ≡ pair (get_or es place e).0.items (value_view (get_or es place e).1) (pairs_view (drop (place + 1) es))
 pairs-drop es place e lt = rw (add-one place) (ap pairs_view (drop-cons es place e lt))
 
 -- the pair at a place is one, whatever stands for a pair that isn't there

@@ -1,5 +1,6 @@
 -- What holds of pairs holds of those that `without` keeps.
-use Rattle.std.proofs.Common.{◌≡◌, ℕ, ◌+◌, ◌^◌, ◌<◌, ◌≤◌, Bool, true, false, ◌||◌, List, Ordering, Less, Equal, Greater, nat_cmp, refl, sym, ap, subst, ◌∙◌, arith}
+use Rattle.std.proofs.Common.{◌≡◌, ℕ, ◌+◌, ◌^◌, ◌<◌, ◌≤◌, Bool, true, false, ◌||◌, List, Ordering, Less, Equal, Greater, nat_cmp, refl, sym, ap, subst, ◌∙◌}
+use Rattle.std.proofs.Common.{arith}
 use Rattle.std.specs.Cmp.Lexicographic.{slice_cmp}
 use Rattle.std.specs.Ordering.{match_ordering}
 use Rattle.std.specs.Str.{bytes_eq}
@@ -70,7 +71,12 @@ PairsFit-without names (pair l t ps) fit =
 
 pub without_ordered : (d : ℕ) (names : List (List ℕ)) (ps : Pairs) → AreOrdered d ps → AreOrdered d (without names ps)
 without_ordered d names ps old =
-    record { deep = pairs_depth-without names d ps old.deep; increase = IsIncreasing-without names ps old.increase; ordered = PairsOrdered-without names ps old.ordered }
+    record {
+      deep = pairs_depth-without names d ps old.deep;
+      increase = IsIncreasing-without names ps old.increase;
+      ordered = PairsOrdered-without names ps
+          old.ordered;
+    }
 
 pub without_good : (names : List (List ℕ)) (ps : Pairs) → AreGood ps → AreGood (without names ps)
 without_good names ps old =
@@ -112,13 +118,16 @@ put_first : (k : List ℕ) (t : Tree) (ps : Pairs) → IsBelow k ps → put k t 
 put_first k t no_pairs below = refl
 put_first k t (pair l u ps) below = rw below refl
 
-of_other : (names : List (List ℕ)) (k : List ℕ) (t : Tree) (l : List ℕ) (u : Tree) (ps : Pairs) (b : Bool) → is_among names l ≡ b → without names (put k t ps) ≡ put k t (without names ps)
-    → put k t (pair l u (without names ps)) ≡ pair l u (put k t (without names ps)) → without names (pair l u (put k t ps)) ≡ put k t (without names (pair l u ps))
+of_other : (names : List (List ℕ)) (k : List ℕ) (t : Tree) (l : List ℕ) (u : Tree) (ps : Pairs) (b : Bool) → is_among names l ≡ b
+    → without names (put k t ps) ≡ put k t (without names ps)
+    → put k t (pair l u (without names ps)) ≡ pair l u (put k t (without names ps))
+    → without names (pair l u (put k t ps)) ≡ put k t (without names (pair l u ps))
 of_other names k t l u ps true is rest placed = without-among names l u (put k t ps) is ∙ rest ∙ ap (put k t) (sym (without-among names l u ps is))
 of_other names k t l u ps false is rest placed =
     without-other names l u (put k t ps) is ∙ ap (pair l u) rest ∙ sym placed ∙ ap (put k t) (sym (without-other names l u ps is))
 
-other_order : (names : List (List ℕ)) (k : List ℕ) (t : Tree) (l : List ℕ) (u : Tree) (ps : Pairs) (o : Ordering) → is_among names k ≡ false → slice_cmp nat_cmp k l ≡ o → IsIncreasing (pair l u ps)
+other_order : (names : List (List ℕ)) (k : List ℕ) (t : Tree) (l : List ℕ) (u : Tree) (ps : Pairs) (o : Ordering) → is_among names k ≡ false
+    → slice_cmp nat_cmp k l ≡ o → IsIncreasing (pair l u ps)
     → without names (put k t ps) ≡ put k t (without names ps)
     → without names (match_ordering o (pair k t (pair l u ps)) (pair l t ps) (pair l u (put k t ps))) ≡ put k t (without names (pair l u ps))
 other_order names k t l u ps Less other is inc rest =
@@ -132,6 +141,9 @@ other_order names k t l u ps Greater other is inc rest =
     of_other names k t l u ps (is_among names l) refl rest placed
 
 -- a pair under another name may be put before or after
-pub without-put_other : (names : List (List ℕ)) (k : List ℕ) (t : Tree) (ps : Pairs) → is_among names k ≡ false → IsIncreasing ps → without names (put k t ps) ≡ put k t (without names ps)
-without-put_other names k t no_pairs other inc = without-other names k t no_pairs other ∙ ap (pair k t) (without-none names) ∙ ap (put k t) (sym (without-none names))
-without-put_other names k t (pair l u ps) other inc = other_order names k t l u ps (slice_cmp nat_cmp k l) other refl inc (without-put_other names k t ps other inc.1)
+pub without-put_other : (names : List (List ℕ)) (k : List ℕ) (t : Tree) (ps : Pairs) → is_among names k ≡ false → IsIncreasing ps
+    → without names (put k t ps) ≡ put k t (without names ps)
+without-put_other names k t no_pairs other inc =
+    without-other names k t no_pairs other ∙ ap (pair k t) (without-none names) ∙ ap (put k t) (sym (without-none names))
+without-put_other names k t (pair l u ps) other inc =
+    other_order names k t l u ps (slice_cmp nat_cmp k l) other refl inc (without-put_other names k t ps other inc.1)

@@ -1,15 +1,17 @@
 -- The pairs whose names aren't among some.
 use Rattle.std.proofs.Common.{◌≡◌, ℕ, Bool, true, false, not, ◌||◌, List, [], ◌∷◌, ◌++◌, filter, length, refl, sym, ap, ◌∙◌, append_assoc, append-nil, arith}
 use Rattle.ferry_msgpack.specs.Tree.{Tree, Pairs, no_pairs, pair}
-use Rattle.ferry_msgpack.specs.View.{view, pairs_view}
+use Rattle.ferry_msgpack.specs.View.{value_view, pairs_view}
 use Rattle.ferry_msgpack.proofs.ViewLemmas.{Entry}
 use Rattle.ferry_fields.specs.Others.{is_among, without, has_among}
 
-pub without-among : (names : List (List ℕ)) (name : List ℕ) (t : Tree) (ps : Pairs) → is_among names name ≡ true → without names (pair name t ps) ≡ without names ps
+pub without-among : (names : List (List ℕ)) (name : List ℕ) (t : Tree) (ps : Pairs) → is_among names name ≡ true
+    → without names (pair name t ps) ≡ without names ps
 unfolding without
 without-among names name t ps e = rw e refl
 
-pub without-other : (names : List (List ℕ)) (name : List ℕ) (t : Tree) (ps : Pairs) → is_among names name ≡ false → without names (pair name t ps) ≡ pair name t (without names ps)
+pub without-other : (names : List (List ℕ)) (name : List ℕ) (t : Tree) (ps : Pairs) → is_among names name ≡ false
+    → without names (pair name t ps) ≡ pair name t (without names ps)
 unfolding without
 without-other names name t ps e = rw e refl
 
@@ -35,10 +37,12 @@ without-apart names (pair l t ps) apart =
 abbrev pub is_other : List (List ℕ) → Entry → Bool
 is_other names e = not (is_among names e.0.items)
 
-filter_then : (names : List (List ℕ)) (e : Entry) (es : List Entry) (b : Bool) → is_among names e.0.items ≡ b → pairs_view (filter (is_other names) es) ≡ without names (pairs_view es)
+filter_then : (names : List (List ℕ)) (e : Entry) (es : List Entry) (b : Bool) → is_among names e.0.items ≡ b
+    → pairs_view (filter (is_other names) es) ≡ without names (pairs_view es)
     → pairs_view (filter (is_other names) (e ∷ es)) ≡ without names (pairs_view (e ∷ es))
-filter_then names e es true is rest = rw is (rest ∙ sym (without-among names e.0.items (view e.1) (pairs_view es) is))
-filter_then names e es false is rest = rw is (ap (pair e.0.items (view e.1)) rest ∙ sym (without-other names e.0.items (view e.1) (pairs_view es) is))
+filter_then names e es true is rest = rw is (rest ∙ sym (without-among names e.0.items (value_view e.1) (pairs_view es) is))
+filter_then names e es false is rest =
+    rw is (ap (pair e.0.items (value_view e.1)) rest ∙ sym (without-other names e.0.items (value_view e.1) (pairs_view es) is))
 
 pub without-filter : (names : List (List ℕ)) (es : List Entry) → pairs_view (filter (is_other names) es) ≡ without names (pairs_view es)
 without-filter names [] = sym (without-none names)
@@ -48,11 +52,13 @@ without-filter names (e ∷ es) = filter_then names e es (is_among names e.0.ite
 unfoldable pub kept_with : List (List ℕ) → List Entry → List Entry → List Entry
 kept_with names kept rest = kept ++ filter (is_other names) rest
 
-pub keep_next : (names : List (List ℕ)) (kept rest : List Entry) (e : Entry) → is_among names e.0.items ≡ false → kept_with names kept (e ∷ rest) ≡ kept_with names (kept ++ e ∷ []) rest
+pub keep_next : (names : List (List ℕ)) (kept rest : List Entry) (e : Entry) → is_among names e.0.items ≡ false
+    → kept_with names kept (e ∷ rest) ≡ kept_with names (kept ++ e ∷ []) rest
 unfolding kept_with
 keep_next names kept rest e is = rw is (sym (append_assoc kept (e ∷ []) (filter (is_other names) rest)))
 
-pub skip_next : (names : List (List ℕ)) (kept rest : List Entry) (e : Entry) → is_among names e.0.items ≡ true → kept_with names kept (e ∷ rest) ≡ kept_with names kept rest
+pub skip_next : (names : List (List ℕ)) (kept rest : List Entry) (e : Entry) → is_among names e.0.items ≡ true
+    → kept_with names kept (e ∷ rest) ≡ kept_with names kept rest
 unfolding kept_with
 skip_next names kept rest e is = rw is refl
 

@@ -1,11 +1,13 @@
 -- Which pairs can be written.
-use Rattle.std.proofs.Common.{cond, ltb, Bool, ◌≡◌, ℕ, ◌+◌, ◌^◌, ◌<◌, ◌≤◌, true, false, List, ◌++◌, length, ℤ, pos, Ordering, Less, Equal, Greater, nat_cmp, arith}
+use Rattle.std.proofs.Common.{cond, ltb, Bool, ◌≡◌, ℕ, ◌+◌, ◌^◌, ◌<◌, ◌≤◌, true, false, List, ◌++◌, length, ℤ, pos, Ordering, Less, Equal, Greater, nat_cmp}
+use Rattle.std.proofs.Common.{arith}
 use Rattle.std.specs.Ordering.{match_ordering}
 use Rattle.std.specs.Cmp.Lexicographic.{slice_cmp}
 use Rattle.std.specs.Prelude.{neg_ℤ, int_lt}
 use Rattle.std.proofs.lemmas.Int.{ints}
 use Rattle.std.proofs.lemmas.List.{length-append}
-use Rattle.ferry_msgpack.specs.Shortest.{shortest, shortest_count, shortest_number, shortest_items, shortest_pairs, shortest_raw, raw_head, array_head, map_head}
+use Rattle.ferry_msgpack.specs.Shortest.{shortest, shortest_count, shortest_number, shortest_items, shortest_pairs, shortest_raw, raw_head, array_head}
+use Rattle.ferry_msgpack.specs.Shortest.{map_head}
 use Rattle.ferry_msgpack.specs.Tree.{Tree, nil, flag, number, raw, array, table, Items, no_items, item, items_count, Pairs, no_pairs, pair, pairs_count, put}
 use Rattle.ferry_msgpack.specs.Writable.{depth, pairs_depth, IsIncreasing, IsNumber, Fits, ItemsFit, PairsFit, IsWritable}
 use Rattle.ferry_fields.specs.Sizes.{IsOrdered, ItemsOrdered, PairsOrdered}
@@ -22,7 +24,8 @@ pub record AreOrdered (d : ℕ) (pairs : Pairs) : Type 0 where
 pub no_pairs_ordered : (d : ℕ) → AreOrdered d no_pairs
 no_pairs_ordered d = record { deep = omega arith; increase = tt; ordered = tt }
 
-depth_at_order : (d : ℕ) (k : List ℕ) (t : Tree) (l : List ℕ) (u : Tree) (ps : Pairs) (o : Ordering) → depth t ≤ d → pairs_depth (pair l u ps) ≤ d → pairs_depth (put k t ps) ≤ d
+depth_at_order : (d : ℕ) (k : List ℕ) (t : Tree) (l : List ℕ) (u : Tree) (ps : Pairs) (o : Ordering) → depth t ≤ d → pairs_depth (pair l u ps) ≤ d
+    → pairs_depth (put k t ps) ≤ d
     → pairs_depth (match_ordering o (pair k t (pair l u ps)) (pair l t ps) (pair l u (put k t ps))) ≤ d
 depth_at_order d k t l u ps Less deep old rest = omega arith
 depth_at_order d k t l u ps Equal deep old rest = omega arith
@@ -32,7 +35,8 @@ pub pairs_depth-put : (d : ℕ) (k : List ℕ) (t : Tree) (ps : Pairs) → depth
 pairs_depth-put d k t no_pairs deep old = omega arith
 pairs_depth-put d k t (pair l u ps) deep old = depth_at_order d k t l u ps (slice_cmp nat_cmp k l) deep old (pairs_depth-put d k t ps deep (omega arith))
 
-ordered_at_order : (k : List ℕ) (t : Tree) (l : List ℕ) (u : Tree) (ps : Pairs) (o : Ordering) → IsOrdered t → PairsOrdered (pair l u ps) → PairsOrdered (put k t ps)
+ordered_at_order : (k : List ℕ) (t : Tree) (l : List ℕ) (u : Tree) (ps : Pairs) (o : Ordering) → IsOrdered t → PairsOrdered (pair l u ps)
+    → PairsOrdered (put k t ps)
     → PairsOrdered (match_ordering o (pair k t (pair l u ps)) (pair l t ps) (pair l u (put k t ps)))
 ordered_at_order k t l u ps Less new old rest = (new, old)
 ordered_at_order k t l u ps Equal new old rest = (new, old.1)
@@ -58,7 +62,8 @@ pub record AreGood (pairs : Pairs) : Type 0 where
 pub no_pairs_good : AreGood no_pairs
 no_pairs_good = record { deep = omega arith; increase = tt; fit = tt }
 
-fit_at_order : (k : List ℕ) (t : Tree) (l : List ℕ) (u : Tree) (ps : Pairs) (o : Ordering) → length k < 2 ^ 32 → Fits t → PairsFit (pair l u ps) → PairsFit (put k t ps)
+fit_at_order : (k : List ℕ) (t : Tree) (l : List ℕ) (u : Tree) (ps : Pairs) (o : Ordering) → length k < 2 ^ 32 → Fits t → PairsFit (pair l u ps)
+    → PairsFit (put k t ps)
     → PairsFit (match_ordering o (pair k t (pair l u ps)) (pair l t ps) (pair l u (put k t ps)))
 fit_at_order k t l u ps Less len fits old rest = (len, fits, old)
 fit_at_order k t l u ps Equal len fits old rest = (old.0, fits, old.2)
@@ -134,15 +139,23 @@ some_byte (flag false) = omega arith
 some_byte (flag true) = omega arith
 some_byte (number z) = some_number z
 some_byte (raw content) = omega (arith, some_count 0xa0 0x20 0xda 0xdb (length content), length-append (raw_head (length content)) content)
-some_byte (array items) = omega (arith, some_count 0x90 0x10 0xdc 0xdd (items_count items), length-append (array_head (items_count items)) (shortest_items items))
+some_byte (array items) =
+    omega (arith, some_count 0x90 0x10 0xdc 0xdd (items_count items), length-append (array_head (items_count items)) (shortest_items items))
 some_byte (table pairs) = omega (arith, some_count 0x80 0x10 0xde 0xdf (pairs_count pairs), length-append (map_head (pairs_count pairs)) (shortest_pairs pairs))
 
 length-item : (t : Tree) (ts : Items) → length (shortest_items (item t ts)) ≡ length (shortest t) + length (shortest_items ts)
 length-item t ts = length-append (shortest t) (shortest_items ts)
 
-length-pair : (k : List ℕ) (t : Tree) (ps : Pairs) → length (shortest_pairs (pair k t ps)) ≡ length (raw_head (length k)) + length k + (length (shortest t) + length (shortest_pairs ps))
+length-pair : (k : List ℕ) (t : Tree) (ps : Pairs) → length (shortest_pairs (pair k t ps)) ≡ length (raw_head (length k)) + length k + (length (shortest t)
+    + length (shortest_pairs ps))
 length-pair k t ps =
-    omega (arith, length-append (shortest_raw k) (shortest t ++ shortest_pairs ps), length-append (raw_head (length k)) k, length-append (shortest t) (shortest_pairs ps))
+    omega (
+      arith,
+      length-append (shortest_raw k) (shortest t ++ shortest_pairs ps),
+      length-append (raw_head (length k)) k,
+      length-append (shortest t)
+          (shortest_pairs ps),
+    )
 
 length-array : (items : Items) → length (shortest (array items)) ≡ length (array_head (items_count items)) + length (shortest_items items)
 length-array items = length-append (array_head (items_count items)) (shortest_items items)
@@ -176,8 +189,12 @@ mutual
 
   short_pairs_fit : (pairs : Pairs) → PairsOrdered pairs → length (shortest_pairs pairs) < 2 ^ 32 → PairsFit pairs
   short_pairs_fit no_pairs ordered short = tt
-  short_pairs_fit (pair k t ps) ordered short =
-      (omega (arith, short, length-pair k t ps), short_fits t ordered.0 (omega (arith, short, length-pair k t ps)), short_pairs_fit ps ordered.1 (omega (arith, short, length-pair k t ps)))
+  short_pairs_fit (pair k t ps) ordered short = (
+    omega (arith, short, length-pair k t ps),
+    short_fits t ordered.0 (omega (arith, short, length-pair k t ps)),
+    short_pairs_fit ps ordered.1
+        (omega (arith, short, length-pair k t ps)),
+  )
 
 -- a value in order can be written where its spelling is short enough for every length in it
 pub short_writable : (t : Tree) → depth t ≤ 64 → IsOrdered t → length (shortest t) < 2 ^ 32 → IsWritable t

@@ -2,7 +2,7 @@
 
 ghost use Rattle.std.specs.Prelude.{◌≡◌, IfOk, OnOk};
 ghost use Rattle.ferry_msgpack.specs.Tree.{table, raw, put};
-ghost use Rattle.ferry_msgpack.specs.View.{view, pairs_view};
+ghost use Rattle.ferry_msgpack.specs.View.{value_view, pairs_view};
 ghost use Rattle.ferry_msgpack.specs.Shortest.{shortest};
 ghost use Rattle.ferry_msgpack.specs.Writable.{IsWritable, IsIncreasing};
 
@@ -18,7 +18,7 @@ pub fn put(
     value: Value,
 ) -> Result<(), AllocError>
     ensures pairs { OnOk result (
-        pairs_view pairs.new.entries ≡ put name.now (view value) (pairs_view pairs.old.entries)) }
+        pairs_view pairs.new.entries ≡ put name.now (value_view value) (pairs_view pairs.old.entries)) }
 {
     drop(pairs.insert(Vec::from_slice(alloc, name)?, value)?);
     Ok(())
@@ -61,7 +61,7 @@ pub fn copied(
 /// The map of these pairs as a value, the least name first.
 #[tactic(auto, using(ferry_msgpack::proofs::ViewLemmas::view_table))]
 pub fn table_of(alloc: Global, pairs: BTreeMap<Vec<u8>, Value>) -> Result<Value, AllocError>
-    ensures table { IfOk result (λ value. view value ≡ table (pairs_view pairs.entries)) }
+    ensures table { IfOk result (λ value. value_view value ≡ table (pairs_view pairs.entries)) }
 {
     Ok(Value::Table(in_order(alloc, pairs)?))
 }

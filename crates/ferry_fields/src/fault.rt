@@ -1,6 +1,10 @@
-ghost use Rattle.std.specs.Prelude.{◌≡◌};
-ghost use Rattle.ferry_fields.specs.declared.fault.MapFault.TheVariants.{Memory};
+//! Why bytes aren't read as a map.
 
+ghost use Rattle.std.specs.Prelude.{◌≡◌, ◌≢◌};
+ghost use Rattle.ferry_msgpack.specs.declared.fault.PackFault.{PackFault};
+ghost use Rattle.ferry_fields.specs.declared.fault.MapFault.TheVariants.{Pack, Memory};
+
+use ferry_msgpack::PackFault;
 use std::alloc::{AllocError, AllocFailed};
 use thiserror::Error;
 
@@ -28,5 +32,16 @@ impl<T: Drop> From<AllocFailed<T>> for MapFault {
 
     fn from(_error: AllocFailed<T>) -> MapFault {
         MapFault::Memory
+    }
+}
+
+impl From<PackFault> for MapFault {
+    ghost from_gives = { λ found fault. (found ≡ PackFault.Memory → fault ≡ Memory) × (found ≢ PackFault.Memory → fault ≡ Pack) };
+
+    fn from(found: PackFault) -> MapFault {
+        match found {
+            PackFault::Memory => MapFault::Memory,
+            _ => MapFault::Pack,
+        }
     }
 }

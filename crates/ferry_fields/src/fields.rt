@@ -1,14 +1,14 @@
 //! The fields of a map by their names.
 
 ghost use Rattle.std.specs.Prelude.{◌≡◌, option_map};
-ghost use Rattle.ferry_msgpack.specs.View.{view, pairs_view};
+ghost use Rattle.ferry_msgpack.specs.View.{value_view, pairs_view};
 ghost use Rattle.ferry_fields.specs.Fields.{value_of, number_in, raw_in, raw32_in, raw64_in, map_in, has_version_1};
 
 use ferry_msgpack::Value;
 
 /// The value of a name: that of the first pair with it. A map that was read has a name once.
 pub fn value_of<'a>(pairs: &'a [(Vec<u8>, Value)], name: &[u8]) -> Option<&'a Value>
-    ensures value { option_map (λ v. view v.now) result ≡ value_of name.now (pairs_view pairs.now) }
+    ensures value { option_map (λ v. value_view v.now) result ≡ value_of name.now (pairs_view pairs.now) }
 {
     for place in 0..pairs.len() {
         if pairs[place].0.as_slice() == name {

@@ -2,12 +2,12 @@
 
 ghost use Rattle.std.specs.Prelude.{◌≡◌, ◌≢◌, IfOk, IfErr, Some, None};
 ghost use Rattle.ferry_msgpack.specs.Tree.{table};
-ghost use Rattle.ferry_msgpack.specs.View.{view, pairs_view};
+ghost use Rattle.ferry_msgpack.specs.View.{value_view, pairs_view};
 ghost use Rattle.ferry_msgpack.specs.Writable.{IsWritable};
 ghost use Rattle.ferry_fields.specs.Fields.{map_of, pairs_in};
 
 use crate::fault::MapFault;
-use ferry_msgpack::{PackFault, Value, read};
+use ferry_msgpack::{Value, read};
 use std::alloc::Global;
 
 /// The pairs of the map that the bytes spell, with nothing behind it, in byte order of their names.
@@ -27,39 +27,23 @@ pub fn map_of(alloc: Global, bytes: &[u8]) -> Result<Vec<(Vec<u8>, Value)>, MapF
 
 /// The value that the bytes spell, with nothing behind it.
 fn only_value(alloc: Global, bytes: &[u8]) -> Result<Value, MapFault>
-    ensures value { IfOk result (λ value. map_of bytes.now ≡ pairs_in (view value)) }
+    ensures value { IfOk result (λ value. map_of bytes.now ≡ pairs_in (value_view value)) }
     ensures fault { IfErr result (λ fault. fault ≢ MapFault.Memory → map_of bytes.now ≡ None) }
-    ensures writable { IfOk result (λ value. IsWritable (view value)) }
+    ensures writable { IfOk result (λ value. IsWritable (value_view value)) }
 {
-    match read(alloc, bytes, 0) {
-        Ok((value, stop)) => {
-            if stop == bytes.len() {
-                Ok(value)
-            } else {
-                Err(MapFault::Pack)
-            }
-        }
-        Err(fault) => Err(fault_of_pack(fault)),
+    let (value, stop) = read(alloc, bytes, 0)?;
+    if stop != bytes.len() {
+        return Err(MapFault::Pack);
     }
-}
-
-/// The fault where no value could be read.
-fn fault_of_pack(fault: PackFault) -> MapFault
-    ensures memory { fault ≡ PackFault.Memory → result ≡ MapFault.Memory }
-    ensures pack { fault ≢ PackFault.Memory → result ≡ MapFault.Pack }
-{
-    match fault {
-        PackFault::Memory => MapFault::Memory,
-        _ => MapFault::Pack,
-    }
+    Ok(value)
 }
 
 /// The pairs of a map.
 #[tactic(auto, using(ferry_msgpack::proofs::ViewLemmas::view_table))]
 fn pairs_of(value: Value) -> Result<Vec<(Vec<u8>, Value)>, MapFault>
-    requires { IsWritable (view value) }
-    ensures pairs { IfOk result (λ pairs. pairs_in (view value) ≡ Some (pairs_view pairs.items)) }
-    ensures fault { IfErr result (λ fault. (fault ≡ MapFault.Pack) × (pairs_in (view value) ≡ None)) }
+    requires { IsWritable (value_view value) }
+    ensures pairs { IfOk result (λ pairs. pairs_in (value_view value) ≡ Some (pairs_view pairs.items)) }
+    ensures fault { IfErr result (λ fault. (fault ≡ MapFault.Pack) × (pairs_in (value_view value) ≡ None)) }
     ensures writable { IfOk result (λ pairs. IsWritable (table (pairs_view pairs.items))) }
 {
     match value {

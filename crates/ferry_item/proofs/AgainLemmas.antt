@@ -1,11 +1,13 @@
 -- What is written is read as the same item.
-use Rattle.std.proofs.Common.{◌≡◌, ℕ, ◌+◌, ◌^◌, ◌<◌, ◌≤◌, Bool, true, false, List, [], ◌∷◌, ◌++◌, length, codes, Option, Some, None, is_none, is_some, option_map, option_and_then, Result, Ok, Err, OnOk, Ordering, Less, Equal, Greater, nat_cmp, refl, sym, ap, subst, ◌∙◌, arith}
+use Rattle.std.proofs.Common.{◌≡◌, ℕ, ◌+◌, ◌^◌, ◌<◌, ◌≤◌, Bool, true, false, List, [], ◌∷◌, ◌++◌, length, codes, Option, Some, None, is_none, is_some}
+use Rattle.std.proofs.Common.{option_map, option_and_then, Result, Ok, Err, OnOk, Ordering, Less, Equal, Greater, nat_cmp, refl, sym, ap, subst, ◌∙◌, arith}
 use Rattle.std.specs.List.{AllByRecursion}
 use Rattle.std.specs.Ordering.{match_ordering}
 use Rattle.std.specs.Cmp.Lexicographic.{slice_cmp}
 use Rattle.std.specs.Str.{bytes_eq}
 use Rattle.std.proofs.lemmas.Bool.{le-leb, or_parts}
 use Rattle.std.proofs.lemmas.Slice.Eq.{bytes_eq-Decides}
+use Rattle.ferry_base.specs.Limits.{content_limit}
 use Rattle.ferry_msgpack.specs.Tree.{Tree, array, table, items_count, Pairs, no_pairs, pair, pairs_count, put}
 use Rattle.ferry_msgpack.specs.Shortest.{shortest}
 use Rattle.ferry_msgpack.specs.Writable.{items_depth, Fits, ItemsFit, IsWritable}
@@ -26,16 +28,18 @@ use Rattle.ferry_item.proofs.FrontLemmas.{item_is}
 
 -- ---- the chunks
 
-chunk_again : (chunk : ChunkRef) → chunk.size ≤ 20971436 → length chunk.id ≡ 32 → chunk_of (chunk_tree chunk) ≡ Some chunk
+chunk_again : (chunk : ChunkRef) → chunk.size ≤ content_limit → length chunk.id ≡ 32 → chunk_of (chunk_tree chunk) ≡ Some chunk
 unfolding chunk_of
-chunk_again chunk small id = rw (id, le-leb chunk.size 20971436 small) refl
+chunk_again chunk small id = rw (id, le-leb chunk.size content_limit small) refl
 
-chunks_again : (chunks : List ChunkRef) → AllByRecursion (λ chunk. chunk.size ≤ 20971436) chunks → AreInRange chunks → chunks_of (chunk_trees chunks) ≡ Some chunks
+chunks_again : (chunks : List ChunkRef) → AllByRecursion (λ chunk. chunk.size ≤ content_limit) chunks → AreInRange chunks
+    → chunks_of (chunk_trees chunks) ≡ Some chunks
 unfolding chunks_of chunk_trees
 chunks_again [] small range = refl
 chunks_again (chunk ∷ chunks) small range = rw (chunk_again chunk small.0 range.0, chunks_again chunks small.1 range.2) refl
 
-absent_behind : (names : List (List ℕ)) (k l : List ℕ) (t : Tree) (ps : Pairs) (b : Bool) → bytes_eq l k ≡ b → is_among names l ≡ false → is_among names k ≡ true → value_of k ps ≡ None → value_of k (pair l t ps) ≡ None
+absent_behind : (names : List (List ℕ)) (k l : List ℕ) (t : Tree) (ps : Pairs) (b : Bool) → bytes_eq l k ≡ b → is_among names l ≡ false
+    → is_among names k ≡ true → value_of k ps ≡ None → value_of k (pair l t ps) ≡ None
 absent_behind names k l t ps true is apart named rest =
     let same : l ≡ k = (bytes_eq-Decides l k).0 is in
     let named_too : is_among names l ≡ true = ap (is_among names) same ∙ named in
@@ -52,18 +56,21 @@ absent names k (pair l t ps) apart named =
 
 -- ---- the fields of the map that is written
 
-chunks_are : (chunks : Option (List ChunkRef)) (ps : Pairs) (count : ℕ) → ChunksFit chunks count → RangeOf chunks → has_among chunks_names ps ≡ false → chunks_in (with_chunks chunks ps) ≡ Some chunks
+chunks_are : (chunks : Option (List ChunkRef)) (ps : Pairs) (count : ℕ) → ChunksFit chunks count → RangeOf chunks → has_among chunks_names ps ≡ false
+    → chunks_in (with_chunks chunks ps) ≡ Some chunks
 chunks_are None ps count fit range apart = ap chunks_where (absent chunks_names (codes "chunks") ps apart refl)
 chunks_are (Some chunks) ps count fit range apart =
     ap chunks_where (value_of-put (codes "chunks") (array (chunk_trees chunks)) ps) ∙ ap (option_map Some) (chunks_again chunks fit.0 range)
 
 path_is : (chunks : Option (List ChunkRef)) (ps : Pairs) → lacks_path (with_chunks chunks ps) ≡ lacks_path ps
 path_is None ps = refl
-path_is (Some chunks) ps = ap (λ (o : Option Tree). is_none (option_and_then raw_of o)) (value_of-put_other (codes "path") (codes "chunks") (array (chunk_trees chunks)) ps refl)
+path_is (Some chunks) ps =
+    ap (λ (o : Option Tree). is_none (option_and_then raw_of o)) (value_of-put_other (codes "path") (codes "chunks") (array (chunk_trees chunks)) ps refl)
 
 healed_is : (chunks : Option (List ChunkRef)) (ps : Pairs) → is_healed (with_chunks chunks ps) ≡ is_healed ps
 healed_is None ps = refl
-healed_is (Some chunks) ps = ap (λ (o : Option Tree). is_some o) (value_of-put_other (codes "chunks_healthy") (codes "chunks") (array (chunk_trees chunks)) ps refl)
+healed_is (Some chunks) ps =
+    ap (λ (o : Option Tree). is_some o) (value_of-put_other (codes "chunks_healthy") (codes "chunks") (array (chunk_trees chunks)) ps refl)
 
 fields_are : (chunks : Option (List ChunkRef)) (ps : Pairs) → has_among chunks_names ps ≡ false → without chunks_names (with_chunks chunks ps) ≡ ps
 fields_are None ps apart = without-apart chunks_names ps apart
@@ -73,7 +80,8 @@ item_again : (text : ItemText) → IsPackable text → RangeOf text.chunks → i
 item_again text packable range whole =
     let ps = field_pairs text in
     let fields : table (without chunks_names (item_pairs text)) ≡ text.fields = ap table (fields_are text.chunks ps packable.apart) ∙ sym packable.is_table in
-    item_is (item_pairs text) text.chunks (path_is text.chunks ps ∙ packable.path) (chunks_are text.chunks ps _ packable.chunks range packable.apart) (healed_is text.chunks ps ∙ whole)
+    item_is (item_pairs text) text.chunks (path_is text.chunks ps ∙ packable.path) (chunks_are text.chunks ps _ packable.chunks range packable.apart)
+    (healed_is text.chunks ps ∙ whole)
     ∙ ap (λ (f : Tree). Ok (record { fields = f; chunks = text.chunks })) fields
 
 -- ---- the map that is written can be written
@@ -88,10 +96,10 @@ unfolding chunk_trees
 trees_depth [] = omega arith
 trees_depth (chunk ∷ chunks) = let rest = trees_depth chunks in omega arith
 
-tree_fits : (chunk : ChunkRef) → chunk.size ≤ 20971436 → length chunk.id ≡ 32 → chunk.csize < 2 ^ 64 → Fits (chunk_tree chunk)
+tree_fits : (chunk : ChunkRef) → chunk.size ≤ content_limit → length chunk.id ≡ 32 → chunk.csize < 2 ^ 64 → Fits (chunk_tree chunk)
 tree_fits chunk small id csize = (omega arith, (omega (arith, id), (small_number chunk.size (omega arith), (small_number chunk.csize csize, tt))))
 
-trees_fit : (chunks : List ChunkRef) → AllByRecursion (λ chunk. chunk.size ≤ 20971436) chunks → AreInRange chunks → ItemsFit (chunk_trees chunks)
+trees_fit : (chunks : List ChunkRef) → AllByRecursion (λ chunk. chunk.size ≤ content_limit) chunks → AreInRange chunks → ItemsFit (chunk_trees chunks)
 unfolding chunk_trees
 trees_fit [] small range = tt
 trees_fit (chunk ∷ chunks) small range = (tree_fits chunk small.0 range.0 range.1, trees_fit chunks small.1 range.2)
@@ -106,7 +114,8 @@ count_put : (k : List ℕ) (t : Tree) (ps : Pairs) → pairs_count (put k t ps) 
 count_put k t no_pairs = omega arith
 count_put k t (pair l u ps) = count_at_order k t l u ps (slice_cmp nat_cmp k l) (count_put k t ps)
 
-map_writable : (chunks : Option (List ChunkRef)) (ps : Pairs) → ChunksFit chunks (pairs_count ps) → RangeOf chunks → IsWritable (table ps) → IsWritable (table (with_chunks chunks ps))
+map_writable : (chunks : Option (List ChunkRef)) (ps : Pairs) → ChunksFit chunks (pairs_count ps) → RangeOf chunks → IsWritable (table ps)
+    → IsWritable (table (with_chunks chunks ps))
 map_writable None ps fit range writable = writable
 map_writable (Some chunks) ps fit range writable =
     let trees = chunk_trees chunks in
@@ -120,7 +129,8 @@ item_writable text packable range = map_writable text.chunks (field_pairs text) 
 
 -- ---- both
 
-pub written_again : (text : ItemText) (rest : List ℕ) → IsPackable text → RangeOf text.chunks → is_healed (field_pairs text) ≡ false → front_item (item_text text ++ rest) ≡ an_item text rest
+pub written_again : (text : ItemText) (rest : List ℕ) → IsPackable text → RangeOf text.chunks → is_healed (field_pairs text) ≡ false
+    → front_item (item_text text ++ rest) ≡ an_item text rest
 unfolding front_item item_text
 written_again text rest packable range whole =
     let t = table (item_pairs text) in

@@ -1,5 +1,6 @@
 -- What stands in front of bytes.
-use Rattle.std.proofs.Common.{◌≡◌, ◌≢◌, ◌↔◌, ℕ, ◌+◌, ◌-◌, Bool, true, false, if◌then◌else◌, List, ◌++◌, take, drop, Option, Some, None, is_none, Result, Ok, Err, refl, sym, ap, subst, ◌∙◌, append_assoc, arith}
+use Rattle.std.proofs.Common.{◌≡◌, ◌≢◌, ◌↔◌, ℕ, ◌+◌, ◌-◌, Bool, true, false, if◌then◌else◌, List, ◌++◌, take, drop, Option, Some, None, is_none, Result, Ok}
+use Rattle.std.proofs.Common.{Err, refl, sym, ap, subst, ◌∙◌, append_assoc, arith}
 use Rattle.std.proofs.lemmas.List.{take-append-drop, drop-drop}
 use Rattle.ferry_msgpack.specs.declared.fault.PackFault.{PackFault}
 use Rattle.ferry_msgpack.specs.declared.fault.PackFault.TheVariants.{Short, Kind, Key, Repeat, Deep, Memory}
@@ -13,7 +14,8 @@ use Rattle.ferry_msgpack.proofs.SpellingLemmas.{Tells, value_tells, value_again,
 use Rattle.ferry_fields.specs.Fields.{pairs_in}
 use Rattle.ferry_fields.specs.Others.{without}
 use Rattle.ferry_item.specs.Item.{ItemText, chunks_in, chunks_names, is_healed, item_from, item_of, item_of_value, lacks_path, text_in}
-use Rattle.ferry_item.specs.Stream.{Front, an_item, nothing_yet, a_fault, StandsInFront, item_stands, item_is_faulty, no_map_stands, rule_is_broken, value_ends, front_item, front_of, front_of_fault, front_read, fault_of_rule}
+use Rattle.ferry_item.specs.Stream.{Front, an_item, nothing_yet, a_fault, StandsInFront, item_stands, item_is_faulty, no_map_stands, rule_is_broken, value_ends}
+use Rattle.ferry_item.specs.Stream.{front_item, front_of, front_of_fault, front_read, fault_of_rule}
 use Rattle.ferry_item.specs.declared.fault.ItemFault.{ItemFault}
 use Rattle.ferry_item.specs.declared.fault.ItemFault.TheVariants as item_fault
 use Rattle.ferry_item.specs.declared.fault.ItemFault.TheVariants.{Pack}
@@ -40,14 +42,17 @@ read_is bytes at t stop stands =
     ∙ ap (λ (s : List ℕ). Ok (t, s)) rest
 
 -- the item of the value there
-pub front_at : (bytes : List ℕ) (at : ℕ) (t : Tree) (stop : ℕ) → StandsAt bytes at t stop → front_item (drop at bytes) ≡ front_of (item_of_value t) (drop stop bytes)
+pub front_at : (bytes : List ℕ) (at : ℕ) (t : Tree) (stop : ℕ) → StandsAt bytes at t stop
+    → front_item (drop at bytes) ≡ front_of (item_of_value t) (drop stop bytes)
 unfolding front_item
 front_at bytes at t stop stands = ap front_read (read_is bytes at t stop stands)
 
-pub item_at : (bytes : List ℕ) (at : ℕ) (t : Tree) (stop : ℕ) (text : ItemText) → StandsAt bytes at t stop → item_of_value t ≡ Ok text → front_item (drop at bytes) ≡ an_item text (drop stop bytes)
+pub item_at : (bytes : List ℕ) (at : ℕ) (t : Tree) (stop : ℕ) (text : ItemText) → StandsAt bytes at t stop → item_of_value t ≡ Ok text
+    → front_item (drop at bytes) ≡ an_item text (drop stop bytes)
 item_at bytes at t stop text stands is = front_at bytes at t stop stands ∙ ap (λ (r : Result ItemText ItemFault). front_of r (drop stop bytes)) is
 
-pub fault_at : (bytes : List ℕ) (at : ℕ) (t : Tree) (stop : ℕ) (fault : ItemFault) → StandsAt bytes at t stop → item_of_value t ≡ Err fault → front_item (drop at bytes) ≡ a_fault fault
+pub fault_at : (bytes : List ℕ) (at : ℕ) (t : Tree) (stop : ℕ) (fault : ItemFault) → StandsAt bytes at t stop → item_of_value t ≡ Err fault
+    → front_item (drop at bytes) ≡ a_fault fault
 fault_at bytes at t stop fault stands is = front_at bytes at t stop stands ∙ ap (λ (r : Result ItemText ItemFault). front_of r (drop stop bytes)) is
 
 other_rule : (broken : PackFault) → broken ≢ Short → broken ≢ Memory → front_of_fault (fault_of_rule broken) ≡ a_fault Pack
@@ -80,11 +85,13 @@ other_fault Deep fault e other = λ same. absurd cc
 other_fault Memory fault e other = absurd (other cc)
 
 -- a call that found nothing
-pub nothing_front : (bytes : List ℕ) (broken : PackFault) → (broken ≢ Memory → Breaks bytes broken) → fault_of_rule broken ≡ None → front_item bytes ≡ nothing_yet
+pub nothing_front : (bytes : List ℕ) (broken : PackFault) → (broken ≢ Memory → Breaks bytes broken) → fault_of_rule broken ≡ None
+    → front_item bytes ≡ nothing_yet
 nothing_front bytes broken is e = rule_front bytes broken (is (no_fault broken e)) ∙ ap front_of_fault e
 
 -- a call that found a broken rule
-pub fault_front : (bytes : List ℕ) (broken : PackFault) (fault : ItemFault) → (broken ≢ Memory → Breaks bytes broken) → fault_of_rule broken ≡ Some fault → fault ≢ item_fault.Memory → front_item bytes ≡ a_fault fault
+pub fault_front : (bytes : List ℕ) (broken : PackFault) (fault : ItemFault) → (broken ≢ Memory → Breaks bytes broken) → fault_of_rule broken ≡ Some fault
+    → fault ≢ item_fault.Memory → front_item bytes ≡ a_fault fault
 fault_front bytes broken fault is e other = rule_front bytes broken (is (other_fault broken fault e other)) ∙ ap front_of_fault e
 
 -- ---- one front stands, and one alone
@@ -103,19 +110,24 @@ unfolding front_item
 spelled_front t front rest spelled = ap front_read (value_again 64 t front rest spelled)
 
 pub stands_is : (bytes : List ℕ) (front : Front) → StandsInFront bytes front → front_item bytes ≡ front
-stands_is bytes front (item_stands pairs text spelling rest spelled is) = spelled_front (table pairs) spelling rest spelled ∙ ap (λ (r : Result ItemText ItemFault). front_of r rest) is
-stands_is bytes front (item_is_faulty pairs fault spelling rest spelled is) = spelled_front (table pairs) spelling rest spelled ∙ ap (λ (r : Result ItemText ItemFault). front_of r rest) is
-stands_is bytes front (no_map_stands t spelling rest spelled is) = spelled_front t spelling rest spelled ∙ ap (λ (o : Option Pairs). front_of (item_from o) rest) is
+stands_is bytes front (item_stands pairs text spelling rest spelled is) =
+    spelled_front (table pairs) spelling rest spelled ∙ ap (λ (r : Result ItemText ItemFault). front_of r rest) is
+stands_is bytes front (item_is_faulty pairs fault spelling rest spelled is) =
+    spelled_front (table pairs) spelling rest spelled ∙ ap (λ (r : Result ItemText ItemFault). front_of r rest) is
+stands_is bytes front (no_map_stands t spelling rest spelled is) =
+    spelled_front t spelling rest spelled ∙ ap (λ (o : Option Pairs). front_of (item_from o) rest) is
 stands_is bytes front (rule_is_broken _ broken is other) = rule_front bytes broken is ∙ other_rule broken other (broken_rule bytes broken is)
 stands_is bytes front (value_ends _ is) = rule_front bytes Short is
 
-of_item : (pairs : Pairs) (front rest : List ℕ) (r : Result ItemText ItemFault) → Spells (table pairs) front → item_of pairs ≡ r → StandsInFront (front ++ rest) (front_of r rest)
+of_item : (pairs : Pairs) (front rest : List ℕ) (r : Result ItemText ItemFault) → Spells (table pairs) front → item_of pairs ≡ r
+    → StandsInFront (front ++ rest) (front_of r rest)
 of_item pairs front rest (Ok text) spelled is = item_stands pairs text front rest spelled is
 of_item pairs front rest (Err fault) spelled is = item_is_faulty pairs fault front rest spelled is
 
 of_value : (t : Tree) (front rest : List ℕ) (o : Option Pairs) → Spells t front → pairs_in t ≡ o → StandsInFront (front ++ rest) (front_of (item_from o) rest)
 of_value t front rest None spelled is = no_map_stands t front rest spelled is
-of_value t front rest (Some pairs) spelled is = of_item pairs front rest (item_of pairs) (subst (λ (u : Tree). Spells u front) (item_of_map t pairs is) spelled) refl
+of_value t front rest (Some pairs) spelled is =
+    of_item pairs front rest (item_of pairs) (subst (λ (u : Tree). Spells u front) (item_of_map t pairs is) spelled) refl
 
 of_rule : (bytes : List ℕ) (broken : PackFault) → Breaks bytes broken → StandsInFront bytes (front_of_fault (fault_of_rule broken))
 of_rule bytes Short is = value_ends bytes is
@@ -147,9 +159,11 @@ with_more more (a_fault fault) = a_fault fault
 
 stands_more : (bytes more : List ℕ) (front : Front) → StandsInFront bytes front → front ≢ nothing_yet → StandsInFront (bytes ++ more) (with_more more front)
 stands_more bytes more front (item_stands pairs text spelling rest spelled is) other =
-    subst (λ (s : List ℕ). StandsInFront s (an_item text (rest ++ more))) (sym (append_assoc spelling rest more)) (item_stands pairs text spelling (rest ++ more) spelled is)
+    subst (λ (s : List ℕ). StandsInFront s (an_item text (rest ++ more))) (sym (append_assoc spelling rest more))
+    (item_stands pairs text spelling (rest ++ more) spelled is)
 stands_more bytes more front (item_is_faulty pairs fault spelling rest spelled is) other =
-    subst (λ (s : List ℕ). StandsInFront s (a_fault fault)) (sym (append_assoc spelling rest more)) (item_is_faulty pairs fault spelling (rest ++ more) spelled is)
+    subst (λ (s : List ℕ). StandsInFront s (a_fault fault)) (sym (append_assoc spelling rest more))
+    (item_is_faulty pairs fault spelling (rest ++ more) spelled is)
 stands_more bytes more front (no_map_stands t spelling rest spelled is) other =
     subst (λ (s : List ℕ). StandsInFront s (a_fault Pack)) (sym (append_assoc spelling rest more)) (no_map_stands t spelling (rest ++ more) spelled is)
 stands_more bytes more front (rule_is_broken _ broken is short) other = rule_is_broken (bytes ++ more) broken (broken_more bytes more broken is short) short
@@ -157,7 +171,8 @@ stands_more bytes more front (value_ends _ is) other = absurd (other refl)
 
 pub item_more : (bytes rest more : List ℕ) (text : ItemText) → front_item bytes ≡ an_item text rest → front_item (bytes ++ more) ≡ an_item text (rest ++ more)
 item_more bytes rest more text is =
-    stands_is (bytes ++ more) (an_item text (rest ++ more)) (stands_more bytes more (an_item text rest) ((front_both bytes (an_item text rest)).1 is) (λ same. absurd cc))
+    stands_is (bytes ++ more) (an_item text (rest ++ more)) (stands_more bytes more (an_item text rest) ((front_both bytes (an_item text rest)).1 is)
+    (λ same. absurd cc))
 
 pub fault_more : (bytes more : List ℕ) (fault : ItemFault) → front_item bytes ≡ a_fault fault → front_item (bytes ++ more) ≡ a_fault fault
 fault_more bytes more fault is =
@@ -165,7 +180,8 @@ fault_more bytes more fault is =
 
 -- ---- which faults
 
-fault_of_item : (path chunks healed : Bool) (text : ItemText) (fault : ItemFault) → (if path then Err item_fault.Path else if chunks then Err item_fault.Chunks else if healed then Err item_fault.Healed else Ok text) ≡ Err fault
+fault_of_item : (path chunks healed : Bool) (text : ItemText) (fault : ItemFault)
+    → (if path then Err item_fault.Path else if chunks then Err item_fault.Chunks else if healed then Err item_fault.Healed else Ok text) ≡ Err fault
     → (fault ≢ item_fault.Rest) × (fault ≢ item_fault.Memory)
 fault_of_item true chunks healed text fault e = (λ same. absurd cc, λ same. absurd cc)
 fault_of_item false true healed text fault e = (λ same. absurd cc, λ same. absurd cc)
@@ -176,9 +192,11 @@ fault_of_pairs : (pairs : Pairs) (fault : ItemFault) → item_of pairs ≡ Err f
 unfolding item_of
 fault_of_pairs pairs fault e = fault_of_item (lacks_path pairs) (is_none (chunks_in pairs)) (is_healed pairs) (text_in pairs) fault e
 
-fault_kind : (bytes : List ℕ) (front : Front) (fault : ItemFault) → StandsInFront bytes front → front ≡ a_fault fault → (fault ≢ item_fault.Rest) × (fault ≢ item_fault.Memory)
+fault_kind : (bytes : List ℕ) (front : Front) (fault : ItemFault) → StandsInFront bytes front → front ≡ a_fault fault
+    → (fault ≢ item_fault.Rest) × (fault ≢ item_fault.Memory)
 fault_kind bytes front fault (item_stands pairs text spelling rest spelled is) e = absurd cc
-fault_kind bytes front fault (item_is_faulty pairs found spelling rest spelled is) e = let same : found ≡ fault = cc in fault_of_pairs pairs fault (is ∙ ap (λ (f : ItemFault). Err f) same)
+fault_kind bytes front fault (item_is_faulty pairs found spelling rest spelled is) e =
+    let same : found ≡ fault = cc in fault_of_pairs pairs fault (is ∙ ap (λ (f : ItemFault). Err f) same)
 fault_kind bytes front fault (no_map_stands t spelling rest spelled is) e = (λ same. absurd cc, λ same. absurd cc)
 fault_kind bytes front fault (rule_is_broken _ broken is short) e = (λ same. absurd cc, λ same. absurd cc)
 fault_kind bytes front fault (value_ends _ is) e = absurd cc

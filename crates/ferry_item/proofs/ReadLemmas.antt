@@ -1,9 +1,10 @@
 -- Reading the fields of an item: the loop over the chunks, and what fits in values.
-use Rattle.std.proofs.Common.{◌≡◌, ℕ, zero, suc, ◌+◌, ◌<◌, ◌≤◌, Bool, true, false, List, [], ◌∷◌, ◌++◌, length, drop, get_or, Option, Some, None, option_map, option_and_then, refl, sym, ap, subst, ◌∙◌, append_assoc, append-nil, arith, add-one, drop-cons}
+use Rattle.std.proofs.Common.{◌≡◌, ℕ, zero, suc, ◌+◌, ◌<◌, ◌≤◌, Bool, true, false, List, [], ◌∷◌, ◌++◌, length, drop, get_or, Option, Some, None, option_map}
+use Rattle.std.proofs.Common.{option_and_then, refl, sym, ap, subst, ◌∙◌, append_assoc, append-nil, arith, add-one, drop-cons}
 use Rattle.std.proofs.lemmas.List.{drop_all}
 use Rattle.std.specs.Str.{bytes_eq}
 use Rattle.ferry_msgpack.specs.Tree.{Tree, Items, item, Pairs, no_pairs, pair}
-use Rattle.ferry_msgpack.specs.View.{view, items_view}
+use Rattle.ferry_msgpack.specs.View.{value_view, items_view}
 use Rattle.ferry_msgpack.specs.Writable.{Fits, ItemsFit, PairsFit}
 use Rattle.ferry_msgpack.specs.declared.value.Value.{Value}
 use Rattle.ferry_fields.specs.Fields.{value_of}
@@ -30,7 +31,7 @@ too_many (a ∷ (b ∷ (c ∷ (d ∷ vs)))) le = refl
 
 -- ---- chunks, one by one
 
-pub fits_at : (vs : List Value) (i : ℕ) (v : Value) → ItemsFit (items_view vs) → i < length vs → Fits (view (get_or vs i v))
+pub fits_at : (vs : List Value) (i : ℕ) (v : Value) → ItemsFit (items_view vs) → i < length vs → Fits (value_view (get_or vs i v))
 fits_at [] i v fit lt = absurd (omega arith)
 fits_at (w ∷ vs) zero v fit lt = fit.0
 fits_at (w ∷ vs) (suc i) v fit lt = fits_at vs i v fit.1 (omega arith)
@@ -39,7 +40,8 @@ fits_at (w ∷ vs) (suc i) v fit lt = fits_at vs i v fit.1 (omega arith)
 unfoldable pub chunks_with : List ChunkRef → Items → Option (List ChunkRef)
 chunks_with chunks items = option_map (λ others. chunks ++ others) (chunks_of items)
 
-items-drop : (vs : List Value) (place : ℕ) (v : Value) → place < length vs → items_view (drop place vs) ≡ item (view (get_or vs place v)) (items_view (drop (place + 1) vs))
+items-drop : (vs : List Value) (place : ℕ) (v : Value) → place < length vs
+    → items_view (drop place vs) ≡ item (value_view (get_or vs place v)) (items_view (drop (place + 1) vs))
 items-drop vs place v lt = rw (add-one place) (ap items_view (drop-cons vs place v lt))
 
 append_none : (o : Option (List ChunkRef)) → option_map (λ others. [] ++ others) o ≡ o
@@ -50,11 +52,13 @@ pub chunks_start : (vs : List Value) → chunks_with [] (items_view (drop 0 vs))
 unfolding chunks_with
 chunks_start vs = append_none (chunks_of (items_view vs))
 
-chunks_after : (chunks : List ChunkRef) (chunk : ChunkRef) (o : Option (List ChunkRef)) → option_map (λ others. chunks ++ others) (option_map (λ others. chunk ∷ others) o) ≡ option_map (λ others. (chunks ++ chunk ∷ []) ++ others) o
+chunks_after : (chunks : List ChunkRef) (chunk : ChunkRef) (o : Option (List ChunkRef))
+    → option_map (λ others. chunks ++ others) (option_map (λ others. chunk ∷ others) o) ≡ option_map (λ others. (chunks ++ chunk ∷ []) ++ others) o
 chunks_after chunks chunk None = refl
 chunks_after chunks chunk (Some others) = ap (λ all. Some all) (sym (append_assoc chunks (chunk ∷ []) others))
 
-pub chunks_more : (chunks : List ChunkRef) (chunk : ChunkRef) (vs : List Value) (place : ℕ) (v : Value) → place < length vs → chunk_of (view (get_or vs place v)) ≡ Some chunk
+pub chunks_more : (chunks : List ChunkRef) (chunk : ChunkRef) (vs : List Value) (place : ℕ) (v : Value) → place < length vs
+    → chunk_of (value_view (get_or vs place v)) ≡ Some chunk
     → chunks_with (chunks ++ chunk ∷ []) (items_view (drop (place + 1) vs)) ≡ chunks_with chunks (items_view (drop place vs))
 unfolding chunks_with chunks_of
 chunks_more chunks chunk vs place v lt is =
@@ -63,7 +67,7 @@ chunks_more chunks chunk vs place v lt is =
     rw here (sym (chunks_after chunks chunk rest))
 
 -- a value that is no chunk
-pub chunks_lost : (chunks : List ChunkRef) (vs : List Value) (place : ℕ) (v : Value) → place < length vs → chunk_of (view (get_or vs place v)) ≡ None
+pub chunks_lost : (chunks : List ChunkRef) (vs : List Value) (place : ℕ) (v : Value) → place < length vs → chunk_of (value_view (get_or vs place v)) ≡ None
     → chunks_with chunks (items_view (drop place vs)) ≡ chunks_of (items_view vs) → chunks_of (items_view vs) ≡ None
 unfolding chunks_with chunks_of
 chunks_lost chunks vs place v lt is so_far =
@@ -83,7 +87,8 @@ some_tree t u e = cc
 no_tree : (t : Tree) (o : Option Tree) → o ≡ None → o ≡ Some t → ⊥
 no_tree t o none some = cc
 
-fits_behind : (name key : List ℕ) (t u : Tree) (ps : Pairs) (b : Bool) → bytes_eq key name ≡ b → Fits u → value_of name (pair key u ps) ≡ Some t → (value_of name ps ≡ Some t → Fits t) → Fits t
+fits_behind : (name key : List ℕ) (t u : Tree) (ps : Pairs) (b : Bool) → bytes_eq key name ≡ b → Fits u → value_of name (pair key u ps) ≡ Some t
+    → (value_of name ps ≡ Some t → Fits t) → Fits t
 fits_behind name key t u ps true is fits found rest = subst Fits (some_tree u t (sym (value_of-here name key u ps is) ∙ found)) fits
 fits_behind name key t u ps false is fits found rest = rest (sym (value_of-other name key u ps is) ∙ found)
 

@@ -1,8 +1,10 @@
 -- What a map of an item stream means. BorgBackup 1.2 Internals, "Data structures and file formats", Archives: an item is
 -- a map with the name `path`, and for a file that has content with the name `chunks`; other names are kept.
-use Rattle.std.specs.Prelude.{ℕ, Bool, nat_le, if◌then◌else◌, List, [], ◌∷◌, codes, ℤ, pos, negsuc, Option, Some, None, is_some, is_none, unwrap_or, option_and_then, option_map, Result, Ok, Err}
+use Rattle.std.specs.Prelude.{ℕ, Bool, nat_le, if◌then◌else◌, List, [], ◌∷◌, codes, ℤ, pos, negsuc, Option, Some, None, is_some, is_none, unwrap_or}
+use Rattle.std.specs.Prelude.{option_and_then, option_map, Result, Ok, Err}
+use Rattle.ferry_base.specs.Limits.{content_limit}
 use Rattle.ferry_msgpack.specs.Tree.{Tree, nil, flag, number, raw, array, table, Items, no_items, item, Pairs}
-use Rattle.ferry_msgpack.specs.View.{view}
+use Rattle.ferry_msgpack.specs.View.{value_view}
 use Rattle.ferry_fields.specs.Fields.{value_of, number_of, raw_of, of_32, raw_in, pairs_in}
 use Rattle.ferry_fields.specs.Others.{without}
 use Rattle.ferry_item.specs.declared.item.ChunkRef.{ChunkRef}
@@ -16,8 +18,8 @@ pub record ItemText : Type 0 where
   pub chunks : Option (List ChunkRef)
 
 -- what an `Item` says, apart from where its values lie in memory
-abbrev pub shown : Item → ItemText
-shown i = record { fields = view i.fields; chunks = i.chunks }
+abbrev pub item_view : Item → ItemText
+item_view i = record { fields = value_view i.fields; chunks = i.chunks }
 
 -- the values of an array of exactly three
 abbrev pub three_of : Items → Option (Tree × Tree × Tree)
@@ -35,13 +37,13 @@ natural_of (negsuc n) = None
 -- a number that may be a content's length: the most is 20 MiB, less the 41 bytes of a log entry's head and the 43 of a
 -- sealed content's
 abbrev pub length_of : ℕ → Option ℕ
-length_of n = if nat_le n 20971436 then Some n else None
+length_of n = if nat_le n content_limit then Some n else None
 
 -- the 32 bytes that a value is
 abbrev pub id_of : Tree → Option (List ℕ)
 id_of t = option_and_then of_32 (raw_of t)
 
--- the size that a value is: a number from 0 to 20971436
+-- the size that a value is: a number from 0 to the most bytes of a content
 abbrev pub size_of : Tree → Option ℕ
 size_of t = option_and_then length_of (option_and_then natural_of (number_of t))
 

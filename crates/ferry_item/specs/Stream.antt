@@ -21,8 +21,10 @@ pub data Front : Type 0 where
 
 -- the front that each case of the standard gives
 pub data StandsInFront : List ℕ → Front → Type 0 where
-  item_stands : (pairs : Pairs) (text : ItemText) (front rest : List ℕ) → Spells (table pairs) front → item_of pairs ≡ Ok text → StandsInFront (front ++ rest) (an_item text rest)
-  item_is_faulty : (pairs : Pairs) (fault : ItemFault) (front rest : List ℕ) → Spells (table pairs) front → item_of pairs ≡ Err fault → StandsInFront (front ++ rest) (a_fault fault)
+  item_stands : (pairs : Pairs) (text : ItemText) (front rest : List ℕ) → Spells (table pairs) front → item_of pairs ≡ Ok text
+      → StandsInFront (front ++ rest) (an_item text rest)
+  item_is_faulty : (pairs : Pairs) (fault : ItemFault) (front rest : List ℕ) → Spells (table pairs) front → item_of pairs ≡ Err fault
+      → StandsInFront (front ++ rest) (a_fault fault)
   no_map_stands : (t : Tree) (front rest : List ℕ) → Spells t front → pairs_in t ≡ None → StandsInFront (front ++ rest) (a_fault Pack)
   rule_is_broken : (bytes : List ℕ) (broken : PackFault) → Breaks bytes broken → broken ≢ rule.Short → StandsInFront bytes (a_fault Pack)
   value_ends : (bytes : List ℕ) → Breaks bytes rule.Short → StandsInFront bytes nothing_yet

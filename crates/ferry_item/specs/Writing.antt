@@ -2,6 +2,7 @@
 -- written by its one shortest spelling.
 use Rattle.std.specs.Prelude.{◌≡◌, ℕ, ◌^◌, ◌<◌, ◌≤◌, false, List, [], ◌∷◌, length, codes, pos, Option, Some, None, unwrap_or, ⊤}
 use Rattle.std.specs.List.{AllByRecursion}
+use Rattle.ferry_base.specs.Limits.{content_limit}
 use Rattle.ferry_msgpack.specs.Tree.{Tree, number, raw, array, table, Items, no_items, item, Pairs, no_pairs, pairs_count, put}
 use Rattle.ferry_msgpack.specs.Shortest.{shortest}
 use Rattle.ferry_msgpack.specs.Writable.{IsWritable}
@@ -39,7 +40,7 @@ item_text text = shortest (table (item_pairs text))
 -- chunks that can be packed into an item with so many fields: a size is a content's, and the counts are below 2 ^ 32
 abbrev pub ChunksFit : Option (List ChunkRef) → ℕ → Type 0
 ChunksFit None count = ⊤
-ChunksFit (Some chunks) count = AllByRecursion (λ chunk. chunk.size ≤ 20971436) chunks × (length chunks < 2 ^ 32) × (count < 4294967295)
+ChunksFit (Some chunks) count = AllByRecursion (λ chunk. chunk.size ≤ content_limit) chunks × (length chunks < 2 ^ 32) × (count < 4294967295)
 
 -- an item that can be packed: its fields are a table that can be written, with a raw `path` and without `chunks`
 pub record IsPackable (text : ItemText) : Type 0 where

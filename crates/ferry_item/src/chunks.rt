@@ -1,34 +1,28 @@
 //! From the value of `chunks` to the chunks of an item.
 
 ghost use Rattle.std.specs.Prelude.{◌≡◌, ◌≢◌, IfOk, IfErr, Some, None, option_map, option_and_then};
-ghost use Rattle.ferry_msgpack.specs.View.{view, items_view, pairs_view};
+ghost use Rattle.ferry_msgpack.specs.View.{value_view, items_view, pairs_view};
 ghost use Rattle.ferry_msgpack.specs.Writable.{Fits, ItemsFit};
 ghost use Rattle.ferry_fields.specs.Fields.{of_32};
 ghost use Rattle.ferry_item.specs.Item.{chunk_from, chunk_of, chunks_of, chunks_said, csize_of, id_of, size_of, three_of};
 ghost use Rattle.ferry_item.specs.declared.fault.ItemFault.{ItemFault};
 
 use crate::fault::ItemFault;
-use crate::item::{ChunkRef, ChunkRefs, Id};
+use crate::item::{ChunkRef, ChunkRefs};
+use ferry_base::{CONTENT_LIMIT, Id};
 use ferry_msgpack::Value;
 use std::alloc::Global;
 
-/// The most bytes of a content: 20 MiB, less the 41 bytes of a log entry's head and the 43 of a
-/// sealed content's.
-const MOST_BYTES: i128 = 20_971_436;
-
 /// What the value of `chunks` says: nil is no chunks, and an array of chunks is these.
 pub(crate) fn chunks_said(alloc: Global, value: &Value) -> Result<Option<ChunkRefs>, ItemFault>
-    requires { Fits (view value.now) }
-    ensures chunks { IfOk result (λ chunks. chunks_said (view value.now) ≡ Some chunks) }
+    requires { Fits (value_view value.now) }
+    ensures chunks { IfOk result (λ chunks. chunks_said (value_view value.now) ≡ Some chunks) }
     ensures fault { IfErr result (λ fault. fault ≢ ItemFault.Memory
-        → (fault ≡ ItemFault.Chunks) × (chunks_said (view value.now) ≡ None)) }
+        → (fault ≡ ItemFault.Chunks) × (chunks_said (value_view value.now) ≡ None)) }
 {
     match value {
         Value::Nil => Ok(None),
-        Value::Array(items) => match chunks_of(alloc, items.as_slice()) {
-            Ok(chunks) => Ok(Some(chunks)),
-            Err(fault) => Err(fault),
-        },
+        Value::Array(items) => Ok(Some(chunks_of(alloc, items.as_slice())?)),
         _ => Err(ItemFault::Chunks),
     }
 }
@@ -53,8 +47,8 @@ fn chunks_of(alloc: Global, items: &[Value]) -> Result<ChunkRefs, ItemFault>
 /// The chunk that a value is: an array of exactly an id, a size and a csize.
 #[tactic(auto, unfolding(crate::specs::Item::chunk_of))]
 fn chunk_of(value: &Value) -> Option<ChunkRef>
-    requires { Fits (view value.now) }
-    ensures { result ≡ chunk_of (view value.now) }
+    requires { Fits (value_view value.now) }
+    ensures { result ≡ chunk_of (value_view value.now) }
 {
     match value {
         Value::Array(items) => chunk_of_items(items.as_slice()),
@@ -79,7 +73,7 @@ fn chunk_of_items(items: &[Value]) -> Option<ChunkRef>
 
 /// The 32 bytes that a value is.
 fn id_of(value: &Value) -> Option<Id>
-    ensures { result ≡ id_of (view value.now) }
+    ensures { result ≡ id_of (value_view value.now) }
 {
     match value {
         Value::Raw(content) => id_of_bytes(content.as_slice()),
@@ -99,20 +93,22 @@ fn id_of_bytes(content: &[u8]) -> Option<Id>
     Some(id)
 }
 
-/// The size that a value is: a number from 0 to 20971436.
+/// The size that a value is: a number from 0 to the most bytes of a content.
 fn size_of(value: &Value) -> Option<u64>
-    ensures { result ≡ size_of (view value.now) }
+    ensures { result ≡ size_of (value_view value.now) }
 {
     match value {
-        Value::Number(number) if 0 <= *number && *number <= MOST_BYTES => Some(*number as u64),
+        Value::Number(number) if 0 <= *number && *number <= CONTENT_LIMIT as i128 => {
+            Some(*number as u64)
+        }
         _ => None,
     }
 }
 
 /// The csize that a value is: a number of 0 or above.
 fn csize_of(value: &Value) -> Option<u64>
-    requires { Fits (view value.now) }
-    ensures { result ≡ csize_of (view value.now) }
+    requires { Fits (value_view value.now) }
+    ensures { result ≡ csize_of (value_view value.now) }
 {
     match value {
         Value::Number(number) if 0 <= *number => Some(*number as u64),

@@ -11,22 +11,22 @@ use thiserror::Error;
 pub enum ItemFault {
     /// A value that isn't read, however the stream goes on, or that isn't a map.
     #[error("a value that isn't read or isn't a map")]
-    Pack,
+    Pack = 1,
     /// `path` is missing or isn't raw.
     #[error("`path` is missing or isn't raw")]
-    Path,
+    Path = 2,
     /// `chunks` is neither nil nor an array of chunks.
     #[error("`chunks` is neither nil nor an array of chunks")]
-    Chunks,
+    Chunks = 3,
     /// `chunks_healthy` is there: the item was repaired and lacks content.
     #[error("`chunks_healthy` is there")]
-    Healed,
+    Healed = 4,
     /// The stream ends inside an item.
     #[error("the stream ends inside an item")]
-    Rest,
+    Rest = 5,
     /// Memory ran out.
     #[error("out of memory")]
-    Memory,
+    Memory = 6,
 }
 
 impl ItemFault {
@@ -36,14 +36,7 @@ impl ItemFault {
     pub fn number(&self) -> u8
         ensures number { result ≡ number_of_fault self.now }
     {
-        match self {
-            ItemFault::Pack => 1,
-            ItemFault::Path => 2,
-            ItemFault::Chunks => 3,
-            ItemFault::Healed => 4,
-            ItemFault::Rest => 5,
-            ItemFault::Memory => 6,
-        }
+        *self as u8
     }
 }
 

@@ -2,10 +2,10 @@
 
 ghost use Rattle.std.specs.Prelude.{◌≡◌, ◌≢◌, ◌≤◌, IfOk, IfErr, IfSome, Ok, Err, Some, None, drop, length, false};
 ghost use Rattle.ferry_msgpack.specs.Tree.{table};
-ghost use Rattle.ferry_msgpack.specs.View.{view, pairs_view};
+ghost use Rattle.ferry_msgpack.specs.View.{value_view, pairs_view};
 ghost use Rattle.ferry_msgpack.specs.Writable.{IsWritable, PairsFit};
 ghost use Rattle.ferry_fields.specs.Others.{without};
-ghost use Rattle.ferry_item.specs.Item.{chunks_in, chunks_names, is_healed, item_of, item_of_value, lacks_path, shown};
+ghost use Rattle.ferry_item.specs.Item.{chunks_in, chunks_names, is_healed, item_of, item_of_value, lacks_path, item_view};
 ghost use Rattle.ferry_item.specs.Stream.{an_item, nothing_yet, a_fault, fault_of_rule, front_item};
 ghost use Rattle.ferry_item.specs.Writing.{IsPackable, field_pairs};
 ghost use Rattle.ferry_item.specs.declared.fault.ItemFault.{ItemFault};
@@ -27,20 +27,17 @@ pub(crate) fn item_at(
 ) -> Result<Option<(Item, usize)>, ItemFault>
     requires { at ≤ length bytes.now }
     ensures item { IfOk result (λ found. IfSome found (λ x.
-        front_item (drop at bytes.now) ≡ an_item (shown x.0) (drop x.1 bytes.now))) }
+        front_item (drop at bytes.now) ≡ an_item (item_view x.0) (drop x.1 bytes.now))) }
     ensures place { IfOk result (λ found. IfSome found (λ x. x.1 ≤ length bytes.now)) }
-    ensures packable { IfOk result (λ found. IfSome found (λ x. IsPackable (shown x.0))) }
-    ensures whole { IfOk result (λ found. IfSome found (λ x. is_healed (field_pairs (shown x.0)) ≡ false)) }
+    ensures packable { IfOk result (λ found. IfSome found (λ x. IsPackable (item_view x.0))) }
+    ensures whole { IfOk result (λ found. IfSome found (λ x. is_healed (field_pairs (item_view x.0)) ≡ false)) }
     ensures none { result ≡ Ok None → front_item (drop at bytes.now) ≡ nothing_yet }
     ensures fault { IfErr result (λ fault. fault ≢ ItemFault.Memory
         → front_item (drop at bytes.now) ≡ a_fault fault) }
     ensures rest { result ≢ Err ItemFault.Rest }
 {
     match read(alloc, bytes, at) {
-        Ok((value, stop)) => match item_of_value(alloc, value) {
-            Ok(item) => Ok(Some((item, stop))),
-            Err(fault) => Err(fault),
-        },
+        Ok((value, stop)) => Ok(Some((item_of_value(alloc, value)?, stop))),
         Err(rule) => match fault_of_rule(rule) {
             Some(fault) => Err(fault),
             None => Ok(None),
@@ -62,11 +59,11 @@ fn fault_of_rule(rule: PackFault) -> Option<ItemFault>
 /// The item that a value means.
 #[tactic(auto, using(ferry_msgpack::proofs::ViewLemmas::view_table))]
 fn item_of_value(alloc: Global, value: Value) -> Result<Item, ItemFault>
-    requires { IsWritable (view value) }
-    ensures item { IfOk result (λ item. item_of_value (view value) ≡ Ok (shown item)) }
-    ensures fault { IfErr result (λ fault. fault ≢ ItemFault.Memory → item_of_value (view value) ≡ Err fault) }
-    ensures packable { IfOk result (λ item. IsPackable (shown item)) }
-    ensures whole { IfOk result (λ item. is_healed (field_pairs (shown item)) ≡ false) }
+    requires { IsWritable (value_view value) }
+    ensures item { IfOk result (λ item. item_of_value (value_view value) ≡ Ok (item_view item)) }
+    ensures fault { IfErr result (λ fault. fault ≢ ItemFault.Memory → item_of_value (value_view value) ≡ Err fault) }
+    ensures packable { IfOk result (λ item. IsPackable (item_view item)) }
+    ensures whole { IfOk result (λ item. is_healed (field_pairs (item_view item)) ≡ false) }
     ensures rest { result ≢ Err ItemFault.Rest }
 {
     match value {
@@ -79,19 +76,16 @@ fn item_of_value(alloc: Global, value: Value) -> Result<Item, ItemFault>
 #[tactic(auto, unfolding(crate::specs::Item::item_of))]
 fn item_of(alloc: Global, pairs: Vec<(Vec<u8>, Value)>) -> Result<Item, ItemFault>
     requires { IsWritable (table (pairs_view pairs.items)) }
-    ensures item { IfOk result (λ item. item_of (pairs_view pairs.items) ≡ Ok (shown item)) }
+    ensures item { IfOk result (λ item. item_of (pairs_view pairs.items) ≡ Ok (item_view item)) }
     ensures fault { IfErr result (λ fault. fault ≢ ItemFault.Memory → item_of (pairs_view pairs.items) ≡ Err fault) }
-    ensures packable { IfOk result (λ item. IsPackable (shown item)) }
-    ensures whole { IfOk result (λ item. is_healed (field_pairs (shown item)) ≡ false) }
+    ensures packable { IfOk result (λ item. IsPackable (item_view item)) }
+    ensures whole { IfOk result (λ item. is_healed (field_pairs (item_view item)) ≡ false) }
     ensures rest { result ≢ Err ItemFault.Rest }
 {
     if lacks_path(pairs.as_slice()) {
         return Err(ItemFault::Path);
     }
-    let chunks = match chunks_in(alloc, pairs.as_slice()) {
-        Ok(chunks) => chunks,
-        Err(fault) => return Err(fault),
-    };
+    let chunks = chunks_in(alloc, pairs.as_slice())?;
     if is_healed(pairs.as_slice()) {
         return Err(ItemFault::Healed);
     }

@@ -2,11 +2,9 @@
 
 ghost use Rattle.std.specs.Prelude.{◌≡◌};
 
+use ferry_base::Id;
 use ferry_msgpack::Value;
 use std::marker::Model;
-
-/// The 32 bytes that name an object, here a chunk of content.
-pub type Id = [u8; 32];
 
 /// The metadata of one file, folder or link of an archive, and the chunks of its content.
 ///

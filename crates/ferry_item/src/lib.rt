@@ -17,7 +17,7 @@ mod tests;
 mod writing;
 
 pub use fault::ItemFault;
-pub use item::{ChunkRef, ChunkRefs, Id, Item};
+pub use item::{ChunkRef, ChunkRefs, Item};
 pub use laws::item_laws;
 pub use reader::ItemReader;
 pub use writing::write_item;

@@ -1,7 +1,7 @@
 //! The items of a stream that comes in pieces.
 
 ghost use Rattle.std.specs.Prelude.{◌≡◌, ◌≢◌, ◌↔◌, ◌++◌, [], IfOk, IfErr, IfSome, OnOk, OnErr, Ok, Err, None, false};
-ghost use Rattle.ferry_item.specs.Item.{is_healed, shown};
+ghost use Rattle.ferry_item.specs.Item.{is_healed, item_view};
 ghost use Rattle.ferry_item.specs.Stream.{an_item, nothing_yet, a_fault, front_item};
 ghost use Rattle.ferry_item.specs.Writing.{IsPackable, field_pairs};
 ghost use Rattle.ferry_item.specs.declared.fault.ItemFault.{ItemFault};
@@ -51,10 +51,7 @@ impl ItemReader {
         ensures err { OnErr result (self.new ≡ self.old) }
         ensures memory { IfErr result (λ fault. fault ≡ ItemFault.Memory) }
     {
-        match self.bytes.extend_from_slice(piece) {
-            Ok(()) => Ok(()),
-            Err(_) => Err(ItemFault::Memory),
-        }
+        Ok(self.bytes.extend_from_slice(piece)?)
     }
 
     /// Answers the next item, and none where the bytes end before it does, no bytes included.
@@ -64,25 +61,22 @@ impl ItemReader {
     pub fn next(&mut self) -> Result<Option<Item>, ItemFault>
         // The item stands in front, and the bytes behind it are left.
         ensures item { IfOk result (λ found. IfSome found (λ item.
-            front_item self.old ≡ an_item (shown item) self.new)) }
+            front_item self.old ≡ an_item (item_view item) self.new)) }
         ensures none { result ≡ Ok None → front_item self.old ≡ nothing_yet }
         ensures none_kept { result ≡ Ok None → self.new ≡ self.old }
         ensures fault { IfErr result (λ fault. fault ≢ ItemFault.Memory → front_item self.old ≡ a_fault fault) }
         ensures err { OnErr result (self.new ≡ self.old) }
         ensures rest { result ≢ Err ItemFault.Rest }
         // What is read can be written, and is read as the same item.
-        ensures packable { IfOk result (λ found. IfSome found (λ item. IsPackable (shown item))) }
-        ensures whole { IfOk result (λ found. IfSome found (λ item. is_healed (field_pairs (shown item)) ≡ false)) }
+        ensures packable { IfOk result (λ found. IfSome found (λ item. IsPackable (item_view item))) }
+        ensures whole { IfOk result (λ found. IfSome found (λ item. is_healed (field_pairs (item_view item)) ≡ false)) }
     {
         let alloc = *self.bytes.allocator();
-        match item_at(alloc, self.bytes.as_slice(), self.at) {
-            Ok(Some((item, stop))) => {
-                self.at = stop;
-                Ok(Some(item))
-            }
-            Ok(None) => Ok(None),
-            Err(fault) => Err(fault),
-        }
+        let Some((item, stop)) = item_at(alloc, self.bytes.as_slice(), self.at)? else {
+            return Ok(None);
+        };
+        self.at = stop;
+        Ok(Some(item))
     }
 
     /// Ends the reading, once the stream has no more pieces and `next` answered none: no bytes may be left.

@@ -2,10 +2,10 @@
 
 ghost use Rattle.std.specs.Prelude.{◌≡◌, ◌<◌, ◌^◌, ◌++◌, List, ℕ, length, IfOk, OnOk, OnErr, false, unwrap_or};
 ghost use Rattle.ferry_msgpack.specs.Tree.{table, no_pairs};
-ghost use Rattle.ferry_msgpack.specs.View.{view, items_view, pairs_view};
+ghost use Rattle.ferry_msgpack.specs.View.{value_view, items_view, pairs_view};
 ghost use Rattle.ferry_msgpack.specs.Writable.{IsWritable};
 ghost use Rattle.ferry_fields.specs.Fields.{pairs_in};
-ghost use Rattle.ferry_item.specs.Item.{is_healed, shown};
+ghost use Rattle.ferry_item.specs.Item.{is_healed, item_view};
 ghost use Rattle.ferry_item.specs.Stream.{an_item, front_item};
 ghost use Rattle.ferry_item.specs.Writing.{AreInRange, IsPackable, RangeOf, chunk_tree, chunk_trees, field_pairs, item_pairs, item_text, with_chunks};
 
@@ -23,12 +23,12 @@ use std::collections::BTreeMap;
 /// Source: BorgBackup 1.2, Internals, "Data structures and file formats", Archives.
 #[tactic(auto, unfolding(crate::specs::Writing::item_text))]
 pub fn write_item(item: &Item, into: &mut Vec<u8>) -> Result<(), AllocError>
-    requires packable { IsPackable (shown item.now) }
-    ensures ok { OnOk result (into.new.items ≡ into.old.items ++ item_text (shown item.now)) }
+    requires packable { IsPackable (item_view item.now) }
+    ensures ok { OnOk result (into.new.items ≡ into.old.items ++ item_text (item_view item.now)) }
     ensures err { OnErr result (into.new.items ≡ into.old.items) }
     // What is written is read as the same item, whatever follows it.
-    ensures again { OnOk result (is_healed (field_pairs (shown item.now)) ≡ false → (rest : List ℕ)
-        → front_item (item_text (shown item.now) ++ rest) ≡ an_item (shown item.now) rest) }
+    ensures again { OnOk result (is_healed (field_pairs (item_view item.now)) ≡ false → (rest : List ℕ)
+        → front_item (item_text (item_view item.now) ++ rest) ≡ an_item (item_view item.now) rest) }
 {
     let alloc = *into.allocator();
     let value = item_value(alloc, item)?;
@@ -37,8 +37,8 @@ pub fn write_item(item: &Item, into: &mut Vec<u8>) -> Result<(), AllocError>
 
 /// The map of an item.
 fn item_value(alloc: Global, item: &Item) -> Result<Value, AllocError>
-    requires { IsPackable (shown item.now) }
-    ensures value { IfOk result (λ value. view value ≡ table (item_pairs (shown item.now))) }
+    requires { IsPackable (item_view item.now) }
+    ensures value { IfOk result (λ value. value_view value ≡ table (item_pairs (item_view item.now))) }
     ensures range { IfOk result (λ _. RangeOf item.now.chunks) }
 {
     let mut pairs = pairs_of_table(alloc, &item.fields)?;
@@ -48,9 +48,9 @@ fn item_value(alloc: Global, item: &Item) -> Result<Value, AllocError>
 
 /// A copy of the pairs of a table.
 fn pairs_of_table(alloc: Global, value: &Value) -> Result<BTreeMap<Vec<u8>, Value>, AllocError>
-    requires { IsWritable (view value.now) }
+    requires { IsWritable (value_view value.now) }
     ensures pairs { IfOk result (λ pairs.
-        pairs_view pairs.entries ≡ unwrap_or (pairs_in (view value.now)) no_pairs) }
+        pairs_view pairs.entries ≡ unwrap_or (pairs_in (value_view value.now)) no_pairs) }
 {
     match value {
         Value::Table(pairs) => Ok(copied(alloc, pairs.as_slice())?),
@@ -92,7 +92,7 @@ fn chunk_values(alloc: Global, chunks: &[ChunkRef]) -> Result<Vec<Value>, AllocE
 
 /// The array of a chunk: its id, its size and its csize.
 fn chunk_value(alloc: Global, chunk: &ChunkRef) -> Result<Value, AllocError>
-    ensures value { IfOk result (λ value. view value ≡ chunk_tree chunk.now) }
+    ensures value { IfOk result (λ value. value_view value ≡ chunk_tree chunk.now) }
     ensures id { IfOk result (λ _. length chunk.now.id ≡ 32) }
     ensures csize { IfOk result (λ _. chunk.now.csize < 2 ^ 64) }
 {

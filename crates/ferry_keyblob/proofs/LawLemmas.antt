@@ -57,18 +57,21 @@ test_failed false r told e = refl
 
 hash_failed : (passphrase : List ℕ) (envelope : Envelope) → opened passphrase envelope ≡ Err Passphrase → has_hash passphrase envelope ≡ false
 unfolding opened
-hash_failed passphrase envelope e = test_failed (has_hash passphrase envelope) (packed_key_of (unsealed passphrase envelope)) (packed_rule (unsealed passphrase envelope)) e
+hash_failed passphrase envelope e =
+    test_failed (has_hash passphrase envelope) (packed_key_of (unsealed passphrase envelope)) (packed_rule (unsealed passphrase envelope)) e
 
 inside_wrong : (passphrase blob : List ℕ) (r : Result Envelope KeyFault) → envelope_of blob ≡ r → AreOfBytes r → key_inside passphrase r ≡ Err Passphrase
     → (envelope : Envelope) × (envelope_of blob ≡ Ok envelope) × (has_hash passphrase envelope ≡ false)
 inside_wrong passphrase blob (Err fault) is told e = absurd (subst AreOfBytes e told)
 inside_wrong passphrase blob (Ok envelope) is told e = (envelope, is, hash_failed passphrase envelope e)
 
-pub passphrase_wrong : (passphrase blob : List ℕ) → key_of passphrase blob ≡ Err Passphrase → (envelope : Envelope) × (envelope_of blob ≡ Ok envelope) × (has_hash passphrase envelope ≡ false)
+pub passphrase_wrong : (passphrase blob : List ℕ) → key_of passphrase blob ≡ Err Passphrase
+    → (envelope : Envelope) × (envelope_of blob ≡ Ok envelope) × (has_hash passphrase envelope ≡ false)
 unfolding key_of
 passphrase_wrong passphrase blob e = inside_wrong passphrase blob (envelope_of blob) refl (envelope_rule blob) e
 
-pub wrong_passphrase : (passphrase blob : List ℕ) (envelope : Envelope) → envelope_of blob ≡ Ok envelope → has_hash passphrase envelope ≡ false → key_of passphrase blob ≡ Err Passphrase
+pub wrong_passphrase : (passphrase blob : List ℕ) (envelope : Envelope) → envelope_of blob ≡ Ok envelope → has_hash passphrase envelope ≡ false
+    → key_of passphrase blob ≡ Err Passphrase
 unfolding key_of opened
 wrong_passphrase passphrase blob envelope is wrong = rw (is, wrong) refl
 
@@ -80,7 +83,8 @@ test_memory false r told e = cc
 
 opened_memory : (passphrase : List ℕ) (envelope : Envelope) → opened passphrase envelope ≡ Err Memory → ⊥
 unfolding opened
-opened_memory passphrase envelope e = test_memory (has_hash passphrase envelope) (packed_key_of (unsealed passphrase envelope)) (packed_rule (unsealed passphrase envelope)) e
+opened_memory passphrase envelope e =
+    test_memory (has_hash passphrase envelope) (packed_key_of (unsealed passphrase envelope)) (packed_rule (unsealed passphrase envelope)) e
 
 inside_memory : (passphrase : List ℕ) (r : Result Envelope KeyFault) → AreOfBytes r → key_inside passphrase r ≡ Err Memory → ⊥
 inside_memory passphrase (Err fault) told e = subst AreOfBytes e told

@@ -1,11 +1,13 @@
 -- What is sealed can be written.
 use Rattle.std.proofs.Common.{◌≡◌, ℕ, ◌≤◌, List, length, codes, pos, subst, arith}
+use Rattle.ferry_base.specs.Limits.{content_limit}
 use Rattle.ferry_aes.specs.CounterMode.{ctr}
 use Rattle.ferry_aes.proofs.CallerLemmas.{length-ctr}
 use Rattle.ferry_mac.specs.Hmac.{hmac256}
 use Rattle.ferry_msgpack.specs.Tree.{number, raw, table, no_pairs}
 use Rattle.ferry_msgpack.specs.Writable.{IsWritable}
-use Rattle.ferry_fields.proofs.SizeLemmas.{AreOrdered, no_pairs_good, good_writable, ordered_writable, put_good, put_ordered, small_number, writable_pairs_ordered}
+use Rattle.ferry_fields.proofs.SizeLemmas.{AreOrdered, no_pairs_good, good_writable, ordered_writable, put_good, put_ordered, small_number}
+use Rattle.ferry_fields.proofs.SizeLemmas.{writable_pairs_ordered}
 use Rattle.ferry_keyblob.specs.Opening.{Opened}
 use Rattle.ferry_keyblob.specs.Sealing.{IsSealable, envelope_pairs, more_of, packed, packed_pairs}
 
@@ -23,7 +25,8 @@ packed_writable key sealable =
     let size = sealable.size in
     ordered_writable _ g6 (omega (arith, size))
 
-pub envelope_writable : (kek salt : List ℕ) (iterations : ℕ) (text : List ℕ) → length salt ≡ 32 → length (hmac256 kek text) ≡ 32 → iterations ≤ 10000000 → length text ≤ 20971436 → IsWritable (table (envelope_pairs kek salt iterations text))
+pub envelope_writable : (kek salt : List ℕ) (iterations : ℕ) (text : List ℕ) → length salt ≡ 32 → length (hmac256 kek text) ≡ 32 → iterations ≤ 10000000
+    → length text ≤ content_limit → IsWritable (table (envelope_pairs kek salt iterations text))
 unfolding envelope_pairs
 envelope_writable kek salt iterations text salted hashed most size =
     let sealed : length (ctr kek 0 text) ≡ length text = length-ctr kek 0 text in

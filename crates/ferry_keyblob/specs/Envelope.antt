@@ -1,7 +1,8 @@
 -- What a key text says around the sealed key. BorgBackup 1.2 Internals, "Data structures and file
 -- formats", Key files: a map with the names `version`, `algorithm`, `iterations`, `salt`, `hash`
 -- and `data`; other names are ignored.
-use Rattle.std.specs.Prelude.{ℕ, nat_le, ◌&&◌, ◌||◌, not, Bool, if◌then◌else◌, List, [], codes, ℤ, pos, negsuc, Option, Some, None, is_none, unwrap_or, option_and_then, Result, Ok, Err}
+use Rattle.std.specs.Prelude.{ℕ, nat_le, ◌&&◌, ◌||◌, not, Bool, if◌then◌else◌, List, [], codes, ℤ, pos, negsuc, Option, Some, None, is_none, unwrap_or}
+use Rattle.std.specs.Prelude.{option_and_then, Result, Ok, Err}
 use Rattle.std.specs.Str.{bytes_eq}
 use Rattle.ferry_msgpack.specs.Tree.{Pairs}
 use Rattle.ferry_fields.specs.Fields.{map_of, number_in, raw_in, raw32_in, has_version_1}

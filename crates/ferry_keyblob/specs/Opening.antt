@@ -8,7 +8,7 @@ use Rattle.ferry_mac.specs.Hmac.{hmac256}
 use Rattle.ferry_mac.specs.Pbkdf2.{pbkdf2}
 use Rattle.ferry_mac.specs.declared.keys.Keys.{Keys}
 use Rattle.ferry_msgpack.specs.Tree.{Tree, table, Pairs}
-use Rattle.ferry_msgpack.specs.View.{view}
+use Rattle.ferry_msgpack.specs.View.{value_view}
 use Rattle.ferry_fields.specs.Fields.{map_of, number_in, raw32_in, has_version_1}
 use Rattle.ferry_fields.specs.Others.{is_among, without}
 use Rattle.ferry_keyblob.specs.Envelope.{envelope_of, fault_or}
@@ -25,12 +25,12 @@ pub record Opened : Type 0 where
   pub more : Tree
 
 -- what a `KeyText` says, apart from where its other names lie in memory
-abbrev pub shown : KeyText → Opened
-shown text = record {
+abbrev pub key_view : KeyText → Opened
+key_view text = record {
   keys = text.keys;
   repository_id = text.repository_id;
   chunk_seed = text.chunk_seed;
-  more = view text.more;
+  more = value_view text.more;
 }
 
 -- the names of the fields of a key
@@ -96,7 +96,7 @@ unfoldable pub packed_key_of : List ℕ → Result Opened KeyFault
 packed_key_of bytes = key_from (map_of bytes)
 
 -- the key-encryption key that a passphrase makes
-unfoldable pub key_encryption_key : List ℕ → Envelope → List ℕ
+abbrev pub key_encryption_key : List ℕ → Envelope → List ℕ
 key_encryption_key passphrase envelope = pbkdf2 passphrase envelope.salt envelope.iterations
 
 -- the packed key: what was sealed, decrypted

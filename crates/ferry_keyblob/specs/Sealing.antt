@@ -1,6 +1,7 @@
 -- The key text that is written. BorgBackup 1.2 Internals, "Data structures and file formats", Key
 -- files. Each map is written by the one shortest spelling.
 use Rattle.std.specs.Prelude.{◌≡◌, ℕ, ◌≤◌, Bool, false, List, codes, length, pos, unwrap_or}
+use Rattle.ferry_base.specs.Limits.{content_limit}
 use Rattle.ferry_aes.specs.CounterMode.{ctr}
 use Rattle.ferry_mac.specs.Hmac.{hmac256}
 use Rattle.ferry_mac.specs.Pbkdf2.{pbkdf2}
@@ -53,13 +54,13 @@ key_text key passphrase salt iterations =
     envelope_text (pbkdf2 passphrase salt iterations) salt iterations (packed key)
 
 -- a key that can be sealed: the other names are a table without a field's name that can be
--- written, the seed is a number of msgpack, and the packed key has at most 20971436 bytes
+-- written, the seed is a number of msgpack, and the packed key is no longer than a content
 pub record IsSealable (key : Opened) : Type 0 where
   pub more : key.more ≡ table (more_of key)
   pub apart : names_field (more_of key) ≡ false
   pub writable : IsWritable key.more
   pub seed : IsNumber key.chunk_seed
-  pub size : length (packed key) ≤ 20971436
+  pub size : length (packed key) ≤ content_limit
 
 -- the secrets and the id have 32 bytes each, as arrays of the code have
 pub record HasLengths (key : Opened) : Type 0 where

@@ -1,6 +1,8 @@
-ghost use Rattle.std.specs.Prelude.{◌≡◌};
-ghost use Rattle.ferry_keyblob.specs.declared.fault.KeyFault.TheVariants.{Memory};
+ghost use Rattle.std.specs.Prelude.{◌≡◌, ◌≢◌};
+ghost use Rattle.ferry_fields.specs.declared.fault.MapFault.{MapFault};
+ghost use Rattle.ferry_keyblob.specs.declared.fault.KeyFault.TheVariants.{Memory, Pack};
 
+use ferry_fields::MapFault;
 use std::alloc::{AllocError, AllocFailed};
 use thiserror::Error;
 
@@ -11,22 +13,22 @@ use thiserror::Error;
 pub enum KeyFault {
     /// No msgpack map, or bytes behind it.
     #[error("no msgpack map, or bytes behind it")]
-    Pack,
+    Pack = 1,
     /// A name is missing, has another kind or length, or the version isn't 1.
     #[error("a field is missing, has another kind or length, or the version isn't 1")]
-    Field,
+    Field = 2,
     /// The algorithm isn't `sha256`.
     #[error("the algorithm isn't sha256")]
-    Algorithm,
+    Algorithm = 3,
     /// The iterations aren't from 1 to 10000000.
     #[error("the iterations aren't from 1 to 10000000")]
-    Iterations,
+    Iterations = 4,
     /// The hash of what the passphrase decrypts is another one.
     #[error("the passphrase doesn't open the key")]
-    Passphrase,
+    Passphrase = 5,
     /// Memory ran out.
     #[error("out of memory")]
-    Memory,
+    Memory = 6,
 }
 
 impl KeyFault {
@@ -36,14 +38,7 @@ impl KeyFault {
     pub fn number(&self) -> u8
         ensures number { result ≡ number_of_fault self.now }
     {
-        match self {
-            KeyFault::Pack => 1,
-            KeyFault::Field => 2,
-            KeyFault::Algorithm => 3,
-            KeyFault::Iterations => 4,
-            KeyFault::Passphrase => 5,
-            KeyFault::Memory => 6,
-        }
+        *self as u8
     }
 }
 
@@ -60,5 +55,16 @@ impl<T: Drop> From<AllocFailed<T>> for KeyFault {
 
     fn from(_error: AllocFailed<T>) -> KeyFault {
         KeyFault::Memory
+    }
+}
+
+impl From<MapFault> for KeyFault {
+    ghost from_gives = { λ found fault. (found ≡ MapFault.Memory → fault ≡ Memory) × (found ≢ MapFault.Memory → fault ≡ Pack) };
+
+    fn from(found: MapFault) -> KeyFault {
+        match found {
+            MapFault::Pack => KeyFault::Pack,
+            MapFault::Memory => KeyFault::Memory,
+        }
     }
 }

@@ -5,7 +5,7 @@ ghost use Rattle.ferry_msgpack.specs.View.{pairs_view};
 ghost use Rattle.ferry_fields.specs.Fields.{map_of};
 
 use crate::fault::KeyFault;
-use ferry_fields::{MapFault, map_of};
+use ferry_fields::map_of;
 use ferry_msgpack::Value;
 use std::alloc::Global;
 
@@ -15,19 +15,5 @@ pub(crate) fn pairs_of(alloc: Global, bytes: &[u8]) -> Result<Vec<(Vec<u8>, Valu
     ensures fault { IfErr result (λ fault.
         fault ≢ KeyFault.Memory → (fault ≡ KeyFault.Pack) × (map_of bytes.now ≡ None)) }
 {
-    match map_of(alloc, bytes) {
-        Ok(pairs) => Ok(pairs),
-        Err(fault) => Err(fault_of_map(fault)),
-    }
-}
-
-/// The fault where the bytes aren't read as a map.
-fn fault_of_map(fault: MapFault) -> KeyFault
-    ensures memory { fault ≡ MapFault.Memory → result ≡ KeyFault.Memory }
-    ensures pack { fault ≢ MapFault.Memory → result ≡ KeyFault.Pack }
-{
-    match fault {
-        MapFault::Pack => KeyFault::Pack,
-        MapFault::Memory => KeyFault::Memory,
-    }
+    Ok(map_of(alloc, bytes)?)
 }

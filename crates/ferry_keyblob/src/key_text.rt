@@ -1,8 +1,8 @@
+//! What a key says.
+
+use ferry_base::Id;
 use ferry_mac::Keys;
 use ferry_msgpack::Value;
-
-/// The 32 bytes that name an object, or here a repository.
-pub type Id = [u8; 32];
 
 /// What the repository key says once it is opened.
 ///

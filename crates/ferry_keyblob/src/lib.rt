@@ -17,10 +17,10 @@ mod sealing;
 #[cfg(test)]
 mod tests;
 
-pub use envelope::{Envelope, SealedBytes};
+pub use envelope::Envelope;
 pub use fault::KeyFault;
-pub use key_text::{Id, KeyText};
+pub use key_text::KeyText;
 pub use laws::key_laws;
-pub use opening::open_key;
+pub use opening::{open_envelope, open_key};
 pub use reading::read_envelope;
 pub use sealing::seal_key;

@@ -1,18 +1,19 @@
 //! From a key text and a passphrase to the key.
 
 ghost use Rattle.std.specs.Prelude.{◌≡◌, ◌≢◌, ◌≤◌, IfOk, IfErr, IfSome, IfNone, Ok, Err, Some, None};
-ghost use Rattle.ferry_msgpack.specs.View.{view, pairs_view};
+ghost use Rattle.ferry_msgpack.specs.View.{value_view, pairs_view};
 ghost use Rattle.ferry_msgpack.specs.Tree.{table};
 ghost use Rattle.ferry_aes.specs.CounterMode.{ctr};
 ghost use Rattle.ferry_keyblob.specs.Envelope.{fault_or};
-ghost use Rattle.ferry_keyblob.specs.Opening.{key_fault, key_in, key_of, keys_in, repository_id_in, chunk_seed_in, opened, others, packed_key_of, shown};
+ghost use Rattle.ferry_keyblob.specs.Opening.{key_fault, key_in, key_of, keys_in, repository_id_in, chunk_seed_in, opened, others, packed_key_of, key_view};
 
 use crate::envelope::Envelope;
 use crate::fault::KeyFault;
 use crate::fields::pairs_of;
-use crate::key_text::{Id, KeyText};
+use crate::key_text::KeyText;
 use crate::reading::read_envelope;
 use ferry_aes::{Schedule, keystream};
+use ferry_base::Id;
 use ferry_fields::{has_version_1, number_in, raw32_in, without};
 use ferry_lanes::{same, xor_into};
 use ferry_mac::{Keys, hmac256, pbkdf2};
@@ -27,19 +28,27 @@ use std::alloc::{AllocError, Global};
 /// Source: BorgBackup 1.2, Internals, "Data structures and file formats", Key files.
 #[tactic(auto, unfolding(crate::specs::Opening::key_of))]
 pub fn open_key(alloc: Global, blob: &[u8], passphrase: &[u8]) -> Result<KeyText, KeyFault>
-    ensures key { IfOk result (λ key. key_of passphrase.now blob.now ≡ Ok (shown key)) }
+    ensures key { IfOk result (λ key. key_of passphrase.now blob.now ≡ Ok (key_view key)) }
     ensures fault { IfErr result (λ fault.
         fault ≢ KeyFault.Memory → key_of passphrase.now blob.now ≡ Err fault) }
 {
     let envelope = read_envelope(alloc, blob)?;
-    opened(alloc, &envelope, passphrase)
+    open_envelope(alloc, &envelope, passphrase)
 }
 
-/// The key inside an envelope.
-#[tactic(auto, unfolding(crate::specs::Opening::opened, crate::specs::Opening::has_hash, crate::specs::Opening::unsealed, crate::specs::Opening::key_encryption_key))]
-fn opened(alloc: Global, envelope: &Envelope, passphrase: &[u8]) -> Result<KeyText, KeyFault>
-    requires { 1 ≤ envelope.now.iterations }
-    ensures key { IfOk result (λ key. opened passphrase.now envelope.now ≡ Ok (shown key)) }
+/// Opens an envelope that was read, for a caller that needs its iterations too.
+///
+/// A fault is `Passphrase`, or else `Pack` or `Field` of the key inside; `Memory` may come at any point.
+///
+/// Source: BorgBackup 1.2, Internals, "Data structures and file formats", Key files.
+#[tactic(auto, unfolding(crate::specs::Opening::opened, crate::specs::Opening::has_hash, crate::specs::Opening::unsealed))]
+pub fn open_envelope(
+    alloc: Global,
+    envelope: &Envelope,
+    passphrase: &[u8],
+) -> Result<KeyText, KeyFault>
+    requires iterations { 1 ≤ envelope.now.iterations }
+    ensures key { IfOk result (λ key. opened passphrase.now envelope.now ≡ Ok (key_view key)) }
     ensures fault { IfErr result (λ fault.
         fault ≢ KeyFault.Memory → opened passphrase.now envelope.now ≡ Err fault) }
 {
@@ -67,7 +76,7 @@ pub(crate) fn decrypted(alloc: Global, key: &[u8; 32], text: &[u8]) -> Result<Ve
 /// What the bytes of a packed key mean.
 #[tactic(auto, unfolding(crate::specs::Opening::packed_key_of))]
 fn packed_key_of(alloc: Global, bytes: &[u8]) -> Result<KeyText, KeyFault>
-    ensures key { IfOk result (λ key. packed_key_of bytes.now ≡ Ok (shown key)) }
+    ensures key { IfOk result (λ key. packed_key_of bytes.now ≡ Ok (key_view key)) }
     ensures fault { IfErr result (λ fault.
         fault ≢ KeyFault.Memory → packed_key_of bytes.now ≡ Err fault) }
 {
@@ -78,7 +87,7 @@ fn packed_key_of(alloc: Global, bytes: &[u8]) -> Result<KeyText, KeyFault>
 /// What the fields of a key say, and the other names.
 fn key_in(alloc: Global, pairs: Vec<(Vec<u8>, Value)>) -> Result<KeyText, KeyFault>
     ensures key { IfOk result (λ key. let all = pairs_view pairs.items in
-        fault_or (key_fault all) (key_in all) ≡ Ok (shown key)) }
+        fault_or (key_fault all) (key_in all) ≡ Ok (key_view key)) }
     ensures fault { IfErr result (λ fault. let all = pairs_view pairs.items in
         fault ≢ KeyFault.Memory → fault_or (key_fault all) (key_in all) ≡ Err fault) }
 {

@@ -4,9 +4,10 @@ ghost use Rattle.std.specs.Prelude.{◌≡◌, ◌≢◌, ◌≤◌, IfOk, IfErr
 ghost use Rattle.ferry_msgpack.specs.View.{pairs_view};
 ghost use Rattle.ferry_keyblob.specs.Envelope.{envelope_fault, envelope_in, envelope_of, fault_or, iterations_from};
 
-use crate::envelope::{Envelope, SealedBytes};
+use crate::envelope::Envelope;
 use crate::fault::KeyFault;
 use crate::fields::pairs_of;
+use ferry_base::Bytes;
 use ferry_fields::{has_version_1, number_in, raw_in, raw32_in};
 use ferry_msgpack::Value;
 use std::alloc::Global;
@@ -65,7 +66,7 @@ fn envelope_in(alloc: Global, pairs: &[(Vec<u8>, Value)]) -> Result<Envelope, Ke
     let Some(iterations) = iterations_from(iterations) else {
         return Err(KeyFault::Iterations);
     };
-    let sealed = SealedBytes::new(Vec::from_slice(alloc, sealed)?);
+    let sealed = Bytes::new(Vec::from_slice(alloc, sealed)?);
     Ok(Envelope {
         iterations,
         salt,

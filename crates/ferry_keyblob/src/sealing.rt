@@ -1,12 +1,13 @@
 //! From a key to its key text.
 
 ghost use Rattle.std.specs.Prelude.{◌≡◌, ◌≤◌, IfOk, Ok, length, unwrap_or};
+ghost use Rattle.ferry_base.specs.Limits.{content_limit};
 ghost use Rattle.ferry_mac.specs.Hmac.{hmac256};
 ghost use Rattle.ferry_msgpack.specs.Tree.{no_pairs};
-ghost use Rattle.ferry_msgpack.specs.View.{view, pairs_view};
+ghost use Rattle.ferry_msgpack.specs.View.{value_view, pairs_view};
 ghost use Rattle.ferry_msgpack.specs.Writable.{IsWritable};
 ghost use Rattle.ferry_fields.specs.Fields.{pairs_in};
-ghost use Rattle.ferry_keyblob.specs.Opening.{key_of, shown};
+ghost use Rattle.ferry_keyblob.specs.Opening.{key_of, key_view};
 ghost use Rattle.ferry_keyblob.specs.Sealing.{HasLengths, IsSealable, envelope_pairs, envelope_text, key_text, more_of, packed, packed_pairs};
 
 use crate::key_text::KeyText;
@@ -29,11 +30,11 @@ pub fn seal_key(
     iterations: u32,
 ) -> Result<Vec<u8>, AllocError>
     requires iterations { (1 ≤ iterations) × (iterations ≤ 10000000) }
-    requires key { IsSealable (shown key.now) }
+    requires key { IsSealable (key_view key.now) }
     ensures text { IfOk result (λ text.
-        text.items ≡ key_text (shown key.now) passphrase.now salt.now iterations) }
+        text.items ≡ key_text (key_view key.now) passphrase.now salt.now iterations) }
     // What is sealed opens under the same passphrase and says the same.
-    ensures opens { IfOk result (λ text. key_of passphrase.now text.items ≡ Ok (shown key.now)) }
+    ensures opens { IfOk result (λ text. key_of passphrase.now text.items ≡ Ok (key_view key.now)) }
 {
     let kek = pbkdf2(passphrase, salt, iterations);
     let packed = packed(alloc, key)?;
@@ -43,9 +44,9 @@ pub fn seal_key(
 /// The bytes of a packed key.
 #[tactic(auto, unfolding(crate::specs::Sealing::packed))]
 fn packed(alloc: Global, key: &KeyText) -> Result<Vec<u8>, AllocError>
-    requires { IsSealable (shown key.now) }
-    ensures packed { IfOk result (λ text. text.items ≡ packed (shown key.now)) }
-    ensures lengths { IfOk result (λ _. HasLengths (shown key.now)) }
+    requires { IsSealable (key_view key.now) }
+    ensures packed { IfOk result (λ text. text.items ≡ packed (key_view key.now)) }
+    ensures lengths { IfOk result (λ _. HasLengths (key_view key.now)) }
 {
     let pairs = packed_pairs(alloc, key)?;
     text_of(alloc, pairs)
@@ -54,9 +55,9 @@ fn packed(alloc: Global, key: &KeyText) -> Result<Vec<u8>, AllocError>
 /// The pairs of a packed key.
 #[tactic(auto, unfolding(crate::specs::Sealing::packed_pairs))]
 fn packed_pairs(alloc: Global, key: &KeyText) -> Result<BTreeMap<Vec<u8>, Value>, AllocError>
-    requires { IsSealable (shown key.now) }
-    ensures pairs { IfOk result (λ pairs. pairs_view pairs.entries ≡ packed_pairs (shown key.now)) }
-    ensures lengths { IfOk result (λ _. HasLengths (shown key.now)) }
+    requires { IsSealable (key_view key.now) }
+    ensures pairs { IfOk result (λ pairs. pairs_view pairs.entries ≡ packed_pairs (key_view key.now)) }
+    ensures lengths { IfOk result (λ _. HasLengths (key_view key.now)) }
 {
     let mut pairs = more_of(alloc, &key.more)?;
     put(
@@ -82,7 +83,7 @@ fn envelope_text(
     iterations: u32,
     packed: &[u8],
 ) -> Result<Vec<u8>, AllocError>
-    requires { (iterations ≤ 10000000) × (length packed.now ≤ 20971436) }
+    requires { (iterations ≤ 10000000) × (length packed.now ≤ content_limit) }
     ensures text { IfOk result (λ text.
         text.items ≡ envelope_text kek.now salt.now iterations packed.now) }
     ensures hash { IfOk result (λ _. length (hmac256 kek.now packed.now) ≡ 32) }
@@ -124,9 +125,9 @@ fn envelope_pairs(
 /// A copy of the pairs of the other names.
 #[tactic(auto, unfolding(crate::specs::Sealing::more_of))]
 fn more_of(alloc: Global, more: &Value) -> Result<BTreeMap<Vec<u8>, Value>, AllocError>
-    requires { IsWritable (view more.now) }
+    requires { IsWritable (value_view more.now) }
     ensures pairs { IfOk result (λ pairs.
-        pairs_view pairs.entries ≡ unwrap_or (pairs_in (view more.now)) no_pairs) }
+        pairs_view pairs.entries ≡ unwrap_or (pairs_in (value_view more.now)) no_pairs) }
 {
     match more {
         Value::Table(pairs) => Ok(copied(alloc, pairs.as_slice())?),

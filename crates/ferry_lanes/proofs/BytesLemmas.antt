@@ -1,5 +1,6 @@
 -- Lemmas on specs/Bytes.antt, and on lists of bytes that are compared place by place.
-use Rattle.std.proofs.Common.{◌≡◌, ◌≢◌, ℕ, ◌+◌, ◌<◌, ◌≤◌, min, List, [], ◌∷◌, length, get_or, take, bit_xor, All, refl, sym, ap, ◌==◌, eq-eqb, ◌∙◌, below_more, arith}
+use Rattle.std.proofs.Common.{◌≡◌, ◌≢◌, ℕ, ◌+◌, ◌<◌, ◌≤◌, min, List, [], ◌∷◌, length, get_or, take, bit_xor, All, refl, sym, ap, ◌==◌, eq-eqb, ◌∙◌}
+use Rattle.std.proofs.Common.{below_more, arith}
 use lib.Bits.{or_comm, xor_assoc, xor_self, xor_zero_r, xor_zero_l}
 use Rattle.std.specs.Prelude.{bit_or}
 use Rattle.std.specs.Int.{bit_at}
@@ -19,9 +20,11 @@ length-xor_lists xs ys = length-map (zip xs ys) (λ p. bit_xor p.0 p.1) ∙ leng
 
 pub get_or-xor_lists : (xs ys : List ℕ) (k : ℕ) → k < length xs → length xs ≡ length ys → get_or (xor_lists xs ys) k 0 ≡ bit_xor (get_or xs k 0) (get_or ys k 0)
 get_or-xor_lists xs ys k within same =
-    get_or-map (λ p. bit_xor p.0 p.1) (zip xs ys) k (0, 0) 0 (omega (arith, length-zip xs ys)) ∙ ap (λ p. bit_xor p.0 p.1) (get_or-zip xs ys k (0, 0) within (omega arith))
+    get_or-map (λ p. bit_xor p.0 p.1) (zip xs ys) k (0, 0) 0 (omega (arith, length-zip xs ys))
+    ∙ ap (λ p. bit_xor p.0 p.1) (get_or-zip xs ys k (0, 0) within (omega arith))
 
-pub xor_lists_by_places : (xs ys zs : List ℕ) → length xs ≡ length ys → length zs ≡ length xs → ((k : ℕ) → k < length zs → get_or zs k 0 ≡ bit_xor (get_or xs k 0) (get_or ys k 0)) → zs ≡ xor_lists xs ys
+pub xor_lists_by_places : (xs ys zs : List ℕ) → length xs ≡ length ys → length zs ≡ length xs
+    → ((k : ℕ) → k < length zs → get_or zs k 0 ≡ bit_xor (get_or xs k 0) (get_or ys k 0)) → zs ≡ xor_lists xs ys
 xor_lists_by_places xs ys zs same long each =
     ext_get_or 0 zs (xor_lists xs ys) (omega (arith, length-xor_lists xs ys)) (λ k l. each k l ∙ sym (get_or-xor_lists xs ys k (omega arith) same))
 
@@ -36,7 +39,8 @@ xor_lists_twice (x ∷ xs) (y ∷ ys) same = rw (xor_twice x y, xor_lists_twice 
 
 -- ---- leading_zeros
 
-pub leading_zeros_at : (xs : List ℕ) (n : ℕ) → n ≤ length xs → ((k : ℕ) → k < n → get_or xs k 0 ≡ 0) → (n < length xs → get_or xs n 0 ≢ 0) → n ≡ leading_zeros xs
+pub leading_zeros_at : (xs : List ℕ) (n : ℕ) → n ≤ length xs → ((k : ℕ) → k < n → get_or xs k 0 ≡ 0) → (n < length xs → get_or xs n 0 ≢ 0)
+    → n ≡ leading_zeros xs
 leading_zeros_at xs n within zeros end =
     let e = prefix_len_is (λ byte. byte == 0) xs n 0 within (λ k l. eq-eqb (get_or xs k 0) 0 (zeros k l)) (λ l. ne_eqb (get_or xs n 0) 0 (end l)) in
     sym (length-prefix_len (λ byte. byte == 0) xs ∙ e)

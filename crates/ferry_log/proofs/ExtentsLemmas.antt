@@ -1,24 +1,23 @@
 -- Lemmas on the extents of segments: the sums of the sizes of their live entries.
-use Rattle.std.proofs.Common.{◌≡◌, ℕ, ◌+◌, ◌-◌, ◌<◌, ◌≤◌, ◌^◌, min, Bool, true, false, cond, eqb, List, [], ◌∷◌, ◌++◌, length, take, map, set, get_or, sum_by, Some, None, Ok, Err, refl, sym, ◌∙◌, ap, inl, inr, arith}
+use Rattle.std.proofs.Common.{◌≡◌, ℕ, ◌+◌, ◌-◌, ◌<◌, ◌≤◌, ◌^◌, min, Bool, true, false, cond, eqb, List, [], ◌∷◌, length, map, set, get_or}
+use Rattle.std.proofs.Common.{sum_by, Ok, Err, refl, sym, ◌∙◌, ap, inl, inr, arith}
 use Rattle.std.proofs.lemmas.Bool.{cases_eq, cases_lt, ne_eqb, eq-eqb}
-use Rattle.std.proofs.lemmas.List.{length-map, length-set, get_or-set_same, get_or-set_other, get_or-map, same_lists, take_more, nil_from_length}
-use Rattle.std.proofs.lemmas.List.Sums.{fold-append, sum_by-cons}
+use Rattle.std.proofs.lemmas.List.{length-map, length-set, get_or-set_same, get_or-set_other, get_or-map, same_lists, nil_from_length}
+use Rattle.std.proofs.lemmas.List.Sums.{sum_by-cons}
 use Rattle.std.proofs.lemmas.List.Sorted.{searched}
-use Rattle.std.proofs.lemmas.Map.Keys.{sorted_from_strictly_increasing, below_from_sorted}
-use Rattle.std.specs.Ordering.{nat_cmp, is_eq}
-use Rattle.std.specs.declared.cmp.Ordering.{Ordering}
-use Rattle.std.specs.declared.cmp.Ordering.TheVariants.{Less, Equal, Greater}
+use Rattle.std.proofs.lemmas.Map.Keys.{sorted_from_strictly_increasing, below_from_sorted, sorted_head, sorted_tail}
+use Rattle.std.specs.Ordering.{nat_cmp}
+use Rattle.std.specs.declared.cmp.Ordering.TheVariants.{Less}
 use Rattle.std.specs.Cmp.Lexicographic.{nat_list_cmp_total}
-use Rattle.std.specs.FinMap.{entries, from_entries, empty, values, get-entries, get-from_entries, entries-insert, len-entries, len-empty}
-use Rattle.std.specs.FinMap.Entries.{find, put, by_order}
-use Rattle.std.specs.List.Sorted.{IsStrictlyIncreasing, IsBinarySearchResult}
+use Rattle.std.specs.FinMap.{entries, from_entries, empty, entries-insert, len-entries, len-empty}
+use Rattle.std.specs.FinMap.Entries.{put, by_order}
+use Rattle.std.specs.List.{AllByRecursion}
+use Rattle.std.specs.List.Sorted.{IsStrictlyIncreasing, IsStrictlySortedBy, IsBinarySearchResult}
 use Rattle.ferry_log.specs.declared.place.Place.{Place}
 use Rattle.ferry_log.specs.declared.place.Extent.{Extent}
 use Rattle.ferry_log.specs.Live.{key_cmp}
 use Rattle.ferry_log.specs.State.{size_in, live_size}
-use Rattle.ferry_log.specs.Pairs.{Pairs, KeysDiffer, sum_in}
-use Rattle.ferry_log.specs.Opening.{counted_one, counted_live}
-use Rattle.ferry_log.proofs.PairsLemmas.{some_none}
+use Rattle.ferry_log.specs.Opening.{Pairs, sum_in, counted_one, counted_live}
 
 -- ---- numbers that rise
 
@@ -45,18 +44,24 @@ other place e apart = elim (cases_eq place.segment e.segment) [
   | inr n ↦ ap (λ b. record e { live = cond b (min (e.live + (place.size + 41)) (2 ^ 64 - 1)) e.live }) (ne_eqb place.segment e.segment n)
 ]
 
-same_one : (place : Place) (e : Extent) (live : ℕ) → place.segment ≡ e.segment → live ≡ min (e.live + (place.size + 41)) (2 ^ 64 - 1) → record { segment = e.segment; size = e.size; live = live } ≡ counted_one place e
-same_one place e live same is = ap (λ n. record e { live = n }) (is ∙ ap (λ b. cond b (min (e.live + (place.size + 41)) (2 ^ 64 - 1)) e.live) (sym (eq-eqb place.segment e.segment same)))
+same_one : (place : Place) (e : Extent) (live : ℕ) → place.segment ≡ e.segment → live ≡ min (e.live + (place.size + 41))
+    (2 ^ 64 - 1) → record { segment = e.segment; size = e.size; live = live } ≡ counted_one place e
+same_one place e live same is =
+    ap (λ n. record e { live = n }) (is
+    ∙ ap (λ b. cond b (min (e.live + (place.size + 41)) (2 ^ 64 - 1)) e.live) (sym (eq-eqb place.segment e.segment same)))
 
-segment_at : (es : List Extent) (numbers : List ℕ) (k : ℕ) (d : Extent) → map (λ e. e.segment) es ≡ numbers → k < length es → (get_or es k d).segment ≡ get_or numbers k 0
+segment_at : (es : List Extent) (numbers : List ℕ) (k : ℕ) (d : Extent) → map (λ e. e.segment) es ≡ numbers → k < length es
+    → (get_or es k d).segment ≡ get_or numbers k 0
 segment_at es numbers k d same within = sym (get_or-map (λ e. e.segment) es k d 0 within) ∙ ap (λ ns. get_or ns k 0) same
 
 lengths : (es : List Extent) (numbers : List ℕ) → map (λ e. e.segment) es ≡ numbers → length es ≡ length numbers
 lengths es numbers same = sym (length-map es (λ e. e.segment)) ∙ ap length same
 
 -- the extent at the place that was found, and no other, is counted
-pub counted_at : (es : List Extent) (numbers : List ℕ) (i : ℕ) (d : Extent) (place : Place) (live : ℕ) → map (λ e. e.segment) es ≡ numbers → IsStrictlyIncreasing numbers → IsBinarySearchResult (λ y. nat_cmp y place.segment) numbers (Ok i)
-    → live ≡ min ((get_or es i d).live + (place.size + 41)) (2 ^ 64 - 1) → set es i (record { segment = (get_or es i d).segment; size = (get_or es i d).size; live = live }) ≡ map (counted_one place) es
+pub counted_at : (es : List Extent) (numbers : List ℕ) (i : ℕ) (d : Extent) (place : Place) (live : ℕ) → map (λ e. e.segment) es ≡ numbers
+    → IsStrictlyIncreasing numbers → IsBinarySearchResult (λ y. nat_cmp y place.segment) numbers (Ok i)
+    → live ≡ min ((get_or es i d).live + (place.size + 41)) (2 ^ 64 - 1)
+    → set es i (record { segment = (get_or es i d).segment; size = (get_or es i d).size; live = live }) ≡ map (counted_one place) es
 counted_at es numbers i d place live same up found is =
     let at = searched numbers place.segment (Ok i) found (not_falling numbers up) in
     let n = lengths es numbers same in
@@ -72,17 +77,21 @@ counted_at es numbers i d place live same up found is =
           ∙ (sym (get_or-map (counted_one place) es i d c within) ∙ ap (λ j. get_or (map (counted_one place) es) j c) (sym e))))
       | inr apart ↦
           get_or-set_other es i k new c apart
-          ∙ (sym (other place (get_or es k c) (λ e. different numbers up i k at.0 (omega (arith, n)) apart (at.1 ∙ (e ∙ segment_at es numbers k c same inside))))
+          ∙ (sym (other place (get_or es k c) (λ e. different numbers up i k at.0 (omega (arith, n)) apart (at.1
+          ∙ (e ∙ segment_at es numbers k c same inside))))
           ∙ sym (get_or-map (counted_one place) es k c c inside))
     ])
 
 -- where no segment was found, none is counted
-pub counted_none : (es : List Extent) (numbers : List ℕ) (i : ℕ) (place : Place) → map (λ e. e.segment) es ≡ numbers → IsStrictlyIncreasing numbers → IsBinarySearchResult (λ y. nat_cmp y place.segment) numbers (Err i) → es ≡ map (counted_one place) es
+pub counted_none : (es : List Extent) (numbers : List ℕ) (i : ℕ) (place : Place) → map (λ e. e.segment) es ≡ numbers → IsStrictlyIncreasing numbers
+    → IsBinarySearchResult (λ y. nat_cmp y place.segment) numbers (Err i) → es ≡ map (counted_one place) es
 counted_none es numbers i place same up found =
     let at = searched numbers place.segment (Err i) found (not_falling numbers up) in
     let n = lengths es numbers same in
     same_lists _ _ (sym (length-map es (counted_one place))) (λ k c h.
-    sym (other place (get_or es k c) (λ e. let own = segment_at es numbers k c same h in elim (cases_lt k i) [ inl low ↦ absurd (omega (arith, at.1 k low)) | inr high ↦ absurd (omega (arith, at.2 k high)) ]))
+    sym (other place (get_or es k c)
+    (λ e. let own = segment_at es numbers k c same h in elim
+    (cases_lt k i) [ inl low ↦ absurd (omega (arith, at.1 k low)) | inr high ↦ absurd (omega (arith, at.2 k high)) ]))
     ∙ sym (get_or-map (counted_one place) es k c c h))
 
 -- ---- many places
@@ -91,18 +100,27 @@ segments-counted : (place : Place) (es : List Extent) → map (λ e. e.segment) 
 segments-counted place [] = refl
 segments-counted place (e ∷ es) = ap (λ k. e.segment ∷ k) (segments-counted place es)
 
-pub segments_same : (place : Place) (es new : List Extent) (numbers : List ℕ) → map (λ e. e.segment) es ≡ numbers → new ≡ map (counted_one place) es → map (λ e. e.segment) new ≡ numbers
+pub segments_same : (place : Place) (es new : List Extent) (numbers : List ℕ) → map (λ e. e.segment) es ≡ numbers → new ≡ map (counted_one place) es
+    → map (λ e. e.segment) new ≡ numbers
 segments_same place es new numbers same is = ap (map (λ e. e.segment)) is ∙ (segments-counted place es ∙ same)
 
-counted-push : (pairs : Pairs) (p : List ℕ × Place) (es : List Extent) → map (counted_one p.1) (map (counted_live pairs) es) ≡ map (counted_live (pairs ++ p ∷ [])) es
-counted-push pairs p [] = refl
-counted-push pairs p (e ∷ es) =
-    ap (λ k. k ∷ map (counted_one p.1) (map (counted_live pairs) es)) (sym (fold-append (λ x q. counted_one q.1 x) e pairs (p ∷ [])))
-    ∙ ap (λ k. counted_live (pairs ++ p ∷ []) e ∷ k) (counted-push pairs p es)
+-- one more place from the front
+counted-first : (p : List ℕ × Place) (pairs : Pairs) (es : List Extent)
+    → map (counted_live pairs) (map (counted_one p.1) es) ≡ map (counted_live (p ∷ pairs)) es
+counted-first p pairs [] = refl
+counted-first p pairs (e ∷ es) = ap (λ k. counted_live (p ∷ pairs) e ∷ k) (counted-first p pairs es)
 
-pub counted_more : (pairs : Pairs) (i : ℕ) (d : List ℕ × Place) (first es new : List Extent) → i < length pairs → es ≡ map (counted_live (take i pairs)) first → new ≡ map (counted_one (get_or pairs i d).1) es → new ≡ map (counted_live (take (i + 1) pairs)) first
-counted_more pairs i d first es new within old is =
-    is ∙ (ap (map (counted_one (get_or pairs i d).1)) old ∙ (counted-push (take i pairs) (get_or pairs i d) first ∙ ap (λ ps. map (counted_live ps) first) (sym (take_more pairs i d within))))
+-- what is left to be counted, one place later
+pub counted_next : (p : List ℕ × Place) (place : Place) (left pairs all : Pairs) (first es new : List Extent) → left ≡ p ∷ pairs → place ≡ p.1
+    → map (counted_live left) es ≡ map (counted_live all) first
+    → new ≡ map (counted_one place) es → map (counted_live pairs) new ≡ map (counted_live all) first
+counted_next p place left pairs all first es new split own old is =
+    ap (map (counted_live pairs)) (is ∙ ap (λ q. map (counted_one q) es) own)
+    ∙ (counted-first p pairs es ∙ (ap (λ ps. map (counted_live ps) es) (sym split) ∙ old))
+
+pub counted_all : (es : List Extent) → map (counted_live []) es ≡ es
+counted_all [] = refl
+counted_all (e ∷ es) = ap (λ k. e ∷ k) (counted_all es)
 
 -- ---- sums
 
@@ -111,45 +129,44 @@ counted_place : (place : Place) (e : Extent) (b : Bool) → eqb place.segment e.
 counted_place place e true is small = omega arith
 counted_place place e false is small = omega arith
 
-one_counted : (place : Place) (e : Extent) → e.live + size_in e.segment place ≤ 2 ^ 64 - 1 → counted_one place e ≡ record e { live = e.live + size_in e.segment place }
+one_counted : (place : Place)
+    (e : Extent) → e.live + size_in e.segment place ≤ 2 ^ 64 - 1 → counted_one place e ≡ record e { live = e.live + size_in e.segment place }
 one_counted place e small = ap (λ n. record e { live = n }) (counted_place place e (eqb place.segment e.segment) refl small)
 
 -- where the sum fits, it is what is counted
-pub live_counted : (pairs : Pairs) (e : Extent) → e.live + sum_in e.segment pairs ≤ 2 ^ 64 - 1 → counted_live pairs e ≡ record e { live = e.live + sum_in e.segment pairs }
+pub live_counted : (pairs : Pairs)
+    (e : Extent) → e.live + sum_in e.segment pairs ≤ 2 ^ 64 - 1 → counted_live pairs e ≡ record e { live = e.live + sum_in e.segment pairs }
 live_counted [] e small = ap (λ n. record e { live = n }) (omega arith)
 live_counted (p ∷ pairs) e small =
     let f : List ℕ × Place → ℕ = λ q. size_in e.segment q.1 in
     let split : sum_in e.segment (p ∷ pairs) ≡ size_in e.segment p.1 + sum_in e.segment pairs = sum_by-cons f p pairs in
     let first = one_counted p.1 e (omega arith) in
     let next : Extent = record e { live = e.live + size_in e.segment p.1 } in
-    ap (counted_live pairs) first ∙ (live_counted pairs next (omega arith) ∙ ap (λ n. record e { live = n }) (let n : e.live + size_in e.segment p.1 + sum_in e.segment pairs ≡ e.live + sum_in e.segment (p ∷ pairs) = omega arith in n))
+    ap (counted_live pairs) first
+    ∙ (live_counted pairs next (omega arith)
+    ∙ ap (λ n. record e { live = n })
+    (let n : e.live + size_in e.segment p.1 + sum_in e.segment pairs ≡ e.live + sum_in e.segment (p ∷ pairs) = omega arith in n))
 
 -- ---- live_size
 
-module _ (f : Place → ℕ) where
-  sum_on : (k : List ℕ) (v : Place) (e : List ℕ × Place) (es : List (List ℕ × Place)) → (find key_cmp k es ≡ None → sum_by f (map (λ e. e.1) (put key_cmp k v es)) ≡ f v + sum_by f (map (λ e. e.1) es)) → (o : Ordering) → key_cmp k e.0 ≡ o → cond (is_eq (key_cmp k e.0)) (Some e.1) (find key_cmp k es) ≡ None
-      → sum_by f (map (λ e. e.1) (by_order o ((k, v) ∷ e ∷ es) ((e.0, v) ∷ es) (e ∷ put key_cmp k v es))) ≡ f v + sum_by f (map (λ e. e.1) (e ∷ es))
-  sum_on k v e es rest Less is none = sum_by-cons f v (map (λ x. x.1) (e ∷ es))
-  sum_on k v e es rest Equal is none = absurd (some_none (sym (ap (λ o. cond (is_eq o) (Some e.1) (find key_cmp k es)) is) ∙ none))
-  sum_on k v e es rest Greater is none =
-      let later = rest (sym (ap (λ o. cond (is_eq o) (Some e.1) (find key_cmp k es)) is) ∙ none) in
-      let a = sum_by-cons f e.1 (map (λ x. x.1) (put key_cmp k v es)) in
-      let b = sum_by-cons f e.1 (map (λ x. x.1) es) in
-      omega (arith, a, b, later)
+put_first : (k : List ℕ) (v : Place) (es : Pairs) → AllByRecursion (λ y. key_cmp k y ≡ Less) (map (λ e. e.0) es) → put key_cmp k v es ≡ (k, v) ∷ es
+put_first k v [] p = refl
+put_first k v (e ∷ es) p = ap (λ o. by_order o ((k, v) ∷ e ∷ es) ((e.0, v) ∷ es) (e ∷ put key_cmp k v es)) p.0
 
-  sum_put : (k : List ℕ) (v : Place) (es : List (List ℕ × Place)) → find key_cmp k es ≡ None → sum_by f (map (λ e. e.1) (put key_cmp k v es)) ≡ f v + sum_by f (map (λ e. e.1) es)
-  sum_put k v [] none = sum_by-cons f v []
-  sum_put k v (e ∷ es) none = sum_on k v e es (sum_put k v es) (key_cmp k e.0) refl none
+-- pairs in order are the entries of their map
+entries-from_entries : (es : Pairs) → IsStrictlySortedBy key_cmp (map (λ e. e.0) es) → entries (from_entries {R = key_cmp} es) ≡ es
+entries-from_entries [] s = nil_from_length _ (sym (len-entries (empty {X = Place} {R = key_cmp})) ∙ len-empty key_cmp Place)
+entries-from_entries (e ∷ es) s =
+    entries-insert nat_list_cmp_total (from_entries es) e.0 e.1
+    ∙ (ap (put key_cmp e.0 e.1) (entries-from_entries es (sorted_tail key_cmp e.0 (map (λ e. e.0) es) s))
+    ∙ put_first e.0 e.1 es (sorted_head key_cmp e.0 (map (λ e. e.0) es) s))
 
-  sum_values : (pairs : Pairs) → KeysDiffer pairs → sum_by f (values (from_entries {R = key_cmp} pairs)) ≡ sum_by (λ p. f p.1) pairs
-  sum_values [] differ = ap (λ es. sum_by f (map (λ e. e.1) es)) (nil_from_length _ (sym (len-entries (empty {X = Place} {R = key_cmp})) ∙ len-empty key_cmp Place))
-  sum_values (p ∷ pairs) differ =
-      let rest = from_entries {R = key_cmp} pairs in
-      let absent : find key_cmp p.0 (entries rest) ≡ None = sym (get-entries rest p.0) ∙ (get-from_entries nat_list_cmp_total pairs p.0 ∙ differ.0) in
-      ap (λ es. sum_by f (map (λ e. e.1) es)) (entries-insert nat_list_cmp_total rest p.0 p.1)
-      ∙ (sum_put p.0 p.1 (entries rest) absent
-      ∙ (ap (λ n. f p.1 + n) (sum_values pairs differ.1) ∙ sym (sum_by-cons (λ q. f q.1) p pairs)))
+sum-values : (f : Place → ℕ) (es : Pairs) → sum_by f (map (λ e. e.1) es) ≡ sum_by (λ p. f p.1) es
+sum-values f [] = refl
+sum-values f (e ∷ es) = sum_by-cons f e.1 (map (λ e. e.1) es) ∙ (ap (λ n. f e.1 + n) (sum-values f es) ∙ sym (sum_by-cons (λ p. f p.1) e es))
 
--- the sizes of a segment's live entries, of pairs whose keys differ
-pub live_size-pairs : (segment : ℕ) (pairs : Pairs) → KeysDiffer pairs → live_size segment (from_entries {R = key_cmp} pairs) ≡ sum_in segment pairs
-live_size-pairs segment pairs differ = sum_values (size_in segment) pairs differ
+-- the sizes of a segment's live entries, of pairs in order
+pub live_size-pairs : (segment : ℕ) (pairs : Pairs) → IsStrictlySortedBy key_cmp (map (λ e. e.0) pairs) → live_size segment
+    (from_entries {R = key_cmp} pairs) ≡ sum_in segment pairs
+live_size-pairs segment pairs ordered =
+    ap (λ es. sum_by (size_in segment) (map (λ e. e.1) es)) (entries-from_entries pairs ordered) ∙ sum-values (size_in segment) pairs

@@ -1,96 +1,24 @@
--- Lemmas on specs/Head.antt: an entry that is read alone is the one that begins at its place.
-use Rattle.std.proofs.Common.{◌≡◌, ℕ, ◌+◌, ◌-◌, ◌<◌, ◌≤◌, ◌⊎◌, List, [], ◌++◌, length, take, drop, Option, Some, None, IfSome, refl, sym, ◌∙◌, ap, subst, inl, inr, arith}
-use Rattle.std.specs.Int.{w32, from_le_bytes}
-use Rattle.std.proofs.lemmas.List.{append_assoc, append-nil, length-take-le, length-take, length-drop, drop-drop, drop-take, take-take, take-append-drop, take_at, drop_at}
+-- Lemmas on specs/Head.antt: at a place one thing reads, or nothing does.
+use Rattle.std.proofs.Common.{◌≡◌, ℕ, ◌+◌, ◌<◌, ◌≤◌, List, length, drop, Option, Some, None, refl, sym, ◌∙◌, ap, arith}
 use Rattle.ferry_segment.specs.declared.entry.EntryFault.{EntryFault}
-use Rattle.ferry_segment.specs.Entry.{LogEntry, size_of, spelling, IsEntryAt, entry_limit, stated_size, first_fault}
-use Rattle.ferry_segment.proofs.EntryLemmas.{length-spelling, size_of-least, size_of-most, spelling-size, no_spelling, one_spelling}
-use Rattle.ferry_disk.specs.Files.{Files, segment_bytes}
-use Rattle.ferry_disk.specs.Device.{Told, files_told}
-use Rattle.ferry_disk.proofs.DeviceLemmas.{told_same, told_with, told_then}
-use Rattle.ferry_log.specs.declared.place.Head.{Head}
-use Rattle.ferry_log.specs.Head.{head_of, BeginsAt, HasHead, IsHeadAt, IsUnreadAt, IsSized, IsUnsized}
+use Rattle.ferry_segment.specs.declared.head.Head.{Head}
+use Rattle.ferry_segment.specs.Entry.{LogEntry, size_of, first_fault}
+use Rattle.ferry_segment.specs.Head.{head_of, BeginsAt}
+use Rattle.ferry_segment.proofs.EntryLemmas.{size_of-least, no_spelling, one_spelling}
+use Rattle.ferry_log.specs.Head.{IsHeadAt, IsUnreadAt}
 
--- ---- stated_size
-
-pub stated_is : (bytes : List ℕ) → from_le_bytes w32 (take 4 (drop 4 bytes)) ≡ stated_size bytes
-unfolding stated_size
-stated_is bytes = refl
-
--- the first bytes state what all do
-stated-take : (n : ℕ) (bytes : List ℕ) → 9 ≤ n → stated_size (take n bytes) ≡ stated_size bytes
-stated-take n bytes h =
-    let parts : take 4 (drop 4 (take n bytes)) ≡ take 4 (drop 4 bytes) =
-    ap (λ k. take 4 (drop 4 (take k bytes))) (let e : n ≡ 4 + (n - 4) = omega arith in e) ∙ (ap (take 4) (drop-take 4 (n - 4) bytes) ∙ take-take 4 (n - 4) (drop 4 bytes) (omega arith)) in
-    sym (stated_is (take n bytes)) ∙ (ap (from_le_bytes w32) parts ∙ stated_is bytes)
-
-pub sized_right : (bytes : List ℕ) (size : ℕ) → size ≡ from_le_bytes w32 (take 4 (drop 4 bytes)) → 9 ≤ size → size ≤ entry_limit → IsSized bytes size
-sized_right bytes size is least most = record { stated = is ∙ stated_is bytes; least = least; most = most }
-
-pub sized_wrong : (bytes : List ℕ) (size : ℕ) → size ≡ from_le_bytes w32 (take 4 (drop 4 bytes)) → (size < 9) ⊎ ((9 ≤ size) × (entry_limit < size)) → IsUnsized bytes
-sized_wrong bytes size is (inl low) some least most = absurd (omega (arith, is ∙ stated_is bytes))
-sized_wrong bytes size is (inr high) some least most = absurd (omega (arith, is ∙ stated_is bytes, high.1))
-
--- ---- BeginsAt
-
--- what an entry at this place says of the bytes from there on
 begins_size : (bytes : List ℕ) (at : ℕ) (e : LogEntry) → BeginsAt bytes at e → at + size_of e ≤ length bytes
 begins_size bytes at e h = h.within
 
-begins_stated : (bytes : List ℕ) (at : ℕ) (e : LogEntry) → BeginsAt bytes at e → stated_size (drop at bytes) ≡ size_of e
-begins_stated bytes at e h = ap stated_size h.spelled ∙ spelling-size e _ h.fits
-
-begins_part : (bytes : List ℕ) (at : ℕ) (e : LogEntry) → BeginsAt bytes at e → take (size_of e) (drop at bytes) ≡ spelling e
-begins_part bytes at e h = ap (take (size_of e)) h.spelled ∙ take_at (spelling e) _ (size_of e) (length-spelling e)
-
--- an entry that is read of a part of the bytes
-pub begins_of : (bytes : List ℕ) (at n : ℕ) (e : LogEntry) (end : ℕ) → IsEntryAt (take n (drop at bytes)) 0 e end → BeginsAt bytes at e
-begins_of bytes at n e end h =
-    let part = take n (drop at bytes) in
-    let split : drop at bytes ≡ spelling e ++ (drop end part ++ drop n (drop at bytes)) =
-    sym (take-append-drop n (drop at bytes)) ∙ (ap (λ k. k ++ drop n (drop at bytes)) h.spelled ∙ append_assoc (spelling e) (drop end part) (drop n (drop at bytes))) in
-    let rest : drop end part ++ drop n (drop at bytes) ≡ drop (at + size_of e) bytes =
-    sym (drop_at (spelling e) _ (size_of e) (length-spelling e)) ∙ (ap (drop (size_of e)) (sym split) ∙ drop-drop (size_of e) at bytes) in
-    record {
-      fits = h.fits;
-      spelled = split ∙ ap (λ k. spelling e ++ k) rest;
-      ends = refl;
-      within = omega (arith, h.ends, h.within, size_of-least e, length-take n (drop at bytes), length-drop at bytes);
-    }
-
 -- ---- IsUnreadAt
 
--- fewer bytes than the smallest entry has
-pub unread_short : (bytes : List ℕ) (at : ℕ) → (at ≡ length bytes → ⊥) → length bytes < at + 9 → IsUnreadAt bytes at
-unread_short bytes at apart short = (apart, λ e h. absurd (omega (arith, begins_size bytes at e h, size_of-least e)))
+-- past the end nothing is read
+pub unread_past : (bytes : List ℕ) (at : ℕ) → length bytes < at → IsUnreadAt bytes at
+unread_past bytes at past = (λ e. absurd (omega arith), λ e h. absurd (omega (arith, begins_size bytes at e h)))
 
--- no size in range is stated
-pub unread_unsized : (bytes : List ℕ) (at left : ℕ) (front : List ℕ) → 9 ≤ left → at + left ≡ length bytes → front ≡ take 9 (drop at bytes) → IsUnsized front → IsUnreadAt bytes at
-unread_unsized bytes at left front some is read wrong = (
-  λ e. absurd (omega (arith, is)),
-  λ e h.
-      let own : stated_size front ≡ size_of e = ap stated_size read ∙ (stated-take 9 (drop at bytes) (omega arith) ∙ begins_stated bytes at e h) in
-      let sized : length front ≡ 9 = ap length read ∙ length-take-le 9 (drop at bytes) (omega (arith, length-drop at bytes, is)) in
-      wrong (omega arith) (omega (arith, size_of-least e)) (omega (arith, size_of-most e h.fits)),
-)
-
--- more bytes are stated than are left
-pub unread_long : (bytes : List ℕ) (at left : ℕ) (front : List ℕ) (size : ℕ) → 9 ≤ left → at + left ≡ length bytes → front ≡ take 9 (drop at bytes) → IsSized front size → left < size → IsUnreadAt bytes at
-unread_long bytes at left front size some is read sized long = (
-  λ e. absurd (omega (arith, is)),
-  λ e h.
-      let own : size ≡ size_of e = sized.stated ∙ (ap stated_size read ∙ (stated-take 9 (drop at bytes) (omega arith) ∙ begins_stated bytes at e h)) in
-      absurd (omega (arith, begins_size bytes at e h, is)),
-)
-
--- the bytes of the stated size are no entry
-pub unread_broken : (bytes : List ℕ) (at left : ℕ) (front part : List ℕ) (size : ℕ) (fault : EntryFault) → 9 ≤ left → at + left ≡ length bytes → front ≡ take 9 (drop at bytes) → IsSized front size → part ≡ take size (drop at bytes) → first_fault part ≡ Some fault → IsUnreadAt bytes at
-unread_broken bytes at left front part size fault some is read sized whole broken = (
-  λ e. absurd (omega (arith, is)),
-  λ e h.
-      let own : size ≡ size_of e = sized.stated ∙ (ap stated_size read ∙ (stated-take 9 (drop at bytes) (omega arith) ∙ begins_stated bytes at e h)) in
-      no_spelling part fault broken e [] h.fits (whole ∙ (ap (λ k. take k (drop at bytes)) own ∙ (begins_part bytes at e h ∙ sym (append-nil (spelling e))))),
-)
+-- before the end nothing is read where a rule is broken
+pub unread_broken : (bytes : List ℕ) (at : ℕ) (fault : EntryFault) → at < length bytes → first_fault (drop at bytes) ≡ Some fault → IsUnreadAt bytes at
+unread_broken bytes at fault within broken = (λ e. absurd (omega arith), λ e h. no_spelling (drop at bytes) fault broken e _ h.fits h.spelled)
 
 -- ---- IsHeadAt
 
@@ -105,40 +33,3 @@ one_head bytes at (Some a) (Some b) g h =
 pub head_apart : (bytes : List ℕ) (at : ℕ) (head : Option Head) → IsHeadAt bytes at head → IsUnreadAt bytes at → ⊥
 head_apart bytes at None h u = u.0 h
 head_apart bytes at (Some head) h u = u.1 h.0 h.1
-
--- ---- over what a shelf tells
-
--- a part of a segment, from this place on
-abbrev pub IsPart : Files → ℕ → ℕ → ℕ → List ℕ → Type 0
-IsPart files segment at n part = part ≡ take n (drop at (segment_bytes files segment))
-
--- so many bytes are left at this place of a segment
-abbrev pub IsLeft : Files → ℕ → ℕ → ℕ → Type 0
-IsLeft files segment at left = at + left ≡ length (segment_bytes files segment)
-
-pub told_unsized : (a : Option Told) (segment at left : ℕ) (front own : List ℕ) → 9 ≤ left → IfSome a (λ t. IsLeft t.files segment at left) → IfSome a (λ t. IsPart t.files segment at 9 front) → own ≡ front → IsUnsized own
-    → IfSome a (λ t. IsUnreadAt (segment_bytes t.files segment) at)
-told_unsized a segment at left front own some is read same wrong =
-    told_with a a (λ files. IsLeft files segment at left) (λ files. IsPart files segment at 9 front) (λ files. IsUnreadAt (segment_bytes files segment) at) refl
-    (λ files p q. unread_unsized (segment_bytes files segment) at left own some p (same ∙ q) wrong) is read
-
-pub told_long : (a : Option Told) (segment at left : ℕ) (front own : List ℕ) (size : ℕ) → 9 ≤ left → IfSome a (λ t. IsLeft t.files segment at left) → IfSome a (λ t. IsPart t.files segment at 9 front) → own ≡ front → IsSized own size → left < size
-    → IfSome a (λ t. IsUnreadAt (segment_bytes t.files segment) at)
-told_long a segment at left front own size some is read same sized long =
-    told_with a a (λ files. IsLeft files segment at left) (λ files. IsPart files segment at 9 front) (λ files. IsUnreadAt (segment_bytes files segment) at) refl
-    (λ files p q. unread_long (segment_bytes files segment) at left own size some p (same ∙ q) sized long) is read
-
-pub told_broken : (a b : Option Told) (segment at left : ℕ) (front own part whole : List ℕ) (size : ℕ) (fault : EntryFault) → files_told b ≡ files_told a → 9 ≤ left → IfSome a (λ t. IsLeft t.files segment at left)
-    → IfSome a (λ t. IsPart t.files segment at 9 front) → own ≡ front → IsSized own size → IfSome b (λ t. IsPart t.files segment at size part) → whole ≡ part → first_fault whole ≡ Some fault
-    → IfSome a (λ t. IsUnreadAt (segment_bytes t.files segment) at)
-told_broken a b segment at left front own part whole size fault same some is read e sized next f broken =
-    let left_and_front = told_with a a (λ files. IsLeft files segment at left) (λ files. IsPart files segment at 9 front) (λ files. IsLeft files segment at left × IsPart files segment at 9 front) refl (λ files p q. (p, q)) is read in
-    told_with a b (λ files. IsLeft files segment at left × IsPart files segment at 9 front) (λ files. IsPart files segment at size part) (λ files. IsUnreadAt (segment_bytes files segment) at) same
-    (λ files p q. unread_broken (segment_bytes files segment) at left own whole size fault some p.0 (e ∙ p.1) sized (f ∙ q) broken) left_and_front next
-
-pub told_head : (a b : Option Told) (segment at : ℕ) (part whole : List ℕ) (size : ℕ) (e : LogEntry) (end : ℕ) (head : Head) → files_told b ≡ files_told a → IfSome b (λ t. IsPart t.files segment at size part) → whole ≡ part
-    → IsEntryAt whole 0 e end → head ≡ head_of e → IfSome a (λ t. HasHead (segment_bytes t.files segment) at head)
-told_head a b segment at part whole size e end head same read f h is =
-    told_same b a (λ files. HasHead (segment_bytes files segment) at head) (sym same)
-    (told_then b (λ files. IsPart files segment at size part) (λ files. HasHead (segment_bytes files segment) at head)
-    (λ files q. (e, begins_of (segment_bytes files segment) at size e end (subst (λ k. IsEntryAt k 0 e end) (f ∙ q) h), is)) read)

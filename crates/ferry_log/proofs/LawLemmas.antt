@@ -7,10 +7,9 @@ use Rattle.ferry_segment.specs.Entry.{IsBytes, LogEntry}
 use Rattle.ferry_segment.specs.Segment.{Committed, BreaksAt}
 use Rattle.ferry_segment.proofs.SegmentLemmas.{some_answer, split_unbroken, one_split, one_break, ended, closed_ended, ended_closed}
 use Rattle.ferry_disk.specs.Files.{Files, segment_numbers, segment_bytes}
-use Rattle.ferry_log.specs.Log.{Located, located, IsOpen, IsTransaction, log_numbers, IsUncommitted, IsSegment, Joins, IsLog, IsDamaged}
+use Rattle.ferry_log.specs.Log.{Located, located, IsOpen, IsTransaction, numbers_up_to, IsUncommitted, IsSegment, Joins, IsLog, IsDamaged}
 use Rattle.ferry_log.specs.Live.{live_place}
 use Rattle.ferry_log.specs.State.{LogState, extents_of, IsStateOf}
-use Rattle.ferry_log.proofs.OpeningLemmas.{joins_good}
 
 -- ---- lists
 
@@ -26,30 +25,31 @@ all_there P [] x after h = h.0
 all_there P (y ∷ before) x after h = all_there P before x after h.1
 
 -- the first that lacks what all before it have
-pub one_first : (P : ℕ → Type 0) (before front : List ℕ) (x y : ℕ) (after rest : List ℕ) → before ++ x ∷ after ≡ front ++ y ∷ rest → AllByRecursion P before → AllByRecursion P front → (P x → ⊥) → (P y → ⊥) → x ≡ y
+pub one_first : (P : ℕ → Type 0) (before front : List ℕ) (x y : ℕ) (after rest : List ℕ) → before ++ x ∷ after ≡ front ++ y ∷ rest → AllByRecursion P before
+    → AllByRecursion P front → (P x → ⊥) → (P y → ⊥) → x ≡ y
 one_first P [] [] x y after rest e p q u v = first_of x y after rest e
 one_first P [] (z ∷ front) x y after rest e p q u v = absurd (u (subst P (sym (first_of x z after (front ++ y ∷ rest) e)) q.0))
 one_first P (z ∷ before) [] x y after rest e p q u v = absurd (v (subst P (first_of z y (before ++ x ∷ after) rest e) p.0))
 one_first P (z ∷ before) (w ∷ front) x y after rest e p q u v = one_first P before front x y after rest (rest_of z w _ _ e) p.1 q.1 u v
 
 -- the last that has what all behind it lack, and all before it
-pub one_last : (P : ℕ → Type 0) (before front : List ℕ) (x y : ℕ) (after rest : List ℕ) → before ++ x ∷ after ≡ front ++ y ∷ rest → P x → P y → AllByRecursion (λ n. P n → ⊥) after → AllByRecursion (λ n. P n → ⊥) rest → (x ≡ y) × (before ≡ front)
+pub one_last : (P : ℕ → Type 0) (before front : List ℕ) (x y : ℕ) (after rest : List ℕ) → before ++ x ∷ after ≡ front ++ y ∷ rest → P x → P y
+    → AllByRecursion (λ n. P n → ⊥) after → AllByRecursion (λ n. P n → ⊥) rest → (x ≡ y) × (before ≡ front)
 one_last P [] [] x y after rest e p q u v = (first_of x y after rest e, refl)
-one_last P [] (z ∷ front) x y after rest e p q u v = absurd (all_there (λ n. P n → ⊥) front y rest (subst (AllByRecursion (λ n. P n → ⊥)) (rest_of x z after (front ++ y ∷ rest) e) u) q)
-one_last P (z ∷ before) [] x y after rest e p q u v = absurd (all_there (λ n. P n → ⊥) before x after (subst (AllByRecursion (λ n. P n → ⊥)) (sym (rest_of z y (before ++ x ∷ after) rest e)) v) p)
+one_last P [] (z ∷ front) x y after rest e p q u v =
+    absurd (all_there (λ n. P n → ⊥) front y rest (subst (AllByRecursion (λ n. P n → ⊥)) (rest_of x z after (front ++ y ∷ rest) e) u) q)
+one_last P (z ∷ before) [] x y after rest e p q u v =
+    absurd (all_there (λ n. P n → ⊥) before x after (subst (AllByRecursion (λ n. P n → ⊥)) (sym (rest_of z y (before ++ x ∷ after) rest e)) v) p)
 one_last P (z ∷ before) (w ∷ front) x y after rest e p q u v =
     let others = one_last P before front x y after rest (rest_of z w _ _ e) p q u v in
     (others.0, ap (λ k. k ∷ before) (first_of z w _ _ e) ∙ ap (λ k. w ∷ k) others.1)
 
 -- ---- IsTransaction
 
-pub same_transaction : (files : Files) (t u : ℕ) (a : IsTransaction files t) (b : IsTransaction files u) → (t ≡ u) × (log_numbers a ≡ log_numbers b)
-same_transaction files t u a b =
-    let one = one_last (λ n. Committed (segment_bytes files n)) a.below b.below t u a.above b.above (sym a.numbers ∙ b.numbers) a.committed b.committed a.open_above b.open_above in
-    (one.0, ap (λ k. k ++ t ∷ []) one.1 ∙ ap (λ k. b.below ++ k ∷ []) one.0)
-
 pub one_transaction : (files : Files) (t u : ℕ) → IsTransaction files t → IsTransaction files u → t ≡ u
-one_transaction files t u a b = (same_transaction files t u a b).0
+one_transaction files t u a b =
+    (one_last (λ n. Committed (segment_bytes files n)) a.below b.below t u a.above b.above (sym a.numbers
+    ∙ b.numbers) a.committed b.committed a.open_above b.open_above).0
 
 pub uncommitted_apart : (files : Files) (t : ℕ) → IsUncommitted files → IsTransaction files t → ⊥
 uncommitted_apart files t h a = all_there (IsOpen files) a.below t a.above (subst (AllByRecursion (IsOpen files)) a.numbers h) a.committed
@@ -64,8 +64,8 @@ joins_one files (n ∷ ns) log other p q =
 
 pub one_log : (files : Files) (t u : ℕ) (log other : List Located) → IsLog files t log → IsLog files u other → (t ≡ u) × (log ≡ other)
 one_log files t u log other a b =
-    let one = same_transaction files t u a.is b.is in
-    (one.0, joins_one files (log_numbers b.is) log other (subst (λ ns. Joins files ns log) one.1 a.joined) b.joined)
+    let one = one_transaction files t u a.is b.is in
+    (one, joins_one files (numbers_up_to files u) log other (subst (λ k. Joins files (numbers_up_to files k) log) one a.joined) b.joined)
 
 -- ---- IsDamaged
 
@@ -75,15 +75,23 @@ breaks_apart files n at h s = split_unbroken (segment_bytes files n) s.0 at s.1 
 
 pub one_place : (files : Files) (s u a b : ℕ) → IsDamaged files s a → IsDamaged files u b → (s ≡ u) × (a ≡ b)
 one_place files s u a b g h =
-    let numbers = (same_transaction files g.transaction h.transaction g.is h.is).1 in
-    let one = one_first (IsSegment files) g.before h.before s u g.after h.after (sym g.numbers ∙ (numbers ∙ h.numbers)) g.good h.good (breaks_apart files s a g.breaks) (breaks_apart files u b h.breaks) in
+    let numbers = ap (numbers_up_to files) (one_transaction files g.transaction h.transaction g.is h.is) in
+    let one =
+    one_first (IsSegment files) g.before h.before s u g.after h.after (sym g.numbers
+    ∙ (numbers ∙ h.numbers)) g.good h.good (breaks_apart files s a g.breaks) (breaks_apart files u b h.breaks) in
     (one, one_break (segment_bytes files u) a b (subst (λ n. BreaksAt (segment_bytes files n) a) one g.breaks) h.breaks)
+
+-- the segments that are joined read
+pub joins_good : (files : Files) (ns : List ℕ) (log : List Located) → Joins files ns log → AllByRecursion (IsSegment files) ns
+joins_good files [] log j = tt
+joins_good files (n ∷ ns) log j = ((j.0, j.2), joins_good files ns j.1 j.3)
 
 pub damaged_apart : (files : Files) (s at t : ℕ) (log : List Located) → IsDamaged files s at → IsLog files t log → ⊥
 damaged_apart files s at t log g h =
-    let numbers = (same_transaction files g.transaction t g.is h.is).1 in
-    let good = joins_good files (log_numbers h.is) log h.joined in
-    breaks_apart files s at g.breaks (all_there (IsSegment files) g.before s g.after (subst (AllByRecursion (IsSegment files)) (sym numbers ∙ g.numbers) good))
+    let numbers = ap (numbers_up_to files) (one_transaction files g.transaction t g.is h.is) in
+    let good = joins_good files (numbers_up_to files t) log h.joined in
+    breaks_apart files s at g.breaks (all_there (IsSegment files) g.before s g.after (subst (AllByRecursion (IsSegment files)) (sym numbers
+    ∙ g.numbers) good))
 
 -- ---- some answer
 
@@ -113,7 +121,15 @@ record LastOf (files : Files) (ns : List ℕ) : Type 0 where
 last_of : (files : Files) → ((n : ℕ) → IsBytes (segment_bytes files n)) → (numbers : List ℕ) → AllByRecursion (IsOpen files) numbers ⊎ LastOf files numbers
 last_of files small [] = inl tt
 last_of files small (n ∷ ns) = elim (last_of files small ns) [
-  | inr l ↦ inr (record { last = l.last; below = n ∷ l.below; above = l.above; numbers = ap (λ k. n ∷ k) l.numbers; committed = l.committed; open_above = l.open_above })
+  | inr l ↦ inr (record {
+    last = l.last;
+    below = n ∷ l.below;
+    above = l.above;
+    numbers = ap
+        (λ k. n ∷ k) l.numbers;
+    committed = l.committed;
+    open_above = l.open_above;
+  })
   | inl none ↦ elim (committed_or_open (segment_bytes files n) (small n)) [
     | inl committed ↦ inr (record { last = n; below = []; above = ns; numbers = refl; committed = committed; open_above = none })
     | inr apart ↦ inl (apart, none)
@@ -130,27 +146,45 @@ record FirstBroken (files : Files) (ns : List ℕ) : Type 0 where
   pub good : AllByRecursion (IsSegment files) before
   pub breaks : BreaksAt (segment_bytes files segment) at
 
-joins_or_breaks : (files : Files) → ((n : ℕ) → IsBytes (segment_bytes files n)) → (numbers : List ℕ) → ((log : List Located) × Joins files numbers log) ⊎ FirstBroken files numbers
+joins_or_breaks : (files : Files) → ((n : ℕ) → IsBytes (segment_bytes files n)) → (numbers : List ℕ)
+    → ((log : List Located) × Joins files numbers log) ⊎ FirstBroken files numbers
 joins_or_breaks files small [] = inl ([], refl)
 joins_or_breaks files small (n ∷ ns) = elim (some_answer (segment_bytes files n) (small n)) [
   | inr broken ↦ inr (record { segment = n; at = broken.0; before = []; after = ns; numbers = refl; good = tt; breaks = broken.1 })
   | inl split ↦ elim (joins_or_breaks files small ns) [
     | inl log ↦ inl (located n 8 split.0 ++ log.0, (split.0, log.0, split.1, log.1, refl))
-    | inr b ↦ inr (record { segment = b.segment; at = b.at; before = n ∷ b.before; after = b.after; numbers = ap (λ k. n ∷ k) b.numbers; good = (split, b.good); breaks = b.breaks })
+    | inr b ↦ inr (record {
+      segment = b.segment;
+      at = b.at;
+      before = n ∷ b.before;
+      after = b.after;
+      numbers = ap (λ k. n ∷ k) b.numbers;
+      good =
+          (split, b.good);
+      breaks = b.breaks;
+    })
   ]
 ]
 
-read_of : (files : Files) → ((n : ℕ) → IsBytes (segment_bytes files n)) → (t : ℕ) (is : IsTransaction files t) → ((u : ℕ) × (log : List Located) × IsLog files u log) ⊎ ((s : ℕ) × (at : ℕ) × IsDamaged files s at)
-read_of files small t is = elim (joins_or_breaks files small (log_numbers is)) [
+read_of : (files : Files) → ((n : ℕ) → IsBytes (segment_bytes files n)) → (t : ℕ) (is : IsTransaction files t)
+    → ((u : ℕ) × (log : List Located) × IsLog files u log) ⊎ ((s : ℕ) × (at : ℕ) × IsDamaged files s at)
+read_of files small t is = elim (joins_or_breaks files small (numbers_up_to files t)) [
   | inl log ↦ inl (t, log.0, record { is = is; joined = log.1 })
-  | inr b ↦ inr (b.segment, b.at, record { transaction = t; is = is; before = b.before; after = b.after; numbers = b.numbers; good = b.good; breaks = b.breaks })
+  | inr b ↦ inr (
+    b.segment,
+    b.at,
+    record
+        { transaction = t; is = is; before = b.before; after = b.after; numbers = b.numbers; good = b.good; breaks = b.breaks },
+  )
 ]
 
 -- where each byte is one, one of the three answers holds
-pub some_log : (files : Files) → ((n : ℕ) → IsBytes (segment_bytes files n)) → IsUncommitted files ⊎ (((t : ℕ) × (log : List Located) × IsLog files t log) ⊎ ((s : ℕ) × (at : ℕ) × IsDamaged files s at))
+pub some_log : (files : Files) → ((n : ℕ) → IsBytes (segment_bytes files n))
+    → IsUncommitted files ⊎ (((t : ℕ) × (log : List Located) × IsLog files t log) ⊎ ((s : ℕ) × (at : ℕ) × IsDamaged files s at))
 some_log files small = elim (last_of files small (segment_numbers files)) [
   | inl none ↦ inl none
-  | inr l ↦ inr (read_of files small l.last (record { below = l.below; above = l.above; numbers = l.numbers; committed = l.committed; open_above = l.open_above }))
+  | inr l ↦ inr (read_of files small l.last
+      (record { below = l.below; above = l.above; numbers = l.numbers; committed = l.committed; open_above = l.open_above }))
 ]
 
 -- ---- IsStateOf
@@ -159,7 +193,13 @@ some_log files small = elim (last_of files small (segment_numbers files)) [
 pub one_state : (files : Files) (a b : LogState) → IsStateOf files a → IsStateOf files b → a ≡ b
 one_state files a b g h =
     let one = one_log files a.transaction b.transaction g.log h.log g.is h.is in
-    let numbers = (same_transaction files a.transaction b.transaction g.is.is h.is.is).1 in
-    let live : a.live ≡ b.live = same_map nat_list_cmp_total (slice_cmp-IsAntisymmetric nat_cmp-IsAntisymmetric) a.live b.live (λ key. g.live key ∙ (ap (live_place key) one.1 ∙ sym (h.live key))) in
-    let extents : a.extents ≡ b.extents = g.extents ∙ (ap (λ k. extents_of files k (log_numbers g.is.is)) live ∙ (ap (extents_of files b.live) numbers ∙ sym h.extents)) in
-    ap (λ k. record a { transaction = k }) one.0 ∙ (ap (λ k. record { transaction = b.transaction; live = k; extents = a.extents }) live ∙ ap (λ k. record b { extents = k }) extents)
+    let opened : a.opened ≡ b.opened = same_map nat_list_cmp_total (slice_cmp-IsAntisymmetric nat_cmp-IsAntisymmetric) a.opened b.opened
+    (λ key. g.places.live key ∙ (ap (live_place key) one.1 ∙ sym (h.places.live key))) in
+    let extents : a.extents ≡ b.extents = g.places.extents_are
+    ∙ (ap (λ k. extents_of files k (numbers_up_to files a.transaction)) opened
+    ∙ (ap (λ k. extents_of files b.opened (numbers_up_to files k)) one.0 ∙ sym h.places.extents_are)) in
+    let learnt : a.learnt ≡ b.learnt = g.learnt ∙ sym h.learnt in
+    ap (λ k. record a { transaction = k }) one.0
+    ∙ (ap (λ k. record { transaction = b.transaction; opened = k; extents = a.extents; learnt = a.learnt }) opened
+    ∙ (ap (λ k. record { transaction = b.transaction; opened = b.opened; extents = k; learnt = a.learnt }) extents
+    ∙ ap (λ k. record { transaction = b.transaction; opened = b.opened; extents = b.extents; learnt = k }) learnt))

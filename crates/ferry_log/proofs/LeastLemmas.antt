@@ -1,86 +1,126 @@
--- The least pair above a key, one pair after another.
-use Rattle.std.proofs.Common.{◌≡◌, ℕ, ◌+◌, ◌<◌, Bool, true, false, cond, List, [], ◌∷◌, ◌++◌, length, take, get_or, Option, Some, None, refl, sym, subst, inl, inr}
-use Rattle.std.specs.Ordering.{is_lt}
+-- Lemmas on specs/Least.antt: the least key of a map, and of two.
+use Rattle.std.proofs.Common.{◌≡◌, ◌⊎◌, ℕ, Bool, true, false, cond, List, [], ◌∷◌, Option, Some, None, IfSome, slice_get, is_gt, refl, sym, ◌∙◌, ap, subst}
+use Rattle.std.proofs.Common.{inl, inr}
+use Rattle.std.specs.Cmp.Lexicographic.{nat_list_cmp_total}
+use Rattle.std.specs.BTreeMap.{is_at}
+use Rattle.std.specs.FinMap.{get, from_entries, get-from_entries, slice_cmp-IsAntisymmetric, nat_cmp-IsAntisymmetric}
+use Rattle.std.specs.FinMap.Entries.{find}
+use Rattle.std.specs.Map.{lookup}
+use Rattle.std.specs.Option.{IsSome}
+use Rattle.std.specs.Ordering.{is_lt, ordering_reverse}
 use Rattle.std.specs.declared.cmp.Ordering.{Ordering}
 use Rattle.std.specs.declared.cmp.Ordering.TheVariants.{Less, Equal, Greater}
-use Rattle.std.specs.Cmp.{tied_itself}
-use Rattle.std.specs.Cmp.Lexicographic.{nat_list_cmp_total}
-use Rattle.std.specs.List.{AllByRecursion}
-use Rattle.std.proofs.lemmas.List.{take_more}
-use Rattle.ferry_log.specs.declared.place.Place.{Place}
+use Rattle.ferry_log.specs.Least.{lesser_pair}
 use Rattle.ferry_log.specs.Live.{key_cmp}
-use Rattle.ferry_log.specs.State.{IsAbove}
-use Rattle.ferry_log.specs.Pairs.{Pairs, IsPairOf, IsLeastPair, is_above, is_least, lesser}
+use Rattle.ferry_log.specs.State.{IsLeastWhere, first_place}
+use Rattle.ferry_log.specs.declared.place.Place.{Place}
 
--- ---- key_cmp
+-- ---- the order of keys
+
+turned : (a b : List ℕ) → key_cmp a b ≡ ordering_reverse (key_cmp b a)
+turned a b = nat_list_cmp_total.antisymm a b
+
+-- a key that isn't above another has none below it that is above the other
+pub not_less : (k q : List ℕ) → is_gt (key_cmp k q) ≡ false → key_cmp q k ≡ Less → ⊥
+not_less k q le less =
+    let greater : key_cmp k q ≡ Greater = turned k q ∙ ap ordering_reverse less in
+    let no : true ≡ false = sym (ap is_gt greater) ∙ le in
+    cc
+
+-- where b isn't below a, no key below a is below b as well, or is it
+below_or : (a b key : List ℕ) (o : Ordering) → key_cmp key b ≡ o → is_lt (key_cmp b a) ≡ false → key_cmp key a ≡ Less → o ≡ Less
+below_or a b key Less e not less = refl
+below_or a b key Equal e not less =
+    let same : key ≡ b = slice_cmp-IsAntisymmetric nat_cmp-IsAntisymmetric key b e in
+    let lt : true ≡ false = sym (ap is_lt (ap (λ k. key_cmp k a) (sym same) ∙ less)) ∙ not in
+    absurd (let no : ⊥ = cc in no)
+below_or a b key Greater e not less =
+    let back : key_cmp b key ≡ Less = turned b key ∙ ap ordering_reverse e in
+    let lt : true ≡ false = sym (ap is_lt (nat_list_cmp_total.trans b key a back less)) ∙ not in
+    absurd (let no : ⊥ = cc in no)
 
 is_less : (o : Ordering) → is_lt o ≡ true → o ≡ Less
 is_less Less e = refl
-is_less Equal e = cc
-is_less Greater e = cc
+is_less Equal e = absurd (let no : ⊥ = cc in no)
+is_less Greater e = absurd (let no : ⊥ = cc in no)
 
-less_is : (o : Ordering) → is_lt o ≡ false → o ≡ Less → ⊥
-less_is Less e l = cc
-less_is Equal e l = cc
-less_is Greater e l = cc
+-- ---- the first of a range
 
-pub not_below_itself : (a : List ℕ) → key_cmp a a ≡ Less → ⊥
-not_below_itself a e = let tied : key_cmp a a ≡ Equal = tied_itself nat_list_cmp_total a in cc
+pub first_of : {X : Type 0} (r rest : List X) (x : X) (P : X → Type 0) → r ≡ x ∷ rest → IfSome (slice_get r 0) P → P x
+first_of r rest x P e h = subst (λ k. IfSome (slice_get k 0) P) e h
 
--- ---- lists
+-- ---- the least of two
 
-all_push : {X : Type 0} (P : X → Type 0) (xs : List X) (x : X) → AllByRecursion P xs → P x → AllByRecursion P (xs ++ x ∷ [])
-all_push P [] x h p = (p, tt)
-all_push P (y ∷ xs) x h p = (h.0, all_push P xs x h.1 p)
+some_either : (x y : Option Place) → IsSome (first_place x y) → IsSome x ⊎ IsSome y
+some_either (Some x) y some = inl some
+some_either None y some = inr some
 
-all_then : {X : Type 0} (P Q : X → Type 0) (xs : List X) → ((x : X) → P x → Q x) → AllByRecursion P xs → AllByRecursion Q xs
-all_then P Q [] f h = tt
-all_then P Q (x ∷ xs) f h = (f x h.0, all_then P Q xs f h.1)
+-- a key with no place
+none_of : (x : Option Place) → (IsSome x → ⊥) → x ≡ None
+none_of None h = refl
+none_of (Some x) h = absurd (h refl)
 
-pair_push : (ps : Pairs) (p q : List ℕ × Place) → IsPairOf ps q → IsPairOf (ps ++ p ∷ []) q
-pair_push [] p q h = absurd h
-pair_push (r ∷ ps) p q (inl e) = inl e
-pair_push (r ∷ ps) p q (inr h) = inr (pair_push ps p q h)
+module _ (f g : List ℕ → Option Place) (after : Option (List ℕ)) where
+  abbrev pub either : List ℕ → Option Place
+  either key = first_place (f key) (g key)
 
-pair_last : (ps : Pairs) (p : List ℕ × Place) → IsPairOf (ps ++ p ∷ []) p
-pair_last [] p = inl refl
-pair_last (r ∷ ps) p = inr (pair_last ps p)
+  second_placed : (key : List ℕ) (place : Place) → f key ≡ None → g key ≡ Some place → either key ≡ Some place
+  second_placed key place none some = ap (λ p. first_place p (g key)) none ∙ some
 
--- ---- IsAbove
+  first_placed : (key : List ℕ) (place : Place) → f key ≡ Some place → either key ≡ Some place
+  first_placed key place some = ap (λ p. first_place p (g key)) some
 
-above_true : (after : Option (List ℕ)) (key : List ℕ) → is_above after key ≡ true → IsAbove after key
-above_true None key e = tt
-above_true (Some a) key e = is_less (key_cmp a key) e
+  least_by : (a b : List ℕ × Place) (o : Bool) → is_lt (key_cmp b.0 a.0) ≡ o → IsLeastWhere f after (Some a) → IsLeastWhere g after (Some b)
+      → IsLeastWhere either after (cond o (Some b) (Some a))
+  least_by a b true lt (fa, above_a, least_a) (gb, above_b, least_b) =
+      let less = is_less (key_cmp b.0 a.0) lt in (
+        second_placed b.0 b.1 (none_of (f b.0) (λ some. least_a b.0 some above_b less)) gb,
+        above_b,
+        λ key some above below. elim (some_either (f key) (g key) some) [
+          | inl sf ↦ least_a key sf above (nat_list_cmp_total.trans key b.0 a.0 below less)
+          | inr sg ↦ least_b key sg above below
+        ],
+      )
+  least_by a b false lt (fa, above_a, least_a) (gb, above_b, least_b) = (
+    first_placed a.0 a.1 fa,
+    above_a,
+    λ key some above below. elim (some_either (f key) (g key) some) [
+      | inl sf ↦ least_a key sf above below
+      | inr sg ↦ least_b key sg above (below_or a.0 b.0 key (key_cmp key b.0) refl lt below)
+    ],
+  )
 
-above_false : (after : Option (List ℕ)) (key : List ℕ) → is_above after key ≡ false → IsAbove after key → ⊥
-above_false None key e h = absurd (let none : ⊥ = cc in none)
-above_false (Some a) key e h = less_is (key_cmp a key) e h
+  -- the lesser of the least keys of two maps, the first of which goes before
+  pub least_of_two : (a b : Option (List ℕ × Place)) → IsLeastWhere f after a → IsLeastWhere g after b → IsLeastWhere either after (lesser_pair a b)
+  least_of_two None None la lb = λ key some above. elim (some_either (f key) (g key) some) [ inl sf ↦ la key sf above | inr sg ↦ lb key sg above ]
+  least_of_two (Some a) None (fa, above_a, least_a) lb = (
+    first_placed a.0 a.1 fa,
+    above_a,
+    λ key some above below. elim (some_either (f key) (g key) some) [ inl sf ↦ least_a key sf above below | inr sg ↦ lb key sg above ],
+  )
+  least_of_two None (Some b) la (gb, above_b, least_b) = (
+    second_placed b.0 b.1 (none_of (f b.0) (λ some. la b.0 some above_b)) gb,
+    above_b,
+    λ key some above below. elim (some_either (f key) (g key) some) [ inl sf ↦ absurd (la key sf above) | inr sg ↦ least_b key sg above below ],
+  )
+  least_of_two (Some a) (Some b) la lb = least_by a b (is_lt (key_cmp b.0 a.0)) refl la lb
 
--- ---- IsLeastPair
+-- ---- maps of the program
 
-keeps_least : (ps : Pairs) (after : Option (List ℕ)) (p : List ℕ × Place) (least : Option (List ℕ × Place)) → (IsAbove after p.0 → ⊥) → IsLeastPair ps after least → IsLeastPair (ps ++ p ∷ []) after least
-keeps_least ps after p None off h = all_push _ ps p h off
-keeps_least ps after p (Some l) off h = (pair_push ps p l h.0, h.1, all_push _ ps p h.2 (λ above _. off above))
+find-lookup : (es : List (List ℕ × Place)) (key : List ℕ) → find key_cmp key es ≡ lookup (is_at (key_cmp key)) es
+find-lookup [] key = refl
+find-lookup (e ∷ es) key = ap (cond (is_at (key_cmp key) e.0) (Some e.1)) (find-lookup es key)
 
-takes_least : (ps : Pairs) (after : Option (List ℕ)) (p : List ℕ × Place) (least : Option (List ℕ × Place)) → IsAbove after p.0 → IsLeastPair ps after least → (b : Bool) → is_least p.0 least ≡ b → IsLeastPair (ps ++ p ∷ []) after (cond b (Some p) least)
-takes_least ps after p None on h true e =
-    (pair_last ps p, on, all_push _ ps p (all_then _ _ ps (λ q none above _. none above) h) (λ _ below. not_below_itself p.0 below))
-takes_least ps after p None on h false e = absurd (let none : ⊥ = cc in none)
-takes_least ps after p (Some l) on h true e =
-    let below : key_cmp p.0 l.0 ≡ Less = is_less (key_cmp p.0 l.0) e in
-    (pair_last ps p, on, all_push _ ps p (all_then _ _ ps (λ q least above under. least above (nat_list_cmp_total.trans q.0 p.0 l.0 under below)) h.2) (λ _ own. not_below_itself p.0 own))
-takes_least ps after p (Some l) on h false e =
-    (pair_push ps p l h.0, h.1, all_push _ ps p h.2 (λ _ below. less_is (key_cmp p.0 l.0) e below))
+-- what the finite map of a map's entries has at a key
+pub get-entries_of : (es : List (List ℕ × Place)) (key : List ℕ) → get (from_entries {R = key_cmp} es) key ≡ lookup (is_at (key_cmp key)) es
+get-entries_of es key = get-from_entries nat_list_cmp_total es key ∙ find-lookup es key
 
-least_on : (ps : Pairs) (after : Option (List ℕ)) (p : List ℕ × Place) (least : Option (List ℕ × Place)) → IsLeastPair ps after least → (b : Bool) → is_above after p.0 ≡ b → IsLeastPair (ps ++ p ∷ []) after (cond b (cond (is_least p.0 least) (Some p) least) least)
-least_on ps after p least h true e = takes_least ps after p least (above_true after p.0 e) h (is_least p.0 least) refl
-least_on ps after p least h false e = keeps_least ps after p least (above_false after p.0 e) h
-
--- the least pair after one more
-pub least_more : (ps : Pairs) (after : Option (List ℕ)) (p : List ℕ × Place) (least : Option (List ℕ × Place)) → IsLeastPair ps after least → IsLeastPair (ps ++ p ∷ []) after (lesser after p least)
-least_more ps after p least h = least_on ps after p least h (is_above after p.0) refl
-
-pub least_taken : (ps : Pairs) (after : Option (List ℕ)) (i : ℕ) (d : List ℕ × Place) (least next : Option (List ℕ × Place)) → i < length ps → IsLeastPair (take i ps) after least → next ≡ lesser after (get_or ps i d) least → IsLeastPair (take (i + 1) ps) after next
-least_taken ps after i d least next within h e =
-    subst (λ n. IsLeastPair (take (i + 1) ps) after n) (sym e)
-    (subst (λ qs. IsLeastPair qs after (lesser after (get_or ps i d) least)) (sym (take_more ps i d within)) (least_more (take i ps) after (get_or ps i d) least h))
+-- what is least where keys have these places is least where they have the same ones
+pub least_same : (f g : List ℕ → Option Place) (after : Option (List ℕ)) (found : Option (List ℕ × Place)) → ((key : List ℕ) → f key ≡ g key)
+    → IsLeastWhere f after found → IsLeastWhere g after found
+least_same f g after None same least = λ key some above. least key (subst IsSome (sym (same key)) some) above
+least_same f g after (Some found) same (placed, above, least) = (
+  sym (same found.0) ∙ placed,
+  above,
+  λ key some over less. least key (subst IsSome (sym (same key)) some) over less,
+)

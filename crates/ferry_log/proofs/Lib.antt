@@ -1,10 +1,11 @@
 pub mod LawLemmas
-mod HeadLemmas
-mod WholeLemmas
-pub mod PairsLemmas
-mod LiveLemmas
-mod LeastLemmas
-mod OpeningLemmas
-mod ExtentsLemmas
-mod StateLemmas
 pub mod PlaceLemmas
+pub mod FitsLemmas
+pub mod PlacesLemmas
+mod HeadLemmas
+pub mod LeastLemmas
+mod ExtentsLemmas
+mod LiveLemmas
+mod OpeningLemmas
+mod StateLemmas
+mod WindowLemmas

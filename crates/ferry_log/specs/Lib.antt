@@ -1,8 +1,8 @@
 pub mod Fault
 pub mod Head
+pub mod Least
 pub mod Live
 pub mod Log
 pub mod Opening
-pub mod Pairs
 pub mod State
-pub mod Whole
+pub mod Window

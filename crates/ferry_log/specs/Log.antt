@@ -1,6 +1,6 @@
 -- The committed log of a repository (BorgBackup 1.2, Internals, Repository: "Log entries are either PUT, DELETE or COMMIT"):
 -- the entries of all segments up to the last committed one, in the order of the segments' numbers.
-use Rattle.std.specs.Prelude.{◌≡◌, ℕ, ◌+◌, List, [], ◌∷◌, ◌++◌}
+use Rattle.std.specs.Prelude.{◌≡◌, ℕ, ◌+◌, List, [], ◌∷◌, ◌++◌, filter, nat_le}
 use Rattle.std.specs.List.{AllByRecursion}
 use Rattle.ferry_segment.specs.Entry.{LogEntry, size_of}
 use Rattle.ferry_segment.specs.Segment.{Splits, Committed, BreaksAt}
@@ -29,9 +29,9 @@ pub record IsTransaction (files : Files) (transaction : ℕ) : Type 0 where
   pub committed : Committed (segment_bytes files transaction)
   pub open_above : AllByRecursion (IsOpen files) above
 
--- the numbers of the segments up to the transaction, increasing
-abbrev pub log_numbers : {files : Files} {transaction : ℕ} → IsTransaction files transaction → List ℕ
-log_numbers {files} {transaction} is = is.below ++ transaction ∷ []
+-- the numbers of the segments up to a transaction, increasing
+abbrev pub numbers_up_to : Files → ℕ → List ℕ
+numbers_up_to files transaction = filter (λ n. nat_le n transaction) (segment_numbers files)
 
 -- no segment is committed
 abbrev pub IsUncommitted : Files → Type 0
@@ -44,12 +44,13 @@ IsSegment files number = (entries : List LogEntry) × Splits (segment_bytes file
 -- the entries of these segments, joined
 abbrev pub Joins : Files → List ℕ → List Located → Type 0
 Joins files [] log = log ≡ []
-Joins files (n ∷ ns) log = (entries : List LogEntry) × (rest : List Located) × Splits (segment_bytes files n) entries × Joins files ns rest × (log ≡ located n 8 entries ++ rest)
+Joins files (n ∷ ns) log =
+    (entries : List LogEntry) × (rest : List Located) × Splits (segment_bytes files n) entries × Joins files ns rest × (log ≡ located n 8 entries ++ rest)
 
 -- the committed log
 pub record IsLog (files : Files) (transaction : ℕ) (log : List Located) : Type 0 where
   pub is : IsTransaction files transaction
-  pub joined : Joins files (log_numbers is) log
+  pub joined : Joins files (numbers_up_to files transaction) log
 
 -- the least segment up to the transaction that doesn't read, and the place of its first entry that doesn't
 pub record IsDamaged (files : Files) (segment at : ℕ) : Type 0 where
@@ -57,6 +58,6 @@ pub record IsDamaged (files : Files) (segment at : ℕ) : Type 0 where
   pub is : IsTransaction files transaction
   pub before : List ℕ
   pub after : List ℕ
-  pub numbers : log_numbers is ≡ before ++ segment ∷ after
+  pub numbers : numbers_up_to files transaction ≡ before ++ segment ∷ after
   pub good : AllByRecursion (IsSegment files) before
   pub breaks : BreaksAt (segment_bytes files segment) at

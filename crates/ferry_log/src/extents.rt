@@ -1,17 +1,24 @@
 //! How much of each segment is live.
 ghost use Rattle.std.specs.Prelude.{◌≡◌, map};
+ghost use Rattle.std.specs.BTreeMap.{IsOrdered};
 ghost use Rattle.std.specs.List.Sorted.{IsStrictlyIncreasing};
+ghost use Rattle.ferry_log.specs.Live.{key_cmp};
 ghost use Rattle.ferry_log.specs.Opening.{counted_one, counted_live};
 
-use crate::live::Pair;
 use crate::place::{Extent, Place};
-use ferry_segment::HEAD;
+use ferry_base::{Id, PUT_HEAD};
+use std::collections::BTreeMap;
 
 /// The extents, which are those of segments of these numbers, with the sizes of the live entries added.
-pub(crate) fn with_live(extents: Vec<Extent>, numbers: &[u64], live: &[Pair]) -> Vec<Extent>
+pub(crate) fn with_live(
+    extents: Vec<Extent>,
+    numbers: &[u64],
+    live: &BTreeMap<Id, Place>,
+) -> Vec<Extent>
     requires same { map (λ e. e.segment) extents.items ≡ numbers.now }
     requires increasing { IsStrictlyIncreasing numbers.now }
-    ensures { result.items ≡ map (counted_live live.now) extents.items }
+    ensures counted { result.items ≡ map (counted_live live.now.entries) extents.items }
+    ensures ordered { IsOrdered key_cmp live.now }
 {
     let mut extents = extents;
     count_live(&mut extents, numbers, live);
@@ -19,13 +26,14 @@ pub(crate) fn with_live(extents: Vec<Extent>, numbers: &[u64], live: &[Pair]) ->
 }
 
 /// Adds the sizes of the live entries to the extents of their segments.
-fn count_live(extents: &mut [Extent], numbers: &[u64], live: &[Pair])
+fn count_live(extents: &mut [Extent], numbers: &[u64], live: &BTreeMap<Id, Place>)
     requires same { map (λ e. e.segment) extents.old ≡ numbers.now }
     requires increasing { IsStrictlyIncreasing numbers.now }
-    ensures { extents.new ≡ map (counted_live live.now) extents.old }
+    ensures counted { extents.new ≡ map (counted_live live.now.entries) extents.old }
+    ensures ordered { IsOrdered key_cmp live.now }
 {
-    for pair in live {
-        count_one(extents, numbers, &pair.1);
+    for (_, place) in live {
+        count_one(extents, numbers, place);
     }
 }
 
@@ -36,7 +44,7 @@ fn count_one(extents: &mut [Extent], numbers: &[u64], place: &Place)
     ensures { extents.new ≡ map (counted_one place.now) extents.old }
 {
     if let Ok(i) = numbers.binary_search(&place.segment) {
-        let size = u64::from(place.size) + HEAD as u64;
+        let size = u64::from(place.size) + PUT_HEAD as u64;
         extents[i].live = extents[i].live.saturating_add(size);
     }
 }

@@ -1,8 +1,10 @@
 //! Why a log can't be read.
 ghost use Rattle.std.specs.Prelude.{◌≡◌};
 ghost use Rattle.ferry_log.specs.Fault.{store_fault};
+ghost use Rattle.ferry_log.specs.declared.fault.LogFault.TheVariants as Log;
 
 use ferry_disk::StoreFault;
+use std::alloc::{AllocError, AllocFailed};
 use thiserror::Error;
 
 /// Why a log can't be read, in the order of their numbers.
@@ -22,12 +24,29 @@ pub enum LogFault {
     Memory,
 }
 
-/// The same fault as one of the log.
-pub(crate) fn of_store(fault: StoreFault) -> LogFault
-    ensures { result ≡ store_fault fault }
-{
-    match fault {
-        StoreFault::Failed => LogFault::Device,
-        StoreFault::Memory => LogFault::Memory,
+impl From<StoreFault> for LogFault {
+    ghost from_gives = { λ fault gives. gives ≡ store_fault fault };
+
+    fn from(fault: StoreFault) -> LogFault {
+        match fault {
+            StoreFault::Failed => LogFault::Device,
+            StoreFault::Memory => LogFault::Memory,
+        }
+    }
+}
+
+impl From<AllocError> for LogFault {
+    ghost from_gives = { λ _ fault. fault ≡ Log.Memory };
+
+    fn from(_error: AllocError) -> LogFault {
+        LogFault::Memory
+    }
+}
+
+impl<T: Drop> From<AllocFailed<T>> for LogFault {
+    ghost from_gives = { λ _ fault. fault ≡ Log.Memory };
+
+    fn from(_error: AllocFailed<T>) -> LogFault {
+        LogFault::Memory
     }
 }

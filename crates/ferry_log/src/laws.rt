@@ -1,13 +1,17 @@
 //! Laws of the log, each the contract of a function with nothing to do.
-ghost use Rattle.std.specs.Prelude.{◌≡◌, ◌⊎◌, ℕ, List, Option, Some, None};
+ghost use Rattle.std.specs.Prelude.{◌≡◌, ◌⊎◌, ◌<◌, ◌++◌, ℕ, List, Option, Some, None};
+ghost use Rattle.std.specs.FinMap.{get};
 ghost use Rattle.ferry_segment.specs.Entry.{IsBytes};
-ghost use Rattle.ferry_disk.specs.Files.{Files, segment_bytes};
-ghost use Rattle.ferry_log.specs.declared.place.Head.{Head};
+ghost use Rattle.ferry_disk.specs.Act.{replaced};
+ghost use Rattle.ferry_disk.specs.Files.{Files, segment_bytes, with_file, without_segment};
+ghost use Rattle.ferry_disk.specs.declared.name.Name.{Name};
+ghost use Rattle.ferry_disk.specs.declared.name.Name.TheVariants as FileName;
+ghost use Rattle.ferry_segment.specs.declared.head.Head.{Head};
 ghost use Rattle.ferry_log.specs.declared.place.Place.{Place};
 ghost use Rattle.ferry_log.specs.Live.{live_blob, live_place};
 ghost use Rattle.ferry_log.specs.Head.{IsHeadAt, IsUnreadAt};
 ghost use Rattle.ferry_log.specs.Log.{Located, IsTransaction, IsUncommitted, IsLog, IsDamaged};
-ghost use Rattle.ferry_log.specs.State.{LogState, IsStateOf, IsBlobAt};
+ghost use Rattle.ferry_log.specs.State.{LogState, IsStateOf, FitsFiles, IsBlobAt, place_in};
 
 /// Files have one log, or one first place that doesn't read, or no committed segment, and never two of these.
 pub fn log_laws()
@@ -19,12 +23,28 @@ pub fn log_laws()
     ensures uncommitted { (files : Files) (t : ℕ) → IsUncommitted files → IsTransaction files t → ⊥ }
     ensures apart { (files : Files) (s at t : ℕ) (log : List Located) → IsDamaged files s at → IsLog files t log → ⊥ }
     ensures one_state { (files : Files) (a b : LogState) → IsStateOf files a → IsStateOf files b → a ≡ b }
-    // The place of a live key is where its blob lies, and a key without a place has no blob.
-    ensures places { (files : Files) (t : ℕ) (log : List Located) (key : List ℕ) (place : Place)
-        → IsLog files t log → live_place key log ≡ Some place
-        → (blob : List ℕ) × (live_blob key log ≡ Some blob)
-        × IsBlobAt (segment_bytes files place.segment) place.at place.size blob }
-    ensures no_place { (key : List ℕ) (log : List Located) → live_place key log ≡ None → live_blob key log ≡ None }
+{}
+
+/// What fits a log: files as they were opened do, and each key has a blob at its place; what a layer above does to other files keeps it.
+pub fn fits_laws()
+    ensures opened { (files : Files) (state : LogState) → IsStateOf files state → FitsFiles files state }
+    // Over files as they were opened, the place of a live key is where its blob lies, and a key without a place has no blob.
+    ensures places { (files : Files) (state : LogState) (is : IsStateOf files state) (key : List ℕ) (place : Place) → place_in state key ≡ Some place
+        → (blob : List ℕ) × (live_blob key is.log ≡ Some blob) × IsBlobAt (segment_bytes files place.segment) place.at place.size blob }
+    ensures no_place { (files : Files) (state : LogState) (is : IsStateOf files state) (key : List ℕ) → place_in state key ≡ None
+        → live_blob key is.log ≡ None }
+    // A blob lies at the place of each live key, also of a learnt one.
+    ensures lies { (files : Files) (state : LogState) (key : List ℕ) (place : Place) → FitsFiles files state → place_in state key ≡ Some place
+        → (blob : List ℕ) × IsBlobAt (segment_bytes files place.segment) place.at place.size blob }
+    // Kept by a plain file that is replaced, by an append to a segment above the transaction, and by the removal of one there that
+    // holds no learnt blob. A call that reads and a sync change no file.
+    ensures replaced { (files : Files) (state : LogState) (name : Name) (bytes : List ℕ) → FitsFiles files state
+        → FitsFiles (replaced files name bytes) state }
+    ensures appended { (files : Files) (state : LogState) (n : ℕ) (bytes : List ℕ) → state.transaction < n → FitsFiles files state
+        → FitsFiles (with_file files (FileName.Segment n) (segment_bytes files n ++ bytes)) state }
+    ensures removed { (files : Files) (state : LogState) (n : ℕ) → state.transaction < n
+        → ((key : List ℕ) (place : Place) → get state.learnt key ≡ Some place → place.segment ≡ n → ⊥) → FitsFiles files state
+        → FitsFiles (without_segment files n) state }
 {}
 
 /// At a place one thing reads, or nothing does.

@@ -8,18 +8,18 @@ mod extents;
 mod fault;
 mod head;
 mod laws;
+mod least;
 mod live;
 mod log;
 mod opening;
 mod place;
 #[cfg(test)]
 mod tests;
-mod whole;
+mod window;
 
 pub use fault::LogFault;
-pub use ferry_segment::Id;
+pub use ferry_segment::Head;
 pub use head::head_at;
-pub use laws::{head_laws, log_laws};
+pub use laws::{fits_laws, head_laws, log_laws};
 pub use log::{Log, open_log};
-pub use place::{Extent, Head, Place};
-pub use whole::{read_part, read_whole};
+pub use place::{Extent, Place};

@@ -1,113 +1,47 @@
-//! The live pairs of a log: keys with the places of their blobs, in no stated order.
-ghost use Rattle.std.specs.Prelude.{◌≡◌, ◌∷◌, [], ◌+◌, ◌<◌, ◌^◌, IfSome, OnOk, OnErr, length};
-ghost use Rattle.std.specs.Option.{option_copied};
-ghost use Rattle.ferry_segment.specs.Entry.{logged, Fits};
-ghost use Rattle.ferry_log.specs.Pairs.{place_in, place_index, KeysDiffer, SetsPlace, DropsPlace, TakesEntries, IsLeastPair, lesser, entry_at};
+//! The places of the live keys, as the log goes on.
+ghost use Rattle.std.specs.Prelude.{◌≡◌, ◌∷◌, [], ◌+◌, ◌≤◌, ◌<◌, ◌^◌, OnOk};
+ghost use Rattle.ferry_segment.specs.Entry.{LogEntry, Fits};
+ghost use Rattle.ferry_segment.specs.Head.{head_of};
+ghost use Rattle.ferry_log.specs.Opening.{TakesEntries, entry_at};
 
 use crate::place::Place;
-use ferry_segment::{Entry, HEAD, Id};
+use ferry_base::{Id, PUT_HEAD};
+use ferry_segment::Head;
 use std::alloc::AllocError;
+use std::collections::BTreeMap;
 
-/// The pair of a live key.
-pub(crate) type Pair = (Id, Place);
+/// The tag of a PUT.
+const PUT: u8 = 0;
 
-/// Where a key stands among pairs, searched from the front.
-fn index_of(live: &[Pair], key: &Id) -> Option<usize>
-    ensures index { result ≡ place_index key.now live.now }
-    ensures within { IfSome result (λ i. i < length live.now) }
-{
-    for (i, pair) in live.iter().enumerate() {
-        if key.cmp(&pair.0).is_eq() {
-            return Some(i);
-        }
-    }
-    None
-}
+/// The tag of a DELETE.
+const DELETE: u8 = 1;
 
-/// The place of a key.
-pub(crate) fn place_of(live: &[Pair], key: &Id) -> Option<Place>
-    ensures { result ≡ place_in live.now key.now }
-{
-    match index_of(live, key) {
-        Some(i) => {
-            let pair = &live[i];
-            Some(pair.1)
-        }
-        None => None,
-    }
-}
-
-/// Sets the place of a key.
-fn put_place(live: &mut Vec<Pair>, key: Id, place: Place) -> Result<(), AllocError>
-    ensures ok { OnOk result (SetsPlace live.old.items live.new.items key place) }
-    ensures err { OnErr result (live.new.items ≡ live.old.items) }
-{
-    match index_of(live, &key) {
-        Some(i) => live[i] = (key, place),
-        None => live.push((key, place))?,
-    }
-    Ok(())
-}
-
-/// Takes a key away.
-fn drop_place(live: &mut Vec<Pair>, key: &Id)
-    ensures { KeysDiffer live.old.items → DropsPlace live.old.items live.new.items key.now }
-{
-    if let Some(i) = index_of(live, key) {
-        live.remove(i);
-    }
-}
-
-/// Takes the entry that begins at `at` of a segment into the live pairs.
+/// Takes the entry with this head, which begins at `at` of a segment, into the places.
 pub(crate) fn take_entry(
-    live: &mut Vec<Pair>,
+    live: &mut BTreeMap<Id, Place>,
     segment: u64,
-    at: usize,
-    entry: &Entry,
+    at: u64,
+    head: &Head,
 ) -> Result<(), AllocError>
-    requires place { at + 41 < 2 ^ 64 }
-    requires fits { Fits (logged entry.now) }
-    ensures ok { OnOk result (TakesEntries (entry_at segment at (logged entry.now) ∷ []) live.old.items live.new.items) }
+    requires place { at + head.now.size < 2 ^ 64 }
+    requires put { head.now.tag ≡ 0 → 41 ≤ head.now.size }
+    ensures taken { (entry : LogEntry) → Fits entry → head.now ≡ head_of entry → OnOk result
+        (TakesEntries (entry_at segment at entry ∷ []) live.old.entries live.new.entries) }
 {
-    match entry {
-        Entry::Put { key, blob } => {
+    match head.tag {
+        PUT => {
             let place = Place {
                 segment,
-                at: (at + HEAD) as u64,
-                size: blob.len() as u32,
+                at: at + PUT_HEAD as u64,
+                size: head.size - PUT_HEAD as u32,
             };
-            put_place(live, *key, place)
+            let key = head.key;
+            live.insert(key, place)?;
         }
-        Entry::Delete { key } => {
-            drop_place(live, key);
-            Ok(())
+        DELETE => {
+            live.remove(&head.key);
         }
-        Entry::Commit => Ok(()),
+        _ => {}
     }
-}
-
-/// The pair of the least key above `after`, or of the least key.
-pub(crate) fn least_above(live: &[Pair], after: Option<&Id>) -> Option<Pair>
-    ensures { IsLeastPair live.now (option_copied after.entry) result }
-{
-    let mut least = None;
-    for pair in live {
-        least = lesser(after, *pair, least);
-    }
-    least
-}
-
-/// The pair where it is above `after` and below the least one so far, which otherwise stays.
-fn lesser(after: Option<&Id>, pair: Pair, least: Option<Pair>) -> Option<Pair>
-    ensures { result ≡ lesser (option_copied after.entry) pair least }
-{
-    let above = match after {
-        Some(after) => after.cmp(&pair.0).is_lt(),
-        None => true,
-    };
-    let below = match &least {
-        Some(least) => pair.0.cmp(&least.0).is_lt(),
-        None => true,
-    };
-    if above && below { Some(pair) } else { least }
+    Ok(())
 }

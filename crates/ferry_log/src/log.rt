@@ -1,20 +1,24 @@
 //! An opened log.
-ghost use Rattle.std.specs.Prelude.{◌≡◌, ◌<◌, IfOk, IfErr, IfSome, length, slice_get};
-ghost use Rattle.std.specs.Option.{option_copied};
-ghost use Rattle.std.specs.FinMap as map;
-ghost use Rattle.ferry_disk.specs.Device.{files_told};
-ghost use Rattle.ferry_log.specs.Fault.{HasFaultCause, IsRefused};
-ghost use Rattle.ferry_log.specs.State.{IsStateOf, IsLeastAbove, OpensAs, RefusesAs};
+ghost use Rattle.std.specs.Prelude.{◌≡◌, IfOk, IfErr, IfSome, MatchResult, slice_get};
 ghost use Rattle.std.specs.List.Sorted.{IsStrictlyIncreasing};
+ghost use Rattle.std.specs.Option.{option_copied};
+ghost use Rattle.std.specs.FinMap.{empty};
+ghost use Rattle.ferry_disk.specs.Files.{Files, segment_numbers};
+ghost use Rattle.ferry_disk.specs.Device.{KeepsTold, HasCause, told_files};
+ghost use Rattle.ferry_log.specs.Fault.{IsRefused, log_failed};
+ghost use Rattle.ferry_log.specs.Window.{Tells};
+ghost use Rattle.ferry_log.specs.State.{IsStateOf, IsLeastAbove, place_in};
 
 use crate::extents::with_live;
-use crate::fault::{LogFault, of_store};
-use crate::live::{Pair, least_above, place_of};
+use crate::fault::LogFault;
+use crate::least::{least_in, lesser, place_at};
 use crate::opening::{log_length, take_segments};
 use crate::place::{Extent, Place};
+use crate::window::no_window;
+use ferry_base::Id;
 use ferry_disk::Shelf;
-use ferry_segment::Id;
 use std::alloc::Global;
+use std::collections::BTreeMap;
 use std::marker::Model;
 
 /// The committed log of a repository: its transaction, the places of its live keys, and its segments.
@@ -22,9 +26,10 @@ use std::marker::Model;
 /// Source: BorgBackup 1.2, Internals, Repository.
 #[derive(Drop)]
 pub struct Log {
-    transaction: u64,
-    live: Vec<Pair>,
-    extents: Vec<Extent>,
+    pub(crate) transaction: u64,
+    pub(crate) opened: BTreeMap<Id, Place>,
+    pub(crate) extents: Vec<Extent>,
+    pub(crate) learnt: BTreeMap<Id, Place>,
 }
 
 impl Model for Log {
@@ -36,60 +41,52 @@ impl Model for Log {
 
     ghost use Rattle.std.specs.FinMap.{from_entries};
     ghost use Rattle.ferry_log.specs.Live.{key_cmp};
-    ghost use Rattle.ferry_log.specs.Pairs.{KeysDiffer};
 
     ghost view = { λ l. record {
       transaction = l.transaction;
-      live = from_entries {R = key_cmp} l.live.items;
+      opened = from_entries {R = key_cmp} l.opened.entries;
       extents = l.extents.items;
+      learnt = from_entries {R = key_cmp} l.learnt.entries;
     } };
-
-    ghost invariant = { λ l. KeysDiffer l.live.items };
 }
 
 /// Reads the log of a repository up to its transaction, the last committed segment.
 ///
-/// Segments above the transaction don't count, damaged or not. Each segment is read whole into one buffer, so the memory
-/// taken is that of the largest segment and of the live pairs.
+/// Segments above the transaction don't count, damaged or not. A segment is read in windows of at most 65536 bytes, once, and the
+/// transaction's own twice, so the memory taken is that of the places of the live keys and of one window.
 pub fn open_log<S: Shelf>(alloc: Global, shelf: &mut S) -> Result<Log, LogFault>
-    ensures log { IfOk result (λ log. IfSome (S.told shelf.old) (λ t. IsStateOf t.files log)) }
-    ensures refused { IfErr result (λ fault. IfSome (S.told shelf.old) (λ t. IsRefused t.files fault)) }
-    ensures same { files_told (S.told shelf.new) ≡ files_told (S.told shelf.old) }
-    ensures cause { HasFaultCause (S.faults shelf.old) (S.faults shelf.new) result }
+    ensures log { IfOk result (λ log. IfSome (S.told shelf.old) (λ t. IsStateOf (told_files t) log)) }
+    ensures refused { IfErr result (λ fault. IfSome (S.told shelf.old) (λ t. IsRefused (told_files t) fault)) }
+    ensures learnt { IfOk result (λ log. log.learnt ≡ empty) }
+    ensures same { KeepsTold log_failed (S.told shelf.old) (S.told shelf.new) result }
+    ensures cause { HasCause log_failed (S.faults shelf.old) (S.faults shelf.new) result }
 {
-    let numbers = match shelf.segments(alloc) {
-        Ok(numbers) => numbers,
-        Err(fault) => return Err(of_store(fault)),
-    };
+    let numbers = shelf.segments(alloc)?;
     open_segments(alloc, shelf, &numbers)
 }
 
 /// Reads the log of these segments, which are all that are there.
 fn open_segments<S: Shelf>(alloc: Global, shelf: &mut S, numbers: &[u64]) -> Result<Log, LogFault>
     requires { IsStrictlyIncreasing numbers.now }
-    ensures log { IfOk result (λ log. IfSome (S.told shelf.old) (λ t. OpensAs t.files numbers.now log)) }
-    ensures refused { IfErr result (λ fault. IfSome (S.told shelf.old) (λ t. RefusesAs t.files numbers.now fault)) }
-    ensures same { files_told (S.told shelf.new) ≡ files_told (S.told shelf.old) }
-    ensures cause { HasFaultCause (S.faults shelf.old) (S.faults shelf.new) result }
+    ensures opened { (files : Files) → Tells (S.told shelf.old) files → numbers.now ≡ segment_numbers files → MatchResult result (IsStateOf files)
+        (IsRefused files) }
+    ensures learnt { IfOk result (λ log. log.learnt ≡ empty) }
+    ensures same { KeepsTold log_failed (S.told shelf.old) (S.told shelf.new) result }
+    ensures cause { HasCause log_failed (S.faults shelf.old) (S.faults shelf.new) result }
 {
-    let mut bytes = Vec::new(alloc);
-    let count = match log_length(shelf, numbers, &mut bytes) {
-        Ok(count) => count,
-        Err(fault) => return Err(fault),
-    };
+    let mut window = no_window(alloc);
+    let count = log_length(shelf, numbers, &mut window)?;
     let transaction = numbers[count - 1];
     let numbers = &numbers[..count];
-    let mut live = Vec::new(alloc);
+    let mut opened = BTreeMap::new(alloc);
     let mut extents = Vec::new(alloc);
-    match take_segments(shelf, numbers, &mut bytes, &mut live, &mut extents) {
-        Ok(()) => {}
-        Err(fault) => return Err(fault),
-    }
-    let extents = with_live(extents, numbers, &live);
+    take_segments(shelf, numbers, &mut window, &mut opened, &mut extents)?;
+    let extents = with_live(extents, numbers, &opened);
     Ok(Log {
         transaction,
-        live,
+        opened,
         extents,
+        learnt: BTreeMap::new(alloc),
     })
 }
 
@@ -103,16 +100,21 @@ impl Log {
 
     /// The place of a key's blob, `None` where the key isn't live.
     pub fn find(&self, key: &Id) -> Option<Place>
-        ensures { result ≡ map.get self.now.live key.now }
+        ensures { result ≡ place_in self.now key.now }
     {
-        place_of(&self.live, key)
+        match place_at(&self.learnt, key) {
+            Some(place) => Some(place),
+            None => place_at(&self.opened, key),
+        }
     }
 
     /// The least live key above `after` in byte order, or the least one, with the place of its blob.
     pub fn next_key(&self, after: Option<&Id>) -> Option<(Id, Place)>
-        ensures { IsLeastAbove self.now.live (option_copied after.entry) result }
+        ensures { IsLeastAbove self.now (option_copied after.entry) result }
     {
-        least_above(&self.live, after)
+        let learnt = least_in(&self.learnt, after);
+        let opened = least_in(&self.opened, after);
+        lesser(learnt, opened)
     }
 
     /// Segment number `i` of the log, counted from 0 in increasing order of numbers.

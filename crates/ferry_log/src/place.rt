@@ -1,5 +1,4 @@
 //! Places in the segments of a repository.
-use ferry_segment::Id;
 
 /// Where the blob of a PUT lies: its segment, the offset of its first byte in it, and its length in bytes.
 #[derive(Clone, Copy, Debug, PartialEq, Eq)]
@@ -15,12 +14,4 @@ pub struct Extent {
     pub segment: u64,
     pub size: u64,
     pub live: u64,
-}
-
-/// The head of an entry: its tag (0 PUT, 1 DELETE, 2 COMMIT), its key, all zero bytes for a COMMIT, and its size in bytes.
-#[derive(Clone, Copy, Debug, PartialEq, Eq)]
-pub struct Head {
-    pub tag: u8,
-    pub key: Id,
-    pub size: u32,
 }

@@ -1,6 +1,7 @@
-use crate::{Extent, Head, Log, LogFault, Place, head_at, open_log};
+use crate::{Extent, Head, LogFault, Place, head_at, open_log};
+use ferry_base::{BLOB_LIMIT, Id};
 use ferry_disk::{MemoryShelf, Name};
-use ferry_segment::{COMMIT, COMMIT_SEGMENT, ENTRY_LIMIT, HEAD, Id, MAGIC, delete_entry, put_head};
+use ferry_segment::{COMMIT, COMMIT_SEGMENT, MAGIC, delete_entry, put_head};
 use std::alloc::{AllocError, Global};
 use std::test::Fail;
 
@@ -9,17 +10,10 @@ const KEY: Id = [0x11; 32];
 /// A segment of one PUT of the key.
 fn put(alloc: Global, blob: &[u8]) -> Result<Vec<u8>, AllocError> {
     let mut bytes = Vec::from_slice(alloc, &MAGIC)?;
-    if blob.len() <= ENTRY_LIMIT - HEAD {
+    if blob.len() <= BLOB_LIMIT {
         bytes.extend_from_slice(&put_head(&KEY, blob))?;
         bytes.extend_from_slice(blob)?;
     }
-    Ok(bytes)
-}
-
-/// The same with a COMMIT behind it.
-fn put_and_commit(alloc: Global, blob: &[u8]) -> Result<Vec<u8>, AllocError> {
-    let mut bytes = put(alloc, blob)?;
-    bytes.extend_from_slice(&COMMIT)?;
     Ok(bytes)
 }
 
@@ -44,14 +38,6 @@ fn changed(bytes: Vec<u8>) -> Vec<u8> {
     bytes
 }
 
-/// The log of segments that are numbered from 0.
-fn log_of(alloc: Global, segments: Vec<Vec<u8>>) -> Result<Log, LogFault> {
-    match shelf_of(alloc, segments) {
-        Ok(mut shelf) => open_log(alloc, &mut shelf),
-        Err(_) => Err(LogFault::Memory),
-    }
-}
-
 /// A shelf of segments that are numbered from 0.
 fn shelf_of(alloc: Global, segments: Vec<Vec<u8>>) -> Result<MemoryShelf, AllocError> {
     let mut files = Vec::new(alloc);
@@ -63,107 +49,85 @@ fn shelf_of(alloc: Global, segments: Vec<Vec<u8>>) -> Result<MemoryShelf, AllocE
     MemoryShelf::new(alloc, files, Vec::new(alloc))
 }
 
-/// The size of the key's blob, where it is live.
-fn size_of(log: &Log) -> Option<u32> {
-    log.find(&KEY).map(|place| place.size)
-}
-
-/// The fault of a log that can't be read.
-fn fault_of(log: Result<Log, LogFault>) -> Option<LogFault> {
-    match log {
-        Ok(_) => None,
-        Err(fault) => Some(fault),
-    }
+/// The size of the key's blob in the log of these segments, where it is live.
+fn size_in(alloc: Global, segments: Vec<Vec<u8>>) -> Result<Option<u32>, LogFault> {
+    let mut shelf = shelf_of(alloc, segments)?;
+    let log = open_log(alloc, &mut shelf)?;
+    Ok(log.find(&KEY).map(|place| place.size))
 }
 
 #[test]
 fn the_last_entry_of_a_key_counts_up_to_the_last_commit(rt: HostRuntime) -> Result<(), Fail> {
     let alloc = rt.alloc();
-    let log = log_of(alloc, vec![in alloc; commit(alloc)?]?)?;
-    assert_eq!(rt; size_of(&log), None);
-    let (first, last) = (put(alloc, b"abc")?, put(alloc, b"abcde")?);
-    let log = log_of(
-        alloc,
-        vec![in alloc; first, delete(alloc)?, last, commit(alloc)?]?,
-    )?;
-    assert_eq!(rt; size_of(&log), Some(5));
-    let log = log_of(
-        alloc,
-        vec![in alloc; put(alloc, b"abc")?, delete(alloc)?, commit(alloc)?]?,
-    )?;
-    assert_eq!(rt; size_of(&log), None);
-    let (first, last) = (put(alloc, b"abc")?, put(alloc, b"abcde")?);
-    let none = log_of(alloc, vec![in alloc; first, delete(alloc)?, last]?);
-    assert_eq!(rt; fault_of(none), Some(LogFault::NoCommit));
-    Ok(())
-}
-
-#[test]
-fn damage_counts_up_to_the_last_commit(rt: HostRuntime) -> Result<(), Fail> {
-    let alloc = rt.alloc();
-    let (first, last) = (put(alloc, b"abc")?, put(alloc, b"abcde")?);
-    let log = log_of(alloc, vec![in alloc; first, commit(alloc)?, last]?)?;
-    assert_eq!(rt; size_of(&log), Some(3));
-    let (first, last) = (put(alloc, b"abc")?, changed(put(alloc, b"abcde")?));
-    let log = log_of(alloc, vec![in alloc; first, commit(alloc)?, last]?)?;
-    assert_eq!(rt; size_of(&log), Some(3));
-    let (first, last) = (changed(put(alloc, b"abc")?), put(alloc, b"abcde")?);
-    let damaged = log_of(alloc, vec![in alloc; first, commit(alloc)?, last]?);
-    assert_eq!(rt;
-        fault_of(damaged),
-        Some(LogFault::Damaged { segment: 0, at: 8 })
-    );
+    let mut long = Vec::new(alloc);
+    long.resize(140_000, 7)?;
+    let damaged = LogFault::Damaged { segment: 0, at: 8 };
+    for (segments, want) in [
+        (vec![in alloc; commit(alloc)?]?, Ok(None)),
+        (
+            vec![in alloc;
+                put(alloc, b"abc")?,
+                delete(alloc)?,
+                put(alloc, &long)?,
+                commit(alloc)?,
+            ]?,
+            Ok(Some(140_000)),
+        ),
+        (
+            vec![in alloc; put(alloc, &long)?, delete(alloc)?, commit(alloc)?]?,
+            Ok(None),
+        ),
+        (
+            vec![in alloc; put(alloc, b"abc")?, delete(alloc)?]?,
+            Err(LogFault::NoCommit),
+        ),
+        (
+            vec![in alloc;
+                put(alloc, b"abc")?,
+                commit(alloc)?,
+                changed(put(alloc, &long)?),
+            ]?,
+            Ok(Some(3)),
+        ),
+        (
+            vec![in alloc; changed(put(alloc, &long)?), commit(alloc)?]?,
+            Err(damaged),
+        ),
+    ] {
+        assert_eq!(rt; size_in(alloc, segments), want);
+    }
     Ok(())
 }
 
 #[test]
 fn an_empty_blob_by_each_call(rt: HostRuntime) -> Result<(), Fail> {
     let alloc = rt.alloc();
-    let log = log_of(alloc, vec![in alloc; put_and_commit(alloc, b"")?]?)?;
+    let mut shelf = shelf_of(alloc, vec![in alloc; put(alloc, b"")?, commit(alloc)?]?)?;
+    let log = open_log(alloc, &mut shelf)?;
     let place = Place {
         segment: 0,
         at: 49,
         size: 0,
     };
-    assert_eq!(rt; log.transaction(), 0);
-    assert_eq!(rt; log.find(&KEY), Some(place));
-    assert_eq!(rt; log.next_key(None), Some((KEY, place)));
-    assert_eq!(rt; log.next_key(Some(&KEY)), None);
-    assert_eq!(rt;
-        log.extent(0),
-        Some(Extent {
-            segment: 0,
-            size: 58,
-            live: 41
-        })
-    );
-    assert_eq!(rt; log.extent(1), None);
-    Ok(())
-}
-
-#[test]
-fn a_head_at_each_place(rt: HostRuntime) -> Result<(), Fail> {
-    let alloc = rt.alloc();
-    let mut shelf = shelf_of(alloc, vec![in alloc; put_and_commit(alloc, b"")?]?)?;
-    let put = Head {
+    let extent = Extent {
+        segment: 0,
+        size: 49,
+        live: 41,
+    };
+    assert!(rt; log.transaction() == 1 && log.find(&KEY) == Some(place));
+    assert!(rt; log.next_key(None) == Some((KEY, place)) && log.next_key(Some(&KEY)).is_none());
+    assert!(rt; log.extent(0) == Some(extent) && log.extent(2).is_none());
+    let head = Head {
         tag: 0,
         key: KEY,
         size: 41,
     };
-    let end = Head {
-        tag: 2,
-        key: [0; 32],
-        size: 9,
-    };
     for (segment, at, want) in [
-        (0, 8, Ok(Some(put))),
-        (0, 49, Ok(Some(end))),
-        (0, 58, Ok(None)),
+        (0, 8, Ok(Some(head))),
+        (0, 49, Ok(None)),
         (0, 9, Err(LogFault::Damaged { segment: 0, at: 9 })),
         (0, 50, Err(LogFault::Damaged { segment: 0, at: 50 })),
-        (0, 59, Err(LogFault::Damaged { segment: 0, at: 59 })),
         (7, 0, Ok(None)),
-        (7, 1, Err(LogFault::Damaged { segment: 7, at: 1 })),
     ] {
         assert_eq!(rt;
             head_at(alloc, &mut shelf, segment, at),
@@ -171,9 +135,5 @@ fn a_head_at_each_place(rt: HostRuntime) -> Result<(), Fail> {
             "{segment} {at}"
         );
     }
-    let files = vec![in alloc; (Name::Segment(0), commit(alloc)?)]?;
-    let mut failing = MemoryShelf::new(alloc, files, vec![in alloc; 2]?)?;
-    assert_eq!(rt; head_at(alloc, &mut failing, 0, 8), Err(LogFault::Device));
-    assert_eq!(rt; head_at(alloc, &mut failing, 0, 8), Ok(Some(end)));
     Ok(())
 }

@@ -1,2 +1,3 @@
 pub mod XorLemmas
 pub mod PbkdfLemmas
+pub mod CallerLemmas

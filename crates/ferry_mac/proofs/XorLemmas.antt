@@ -1,5 +1,6 @@
 -- Lemmas on the xor of lists, for the loops that write one.
-use Rattle.std.proofs.Common.{◌≡◌, ℕ, zero, suc, ◌+◌, ◌<◌, List, [], ◌∷◌, ◌++◌, length, map, take, drop, replicate, get_or, set, bit_xor, refl, ap, add-one, arith}
+use Rattle.std.proofs.Common.{◌≡◌, ℕ, zero, suc, ◌+◌, ◌<◌, List, [], ◌∷◌, ◌++◌, length, map, take, drop, replicate, get_or, set, bit_xor, refl, ap, add-one}
+use Rattle.std.proofs.Common.{arith}
 use Rattle.std.specs.Simd.Lanes.{zip2}
 
 map_over_suc : (f : ℕ → ℕ) (xs : List ℕ) (i : ℕ) → i < length xs

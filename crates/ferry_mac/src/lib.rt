@@ -12,8 +12,6 @@ mod mac256;
 mod mac512;
 mod pbkdf;
 #[cfg(test)]
-mod plain;
-#[cfg(test)]
 mod tests;
 
 pub use hkdf::hkdf512;

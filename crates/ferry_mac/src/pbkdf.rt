@@ -30,7 +30,7 @@ pub fn pbkdf2(passphrase: &[u8], salt: &[u8], iterations: u32) -> [u8; 32]
 }
 
 /// Xors each byte of `sum` with the byte of `other` at its place.
-pub(crate) fn xor_into(sum: &mut [u8; 32], other: &[u8; 32])
+fn xor_into(sum: &mut [u8; 32], other: &[u8; 32])
     ensures xored { sum.new ≡ xor_of sum.old other.now }
 {
     for place in 0..32usize {

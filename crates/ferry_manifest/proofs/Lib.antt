@@ -1,15 +1,5 @@
 pub mod WalkLemmas
 pub mod PlaceLemmas
 pub mod TagLemmas
-pub mod ReadLemmas
-pub mod OrderLemmas
-pub mod PackableLemmas
-pub mod WriteLemmas
-pub mod OrderedLemmas
-pub mod PartsLemmas
-pub mod AgainLemmas
-pub mod LawLemmas
-pub mod SampleLemmas
-pub mod RecordLemmas
-pub mod RecordAgainLemmas
-pub mod RecordLawLemmas
+pub mod Manifests
+pub mod Records

@@ -1,5 +1,6 @@
 -- The walk through a map, pair by pair.
-use Rattle.std.proofs.Common.{◌≡◌, ℕ, suc, ◌+◌, ◌-◌, ◌≤◌, ◌<◌, true, false, List, ◌++◌, length, take, drop, Option, Some, None, refl, sym, ap, subst, ◌∙◌, arith}
+use Rattle.std.proofs.Common.{◌≡◌, ℕ, suc, ◌+◌, ◌-◌, ◌≤◌, ◌<◌, true, false, List, ◌++◌, length, take, drop, Option, Some, None, refl, sym, ap, subst, ◌∙◌}
+use Rattle.std.proofs.Common.{arith}
 use Rattle.std.proofs.lemmas.List.{take-append-drop, take_all, length-drop}
 use Rattle.ferry_msgpack.specs.declared.fault.PackFault.{PackFault}
 use Rattle.ferry_msgpack.specs.Tree.{Tree}
@@ -16,11 +17,13 @@ unfolding value_front
 value_front-spelled t front rest spelled = ap was_read (value_again 64 t front rest spelled)
 
 -- what `read` found at the place 0
-pub value_front-found : (bytes : List ℕ) (t : Tree) (stop : ℕ) → StandsAt bytes 0 t stop → value_front bytes ≡ Some (t, take (length bytes - stop) (drop stop bytes))
+pub value_front-found : (bytes : List ℕ) (t : Tree) (stop : ℕ) → StandsAt bytes 0 t stop
+    → value_front bytes ≡ Some (t, take (length bytes - stop) (drop stop bytes))
 value_front-found bytes t stop stands =
     let size : stop - 0 ≡ stop = omega arith in
     let spelled : Spells t (take stop bytes) = subst (λ (n : ℕ). Spells t (take n bytes)) size stands.spelled in
-    let rest : take (length bytes - stop) (drop stop bytes) ≡ drop stop bytes = take_all (length bytes - stop) (drop stop bytes) (omega (arith, length-drop stop bytes)) in
+    let rest : take (length bytes - stop) (drop stop bytes) ≡ drop stop bytes =
+    take_all (length bytes - stop) (drop stop bytes) (omega (arith, length-drop stop bytes)) in
     rw rest (ap value_front (sym (take-append-drop stop bytes)) ∙ value_front-spelled t (take stop bytes) (drop stop bytes) spelled)
 
 pub value_front-broken : (bytes : List ℕ) (fault : PackFault) → Breaks bytes fault → value_front bytes ≡ None
@@ -44,14 +47,16 @@ module _ (name : List ℕ) (count place : ℕ) (rest : List ℕ) (total : Option
       let one : behind_name name (count - place) rest ≡ None = rw (k, read) refl in
       sym so_far ∙ one
 
-  pub value_lost : (key : Tree) (after : List ℕ) → place < count → value_front rest ≡ Some (key, after) → is_raw name key ≡ false → value_front after ≡ None → total ≡ None
+  pub value_lost : (key : Tree) (after : List ℕ) → place < count → value_front rest ≡ Some (key, after) → is_raw name key ≡ false → value_front after ≡ None
+      → total ≡ None
   unfolding behind_name
   value_lost key after lt read other lost =
       let k : count - place ≡ suc (count - (place + 1)) = omega arith in
       let one : behind_name name (count - place) rest ≡ None = rw (k, read, other, lost) refl in
       sym so_far ∙ one
 
-  pub name_later : (key : Tree) (after : List ℕ) (value : Tree) (next : List ℕ) → place < count → value_front rest ≡ Some (key, after) → is_raw name key ≡ false → value_front after ≡ Some (value, next)
+  pub name_later : (key : Tree) (after : List ℕ) (value : Tree) (next : List ℕ) → place < count → value_front rest ≡ Some (key, after)
+      → is_raw name key ≡ false → value_front after ≡ Some (value, next)
       → behind_name name (count - (place + 1)) next ≡ total
   unfolding behind_name
   name_later key after value next lt read other found =

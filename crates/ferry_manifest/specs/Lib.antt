@@ -2,6 +2,6 @@ pub mod Fault
 pub mod Place
 pub mod Walk
 pub mod Tag
+pub mod Values
 pub mod Manifest
-pub mod Writing
-pub mod Archive
+pub mod Record

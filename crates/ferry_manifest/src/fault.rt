@@ -1,6 +1,10 @@
-ghost use Rattle.std.specs.Prelude.{◌≡◌};
-ghost use Rattle.ferry_manifest.specs.declared.fault.MetaFault.TheVariants.{Memory};
+//! Why a manifest or a record isn't read or written.
 
+ghost use Rattle.std.specs.Prelude.{◌≡◌};
+ghost use Rattle.ferry_fields.specs.declared.fault.MapFault.{MapFault};
+ghost use Rattle.ferry_manifest.specs.declared.fault.MetaFault.TheVariants.{Pack, Memory};
+
+use ferry_fields::MapFault;
 use std::alloc::{AllocError, AllocFailed};
 use thiserror::Error;
 
@@ -10,22 +14,22 @@ use thiserror::Error;
 pub enum MetaFault {
     /// No msgpack map, or bytes behind it.
     #[error("no msgpack map, or bytes behind it")]
-    Pack,
+    Pack = 1,
     /// A field is missing, has another kind or length, or the version isn't 1.
     #[error("a field is missing, has another kind or length, or the version isn't 1")]
-    Field,
+    Field = 2,
     /// There is no authentication tag.
     #[error("there is no authentication tag")]
-    TagMissing,
+    TagMissing = 3,
     /// The authentication tag is another one.
     #[error("the authentication tag is another one")]
-    Tag,
+    Tag = 4,
     /// The packed bytes are more than 20971436.
     #[error("the packed bytes are more than 20971436")]
-    TooLarge,
+    TooLarge = 5,
     /// Memory ran out.
     #[error("out of memory")]
-    Memory,
+    Memory = 6,
 }
 
 impl MetaFault {
@@ -35,14 +39,7 @@ impl MetaFault {
     pub fn number(&self) -> u8
         ensures number { result ≡ number_of_fault self.now }
     {
-        match self {
-            MetaFault::Pack => 1,
-            MetaFault::Field => 2,
-            MetaFault::TagMissing => 3,
-            MetaFault::Tag => 4,
-            MetaFault::TooLarge => 5,
-            MetaFault::Memory => 6,
-        }
+        *self as u8
     }
 }
 
@@ -59,5 +56,16 @@ impl<T: Drop> From<AllocFailed<T>> for MetaFault {
 
     fn from(_error: AllocFailed<T>) -> MetaFault {
         MetaFault::Memory
+    }
+}
+
+impl From<MapFault> for MetaFault {
+    ghost from_gives = { λ found fault. (found ≡ MapFault.Pack → fault ≡ Pack) × (found ≡ MapFault.Memory → fault ≡ Memory) };
+
+    fn from(found: MapFault) -> MetaFault {
+        match found {
+            MapFault::Pack => MetaFault::Pack,
+            MapFault::Memory => MetaFault::Memory,
+        }
     }
 }

@@ -7,28 +7,19 @@
 //! and file formats", The manifest, and Archives).
 #![tactic(auto)]
 
-mod archive;
 mod fault;
-mod laws;
 mod manifest;
 mod place;
-mod reading;
-mod record_laws;
-mod record_reading;
-#[cfg(test)]
-mod record_tests;
-mod record_writing;
+mod record;
 mod tag;
-#[cfg(test)]
-mod tests;
-mod writing;
+mod values;
 
-pub use archive::{Archive, Ids};
 pub use fault::MetaFault;
-pub use laws::manifest_laws;
-pub use manifest::{ArchiveRef, ArchiveRefs, Bytes, Id, Manifest, Names};
-pub use reading::read_manifest;
-pub use record_laws::archive_laws;
-pub use record_reading::read_archive;
-pub use record_writing::write_archive;
-pub use writing::write_manifest;
+pub use manifest::laws::manifest_laws;
+pub use manifest::reading::read_manifest;
+pub use manifest::writing::write_manifest;
+pub use manifest::{ArchiveRef, ArchiveRefs, Manifest, Names};
+pub use record::laws::archive_laws;
+pub use record::reading::read_archive;
+pub use record::writing::write_archive;
+pub use record::{Archive, Ids};

@@ -2,11 +2,15 @@
 
 ghost use Rattle.std.specs.Prelude.{◌≡◌};
 
+pub(crate) mod laws;
+pub(crate) mod reading;
+#[cfg(test)]
+mod tests;
+pub(crate) mod writing;
+
+use ferry_base::{Bytes, Id};
 use ferry_msgpack::Value;
 use std::marker::Model;
-
-/// The 32 bytes that name an object, here an archive's record.
-pub type Id = [u8; 32];
 
 /// The root object of a repository.
 ///
@@ -34,36 +38,6 @@ pub struct ArchiveRef {
     pub id: Id,
     /// When it was made, as text.
     pub time: Bytes,
-}
-
-/// Some bytes, which contracts see as a list.
-#[derive(Drop)]
-pub struct Bytes {
-    bytes: Vec<u8>,
-}
-
-impl Model for Bytes {
-    ghost use Rattle.std.specs.Prelude.{ℕ, List};
-
-    ghost Value = { List ℕ };
-
-    ghost view = { λ a. a.bytes.items };
-}
-
-impl Bytes {
-    /// These bytes.
-    pub fn new(bytes: Vec<u8>) -> Bytes
-        ensures bytes { result ≡ bytes.items }
-    {
-        Bytes { bytes }
-    }
-
-    /// The bytes.
-    pub fn as_slice(&self) -> &[u8]
-        ensures bytes { result.now ≡ self.now }
-    {
-        self.bytes.as_slice()
-    }
 }
 
 /// Some names, which contracts see as a list of lists.

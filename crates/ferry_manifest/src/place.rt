@@ -2,8 +2,9 @@
 
 ghost use Rattle.std.specs.Prelude.{◌≡◌, ◌-◌, ◌≤◌, ◌++◌, IfOk, IfErr, IfSome, length, option_map, replicate, take};
 ghost use Rattle.std.specs.Int.{w16, w32};
-ghost use Rattle.ferry_msgpack.specs.View.{view};
-ghost use Rattle.ferry_manifest.specs.Walk.{behind_name, behind_name_in_map, behind_raw64, behind_tag, count_front, is_raw, is_raw64, map_front, value_front, zeroed};
+ghost use Rattle.ferry_msgpack.specs.View.{value_view};
+ghost use Rattle.ferry_manifest.specs.Walk.{behind_name, behind_name_in_map, behind_raw64, behind_tag, count_front, is_raw, is_raw64, map_front, value_front};
+ghost use Rattle.ferry_manifest.specs.Walk.{zeroed};
 
 use crate::fault::MetaFault;
 use ferry_msgpack::{PackFault, Value, read};
@@ -12,7 +13,7 @@ use std::alloc::{AllocError, Global};
 /// The value in front, and what follows it.
 #[tactic(auto, unfolding(crate::specs::Walk::value_front))]
 fn value_front(alloc: Global, bytes: &[u8]) -> Result<Option<(Value, &[u8])>, MetaFault>
-    ensures value { IfOk result (λ found. option_map (λ x. (view x.0, x.1.now)) found ≡ value_front bytes.now) }
+    ensures value { IfOk result (λ found. option_map (λ x. (value_view x.0, x.1.now)) found ≡ value_front bytes.now) }
     ensures fault { IfErr result (λ fault. fault ≡ MetaFault.Memory) }
 {
     match read(alloc, bytes, 0) {
@@ -71,7 +72,7 @@ fn map_front(bytes: &[u8]) -> Option<(u64, &[u8])>
 
 /// Whether a value is this raw.
 fn is_raw(value: &Value, name: &[u8]) -> bool
-    ensures { result ≡ is_raw name.now (view value.now) }
+    ensures { result ≡ is_raw name.now (value_view value.now) }
 {
     match value {
         Value::Raw(content) => content.as_slice() == name,
@@ -81,7 +82,7 @@ fn is_raw(value: &Value, name: &[u8]) -> bool
 
 /// Whether a value is a raw of 64 bytes.
 fn is_raw64(value: &Value) -> bool
-    ensures { result ≡ is_raw64 (view value.now) }
+    ensures { result ≡ is_raw64 (value_view value.now) }
 {
     match value {
         Value::Raw(content) => content.len() == 64,

@@ -1,4 +1,4 @@
-//! The authentication tag.
+//! The authentication tag of a packed map, made for one kind of map by its info text.
 
 ghost use Rattle.std.specs.Prelude.{◌≡◌, ◌++◌, IfOk, IfErr};
 ghost use Rattle.ferry_mac.specs.Hmac.{hmac512};
@@ -9,10 +9,10 @@ use crate::place::zeroed;
 use ferry_mac::{Keys, hkdf512, hmac512};
 use std::alloc::{AllocError, Global};
 
-/// Names the use of the tag's key (BorgBackup 1.2, `crypto/key.py`, `_tam_key`).
-const USE: &[u8] = b"borg-metadata-authentication-manifest";
+/// The info text for the key of a manifest's tag (BorgBackup 1.2, `crypto/key.py`, `_tam_key`).
+pub(crate) const MANIFEST_INFO: &[u8] = b"borg-metadata-authentication-manifest";
 
-/// The authentication tag that a manifest states, and its salt.
+/// An authentication tag as it is stated, and its salt.
 #[derive(Clone, Copy)]
 pub(crate) struct StatedTag {
     pub(crate) hmac: [u8; 64],
@@ -23,37 +23,39 @@ pub(crate) struct StatedTag {
 #[tactic(auto, unfolding(crate::specs::Tag::tag_of))]
 pub(crate) fn tag_of(
     alloc: Global,
+    info: &[u8],
     keys: &Keys,
     salt: &[u8; 64],
     bytes: &[u8],
 ) -> Result<[u8; 64], MetaFault>
-    ensures tag { IfOk result (λ tag. tag ≡ tag_of keys.now salt.now bytes.now) }
+    ensures tag { IfOk result (λ tag. tag ≡ tag_of info.now keys.now salt.now bytes.now) }
     ensures fault { IfErr result (λ fault. fault ≡ MetaFault.Memory) }
 {
     let blank = zeroed(alloc, bytes)?;
-    Ok(tag_of_blank(alloc, keys, salt, blank.as_slice())?)
+    Ok(tag_of_blank(alloc, info, keys, salt, blank.as_slice())?)
 }
 
 /// The tag of packed bytes that have 64 zero bytes in the tag's place.
 pub(crate) fn tag_of_blank(
     alloc: Global,
+    info: &[u8],
     keys: &Keys,
     salt: &[u8; 64],
     blank: &[u8],
 ) -> Result<[u8; 64], AllocError>
-    ensures tag { IfOk result (λ tag. tag ≡ hmac512 (tag_key keys.now salt.now) blank.now) }
+    ensures tag { IfOk result (λ tag. tag ≡ hmac512 (tag_key info.now keys.now salt.now) blank.now) }
 {
-    let key = tag_key(alloc, keys, salt)?;
+    let key = tag_key(alloc, info, keys, salt)?;
     Ok(hmac512(&key, blank))
 }
 
 /// The key of the tag.
 #[tactic(auto, unfolding(crate::specs::Tag::tag_key))]
-fn tag_key(alloc: Global, keys: &Keys, salt: &[u8; 64]) -> Result<[u8; 64], AllocError>
-    ensures key { IfOk result (λ key. key ≡ tag_key keys.now salt.now) }
+fn tag_key(alloc: Global, info: &[u8], keys: &Keys, salt: &[u8; 64]) -> Result<[u8; 64], AllocError>
+    ensures key { IfOk result (λ key. key ≡ tag_key info.now keys.now salt.now) }
 {
     let secrets = secrets(alloc, keys)?;
-    Ok(hkdf512(secrets.as_slice(), salt, USE))
+    Ok(hkdf512(secrets.as_slice(), salt, info))
 }
 
 /// The secrets one behind the other.

@@ -5,7 +5,9 @@ use Rattle.ferry_msgpack.specs.declared.fault.PackFault.{PackFault}
 use Rattle.ferry_msgpack.specs.declared.fault.PackFault.TheVariants.{Memory}
 use Rattle.ferry_msgpack.specs.Tree.{Tree, Pairs, no_pairs, put}
 use Rattle.ferry_msgpack.specs.Spelling.{Spells}
-use Rattle.ferry_msgpack.specs.Faults.{BreaksKey, key_missing, key_refused, key_not_raw, key_ends, BreaksWithin, value_missing, value_refused, unsigned_ends, signed_ends, raw_ends, array_too_deep, map_too_deep, array_ends, map_ends, in_array, in_map, BreaksItems, in_first_item, in_later_item, BreaksPairs, in_key, key_stands_before, in_value, in_later_pair, Breaks}
+use Rattle.ferry_msgpack.specs.Faults.{BreaksKey, key_missing, key_refused, key_not_raw, key_ends, BreaksWithin, value_missing, value_refused, unsigned_ends}
+use Rattle.ferry_msgpack.specs.Faults.{signed_ends, raw_ends, array_too_deep, map_too_deep, array_ends, map_ends, in_array, in_map, BreaksItems, in_first_item}
+use Rattle.ferry_msgpack.specs.Faults.{in_later_item, BreaksPairs, in_key, key_stands_before, in_value, in_later_pair, Breaks}
 use Rattle.ferry_msgpack.specs.Reading.{value_at}
 use Rattle.ferry_msgpack.specs.Shortest.{shortest}
 use Rattle.ferry_msgpack.specs.Writable.{IsWritable}
@@ -22,7 +24,8 @@ one_spelling t u a b x y first second same =
 
 -- where a value is spelled no rule is broken
 pub spelled_unbroken : (t : Tree) (front rest : List ℕ) (fault : PackFault) → Spells t front → Breaks (front ++ rest) fault → ⊥
-spelled_unbroken t front rest fault spelled broken = no_reading (t, rest) fault (sym (value_again 64 t front rest spelled) ∙ value_breaks 64 (front ++ rest) fault broken)
+spelled_unbroken t front rest fault spelled broken =
+    no_reading (t, rest) fault (sym (value_again 64 t front rest spelled) ∙ value_breaks 64 (front ++ rest) fault broken)
 
 -- one rule at most is the first that is broken
 pub one_fault : (bytes : List ℕ) (f g : PackFault) → Breaks bytes f → Breaks bytes g → f ≡ g
@@ -34,7 +37,8 @@ either_tells bytes (Ok x) told = inl (x.0, told.0, x.1, told.2, told.1)
 either_tells bytes (Err f) told = inr (f, told)
 
 -- a value is spelled in front, or a rule is broken
-pub spelled_or_broken : (bytes : List ℕ) → ((t : Tree) × (front : List ℕ) × (rest : List ℕ) × Spells t front × (bytes ≡ front ++ rest)) ⊎ ((fault : PackFault) × Breaks bytes fault)
+pub spelled_or_broken : (bytes : List ℕ) → ((t : Tree) × (front : List ℕ) × (rest : List ℕ) × Spells t front × (bytes ≡ front ++ rest))
+    ⊎ ((fault : PackFault) × Breaks bytes fault)
 spelled_or_broken bytes = either_tells bytes (value_at 64 bytes) (value_tells 64 bytes)
 
 key_rule : (bytes : List ℕ) (f : PackFault) → BreaksKey bytes f → f ≡ Memory → ⊥

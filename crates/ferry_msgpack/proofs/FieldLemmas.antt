@@ -1,13 +1,16 @@
 -- Numbers, counts, raws and keys: what is read is spelled so, what is spelled so is read, and each fault is the first broken rule.
-use Rattle.std.proofs.Common.{◌≡◌, ℕ, ◌<◌, false, ltb, List, [], ◌∷◌, ◌++◌, length, take, Result, Ok, Err, refl, sym, ap, subst, ◌∙◌, append_assoc, arith, inl, inr}
+use Rattle.std.proofs.Common.{◌≡◌, ℕ, ◌<◌, false, ltb, List, [], ◌∷◌, ◌++◌, length, take, Result, Ok, Err, refl, sym, ap, subst, ◌∙◌, append_assoc, arith, inl}
+use Rattle.std.proofs.Common.{inr}
 use Rattle.std.specs.Int.{Width, byte_len, from_be_bytes}
 use Rattle.std.proofs.lemmas.Bool.{cases_lt, le-ltb, lt-ltb}
 use Rattle.std.proofs.lemmas.List.{take_at, drop_at, take-append-drop, length-append, length-take}
 use Rattle.ferry_msgpack.specs.declared.fault.PackFault.{PackFault}
 use Rattle.ferry_msgpack.specs.declared.fault.PackFault.TheVariants.{Short, Key}
-use Rattle.ferry_msgpack.specs.First.{Count, given, behind, First, no_value, nil_value, flag_value, small_number, unsigned_number, signed_number, raw_value, array_value, map_value, Row}
+use Rattle.ferry_msgpack.specs.First.{Count, given, behind, First, no_value, nil_value, flag_value, small_number, unsigned_number, signed_number, raw_value}
+use Rattle.ferry_msgpack.specs.First.{array_value, map_value, Row}
 use Rattle.ferry_msgpack.specs.Spelling.{Counts, SpellsRaw, spells_raw}
-use Rattle.ferry_msgpack.specs.Faults.{CountEnds, RawEnds, ends_in_length, ends_in_content, IsOtherValue, BreaksKey, key_missing, key_refused, key_not_raw, key_ends}
+use Rattle.ferry_msgpack.specs.Faults.{CountEnds, RawEnds, ends_in_length, ends_in_content, IsOtherValue, BreaksKey, key_missing, key_refused, key_not_raw}
+use Rattle.ferry_msgpack.specs.Faults.{key_ends}
 use Rattle.ferry_msgpack.specs.Reading.{◌>>=◌, first_of, number_at, count_at, content_at, raw_at, key_by, key_at}
 use Rattle.ferry_msgpack.proofs.FirstLemmas.{first_of-Row, Row-first_of}
 
@@ -22,7 +25,13 @@ unfolding number_at
 number_tells w bytes =
     elim (cases_lt (length bytes) (byte_len w)) [
       | inl lt ↦ rw (lt-ltb (length bytes) (byte_len w) lt) (refl, lt)
-      | inr le ↦ rw (le-ltb (length bytes) (byte_len w) le) (take (byte_len w) bytes, sym (take-append-drop (byte_len w) bytes), refl, omega (arith, length-take (byte_len w) bytes))
+      | inr le ↦ rw (le-ltb (length bytes) (byte_len w) le) (
+        take (byte_len w) bytes,
+        sym (take-append-drop (byte_len w) bytes),
+        refl,
+        omega
+            (arith, length-take (byte_len w) bytes),
+      )
     ]
 
 pub number_again : (w : Width) (front rest : List ℕ) → length front ≡ byte_len w → number_at w (front ++ rest) ≡ Ok (from_be_bytes w front, rest)
@@ -73,7 +82,12 @@ content_tells c bytes n rest count parts counts =
       | inl lt ↦ rw (lt-ltb (length rest) n lt) (refl, subst (RawEnds c) (sym parts) (ends_in_content c n count rest counts lt))
       | inr le ↦
           let len : n ≡ length (take n rest) = omega (arith, length-take n rest) in
-          rw (le-ltb (length rest) n le) (count, parts ∙ ap (λ (x : List ℕ). count ++ x) (sym (take-append-drop n rest)), subst (λ (m : ℕ). Counts c m count) len counts)
+          rw (le-ltb (length rest) n le) (
+            count,
+            parts ∙ ap (λ (x : List ℕ). count
+                ++ x) (sym (take-append-drop n rest)),
+            subst (λ (m : ℕ). Counts c m count) len counts,
+          )
     ]
 
 raw_from : (c : Count) (bytes : List ℕ) (r : Result (ℕ × List ℕ) PackFault) → TellsCount c bytes r → TellsRaw c bytes (r >>= λ n. content_at n.0 n.1)
@@ -88,7 +102,13 @@ pub raw_again : (c : Count) (count content rest : List ℕ) → Counts c (length
 unfolding raw_at content_at
 raw_again c count content rest counts =
     let long : ltb (length (content ++ rest)) (length content) ≡ false = le-ltb _ _ (omega (arith, length-append content rest)) in
-    rw (count_again c (length content) count (content ++ rest) counts, long, take_at content rest (length content) refl, drop_at content rest (length content) refl) refl
+    rw (
+      count_again c (length content) count (content ++ rest) counts,
+      long,
+      take_at content rest (length content) refl,
+      drop_at content rest
+          (length content) refl,
+    ) refl
 
 pub raw_short : (c : Count) (bytes : List ℕ) → RawEnds c bytes → raw_at c bytes ≡ Err Short
 unfolding raw_at content_at

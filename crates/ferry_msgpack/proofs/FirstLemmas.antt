@@ -2,7 +2,10 @@
 use Rattle.std.proofs.Common.{◌≡◌, ℕ, ◌+◌, ◌-◌, ◌≤◌, ◌<◌, cond, ltb, negsuc, refl, subst, arith, inl, inr}
 use Rattle.std.proofs.lemmas.Bool.{cases_lt, le-ltb, lt-ltb}
 use Rattle.std.proofs.lemmas.Bool.Decides.{nat_tests}
-use Rattle.ferry_msgpack.specs.First.{given, First, no_value, small_number, raw_value, array_value, map_value, Row, positive_fixint, fixmap, fixarray, fixstr, nil, never_used, is_false, is_true, bin8, bin16, bin32, ext8, ext16, ext32, float32, float64, uint8, uint16, uint32, uint64, int8, int16, int32, int64, fixext1, fixext2, fixext4, fixext8, fixext16, str8, str16, str32, array16, array32, map16, map32, negative_fixint, no_byte}
+use Rattle.ferry_msgpack.specs.First.{given, First, no_value, small_number, raw_value, array_value, map_value, Row, positive_fixint, fixmap, fixarray, fixstr}
+use Rattle.ferry_msgpack.specs.First.{nil, never_used, is_false, is_true, bin8, bin16, bin32, ext8, ext16, ext32, float32, float64, uint8, uint16, uint32}
+use Rattle.ferry_msgpack.specs.First.{uint64, int8, int16, int32, int64, fixext1, fixext2, fixext4, fixext8, fixext16, str8, str16, str32, array16, array32}
+use Rattle.ferry_msgpack.specs.First.{map16, map32, negative_fixint, no_byte}
 use Rattle.ferry_msgpack.specs.Reading.{first_of}
 
 -- each row is read
@@ -63,13 +66,15 @@ map_row : (b : ℕ) → 0x80 ≤ b → b < 0x90 → Row b (map_value (given (b -
 map_row b le lt = let e : 0x80 + (b - 0x80) ≡ b = omega arith in subst (λ (n : ℕ). Row n (map_value (given (b - 0x80)))) e (fixmap (b - 0x80) (omega arith))
 
 array_row : (b : ℕ) → 0x90 ≤ b → b < 0xa0 → Row b (array_value (given (b - 0x90)))
-array_row b le lt = let e : 0x90 + (b - 0x90) ≡ b = omega arith in subst (λ (n : ℕ). Row n (array_value (given (b - 0x90)))) e (fixarray (b - 0x90) (omega arith))
+array_row b le lt =
+    let e : 0x90 + (b - 0x90) ≡ b = omega arith in subst (λ (n : ℕ). Row n (array_value (given (b - 0x90)))) e (fixarray (b - 0x90) (omega arith))
 
 raw_row : (b : ℕ) → 0xa0 ≤ b → b < 0xc0 → Row b (raw_value (given (b - 0xa0)))
 raw_row b le lt = let e : 0xa0 + (b - 0xa0) ≡ b = omega arith in subst (λ (n : ℕ). Row n (raw_value (given (b - 0xa0)))) e (fixstr (b - 0xa0) (omega arith))
 
 negative_row : (b : ℕ) → 0xe0 ≤ b → b < 0x100 → Row b (small_number (negsuc (0xff - b)))
-negative_row b le lt = let e : 0xff - (0xff - b) ≡ b = omega arith in subst (λ (n : ℕ). Row n (small_number (negsuc (0xff - b)))) e (negative_fixint (0xff - b) (omega arith))
+negative_row b le lt =
+    let e : 0xff - (0xff - b) ≡ b = omega arith in subst (λ (n : ℕ). Row n (small_number (negsuc (0xff - b)))) e (negative_fixint (0xff - b) (omega arith))
 
 -- the cases of two bytes that say the same
 either_row : (b next : ℕ) (x : First) → (b < next → Row b x) → (next ≤ b → Row b x) → Row b x

@@ -41,7 +41,8 @@ fault_or_memory Repeat r failed = inr failed
 fault_or_memory Deep r failed = inr failed
 
 -- what was read stands in front
-pub reading_tells : (d : ℕ) (bytes : List ℕ) (t : Tree) (rest : List ℕ) → value_at d bytes ≡ Ok (t, rest) → (front : List ℕ) × (bytes ≡ front ++ rest) × SpellsWithin d t front
+pub reading_tells : (d : ℕ) (bytes : List ℕ) (t : Tree) (rest : List ℕ) → value_at d bytes ≡ Ok (t, rest)
+    → (front : List ℕ) × (bytes ≡ front ++ rest) × SpellsWithin d t front
 reading_tells d bytes t rest e = subst (Tells d bytes) e (value_tells d bytes)
 
 pub fault_tells : (d : ℕ) (bytes : List ℕ) (f : PackFault) → value_at d bytes ≡ Err f → BreaksWithin d bytes f
@@ -52,12 +53,14 @@ rest_within bytes start t rest e =
     let told = reading_tells 64 (drop start bytes) t rest e in
     omega (arith, ap length told.1, length-append told.0 rest, length-drop start bytes)
 
-pub stands : (bytes : List ℕ) (start : ℕ) (t : Tree) (rest : List ℕ) → start ≤ length bytes → value_at 64 (drop start bytes) ≡ Ok (t, rest) → StandsAt bytes start t (length bytes - length rest)
+pub stands : (bytes : List ℕ) (start : ℕ) (t : Tree) (rest : List ℕ) → start ≤ length bytes → value_at 64 (drop start bytes) ≡ Ok (t, rest)
+    → StandsAt bytes start t (length bytes - length rest)
 stands bytes start t rest le e =
     let told = reading_tells 64 (drop start bytes) t rest e in
     let lengths : length bytes - start ≡ length told.0 + length rest = omega (arith, ap length told.1, length-append told.0 rest, length-drop start bytes) in
     let size : length told.0 ≡ length bytes - length rest - start = omega arith in
-    let text : take (length bytes - length rest - start) (drop start bytes) ≡ told.0 = ap (take (length bytes - length rest - start)) told.1 ∙ take_at told.0 rest _ size in
+    let text : take (length bytes - length rest - start) (drop start bytes) ≡ told.0 =
+    ap (take (length bytes - length rest - start)) told.1 ∙ take_at told.0 rest _ size in
     record { order = omega arith; within = omega arith; spelled = subst (SpellsWithin 64 t) (sym text) told.2 }
 
 pub read_only : (bytes : List ℕ) (start : ℕ) (v : Tree) (after : List ℕ) → start ≤ length bytes → value_at 64 (drop start bytes) ≡ Ok (v, after)
@@ -68,7 +71,8 @@ read_only bytes start v after le e t front rest spelled parts =
     let after-is : length after ≡ length rest = ap (λ (x : Tree × List ℕ). length x.1) same in
     (ap (λ (x : Tree × List ℕ). x.0) same, omega (arith, after-is, ap length parts, length-append front rest, length-drop start bytes))
 
-pub failed_only : (bytes : List ℕ) (e : PackFault) → Fails e (value_at 64 bytes) → (t : Tree) (front rest : List ℕ) → Spells t front → bytes ≡ front ++ rest → e ≡ Memory
+pub failed_only : (bytes : List ℕ) (e : PackFault) → Fails e (value_at 64 bytes) → (t : Tree) (front rest : List ℕ) → Spells t front → bytes ≡ front ++ rest
+    → e ≡ Memory
 failed_only bytes e failed t front rest spelled parts =
     elim (fault_or_memory e (value_at 64 bytes) failed) [
       | inl memory ↦ memory

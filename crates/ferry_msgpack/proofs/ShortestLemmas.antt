@@ -1,5 +1,6 @@
 -- The shortest spelling is a spelling.
-use Rattle.std.proofs.Common.{◌≡◌, ℕ, zero, suc, ◌+◌, ◌-◌, ◌%◌, ◌^◌, ◌≤◌, ◌<◌, true, false, cond, ltb, List, [], ◌∷◌, ◌++◌, length, ℤ, pos, negsuc, Less, Greater, nat_cmp, refl, sym, ap, subst, ◌∙◌, add-one, arith, inl, inr}
+use Rattle.std.proofs.Common.{◌≡◌, ℕ, zero, suc, ◌+◌, ◌-◌, ◌%◌, ◌^◌, ◌≤◌, ◌<◌, true, false, cond, ltb, List, [], ◌∷◌, ◌++◌, length, ℤ, pos, negsuc, Less}
+use Rattle.std.proofs.Common.{Greater, nat_cmp, refl, sym, ap, subst, ◌∙◌, add-one, arith, inl, inr}
 use Rattle.std.specs.Int.{Width, w8, w16, w32, w64, byte_len, to_be_bytes, from_be_bytes, cast_signed, cast_unsigned}
 use Rattle.std.specs.Ordering.{ordering_reverse}
 use Rattle.std.specs.Cmp.Lexicographic.{slice_cmp}
@@ -7,10 +8,13 @@ use Rattle.std.proofs.lemmas.Bool.{cases_lt, le-ltb, lt-ltb}
 use Rattle.std.proofs.lemmas.Cmp.{nat_list_cmp_total}
 use Rattle.std.proofs.lemmas.Nat.{from_be_bytes-to_be_bytes_2, from_be_bytes-to_be_bytes_4, from_be_bytes-to_be_bytes_8}
 use Rattle.std.proofs.lemmas.Int.{ints}
-use Rattle.ferry_msgpack.specs.Tree.{Tree, nil, flag, number, raw, array, table, Items, no_items, item, items_count, Pairs, no_pairs, pair, pairs_count, has_key, put}
+use Rattle.ferry_msgpack.specs.Tree.{Tree, nil, flag, number, raw, array, table, Items, no_items, item, items_count, Pairs, no_pairs, pair, pairs_count}
+use Rattle.ferry_msgpack.specs.Tree.{has_key, put}
 use Rattle.ferry_msgpack.specs.First as rows
 use Rattle.ferry_msgpack.specs.First.{Count, given, behind, First, small_number, unsigned_number, signed_number, raw_value, array_value, map_value, Row}
-use Rattle.ferry_msgpack.specs.Spelling.{Counts, SpellsRaw, spells_raw, SpellsWithin, spells_nil, spells_flag, spells_small, spells_unsigned, spells_signed, spells_bytes, spells_array, spells_map, SpellsItems, spells_no_items, spells_item, SpellsPairs, spells_no_pairs, spells_pair, Spells}
+use Rattle.ferry_msgpack.specs.Spelling.{Counts, SpellsRaw, spells_raw, SpellsWithin, spells_nil, spells_flag, spells_small, spells_unsigned, spells_signed}
+use Rattle.ferry_msgpack.specs.Spelling.{spells_bytes, spells_array, spells_map, SpellsItems, spells_no_items, spells_item, SpellsPairs, spells_no_pairs}
+use Rattle.ferry_msgpack.specs.Spelling.{spells_pair, Spells}
 use Rattle.ferry_msgpack.specs.Shortest.{bytes_of, shortest_number, shortest_count, shortest_raw, shortest, shortest_items, shortest_pairs}
 use Rattle.ferry_msgpack.specs.Writable.{depth, items_depth, pairs_depth, IsNumber, IsBelow, IsIncreasing, Fits, ItemsFit, PairsFit, IsWritable}
 
@@ -36,12 +40,16 @@ again32 n lt = from_be_bytes-to_be_bytes_4 n lt
 again64 : (n : ℕ) → n < 2 ^ 64 → from_be_bytes w64 (to_be_bytes w64 n) ≡ n
 again64 n lt = from_be_bytes-to_be_bytes_8 n lt
 
-unsigned_spelled : (d b : ℕ) (w : Width) (n : ℕ) → Row b (unsigned_number w) → length (to_be_bytes w n) ≡ byte_len w → from_be_bytes w (to_be_bytes w n) ≡ n → SpellsWithin d (number (pos n)) (b ∷ to_be_bytes w n)
-unsigned_spelled d b w n row len again = subst (λ (m : ℕ). SpellsWithin d (number (pos m)) (b ∷ to_be_bytes w n)) again (spells_unsigned d b w (to_be_bytes w n) row len)
+unsigned_spelled : (d b : ℕ) (w : Width) (n : ℕ) → Row b (unsigned_number w) → length (to_be_bytes w n) ≡ byte_len w → from_be_bytes w (to_be_bytes w n) ≡ n
+    → SpellsWithin d (number (pos n)) (b ∷ to_be_bytes w n)
+unsigned_spelled d b w n row len again =
+    subst (λ (m : ℕ). SpellsWithin d (number (pos m)) (b ∷ to_be_bytes w n)) again (spells_unsigned d b w (to_be_bytes w n) row len)
 
-signed_spelled : (d b : ℕ) (w : Width) (z : ℤ) → Row b (signed_number w) → length (bytes_of w z) ≡ byte_len w → from_be_bytes w (bytes_of w z) ≡ cast_unsigned w z → cast_signed w (cast_unsigned w z) ≡ z
+signed_spelled : (d b : ℕ) (w : Width) (z : ℤ) → Row b (signed_number w) → length (bytes_of w z) ≡ byte_len w
+    → from_be_bytes w (bytes_of w z) ≡ cast_unsigned w z → cast_signed w (cast_unsigned w z) ≡ z
     → SpellsWithin d (number z) (b ∷ bytes_of w z)
-signed_spelled d b w z row len again back = subst (λ (y : ℤ). SpellsWithin d (number y) (b ∷ bytes_of w z)) (ap (cast_signed w) again ∙ back) (spells_signed d b w (bytes_of w z) row len)
+signed_spelled d b w z row len again back =
+    subst (λ (y : ℤ). SpellsWithin d (number y) (b ∷ bytes_of w z)) (ap (cast_signed w) again ∙ back) (spells_signed d b w (bytes_of w z) row len)
 
 positive_spelled : (d n : ℕ) → n < 2 ^ 64 → SpellsWithin d (number (pos n)) (shortest_number (pos n))
 unfolding shortest_number
@@ -82,12 +90,15 @@ record IsHead (first_for : Count → First) (n : ℕ) (text : List ℕ) : Type 0
   counts : Counts kind n count
   parts : text ≡ first ∷ count
 
-head_spelled : (first_for : Count → First) (first small two four n : ℕ) → ((m : ℕ) → m < small → Row (first + m) (first_for (given m))) → Row two (first_for (behind w16)) → Row four (first_for (behind w32)) → n < 2 ^ 32
+head_spelled : (first_for : Count → First) (first small two four n : ℕ) → ((m : ℕ) → m < small → Row (first + m) (first_for (given m)))
+    → Row two (first_for (behind w16)) → Row four (first_for (behind w32)) → n < 2 ^ 32
     → IsHead first_for n (shortest_count first small two four n)
 unfolding shortest_count
 head_spelled first_for first small two four n fixed row2 row4 fits =
-    below_or_not (IsHead first_for n) n small _ _ (λ lt. record { first = first + n; kind = given n; count = []; row = fixed n lt; counts = (refl, refl); parts = refl }) (λ h0.
-    below_or_not (IsHead first_for n) n (2 ^ 16) _ _ (λ lt. record { first = two; kind = behind w16; count = to_be_bytes w16 n; row = row2; counts = (sym (again16 n lt), refl); parts = refl }) (λ h1.
+    below_or_not (IsHead first_for n) n small _ _ (λ lt. record
+    { first = first + n; kind = given n; count = []; row = fixed n lt; counts = (refl, refl); parts = refl }) (λ h0.
+    below_or_not (IsHead first_for n) n (2 ^ 16) _ _ (λ lt. record
+    { first = two; kind = behind w16; count = to_be_bytes w16 n; row = row2; counts = (sym (again16 n lt), refl); parts = refl }) (λ h1.
     record { first = four; kind = behind w32; count = to_be_bytes w32 n; row = row4; counts = (sym (again32 n fits), refl); parts = refl }))
 
 raw_spelled : (content : List ℕ) → length content < 2 ^ 32 → SpellsRaw content (shortest_raw content)
@@ -161,20 +172,24 @@ mutual
   value_spelled (suc d) (table pairs) deep fits =
       let head = head_spelled map_value 0x80 0x10 0xde 0xdf (pairs_count pairs) rows.fixmap rows.map16 rows.map32 fits.0 in
       subst (SpellsWithin (suc d) (table pairs)) (sym (ap (λ (s : List ℕ). s ++ shortest_pairs pairs) head.parts))
-      (spells_map d head.first head.kind (pairs_count pairs) pairs head.count (shortest_pairs pairs) head.row head.counts (pairs_spelled d no_pairs pairs (omega arith) fits.2 fits.1 (under_none pairs)))
+      (spells_map d head.first head.kind (pairs_count pairs) pairs head.count (shortest_pairs pairs) head.row head.counts
+      (pairs_spelled d no_pairs pairs (omega arith) fits.2 fits.1 (under_none pairs)))
 
   items_spelled : (d : ℕ) (items : Items) → items_depth items ≤ d → ItemsFit items → SpellsItems d items (shortest_items items)
   items_spelled d no_items deep fits = spells_no_items d
-  items_spelled d (item t ts) deep fits = spells_item d t ts (shortest t) (shortest_items ts) (value_spelled d t (omega arith) fits.0) (items_spelled d ts (omega arith) fits.1)
+  items_spelled d (item t ts) deep fits =
+      spells_item d t ts (shortest t) (shortest_items ts) (value_spelled d t (omega arith) fits.0) (items_spelled d ts (omega arith) fits.1)
 
-  pairs_spelled : (d : ℕ) (before pairs : Pairs) → pairs_depth pairs ≤ d → PairsFit pairs → IsIncreasing pairs → UnderAll pairs before → SpellsPairs d (pairs_count pairs) before (append_pairs before pairs) (shortest_pairs pairs)
+  pairs_spelled : (d : ℕ) (before pairs : Pairs) → pairs_depth pairs ≤ d → PairsFit pairs → IsIncreasing pairs → UnderAll pairs before
+      → SpellsPairs d (pairs_count pairs) before (append_pairs before pairs) (shortest_pairs pairs)
   pairs_spelled d before no_pairs deep fits order under = rw (append_pairs-none before) (spells_no_pairs d before)
   pairs_spelled d before (pair k t ps) deep fits order under =
       let next : Pairs = append_pairs before (pair k t no_pairs) in
       let others = pairs_spelled d next ps (omega arith) fits.2 order.1 (UnderAll-next k t ps before under order.0) in
       let moved : SpellsPairs d (pairs_count ps) (put k t before) (append_pairs before (pair k t ps)) (shortest_pairs ps) =
       rw (put_last k t before under, ← append_pairs-assoc before k t ps) others in
-      rw add-one (spells_pair d (pairs_count ps) before (append_pairs before (pair k t ps)) k t (shortest_raw k) (shortest t) (shortest_pairs ps) (raw_spelled k fits.0) (no_key k before under) (value_spelled d t (omega arith) fits.1) moved)
+      rw add-one (spells_pair d (pairs_count ps) before (append_pairs before (pair k t ps)) k t (shortest_raw k) (shortest t) (shortest_pairs ps)
+      (raw_spelled k fits.0) (no_key k before under) (value_spelled d t (omega arith) fits.1) moved)
 
 pub shortest_spelled : (t : Tree) → IsWritable t → Spells t (shortest t)
 shortest_spelled t writable = value_spelled 64 t writable.depth_fits writable.fits

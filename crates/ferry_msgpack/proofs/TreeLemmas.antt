@@ -24,12 +24,14 @@ swap_none k l t u Greater e other = rw (e, turned k l Greater e) refl
 
 module _ (k l m : List ℕ) (t u w : Tree) (ps : Pairs) (rest : put k t (put l u ps) ≡ put l u (put k t ps)) where
   -- both stand before m
-  swap_front : (o : Ordering) → slice_cmp nat_cmp k l ≡ o → o ≢ Equal → slice_cmp nat_cmp k m ≡ Less → slice_cmp nat_cmp l m ≡ Less → put k t (put l u (pair m w ps)) ≡ put l u (put k t (pair m w ps))
+  swap_front : (o : Ordering) → slice_cmp nat_cmp k l ≡ o → o ≢ Equal → slice_cmp nat_cmp k m ≡ Less → slice_cmp nat_cmp l m ≡ Less
+      → put k t (put l u (pair m w ps)) ≡ put l u (put k t (pair m w ps))
   swap_front Less e other p q = rw (q, p, e, turned k l Less e, q) refl
   swap_front Equal e other p q = absurd (other refl)
   swap_front Greater e other p q = rw (q, p, e, turned k l Greater e) refl
 
-  swap_at : (o p q : Ordering) → slice_cmp nat_cmp k l ≡ o → o ≢ Equal → slice_cmp nat_cmp k m ≡ p → slice_cmp nat_cmp l m ≡ q → put k t (put l u (pair m w ps)) ≡ put l u (put k t (pair m w ps))
+  swap_at : (o p q : Ordering) → slice_cmp nat_cmp k l ≡ o → o ≢ Equal → slice_cmp nat_cmp k m ≡ p → slice_cmp nat_cmp l m ≡ q
+      → put k t (put l u (pair m w ps)) ≡ put l u (put k t (pair m w ps))
   swap_at o Less Less e other p q = swap_front o e other p q
   swap_at o Less Equal e other p q =
       let behind : slice_cmp nat_cmp l k ≡ Greater = nat_list_cmp_total.congr l m k q ∙ turned k m Less p in
@@ -52,7 +54,8 @@ module _ (k l m : List ℕ) (t u w : Tree) (ps : Pairs) (rest : put k t (put l u
 
 swapped : (k l : List ℕ) (t u : Tree) (ps : Pairs) → slice_cmp nat_cmp k l ≢ Equal → put k t (put l u ps) ≡ put l u (put k t ps)
 swapped k l t u no_pairs other = swap_none k l t u (slice_cmp nat_cmp k l) refl other
-swapped k l t u (pair m w ps) other = swap_at k l m t u w ps (swapped k l t u ps other) (slice_cmp nat_cmp k l) (slice_cmp nat_cmp k m) (slice_cmp nat_cmp l m) refl other refl refl
+swapped k l t u (pair m w ps) other =
+    swap_at k l m t u w ps (swapped k l t u ps other) (slice_cmp nat_cmp k l) (slice_cmp nat_cmp k m) (slice_cmp nat_cmp l m) refl other refl refl
 
 -- two pairs with different keys, put in either order
 pub put-swap : (k l : List ℕ) (t u : Tree) (ps : Pairs) → k ≢ l → put k t (put l u ps) ≡ put l u (put k t ps)

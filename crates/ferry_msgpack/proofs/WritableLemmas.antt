@@ -1,5 +1,6 @@
 -- What is spelled by bytes can be written.
-use Rattle.std.proofs.Common.{◌≡◌, ℕ, zero, suc, ◌+◌, ◌-◌, ◌^◌, ◌≤◌, ◌<◌, Bool, true, false, ◌||◌, List, [], ◌∷◌, ◌++◌, length, get_or, ℤ, pos, negsuc, Ordering, Less, Equal, Greater, nat_cmp, is_eq, refl, sym, ap, subst, ◌∙◌, arith, inl, inr}
+use Rattle.std.proofs.Common.{◌≡◌, ℕ, zero, suc, ◌+◌, ◌-◌, ◌^◌, ◌≤◌, ◌<◌, Bool, true, false, ◌||◌, List, [], ◌∷◌, ◌++◌, length, get_or, ℤ, pos, negsuc}
+use Rattle.std.proofs.Common.{Ordering, Less, Equal, Greater, nat_cmp, is_eq, refl, sym, ap, subst, ◌∙◌, arith, inl, inr}
 use Rattle.std.specs.Int.{Width, w8, w16, w32, w64, from_be_bytes, cast_signed}
 use Rattle.std.specs.Ordering.{match_ordering, ordering_reverse}
 use Rattle.std.specs.Cmp.Lexicographic.{slice_cmp}
@@ -7,8 +8,12 @@ use Rattle.std.proofs.lemmas.Bool.{cases_lt, le-ltb, lt-ltb, false≢true}
 use Rattle.std.proofs.lemmas.Cmp.{nat_list_cmp_total}
 use Rattle.std.proofs.lemmas.Int.{ints}
 use Rattle.ferry_msgpack.specs.Tree.{Tree, Items, items_count, Pairs, no_pairs, pair, pairs_count, has_key, put}
-use Rattle.ferry_msgpack.specs.First.{Count, small_number, unsigned_number, signed_number, raw_value, array_value, map_value, Row, positive_fixint, negative_fixint, fixmap, fixarray, fixstr, bin8, bin16, bin32, uint8, uint16, uint32, uint64, int8, int16, int32, int64, str8, str16, str32, array16, array32, map16, map32}
-use Rattle.ferry_msgpack.specs.Spelling.{Counts, SpellsRaw, spells_raw, SpellsWithin, spells_nil, spells_flag, spells_small, spells_unsigned, spells_signed, spells_bytes, spells_array, spells_map, SpellsItems, spells_no_items, spells_item, SpellsPairs, spells_no_pairs, spells_pair, Spells}
+use Rattle.ferry_msgpack.specs.First.{Count, small_number, unsigned_number, signed_number, raw_value, array_value, map_value, Row, positive_fixint}
+use Rattle.ferry_msgpack.specs.First.{negative_fixint, fixmap, fixarray, fixstr, bin8, bin16, bin32, uint8, uint16, uint32, uint64, int8, int16, int32, int64}
+use Rattle.ferry_msgpack.specs.First.{str8, str16, str32, array16, array32, map16, map32}
+use Rattle.ferry_msgpack.specs.Spelling.{Counts, SpellsRaw, spells_raw, SpellsWithin, spells_nil, spells_flag, spells_small, spells_unsigned, spells_signed}
+use Rattle.ferry_msgpack.specs.Spelling.{spells_bytes, spells_array, spells_map, SpellsItems, spells_no_items, spells_item, SpellsPairs, spells_no_pairs}
+use Rattle.ferry_msgpack.specs.Spelling.{spells_pair, Spells}
 use Rattle.ferry_msgpack.specs.Writable.{depth, items_depth, pairs_depth, IsNumber, IsBelow, IsIncreasing, Fits, ItemsFit, PairsFit, IsWritable}
 
 -- ---- bytes
@@ -47,7 +52,17 @@ from32 bytes h = omega (arith, AreBytes-at bytes 0 h, AreBytes-at bytes 1 h, Are
 
 from64 : (bytes : List ℕ) → AreBytes bytes → from_be_bytes w64 bytes < 2 ^ 64
 from64 bytes h =
-    omega (arith, AreBytes-at bytes 0 h, AreBytes-at bytes 1 h, AreBytes-at bytes 2 h, AreBytes-at bytes 3 h, AreBytes-at bytes 4 h, AreBytes-at bytes 5 h, AreBytes-at bytes 6 h, AreBytes-at bytes 7 h)
+    omega (
+      arith,
+      AreBytes-at bytes 0 h,
+      AreBytes-at bytes 1 h,
+      AreBytes-at bytes 2 h,
+      AreBytes-at bytes 3 h,
+      AreBytes-at bytes 4 h,
+      AreBytes-at bytes 5 h,
+      AreBytes-at bytes 6 h,
+      AreBytes-at bytes 7 h,
+    )
 
 positive_fits : (n : ℕ) → n < 2 ^ 64 → IsNumber (pos n)
 positive_fits n lt = (grind (arith, ints), grind (arith, ints))
@@ -66,16 +81,32 @@ unsigned_fits b w bytes uint32 h = let lt = from32 bytes h in positive_fits (fro
 unsigned_fits b w bytes uint64 h = positive_fits (from_be_bytes w64 bytes) (from64 bytes h)
 
 signed_8 : (n : ℕ) → n < 2 ^ 8 → IsNumber (cast_signed w8 n)
-signed_8 n lt = elim (cases_lt n (2 ^ 7)) [ inl low ↦ rw (lt-ltb n (2 ^ 7) low) (positive_fits n (omega arith)) | inr high ↦ rw (le-ltb n (2 ^ 7) high) (negative_fits (2 ^ 8 - suc n) (omega arith)) ]
+signed_8 n lt =
+    elim (cases_lt n (2 ^ 7)) [
+      | inl low ↦ rw (lt-ltb n (2 ^ 7) low) (positive_fits n (omega arith))
+      | inr high ↦ rw (le-ltb n (2 ^ 7) high) (negative_fits (2 ^ 8 - suc n) (omega arith))
+    ]
 
 signed_16 : (n : ℕ) → n < 2 ^ 16 → IsNumber (cast_signed w16 n)
-signed_16 n lt = elim (cases_lt n (2 ^ 15)) [ inl low ↦ rw (lt-ltb n (2 ^ 15) low) (positive_fits n (omega arith)) | inr high ↦ rw (le-ltb n (2 ^ 15) high) (negative_fits (2 ^ 16 - suc n) (omega arith)) ]
+signed_16 n lt =
+    elim (cases_lt n (2 ^ 15)) [
+      | inl low ↦ rw (lt-ltb n (2 ^ 15) low) (positive_fits n (omega arith))
+      | inr high ↦ rw (le-ltb n (2 ^ 15) high) (negative_fits (2 ^ 16 - suc n) (omega arith))
+    ]
 
 signed_32 : (n : ℕ) → n < 2 ^ 32 → IsNumber (cast_signed w32 n)
-signed_32 n lt = elim (cases_lt n (2 ^ 31)) [ inl low ↦ rw (lt-ltb n (2 ^ 31) low) (positive_fits n (omega arith)) | inr high ↦ rw (le-ltb n (2 ^ 31) high) (negative_fits (2 ^ 32 - suc n) (omega arith)) ]
+signed_32 n lt =
+    elim (cases_lt n (2 ^ 31)) [
+      | inl low ↦ rw (lt-ltb n (2 ^ 31) low) (positive_fits n (omega arith))
+      | inr high ↦ rw (le-ltb n (2 ^ 31) high) (negative_fits (2 ^ 32 - suc n) (omega arith))
+    ]
 
 signed_64 : (n : ℕ) → n < 2 ^ 64 → IsNumber (cast_signed w64 n)
-signed_64 n lt = elim (cases_lt n (2 ^ 63)) [ inl low ↦ rw (lt-ltb n (2 ^ 63) low) (positive_fits n lt) | inr high ↦ rw (le-ltb n (2 ^ 63) high) (negative_fits (2 ^ 64 - suc n) (omega arith)) ]
+signed_64 n lt =
+    elim (cases_lt n (2 ^ 63)) [
+      | inl low ↦ rw (lt-ltb n (2 ^ 63) low) (positive_fits n lt)
+      | inr high ↦ rw (le-ltb n (2 ^ 63) high) (negative_fits (2 ^ 64 - suc n) (omega arith))
+    ]
 
 signed_fits : (b : ℕ) (w : Width) (bytes : List ℕ) → Row b (signed_number w) → AreBytes bytes → IsNumber (cast_signed w (from_be_bytes w bytes))
 signed_fits b w bytes int8 h = signed_8 (from_be_bytes w8 bytes) (from8 bytes h)
@@ -130,16 +161,25 @@ IsBelow-put l k t (pair m u ps) below under =
     let P : Ordering → Type 0 = λ o. IsBelow l (match_ordering o (pair k t (pair m u ps)) (pair m t ps) (pair m u (put k t ps))) in
     elim (slice_cmp nat_cmp k m) as P [ Less ↦ below | Equal ↦ under | Greater ↦ under ]
 
-put_fine_at : (d n : ℕ) (k : List ℕ) (t : Tree) (l : List ℕ) (u : Tree) (ps : Pairs) (o : Ordering) → slice_cmp nat_cmp k l ≡ o → is_eq o ≡ false → length k < 2 ^ 32 → depth t ≤ d → Fits t
-    → AreFine d (suc n) (pair l u ps) → AreFine d (suc n) (put k t ps) → AreFine d (suc (suc n)) (match_ordering o (pair k t (pair l u ps)) (pair l t ps) (pair l u (put k t ps)))
+put_fine_at : (d n : ℕ) (k : List ℕ) (t : Tree) (l : List ℕ) (u : Tree) (ps : Pairs) (o : Ordering) → slice_cmp nat_cmp k l ≡ o → is_eq o ≡ false
+    → length k < 2 ^ 32 → depth t ≤ d → Fits t
+    → AreFine d (suc n) (pair l u ps) → AreFine d (suc n) (put k t ps)
+    → AreFine d (suc (suc n)) (match_ordering o (pair k t (pair l u ps)) (pair l t ps) (pair l u (put k t ps)))
 put_fine_at d n k t l u ps Less is new len deep fits old rest =
     record { count = omega (arith, old.count); deep = omega (arith, old.deep); increase = (is, old.increase); fit = (len, fits, old.fit) }
 put_fine_at d n k t l u ps Equal is new len deep fits old rest = absurd (false≢true (sym new))
 put_fine_at d n k t l u ps Greater is new len deep fits old rest =
     let below : slice_cmp nat_cmp l k ≡ Less = nat_list_cmp_total.antisymm l k ∙ ap ordering_reverse is in
-    record { count = omega (arith, rest.count); deep = omega (arith, old.deep, rest.deep); increase = (IsBelow-put l k t ps below old.increase.0, rest.increase); fit = (old.fit.0, old.fit.1, rest.fit) }
+    record {
+      count = omega (arith, rest.count);
+      deep = omega (arith, old.deep, rest.deep);
+      increase =
+          (IsBelow-put l k t ps below old.increase.0, rest.increase);
+      fit = (old.fit.0, old.fit.1, rest.fit);
+    }
 
-put_fine : (d n : ℕ) (k : List ℕ) (t : Tree) (ps : Pairs) → has_key k ps ≡ false → length k < 2 ^ 32 → depth t ≤ d → Fits t → AreFine d n ps → AreFine d (suc n) (put k t ps)
+put_fine : (d n : ℕ) (k : List ℕ) (t : Tree) (ps : Pairs) → has_key k ps ≡ false → length k < 2 ^ 32 → depth t ≤ d → Fits t → AreFine d n ps
+    → AreFine d (suc n) (put k t ps)
 put_fine d n k t no_pairs new len deep fits old = record { count = omega (arith, old.count); deep = omega arith; increase = (tt, tt); fit = (len, fits, tt) }
 put_fine d zero k t (pair l u ps) new len deep fits old = absurd (omega (arith, old.count))
 put_fine d (suc n) k t (pair l u ps) new len deep fits old =
@@ -171,7 +211,8 @@ mutual
       let next = spelled_items_fit d ts rest others (AreBytes-right front rest h) in
       (omega (arith, first.0, next.0), (first.1, next.1))
 
-  spelled_pairs_fit : (d n m : ℕ) (before pairs : Pairs) (bytes : List ℕ) → SpellsPairs d n before pairs bytes → AreBytes bytes → AreFine d m before → AreFine d (n + m) pairs
+  spelled_pairs_fit : (d n m : ℕ) (before pairs : Pairs) (bytes : List ℕ) → SpellsPairs d n before pairs bytes → AreBytes bytes → AreFine d m before
+      → AreFine d (n + m) pairs
   spelled_pairs_fit d n m before pairs bytes (spells_no_pairs _ _) h fine = let e : m ≡ 0 + m = omega arith in subst (λ (k : ℕ). AreFine d k before) e fine
   spelled_pairs_fit d n m before pairs bytes (spells_pair _ i _ _ key t front middle rest named new spelled others) h fine =
       let after = AreBytes-right front (middle ++ rest) h in

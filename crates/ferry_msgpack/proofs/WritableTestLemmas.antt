@@ -1,5 +1,6 @@
 -- The test of what can be written, value by value and pair by pair, and what it says.
-use Rattle.std.proofs.Common.{◌≡◌, ℕ, ◌-◌, ◌^◌, ◌≤◌, ◌<◌, Bool, true, false, ◌&&◌, ltb, List, [], ◌∷◌, length, drop, ℤ, pos, Ordering, Less, Equal, Greater, refl, sym, ap, ◌∙◌, arith}
+use Rattle.std.proofs.Common.{◌≡◌, ℕ, ◌-◌, ◌^◌, ◌≤◌, ◌<◌, Bool, true, false, ◌&&◌, ltb, List, [], ◌∷◌, length, drop, ℤ, pos, Ordering, Less, Equal, Greater}
+use Rattle.std.proofs.Common.{refl, sym, ap, ◌∙◌, arith}
 use Rattle.std.proofs.lemmas.Bool.{ltb-true, le-ltb, lt-ltb, false≢true}
 use Rattle.std.proofs.lemmas.Int.{ints}
 use Rattle.std.specs.Prelude.{neg_ℤ, int_lt, int_le}
@@ -12,7 +13,7 @@ use Rattle.ferry_msgpack.specs.View.{items_view, pairs_view}
 use Rattle.ferry_msgpack.specs.Writable.{depth, items_depth, pairs_depth, IsNumber, IsBelow, IsIncreasing, Fits, ItemsFit, PairsFit, IsWritable}
 use Rattle.ferry_msgpack.specs.WritableTest.{number_fits, is_below, fits_within, items_fit, pairs_fit, keys_increase}
 use Rattle.ferry_msgpack.proofs.ViewLemmas.{Entry}
-use Rattle.ferry_msgpack.proofs.Appending.{items_count-view, pairs_count-view}
+use Rattle.ferry_msgpack.proofs.Appending.{items_count-items_view, pairs_count-pairs_view}
 
 and_false : (b : Bool) → (b && false) ≡ false
 and_false true = refl
@@ -22,7 +23,7 @@ and_false false = refl
 
 pub array_long : (d : ℕ) (vs : List Value) → 2 ^ 32 ≤ length vs → fits_within d (array (items_view vs)) ≡ false
 array_long d vs le =
-    let long : ltb (items_count (items_view vs)) (2 ^ 32) ≡ false = le-ltb _ _ (omega (arith, items_count-view vs)) in
+    let long : ltb (items_count (items_view vs)) (2 ^ 32) ≡ false = le-ltb _ _ (omega (arith, items_count-items_view vs)) in
     rw long (and_false (ltb 0 d))
 
 -- the values from the i-th on
@@ -32,24 +33,25 @@ items_from d vs i = items_fit d (items_view (drop i vs))
 pub array_start : (d : ℕ) (vs : List Value) → (d ≡ 0 → ⊥) → length vs < 2 ^ 32 → items_from (d - 1) vs 0 ≡ fits_within d (array (items_view vs))
 array_start d vs inner lt =
     let some : ltb 0 d ≡ true = lt-ltb _ _ (omega arith) in
-    let short : ltb (items_count (items_view vs)) (2 ^ 32) ≡ true = lt-ltb _ _ (omega (arith, items_count-view vs)) in
+    let short : ltb (items_count (items_view vs)) (2 ^ 32) ≡ true = lt-ltb _ _ (omega (arith, items_count-items_view vs)) in
     rw (some, short) refl
 
 -- ---- tables
 
 pub table_long : (d : ℕ) (es : List Entry) → 2 ^ 32 ≤ length es → fits_within d (table (pairs_view es)) ≡ false
 table_long d es le =
-    let long : ltb (pairs_count (pairs_view es)) (2 ^ 32) ≡ false = le-ltb _ _ (omega (arith, pairs_count-view es)) in
+    let long : ltb (pairs_count (pairs_view es)) (2 ^ 32) ≡ false = le-ltb _ _ (omega (arith, pairs_count-pairs_view es)) in
     rw long (and_false (ltb 0 d))
 
 -- the pairs from the i-th on
 abbrev pub pairs_from : ℕ → List Entry → ℕ → Bool
 pairs_from d es i = pairs_fit d (pairs_view (drop i es))
 
-pub table_start : (d : ℕ) (es : List Entry) → (d ≡ 0 → ⊥) → length es < 2 ^ 32 → keys_increase (pairs_view es) ≡ true → pairs_from (d - 1) es 0 ≡ fits_within d (table (pairs_view es))
+pub table_start : (d : ℕ) (es : List Entry) → (d ≡ 0 → ⊥) → length es < 2 ^ 32 → keys_increase (pairs_view es) ≡ true
+    → pairs_from (d - 1) es 0 ≡ fits_within d (table (pairs_view es))
 table_start d es inner lt order =
     let some : ltb 0 d ≡ true = lt-ltb _ _ (omega arith) in
-    let short : ltb (pairs_count (pairs_view es)) (2 ^ 32) ≡ true = lt-ltb _ _ (omega (arith, pairs_count-view es)) in
+    let short : ltb (pairs_count (pairs_view es)) (2 ^ 32) ≡ true = lt-ltb _ _ (omega (arith, pairs_count-pairs_view es)) in
     rw (some, short, order) refl
 
 -- ---- keys

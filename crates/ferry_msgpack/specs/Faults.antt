@@ -50,15 +50,18 @@ mutual
   -- the same where n values stand one behind the other
   pub data BreaksItems : ℕ → ℕ → List ℕ → PackFault → Type 0 where
     in_first_item : (d n : ℕ) (bytes : List ℕ) (fault : PackFault) → BreaksWithin d bytes fault → BreaksItems d (suc n) bytes fault
-    in_later_item : (d n : ℕ) (t : Tree) (front rest : List ℕ) (fault : PackFault) → SpellsWithin d t front → BreaksItems d n rest fault → BreaksItems d (suc n) (front ++ rest) fault
+    in_later_item : (d n : ℕ) (t : Tree) (front rest : List ℕ) (fault : PackFault) → SpellsWithin d t front → BreaksItems d n rest fault
+        → BreaksItems d (suc n) (front ++ rest) fault
 
   -- the same where n pairs stand behind these pairs of their map
   pub data BreaksPairs : ℕ → ℕ → Pairs → List ℕ → PackFault → Type 0 where
     in_key : (d n : ℕ) (before : Pairs) (bytes : List ℕ) (fault : PackFault) → BreaksKey bytes fault → BreaksPairs d (suc n) before bytes fault
-    key_stands_before : (d n : ℕ) (before : Pairs) (key front rest : List ℕ) → SpellsRaw key front → has_key key before ≡ true → BreaksPairs d (suc n) before (front ++ rest) Repeat
+    key_stands_before : (d n : ℕ) (before : Pairs) (key front rest : List ℕ) → SpellsRaw key front → has_key key before ≡ true
+        → BreaksPairs d (suc n) before (front ++ rest) Repeat
     in_value : (d n : ℕ) (before : Pairs) (key front rest : List ℕ) (fault : PackFault) → SpellsRaw key front → has_key key before ≡ false
         → BreaksWithin d rest fault → BreaksPairs d (suc n) before (front ++ rest) fault
-    in_later_pair : (d n : ℕ) (before : Pairs) (key : List ℕ) (t : Tree) (front middle rest : List ℕ) (fault : PackFault) → SpellsRaw key front → has_key key before ≡ false
+    in_later_pair : (d n : ℕ) (before : Pairs) (key : List ℕ) (t : Tree) (front middle rest : List ℕ) (fault : PackFault) → SpellsRaw key front
+        → has_key key before ≡ false
         → SpellsWithin d t middle → BreaksPairs d n (put key t before) rest fault → BreaksPairs d (suc n) before (front ++ (middle ++ rest)) fault
 
 -- the first broken rule of a value of which at most 64 arrays and maps may stand inside each other

@@ -4,7 +4,8 @@ use Rattle.std.specs.Int.{Width, w8, w16, w32, w64, byte_len, from_be_bytes, cas
 use Rattle.ferry_msgpack.specs.declared.fault.PackFault.{PackFault}
 use Rattle.ferry_msgpack.specs.declared.fault.PackFault.TheVariants.{Short, Kind, Key, Repeat, Deep, Memory}
 use Rattle.ferry_msgpack.specs.Tree.{Tree, nil, flag, number, raw, array, table, Items, no_items, item, Pairs, no_pairs, has_key, put}
-use Rattle.ferry_msgpack.specs.First.{Count, given, behind, First, no_value, nil_value, flag_value, small_number, unsigned_number, signed_number, raw_value, array_value, map_value}
+use Rattle.ferry_msgpack.specs.First.{Count, given, behind, First, no_value, nil_value, flag_value, small_number, unsigned_number, signed_number, raw_value}
+use Rattle.ferry_msgpack.specs.First.{array_value, map_value}
 
 infixl 10 ◌>>=◌
 abbrev pub ◌>>=◌ : {A B : Type 0} → Result A PackFault → (A → Result B PackFault) → Result B PackFault

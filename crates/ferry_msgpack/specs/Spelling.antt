@@ -3,7 +3,8 @@
 use Rattle.std.specs.Prelude.{◌≡◌, ℕ, suc, List, [], ◌∷◌, ◌++◌, length, false, pos}
 use Rattle.std.specs.Int.{Width, byte_len, from_be_bytes, cast_signed}
 use Rattle.ferry_msgpack.specs.Tree.{Tree, nil, flag, number, raw, array, table, Items, no_items, item, items_count, Pairs, no_pairs, has_key, put}
-use Rattle.ferry_msgpack.specs.First.{Count, given, behind, nil_value, flag_value, small_number, unsigned_number, signed_number, raw_value, array_value, map_value, Row}
+use Rattle.ferry_msgpack.specs.First.{Count, given, behind, nil_value, flag_value, small_number, unsigned_number, signed_number, raw_value, array_value}
+use Rattle.ferry_msgpack.specs.First.{map_value, Row}
 
 -- these bytes, behind the first byte, give this count
 abbrev pub Counts : Count → ℕ → List ℕ → Type 0
@@ -33,7 +34,8 @@ mutual
   -- the values of an array, one behind the other
   pub data SpellsItems : ℕ → Items → List ℕ → Type 0 where
     spells_no_items : (d : ℕ) → SpellsItems d no_items []
-    spells_item : (d : ℕ) (t : Tree) (ts : Items) (front rest : List ℕ) → SpellsWithin d t front → SpellsItems d ts rest → SpellsItems d (item t ts) (front ++ rest)
+    spells_item : (d : ℕ) (t : Tree) (ts : Items) (front rest : List ℕ) → SpellsWithin d t front → SpellsItems d ts rest
+        → SpellsItems d (item t ts) (front ++ rest)
 
   -- n more pairs of a map, each key a raw that doesn't stand before: with the pairs before them they are these pairs
   pub data SpellsPairs : ℕ → ℕ → Pairs → Pairs → List ℕ → Type 0 where

@@ -14,19 +14,19 @@ pairs_of [] = no_pairs
 pairs_of (p ∷ ps) = pair p.0.items p.1 (pairs_of ps)
 
 -- one level, with each value inside already seen as its tree
-abbrev pub view_step : Value-F Tree → Tree
-view_step Value-F.Nil = nil
-view_step (Value-F.Flag b) = flag b
-view_step (Value-F.Number z) = number z
-view_step (Value-F.Raw v) = raw v.items
-view_step (Value-F.Array v) = array (items_of v.items)
-view_step (Value-F.Table v) = table (pairs_of v.items)
+abbrev pub value_view_step : Value-F Tree → Tree
+value_view_step Value-F.Nil = nil
+value_view_step (Value-F.Flag b) = flag b
+value_view_step (Value-F.Number z) = number z
+value_view_step (Value-F.Raw v) = raw v.items
+value_view_step (Value-F.Array v) = array (items_of v.items)
+value_view_step (Value-F.Table v) = table (pairs_of v.items)
 
-abbrev pub view : Value → Tree
-view = fold-Value Tree view_step
+abbrev pub value_view : Value → Tree
+value_view = fold-Value Tree value_view_step
 
 abbrev pub items_view : List Value → Items
-items_view vs = items_of (map view vs)
+items_view vs = items_of (map value_view vs)
 
 abbrev pub pairs_view : List (Vec ℕ × Value) → Pairs
-pairs_view ps = pairs_of (map (λ p. (p.0, view p.1)) ps)
+pairs_view ps = pairs_of (map (λ p. (p.0, value_view p.1)) ps)

@@ -1,13 +1,13 @@
 //! `clone`, written out since a derived one says nothing of a type that holds itself.
 
 ghost use Rattle.std.specs.Prelude.{◌≡◌, IfOk};
-ghost use Rattle.ferry_msgpack.specs.View.{view, items_view, pairs_view};
+ghost use Rattle.ferry_msgpack.specs.View.{value_view, items_view, pairs_view};
 
 use crate::value::Value;
 use std::alloc::AllocError;
 
 impl Clone for Value {
-    ghost is_clone = { λ v w. view w ≡ view v };
+    ghost is_clone = { λ v w. value_view w ≡ value_view v };
 
     fn clone(&self) -> Result<Value, AllocError> {
         copy_value(self)
@@ -16,7 +16,7 @@ impl Clone for Value {
 
 #[cycle(copy)]
 fn copy_value(value: &Value) -> Result<Value, AllocError>
-    ensures { IfOk result (λ v. view v ≡ view value.now) }
+    ensures { IfOk result (λ v. value_view v ≡ value_view value.now) }
 {
     match value {
         Value::Nil => Ok(Value::Nil),

@@ -8,7 +8,7 @@ ghost use Rattle.ferry_msgpack.specs.Spelling.{Spells};
 ghost use Rattle.ferry_msgpack.specs.Faults.{Breaks};
 ghost use Rattle.ferry_msgpack.specs.Writable.{IsWritable};
 ghost use Rattle.ferry_msgpack.specs.Calls.Read.{StandsAt, IsValueUnlessMemory, IsFaultUnlessMemory};
-ghost use Rattle.ferry_msgpack.specs.View.{view, items_view, pairs_view};
+ghost use Rattle.ferry_msgpack.specs.View.{value_view, items_view, pairs_view};
 ghost use Rattle.ferry_msgpack.specs.Reading.{Gives, value_at, flat_by, array_at, table_at, items_at, pairs_at};
 
 use crate::fault::PackFault;
@@ -27,9 +27,9 @@ use std::collections::BTreeMap;
 pub fn read(alloc: Global, bytes: &[u8], at: usize) -> Result<(Value, usize), PackFault>
     requires { at ≤ length bytes.now }
     // What is read is spelled by these bytes.
-    ensures found { IfOk result (λ x. StandsAt bytes.now at (view x.0) x.1) }
+    ensures found { IfOk result (λ x. StandsAt bytes.now at (value_view x.0) x.1) }
     // It can be written.
-    ensures writable { IfOk result (λ x. IsWritable (view x.0)) }
+    ensures writable { IfOk result (λ x. IsWritable (value_view x.0)) }
     // What is spelled is read, whatever follows it.
     ensures only { (t : Tree) (front rest : List ℕ) → Spells t front → drop at bytes.now ≡ front ++ rest
         → IsValueUnlessMemory result t (at + length front) }
@@ -45,7 +45,7 @@ pub fn read(alloc: Global, bytes: &[u8], at: usize) -> Result<(Value, usize), Pa
 #[cycle(value)]
 #[tactic(auto, unfolding(crate::specs::Reading::value_at))]
 fn value_of(alloc: Global, depth: usize, bytes: &[u8]) -> Result<(Value, &[u8]), PackFault>
-    ensures { Gives (λ x. (view x.0, x.1.now)) result (value_at depth bytes.now) }
+    ensures { Gives (λ x. (value_view x.0, x.1.now)) result (value_at depth bytes.now) }
 {
     let [first, rest @ ..] = bytes else {
         return Err(PackFault::Short);
@@ -70,7 +70,7 @@ fn array_of(
     count: Count,
     bytes: &[u8],
 ) -> Result<(Value, &[u8]), PackFault>
-    ensures { Gives (λ x. (view x.0, x.1.now)) result (array_at (value_at depth) (count_view count) bytes.now) }
+    ensures { Gives (λ x. (value_view x.0, x.1.now)) result (array_at (value_at depth) (count_view count) bytes.now) }
 {
     let (count, rest) = count_of(count, bytes)?;
     let (items, rest) = items_of(alloc, depth, count, rest)?;
@@ -86,7 +86,7 @@ fn table_of(
     count: Count,
     bytes: &[u8],
 ) -> Result<(Value, &[u8]), PackFault>
-    ensures { Gives (λ x. (view x.0, x.1.now)) result (table_at (value_at depth) (count_view count) bytes.now) }
+    ensures { Gives (λ x. (value_view x.0, x.1.now)) result (table_at (value_at depth) (count_view count) bytes.now) }
 {
     let (count, rest) = count_of(count, bytes)?;
     let (pairs, rest) = pairs_of(alloc, depth, count, rest)?;
@@ -95,7 +95,7 @@ fn table_of(
 
 /// The value behind its first byte where no array or map may begin, and what follows it.
 fn flat_of(alloc: Global, first: First, bytes: &[u8]) -> Result<(Value, &[u8]), PackFault>
-    ensures { Gives (λ x. (view x.0, x.1.now)) result (flat_by (first_view first) bytes.now) }
+    ensures { Gives (λ x. (value_view x.0, x.1.now)) result (flat_by (first_view first) bytes.now) }
 {
     match first {
         First::Refused => Err(PackFault::Kind),

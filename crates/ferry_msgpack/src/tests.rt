@@ -5,25 +5,16 @@ use std::alloc::Global;
 use std::process::Abort;
 use std::test::Fail;
 
-/// The value that all of the bytes spell.
-fn whole(alloc: Global, bytes: &[u8]) -> Option<Value> {
-    let Ok(found) = read(alloc, bytes, 0) else {
-        return None;
-    };
-    let (value, end) = found;
-    if end == bytes.len() {
-        Some(value)
-    } else {
-        None
+/// The shortest spelling of a copy of the value that all of the bytes spell, behind one byte that was there.
+fn respelled(alloc: Global, bytes: &[u8]) -> Result<Vec<u8>, Fail> {
+    let (value, end) = read(alloc, bytes, 0).ok().ok_or("no value")?;
+    if end != bytes.len() {
+        return Err("bytes behind the value".into());
     }
-}
-
-/// The number that all of the bytes spell.
-fn number_of(alloc: Global, bytes: &[u8]) -> Option<i128> {
-    match whole(alloc, bytes) {
-        Some(Value::Number(number)) => Some(number),
-        _ => None,
-    }
+    let copy = value.clone()?;
+    let mut into = vec![in alloc; 7]?;
+    write(&copy, &mut into)?;
+    Ok(into)
 }
 
 /// The number of the fault, or 0 where a value was read.
@@ -34,294 +25,193 @@ fn fault_of(alloc: Global, bytes: &[u8]) -> u8 {
     }
 }
 
-/// The value's spelling, behind one byte that was there.
-fn written(rt: &impl Abort, alloc: Global, value: &Value) -> Result<Vec<u8>, Fail> {
-    assert!(rt; is_writable(value));
-    let mut into = vec![in alloc; 7]?;
-    write(value, &mut into)?;
-    Ok(into)
-}
-
-/// A raw's spelling behind one byte, with its length in 4 bytes or fewer.
-fn behind_seven(alloc: Global, head: &[u8], content: &[u8]) -> Result<Vec<u8>, Fail> {
-    let mut bytes = vec![in alloc; 7]?;
-    bytes.extend_from_slice(head)?;
-    bytes.extend_from_slice(content)?;
-    Ok(bytes)
-}
-
-#[test]
-fn each_number_is_read_from_short_and_long_spellings(rt: HostRuntime) {
-    let table: [(&[u8], i128); 18] = [
-        (&[0x00], 0),
-        (&[0x7f], 127),
-        (&[0xe0], -32),
-        (&[0xff], -1),
-        (&[0xcc, 0x00], 0),
-        (&[0xcc, 0xff], 255),
-        (&[0xcd, 0x00, 0x01], 1),
-        (&[0xcd, 0x81, 0xa4], 33188),
-        (&[0xce, 0xff, 0xff, 0xff, 0xff], 4294967295),
-        (
-            &[0xcf, 0xff, 0xff, 0xff, 0xff, 0xff, 0xff, 0xff, 0xff],
-            18446744073709551615,
-        ),
-        (&[0xd0, 0x80], -128),
-        (&[0xd0, 0xff], -1),
-        (&[0xd0, 0x7f], 127),
-        (&[0xd1, 0x80, 0x00], -32768),
-        (&[0xd1, 0x12, 0x34], 4660),
-        (&[0xd2, 0x80, 0x00, 0x00, 0x00], -2147483648),
-        (
-            &[0xd3, 0x80, 0x00, 0x00, 0x00, 0x00, 0x00, 0x00, 0x00],
-            -9223372036854775808,
-        ),
-        (&[0xd3, 0x00, 0x00, 0x00, 0x00, 0x00, 0x00, 0x00, 0x05], 5),
-    ];
-    for (bytes, number) in table {
-        assert_eq!(rt; number_of(rt.alloc(), bytes), Some(number), "at {bytes:?}");
-    }
-}
-
-#[test]
-fn each_format_is_read_and_its_shortest_spelling_is_written(rt: HostRuntime) -> Result<(), Fail> {
-    let table: [(&[u8], &[u8]); 26] = [
-        (&[0xc0], &[7, 0xc0]),
-        (&[0xc2], &[7, 0xc2]),
-        (&[0xc3], &[7, 0xc3]),
-        (&[0xcf, 0, 0, 0, 0, 0, 0, 0, 0x80], &[7, 0xcc, 0x80]),
-        (
-            &[0xd3, 0xff, 0xff, 0xff, 0xff, 0xff, 0xff, 0xff, 0xdf],
-            &[7, 0xd0, 0xdf],
-        ),
-        (&[0xa0], &[7, 0xa0]),
-        (&[0xa1, 0x61], &[7, 0xa1, 0x61]),
-        (&[0xd9, 1, 0x61], &[7, 0xa1, 0x61]),
-        (&[0xda, 0, 1, 0x61], &[7, 0xa1, 0x61]),
-        (&[0xdb, 0, 0, 0, 1, 0x61], &[7, 0xa1, 0x61]),
-        (&[0xc4, 1, 0x61], &[7, 0xa1, 0x61]),
-        (&[0xc5, 0, 1, 0x61], &[7, 0xa1, 0x61]),
-        (&[0xc6, 0, 0, 0, 1, 0x61], &[7, 0xa1, 0x61]),
-        (&[0x90], &[7, 0x90]),
-        (&[0x92, 5, 0xc0], &[7, 0x92, 5, 0xc0]),
-        (&[0xdc, 0, 1, 5], &[7, 0x91, 5]),
-        (&[0xdd, 0, 0, 0, 1, 5], &[7, 0x91, 5]),
-        (&[0x80], &[7, 0x80]),
-        (&[0xde, 0, 1, 0xa1, 0x61, 5], &[7, 0x81, 0xa1, 0x61, 5]),
-        (
-            &[0xdf, 0, 0, 0, 1, 0xd9, 1, 0x61, 5],
-            &[7, 0x81, 0xa1, 0x61, 5],
-        ),
-        (
-            &[0x82, 0xa1, 0x62, 1, 0xa1, 0x61, 2],
-            &[7, 0x82, 0xa1, 0x61, 2, 0xa1, 0x62, 1],
-        ),
-        (
-            &[0x82, 0xa1, 0x61, 2, 0xa0, 1],
-            &[7, 0x82, 0xa0, 1, 0xa1, 0x61, 2],
-        ),
-        (
-            &[0x83, 0xa2, 0x61, 0x61, 1, 0xa1, 0x62, 2, 0xa1, 0x61, 3],
-            &[7, 0x83, 0xa1, 0x61, 3, 0xa2, 0x61, 0x61, 1, 0xa1, 0x62, 2],
-        ),
-        (
-            &[0x91, 0x81, 0xa1, 0x61, 0x91, 0xc2],
-            &[7, 0x91, 0x81, 0xa1, 0x61, 0x91, 0xc2],
-        ),
-        (
-            &[
-                0x82, 0xa4, 0x6d, 0x6f, 0x64, 0x65, 0xcd, 0x81, 0xa4, 0xa4, 0x70, 0x61, 0x74, 0x68,
-                0xa1, 0x61,
-            ],
-            &[
-                7, 0x82, 0xa4, 0x6d, 0x6f, 0x64, 0x65, 0xcd, 0x81, 0xa4, 0xa4, 0x70, 0x61, 0x74,
-                0x68, 0xa1, 0x61,
-            ],
-        ),
-        (
-            &[
-                0x82, 0xa4, 0x70, 0x61, 0x74, 0x68, 0xa1, 0x61, 0xa4, 0x6d, 0x6f, 0x64, 0x65, 0xcd,
-                0x81, 0xa4,
-            ],
-            &[
-                7, 0x82, 0xa4, 0x6d, 0x6f, 0x64, 0x65, 0xcd, 0x81, 0xa4, 0xa4, 0x70, 0x61, 0x74,
-                0x68, 0xa1, 0x61,
-            ],
-        ),
-    ];
+/// Asserts that the value of the first bytes is written as the second ones.
+fn spellings_are(rt: &impl Abort, alloc: Global, table: &[(&[u8], &[u8])]) -> Result<(), Fail> {
     for (bytes, shortest) in table {
-        let value = whole(rt.alloc(), bytes).ok_or("no value")?;
-        let spelling = written(&rt, rt.alloc(), &value.clone()?)?;
-        assert_eq!(rt; spelling.as_slice(), shortest, "at {bytes:?}");
+        let spelling = respelled(alloc, bytes)?;
+        assert_eq!(rt; spelling.as_slice(), *shortest, "at {bytes:?}");
     }
     Ok(())
 }
 
 #[test]
-fn each_number_is_written_in_its_shortest_form(rt: HostRuntime) -> Result<(), Fail> {
-    let table: [(i128, &[u8]); 20] = [
-        (0, &[7, 0x00]),
-        (127, &[7, 0x7f]),
-        (128, &[7, 0xcc, 0x80]),
-        (255, &[7, 0xcc, 0xff]),
-        (256, &[7, 0xcd, 0x01, 0x00]),
-        (65535, &[7, 0xcd, 0xff, 0xff]),
-        (65536, &[7, 0xce, 0x00, 0x01, 0x00, 0x00]),
-        (4294967295, &[7, 0xce, 0xff, 0xff, 0xff, 0xff]),
-        (
-            4294967296,
-            &[7, 0xcf, 0x00, 0x00, 0x00, 0x01, 0x00, 0x00, 0x00, 0x00],
-        ),
-        (
-            18446744073709551615,
-            &[7, 0xcf, 0xff, 0xff, 0xff, 0xff, 0xff, 0xff, 0xff, 0xff],
-        ),
-        (-1, &[7, 0xff]),
-        (-32, &[7, 0xe0]),
-        (-33, &[7, 0xd0, 0xdf]),
-        (-128, &[7, 0xd0, 0x80]),
-        (-129, &[7, 0xd1, 0xff, 0x7f]),
-        (-32768, &[7, 0xd1, 0x80, 0x00]),
-        (-32769, &[7, 0xd2, 0xff, 0xff, 0x7f, 0xff]),
-        (-2147483648, &[7, 0xd2, 0x80, 0x00, 0x00, 0x00]),
-        (
-            -2147483649,
-            &[7, 0xd3, 0xff, 0xff, 0xff, 0xff, 0x7f, 0xff, 0xff, 0xff],
-        ),
-        (
-            -9223372036854775808,
-            &[7, 0xd3, 0x80, 0x00, 0x00, 0x00, 0x00, 0x00, 0x00, 0x00],
-        ),
-    ];
-    for (number, shortest) in table {
-        let spelling = written(&rt, rt.alloc(), &Value::Number(number))?;
-        assert_eq!(rt; spelling.as_slice(), shortest, "at {number}");
-    }
-    Ok(())
+fn each_spelling_is_read_and_the_shortest_is_written(rt: HostRuntime) -> Result<(), Fail> {
+    spellings_are(
+        &rt,
+        rt.alloc(),
+        &[
+            (b"\xc0", b"\x07\xc0"),
+            (b"\xc2", b"\x07\xc2"),
+            (b"\xc3", b"\x07\xc3"),
+            (b"\xcc\x00", b"\x07\x00"),
+            (b"\xcf\x00\x00\x00\x00\x00\x00\x00\x7f", b"\x07\x7f"),
+            (b"\xcd\x00\x80", b"\x07\xcc\x80"),
+            (b"\xce\x00\x00\x00\xff", b"\x07\xcc\xff"),
+            (b"\xd3\x00\x00\x00\x00\x00\x00\x01\x00", b"\x07\xcd\x01\x00"),
+            (b"\xcd\x81\xa4", b"\x07\xcd\x81\xa4"),
+            (b"\xd2\x00\x00\xff\xff", b"\x07\xcd\xff\xff"),
+            (b"\xd2\x00\x01\x00\x00", b"\x07\xce\x00\x01\x00\x00"),
+            (b"\xce\xff\xff\xff\xff", b"\x07\xce\xff\xff\xff\xff"),
+            (
+                b"\xd3\x00\x00\x00\x01\x00\x00\x00\x00",
+                b"\x07\xcf\x00\x00\x00\x01\x00\x00\x00\x00",
+            ),
+            (
+                b"\xcf\xff\xff\xff\xff\xff\xff\xff\xff",
+                b"\x07\xcf\xff\xff\xff\xff\xff\xff\xff\xff",
+            ),
+            (b"\xff", b"\x07\xff"),
+            (b"\xd0\xff", b"\x07\xff"),
+            (b"\xd1\xff\xe0", b"\x07\xe0"),
+            (b"\xd3\xff\xff\xff\xff\xff\xff\xff\xdf", b"\x07\xd0\xdf"),
+            (b"\xd2\xff\xff\xff\x80", b"\x07\xd0\x80"),
+            (b"\xd2\xff\xff\xff\x7f", b"\x07\xd1\xff\x7f"),
+            (b"\xd3\xff\xff\xff\xff\xff\xff\x80\x00", b"\x07\xd1\x80\x00"),
+            (b"\xd2\xff\xff\x7f\xff", b"\x07\xd2\xff\xff\x7f\xff"),
+            (
+                b"\xd3\xff\xff\xff\xff\x80\x00\x00\x00",
+                b"\x07\xd2\x80\x00\x00\x00",
+            ),
+            (
+                b"\xd3\xff\xff\xff\xff\x7f\xff\xff\xff",
+                b"\x07\xd3\xff\xff\xff\xff\x7f\xff\xff\xff",
+            ),
+            (
+                b"\xd3\x80\x00\x00\x00\x00\x00\x00\x00",
+                b"\x07\xd3\x80\x00\x00\x00\x00\x00\x00\x00",
+            ),
+            (b"\xa0", b"\x07\xa0"),
+            (b"\xa1a", b"\x07\xa1a"),
+            (b"\xd9\x01a", b"\x07\xa1a"),
+            (b"\xda\x00\x01a", b"\x07\xa1a"),
+            (b"\xdb\x00\x00\x00\x01a", b"\x07\xa1a"),
+            (b"\xc4\x01a", b"\x07\xa1a"),
+            (b"\xc5\x00\x01a", b"\x07\xa1a"),
+            (b"\xc6\x00\x00\x00\x01a", b"\x07\xa1a"),
+            (b"\x92\x05\xc0", b"\x07\x92\x05\xc0"),
+            (b"\xdc\x00\x01\x05", b"\x07\x91\x05"),
+            (b"\xdd\x00\x00\x00\x00", b"\x07\x90"),
+            (b"\xde\x00\x01\xa1a\x05", b"\x07\x81\xa1a\x05"),
+            (b"\xdf\x00\x00\x00\x01\xd9\x01a\x05", b"\x07\x81\xa1a\x05"),
+            (
+                b"\xdc\x00\x10\x01\x02\x03\x04\x05\x06\x07\x08\x09\x0a\x0b\x0c\x0d\x0e\x0f\x10",
+                b"\x07\xdc\x00\x10\x01\x02\x03\x04\x05\x06\x07\x08\x09\x0a\x0b\x0c\x0d\x0e\x0f\x10",
+            ),
+            (b"\x80", b"\x07\x80"),
+            (b"\x82\xa1b\x01\xa1a\x02", b"\x07\x82\xa1a\x02\xa1b\x01"),
+            (b"\x82\xa1a\x02\xa0\x01", b"\x07\x82\xa0\x01\xa1a\x02"),
+            (
+                b"\x83\xa2aa\x01\xa1b\x02\xa1a\x03",
+                b"\x07\x83\xa1a\x03\xa2aa\x01\xa1b\x02",
+            ),
+            (b"\x91\x81\xa1a\x91\xc2", b"\x07\x91\x81\xa1a\x91\xc2"),
+            (
+                b"\x82\xa4path\xa1a\xa4mode\xcd\x81\xa4",
+                b"\x07\x82\xa4mode\xcd\x81\xa4\xa4path\xa1a",
+            ),
+        ],
+    )
 }
 
-#[test]
-fn longer_counts_stand_in_two_bytes_or_four(rt: HostRuntime) -> Result<(), Fail> {
-    let alloc = rt.alloc();
-    let table: [(usize, &[u8]); 5] = [
-        (31, &[0xbf]),
-        (32, &[0xda, 0x00, 0x20]),
-        (255, &[0xda, 0x00, 0xff]),
-        (65535, &[0xda, 0xff, 0xff]),
-        (65536, &[0xdb, 0x00, 0x01, 0x00, 0x00]),
-    ];
-    for (count, head) in table {
-        let content = vec![in alloc; 0x61; count]?;
-        let expected = behind_seven(alloc, head, &content)?;
-        let spelling = written(&rt, alloc, &Value::Raw(content))?;
-        assert!(rt; spelling == expected, "a raw of {count}");
-    }
-    let mut items = Vec::new(alloc);
-    for _ in 0..16 {
-        items.push(Value::Nil)?;
-    }
-    let expected = behind_seven(alloc, &[0xdc, 0x00, 0x10], &[0xc0; 16])?;
-    assert!(rt; written(&rt, alloc, &Value::Array(items))? == expected);
-    Ok(())
-}
-
-#[test]
-fn the_first_broken_rule_is_told(rt: HostRuntime) {
-    // Short 1, Kind 2, Key 3, Repeat 4.
-    let table: [(&[u8], u8); 32] = [
-        (&[], 1),
-        (&[0xa2, 0x61], 1),
-        (&[0xcd, 0x81], 1),
-        (&[0xd3, 0, 0, 0, 0, 0, 0, 0], 1),
-        (&[0xdb, 0xff, 0xff, 0xff, 0xff], 1),
-        (&[0xdd, 0xff, 0xff, 0xff, 0xff], 1),
-        (&[0xdf, 0xff, 0xff, 0xff, 0xff], 1),
-        (&[0xdc, 0x00], 1),
-        (&[0x92, 0x01], 1),
-        (&[0x81], 1),
-        (&[0x81, 0xa1], 1),
-        (&[0x81, 0xda, 0x00], 1),
-        (&[0x81, 0xa1, 0x61], 1),
-        (&[0xc1], 2),
-        (&[0xc7, 0, 0], 2),
-        (&[0xc9, 0, 0, 0, 0, 0], 2),
-        (&[0xca, 0, 0, 0, 0], 2),
-        (&[0xcb, 0, 0, 0, 0, 0, 0, 0, 0], 2),
-        (&[0xd4, 0, 0], 2),
-        (&[0xd8], 2),
-        (&[0x91, 0xc1], 2),
-        (&[0x81, 0xc1, 0x01], 2),
-        (&[0x81, 0xcb], 2),
-        (&[0x81, 0xd6, 0x01], 2),
-        (&[0x81, 0x01, 0x02], 3),
-        (&[0x81, 0xc0, 0x02], 3),
-        (&[0x81, 0xcd], 3),
-        (&[0x81, 0xe0], 3),
-        (&[0x81, 0xdd], 3),
-        (&[0x81, 0x80, 0x01], 3),
-        (&[0x82, 0xa1, 0x61, 0x01, 0xa1, 0x61, 0x02], 4),
-        (&[0x82, 0xa1, 0x61, 0x01, 0xd9, 0x01, 0x61, 0xc1], 4),
-    ];
-    for (bytes, fault) in table {
-        assert_eq!(rt; fault_of(rt.alloc(), bytes), fault, "at {bytes:?}");
-    }
-}
-
-#[test]
-fn sixty_four_arrays_and_maps_may_nest(rt: HostRuntime) -> Result<(), Fail> {
-    // What stands in front of these ends: 63 arrays. Deep 5.
-    let table: [(&[u8], u8); 8] = [
-        (&[0x91, 0x01], 0),
-        (&[0x81, 0xa0, 0x01], 0),
-        (&[0x91, 0x91, 0x01], 5),
-        (&[0x91, 0x90], 5),
-        (&[0x91, 0xdc], 5),
-        (&[0x91, 0xdf], 5),
-        (&[0x81, 0x91, 0x01], 3),
-        (&[0x81, 0xa0, 0x80], 5),
-    ];
-    for (end, fault) in table {
-        let mut bytes = vec![in rt.alloc(); 0x91; 63]?;
+/// Asserts that the bytes, each behind these, have the faults of the table.
+fn faults_are(
+    rt: &impl Abort,
+    alloc: Global,
+    before: &[u8],
+    table: &[(u8, &[u8])],
+) -> Result<(), Fail> {
+    for (fault, end) in table {
+        let mut bytes = Vec::from_slice(alloc, before)?;
         bytes.extend_from_slice(end)?;
-        assert_eq!(rt; fault_of(rt.alloc(), &bytes), fault, "at {end:?}");
+        assert_eq!(rt; fault_of(alloc, &bytes), *fault, "at {end:?}");
     }
     Ok(())
 }
 
-#[test]
-fn every_front_of_a_value_is_short(rt: HostRuntime) {
-    let bytes: [u8; 31] = [
-        0x83, 0xa1, 0x61, 0x92, 0xcd, 0x81, 0xa4, 0xd0, 0x80, 0xa1, 0x62, 0x81, 0xd9, 0x02, 0x63,
-        0x64, 0xc3, 0xc4, 0x01, 0x65, 0xce, 0x00, 0x01, 0x00, 0x00, 0xc0, 0xa2, 0x61, 0xd3, 0x00,
-        0x00,
-    ];
-    for end in 0..25usize {
-        assert_eq!(rt;
-            fault_of(rt.alloc(), &bytes[..end]),
-            1,
-            "the front of {end}"
-        );
+/// Asserts that the bytes are a value, and each front of them is none.
+fn fronts_are_short(rt: &impl Abort, alloc: Global, whole: &[u8]) {
+    for end in 0..whole.len() {
+        assert_eq!(rt; fault_of(alloc, &whole[..end]), 1, "the front of {end}");
     }
-    assert_eq!(rt; fault_of(rt.alloc(), &bytes[..25]), 0);
-    let behind = match read(rt.alloc(), &bytes, 3) {
-        Ok((_, end)) => end,
-        Err(_) => 0,
-    };
-    assert_eq!(rt; behind, 9);
+    assert_eq!(rt; fault_of(alloc, whole), 0);
 }
 
 #[test]
-fn what_is_out_of_range_cannot_be_written(rt: HostRuntime) -> Result<(), Fail> {
-    let alloc = rt.alloc();
-    let table: [(i128, bool); 4] = [
-        (18446744073709551615, true),
-        (18446744073709551616, false),
-        (-9223372036854775808, true),
-        (-9223372036854775809, false),
-    ];
-    for (number, fits) in table {
-        assert_eq!(rt; is_writable(&Value::Number(number)), fits, "at {number}");
+fn the_first_broken_rule_is_told(rt: HostRuntime) -> Result<(), Fail> {
+    // Short 1, Kind 2, Key 3, Repeat 4, Deep 5.
+    faults_are(
+        &rt,
+        rt.alloc(),
+        b"",
+        &[
+            (1, b""),
+            (1, b"\xdb\xff\xff\xff\xff"),
+            (1, b"\xdd\xff\xff\xff\xff"),
+            (1, b"\xdf\xff\xff\xff\xff"),
+            (2, b"\xc1"),
+            (2, b"\xc7\x00\x00"),
+            (2, b"\xc9\x00\x00\x00\x00\x00"),
+            (2, b"\xca\x00\x00\x00\x00"),
+            (2, b"\xcb\x00\x00\x00\x00\x00\x00\x00\x00"),
+            (2, b"\xd4\x00\x00"),
+            (2, b"\xd8"),
+            (2, b"\x91\xc1"),
+            (2, b"\x81\xc1\x01"),
+            (2, b"\x81\xcb"),
+            (3, b"\x81\x01\x02"),
+            (3, b"\x81\xc0\x02"),
+            (3, b"\x81\xcd"),
+            (3, b"\x81\xe0"),
+            (3, b"\x81\xdd"),
+            (3, b"\x81\x80\x01"),
+            (4, b"\x82\xa1a\x01\xa1a\x02"),
+            (4, b"\x82\xa1a\x01\xd9\x01a\xc1"),
+        ],
+    )?;
+    faults_are(
+        &rt,
+        rt.alloc(),
+        &[0x91; 63],
+        &[
+            (0, b"\x91\x01"),
+            (0, b"\x81\xa0\x01"),
+            (5, b"\x91\x91\x01"),
+            (5, b"\x91\x90"),
+            (5, b"\x91\xdc"),
+            (5, b"\x91\xdf"),
+            (3, b"\x81\x91\x01"),
+            (5, b"\x81\xa0\x80"),
+        ],
+    )?;
+    fronts_are_short(
+        &rt,
+        rt.alloc(),
+        b"\x83\xa1a\x92\xcd\x81\xa4\xd0\x80\xa1b\x81\xd9\x02cd\xc3\xc4\x01e\xce\x00\x01\x00\x00",
+    );
+    Ok(())
+}
+
+/// Asserts that a raw of so many bytes is written with this head.
+fn raws_begin(rt: &impl Abort, alloc: Global, table: &[(usize, &[u8])]) -> Result<(), Fail> {
+    for (count, head) in table {
+        let mut bytes = Vec::from_slice(alloc, head)?;
+        bytes.extend_from_slice(&vec![in alloc; 0x61; *count]?)?;
+        let mut expected = vec![in alloc; 7]?;
+        expected.extend_from_slice(&bytes)?;
+        assert!(rt; respelled(alloc, &bytes)? == expected, "a raw of {count}");
     }
+    Ok(())
+}
+
+/// Asserts which numbers can be written.
+fn numbers_fit(rt: &impl Abort, table: &[(i128, bool)]) {
+    for (number, fits) in table {
+        assert_eq!(rt; is_writable(&Value::Number(*number)), *fits, "at {number}");
+    }
+}
+
+/// Asserts that 64 arrays inside each other can be written, and 65 cannot.
+fn depths_fit(rt: &impl Abort, alloc: Global) -> Result<(), Fail> {
     let mut deep = Value::Nil;
     for level in 1..66usize {
         let mut items = Vec::new(alloc);
@@ -329,17 +219,43 @@ fn what_is_out_of_range_cannot_be_written(rt: HostRuntime) -> Result<(), Fail> {
         deep = Value::Array(items);
         assert_eq!(rt; is_writable(&deep), level <= 64, "at depth {level}");
     }
-    let keys: [(&[u8], &[u8], bool); 3] = [
-        (b"a", b"b", true),
-        (b"b", b"a", false),
-        (b"a", b"a", false),
-    ];
-    for (first, second, fits) in keys {
-        let mut pairs = Vec::new(alloc);
-        pairs.push((Vec::from_slice(alloc, first)?, Value::Nil))?;
-        pairs.push((Vec::from_slice(alloc, second)?, Value::Nil))?;
-        assert_eq!(rt; is_writable(&Value::Table(pairs)), fits);
-    }
+    Ok(())
+}
+
+/// Tells whether a map with these keys in this order can be written.
+fn pair_fits(alloc: Global, first: &[u8], second: &[u8]) -> Result<bool, Fail> {
+    let mut pairs = Vec::new(alloc);
+    pairs.push((Vec::from_slice(alloc, first)?, Value::Nil))?;
+    pairs.push((Vec::from_slice(alloc, second)?, Value::Nil))?;
+    Ok(is_writable(&Value::Table(pairs)))
+}
+
+#[test]
+fn longer_counts_are_written_and_what_is_out_of_range_is_not(rt: HostRuntime) -> Result<(), Fail> {
+    let alloc = rt.alloc();
+    raws_begin(
+        &rt,
+        alloc,
+        &[
+            (31, b"\xbf"),
+            (32, b"\xda\x00\x20"),
+            (65535, b"\xda\xff\xff"),
+            (65536, b"\xdb\x00\x01\x00\x00"),
+        ],
+    )?;
+    numbers_fit(
+        &rt,
+        &[
+            (18446744073709551615, true),
+            (18446744073709551616, false),
+            (-9223372036854775808, true),
+            (-9223372036854775809, false),
+        ],
+    );
+    depths_fit(&rt, alloc)?;
+    assert!(rt; pair_fits(alloc, b"a", b"b")?);
+    assert!(rt; !pair_fits(alloc, b"b", b"a")?);
+    assert!(rt; !pair_fits(alloc, b"a", b"a")?);
     spelling_laws();
     Ok(())
 }

@@ -2,7 +2,7 @@
 
 ghost use Rattle.std.specs.Prelude.{◌≡◌, ◌↔◌, IsTrue};
 ghost use Rattle.ferry_msgpack.specs.Tree.{array, table};
-ghost use Rattle.ferry_msgpack.specs.View.{view, items_view, pairs_view};
+ghost use Rattle.ferry_msgpack.specs.View.{value_view, items_view, pairs_view};
 ghost use Rattle.ferry_msgpack.specs.Writable.{IsWritable};
 ghost use Rattle.ferry_msgpack.specs.WritableTest.{fits_within, keys_increase};
 
@@ -20,7 +20,7 @@ const LENGTHS_END: usize = 0x1_0000_0000;
 /// Tells whether a value can be written: its numbers lie from -2^63 to 2^64-1, at most 64 arrays and maps stand inside
 /// each other, lengths are below 2^32, and the keys of each table increase. It takes no memory.
 pub fn is_writable(value: &Value) -> bool
-    ensures { IsTrue result ↔ IsWritable (view value.now) }
+    ensures { IsTrue result ↔ IsWritable (value_view value.now) }
 {
     value_fits(value, DEPTH)
 }
@@ -28,7 +28,7 @@ pub fn is_writable(value: &Value) -> bool
 /// The value fits, and at most `depth` arrays and maps stand inside each other.
 #[cycle(fits)]
 fn value_fits(value: &Value, depth: usize) -> bool
-    ensures { result ≡ fits_within depth (view value.now) }
+    ensures { result ≡ fits_within depth (value_view value.now) }
 {
     match value {
         Value::Nil | Value::Flag(_) => true,

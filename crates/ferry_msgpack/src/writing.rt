@@ -2,7 +2,7 @@
 
 ghost use Rattle.std.specs.Prelude.{◌≡◌, ◌++◌, OnOk, OnErr};
 ghost use Rattle.ferry_msgpack.specs.Tree.{array, table};
-ghost use Rattle.ferry_msgpack.specs.View.{view, items_view, pairs_view};
+ghost use Rattle.ferry_msgpack.specs.View.{value_view, items_view, pairs_view};
 ghost use Rattle.ferry_msgpack.specs.Shortest.{shortest};
 ghost use Rattle.ferry_msgpack.specs.Writable.{IsWritable, Fits};
 ghost use Rattle.ferry_msgpack.specs.Calls.Write.{Begins};
@@ -17,8 +17,8 @@ use std::alloc::AllocError;
 ///
 /// Source: msgpack specification, "Formats".
 pub fn write(value: &Value, into: &mut Vec<u8>) -> Result<(), AllocError>
-    requires { IsWritable (view value.now) }
-    ensures ok { OnOk result (into.new.items ≡ into.old.items ++ shortest (view value.now)) }
+    requires { IsWritable (value_view value.now) }
+    ensures ok { OnOk result (into.new.items ≡ into.old.items ++ shortest (value_view value.now)) }
     ensures err { OnErr result (into.new.items ≡ into.old.items) }
 {
     let length = into.len();
@@ -32,8 +32,8 @@ pub fn write(value: &Value, into: &mut Vec<u8>) -> Result<(), AllocError>
 /// Appends a value. After a refusal `into` begins as before.
 #[cycle(put)]
 fn put_value(value: &Value, into: &mut Vec<u8>) -> Result<(), AllocError>
-    requires { Fits (view value.now) }
-    ensures ok { OnOk result (into.new.items ≡ into.old.items ++ shortest (view value.now)) }
+    requires { Fits (value_view value.now) }
+    ensures ok { OnOk result (into.new.items ≡ into.old.items ++ shortest (value_view value.now)) }
     ensures err { OnErr result (Begins into.old.items into.new.items) }
 {
     match value {

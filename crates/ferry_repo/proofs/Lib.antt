@@ -1,3 +1,4 @@
+pub mod FaultLemmas
 pub mod ObjectLemmas
 pub mod OpeningLemmas
 pub mod LawLemmas

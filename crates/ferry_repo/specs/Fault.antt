@@ -1,8 +1,7 @@
--- The faults of a repository: those of its parts, and what each says of a shelf's count of faults.
-use Rattle.std.specs.Prelude.{◌≡◌, ℕ, Result, MatchResult}
+-- The faults of a repository: those of its parts, and which are the device's.
+use Rattle.std.specs.Prelude.{Bool, true, false}
 use Rattle.ferry_config.specs.declared.fault.ConfigFault.{ConfigFault}
 use Rattle.ferry_config.specs.declared.fault.ConfigFault.TheVariants as Config
-use Rattle.ferry_disk.specs.Device.{Rose}
 use Rattle.ferry_disk.specs.declared.shelf.StoreFault.{StoreFault}
 use Rattle.ferry_disk.specs.declared.shelf.StoreFault.TheVariants as Store
 use Rattle.ferry_keyblob.specs.declared.fault.KeyFault.{KeyFault}
@@ -41,14 +40,10 @@ abbrev pub manifest_fault : MetaFault → RepoFault
 manifest_fault Meta.Memory = Memory
 manifest_fault fault = Manifest fault
 
--- The count rose at `Device`, and is the same at any other refusal.
-abbrev pub FaultCause : ℕ → ℕ → RepoFault → Type 0
-FaultCause before now Device = Rose before now
-FaultCause before now fault = now ≡ before
-
--- The count rose where the answer is `Device`, and is the same at any other.
-abbrev pub HasFaultCause : {T : Type 0} → ℕ → ℕ → Result T RepoFault → Type 0
-HasFaultCause before now result = MatchResult result (λ _. now ≡ before) (FaultCause before now)
+-- whether a repository's device failed
+abbrev pub repo_failed : RepoFault → Bool
+repo_failed Device = true
+repo_failed fault = false
 
 -- a fault that says something of the files: neither the device's nor want of memory
 abbrev pub IsOfFiles : RepoFault → Type 0

@@ -1,12 +1,12 @@
 //! Why a repository or a part of it can't be read.
 ghost use Rattle.std.specs.Prelude.{◌≡◌};
-ghost use Rattle.ferry_repo.specs.Fault.{log_fault, store_fault, config_fault, key_fault, manifest_fault};
 
+use ferry_base::Id;
 use ferry_blob::BlobFault;
 use ferry_config::ConfigFault;
 use ferry_disk::StoreFault;
 use ferry_keyblob::KeyFault;
-use ferry_log::{Id, LogFault};
+use ferry_log::LogFault;
 use ferry_manifest::MetaFault;
 use thiserror::Error;
 
@@ -44,54 +44,69 @@ pub enum RepoFault {
     Memory,
 }
 
-/// The fault where the log doesn't open.
-pub(crate) fn of_log(fault: LogFault) -> RepoFault
-    ensures { result ≡ log_fault fault }
-{
-    match fault {
-        LogFault::NoCommit => RepoFault::NoCommit,
-        LogFault::Damaged { segment, at } => RepoFault::Damaged { segment, at },
-        LogFault::Device => RepoFault::Device,
-        LogFault::Memory => RepoFault::Memory,
+impl From<LogFault> for RepoFault {
+    ghost use Rattle.ferry_repo.specs.Fault.{log_fault};
+
+    ghost from_gives = { λ fault gives. gives ≡ log_fault fault };
+
+    fn from(fault: LogFault) -> RepoFault {
+        match fault {
+            LogFault::NoCommit => RepoFault::NoCommit,
+            LogFault::Damaged { segment, at } => RepoFault::Damaged { segment, at },
+            LogFault::Device => RepoFault::Device,
+            LogFault::Memory => RepoFault::Memory,
+        }
     }
 }
 
-/// The fault where the shelf gives no answer.
-pub(crate) fn of_store(fault: StoreFault) -> RepoFault
-    ensures { result ≡ store_fault fault }
-{
-    match fault {
-        StoreFault::Failed => RepoFault::Device,
-        StoreFault::Memory => RepoFault::Memory,
+impl From<StoreFault> for RepoFault {
+    ghost use Rattle.ferry_repo.specs.Fault.{store_fault};
+
+    ghost from_gives = { λ fault gives. gives ≡ store_fault fault };
+
+    fn from(fault: StoreFault) -> RepoFault {
+        match fault {
+            StoreFault::Failed => RepoFault::Device,
+            StoreFault::Memory => RepoFault::Memory,
+        }
     }
 }
 
-/// The fault where the file `config` doesn't read.
-pub(crate) fn of_config(fault: ConfigFault) -> RepoFault
-    ensures { result ≡ config_fault fault }
-{
-    match fault {
-        ConfigFault::Memory => RepoFault::Memory,
-        fault => RepoFault::Config(fault),
+impl From<ConfigFault> for RepoFault {
+    ghost use Rattle.ferry_repo.specs.Fault.{config_fault};
+
+    ghost from_gives = { λ fault gives. gives ≡ config_fault fault };
+
+    fn from(fault: ConfigFault) -> RepoFault {
+        match fault {
+            ConfigFault::Memory => RepoFault::Memory,
+            fault => RepoFault::Config(fault),
+        }
     }
 }
 
-/// The fault where the key doesn't open.
-pub(crate) fn of_key(fault: KeyFault) -> RepoFault
-    ensures { result ≡ key_fault fault }
-{
-    match fault {
-        KeyFault::Memory => RepoFault::Memory,
-        fault => RepoFault::Key(fault),
+impl From<KeyFault> for RepoFault {
+    ghost use Rattle.ferry_repo.specs.Fault.{key_fault};
+
+    ghost from_gives = { λ fault gives. gives ≡ key_fault fault };
+
+    fn from(fault: KeyFault) -> RepoFault {
+        match fault {
+            KeyFault::Memory => RepoFault::Memory,
+            fault => RepoFault::Key(fault),
+        }
     }
 }
 
-/// The fault where the manifest doesn't read.
-pub(crate) fn of_meta(fault: MetaFault) -> RepoFault
-    ensures { result ≡ manifest_fault fault }
-{
-    match fault {
-        MetaFault::Memory => RepoFault::Memory,
-        fault => RepoFault::Manifest(fault),
+impl From<MetaFault> for RepoFault {
+    ghost use Rattle.ferry_repo.specs.Fault.{manifest_fault};
+
+    ghost from_gives = { λ fault gives. gives ≡ manifest_fault fault };
+
+    fn from(fault: MetaFault) -> RepoFault {
+        match fault {
+            MetaFault::Memory => RepoFault::Memory,
+            fault => RepoFault::Manifest(fault),
+        }
     }
 }

@@ -12,10 +12,9 @@ mod object;
 mod opening;
 mod reason;
 mod repo;
-#[cfg(test)]
-mod tests;
 
 pub use fault::RepoFault;
 pub use laws::{chunk_laws, repo_laws};
+pub use opening::{Unlocked, unlock};
 pub use reason::write_reason;
-pub use repo::{Id, Repo};
+pub use repo::Repo;

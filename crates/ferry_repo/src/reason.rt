@@ -5,7 +5,7 @@ ghost use Rattle.ferry_repo.specs.Fault.{IsOfFiles};
 ghost use Rattle.ferry_repo.specs.Reason.{reason};
 
 use crate::fault::RepoFault;
-use ferry_log::Id;
+use ferry_base::Id;
 use ferry_text::{write_id, write_number};
 use std::alloc::AllocError;
 

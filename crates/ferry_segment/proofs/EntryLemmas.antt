@@ -1,14 +1,19 @@
 -- Lemmas on specs/Entry.antt, in the order of its definitions.
-use Rattle.std.proofs.Common.{◌≡◌, ◌≢◌, ℕ, zero, suc, ◌+◌, ◌-◌, ◌*◌, ◌/◌, ◌%◌, ◌^◌, ◌<◌, ◌≤◌, ◌⊎◌, Bool, true, false, ◌||◌, not, eqb, ltb, cond, List, [], ◌∷◌, ◌++◌, length, take, drop, get_or, bit_xor, fold, Option, Some, None, refl, sym, ◌∙◌, ap, subst, inl, inr, arith, take-add, lt-ltb, le-ltb, eq-eqb, ltb-true, ltb-false, eqb-true}
+use Rattle.std.proofs.Common.{◌≡◌, ℕ, zero, suc, ◌+◌, ◌-◌, ◌*◌, ◌/◌, ◌%◌, ◌^◌, ◌<◌, ◌≤◌, Bool, true, false, ◌||◌, not, eqb, ltb, cond, List, []}
+use Rattle.std.proofs.Common.{◌∷◌, ◌++◌, length, take, drop, get_or, bit_xor, fold, Option, Some, None, refl, sym, ◌∙◌, ap, subst, inl, inr, arith}
+use Rattle.std.proofs.Common.{take-add, lt-ltb, le-ltb, eq-eqb, ltb-true, ltb-false, eqb-true}
 use Rattle.std.proofs.lemmas.Bool.{cases_lt, cases_eq}
-use Rattle.std.specs.Int.{w32, to_le_bytes, from_le_bytes}
-use Rattle.std.specs.List.{flat_map}
+use Rattle.std.specs.Int.{w32, to_le_bytes}
 use Rattle.std.proofs.lemmas.Nat.{xor_of_32, le_bytes_4, from_le_bytes-to_le_bytes_4}
-use Rattle.std.proofs.lemmas.List.{append_assoc, append-nil, length-append, length-take-le, take_at, drop_at, drop_more, drop-drop, take-append-drop, take_rest, take-take, get_or-take, get_or-drop, drop-take, append_cancel_left, append_cancel_right, length-drop, length-take, get_or_past, drop_all}
+use Rattle.std.proofs.lemmas.List.{append_assoc, append-nil, length-append, length-take-le, take_at, drop_at, drop_more, drop-drop, take-append-drop}
+use Rattle.std.proofs.lemmas.List.{take_rest, take-take, get_or-take, get_or-drop, drop-take, length-drop}
+use Rattle.std.proofs.lemmas.List.{length-take, get_or_past, drop_all}
+use Rattle.ferry_base.specs.Limits.{entry_limit}
 use Rattle.ferry_segment.specs.Crc.{all_ones, polynomial, low_bits, bits_of, reduced, after_bit, register_after, crc}
 use Rattle.ferry_segment.specs.declared.entry.EntryFault.{EntryFault}
 use Rattle.ferry_segment.specs.declared.entry.EntryFault.TheVariants.{Short, Size, Crc, Tag}
-use Rattle.ferry_segment.specs.Entry.{IsBytes, LogEntry, PutEntry, DeleteEntry, CommitEntry, tagged, size_of, checked_part, spelling, Fits, IsEntryAt, entry_limit, stated_size, stated_crc, size_fits_tag, first_fault}
+use Rattle.ferry_segment.specs.Entry.{IsBytes, LogEntry, PutEntry, DeleteEntry, CommitEntry, tagged, size_of, checked_part, spelling, Fits, IsEntryAt}
+use Rattle.ferry_segment.specs.Entry.{stated_size, stated_crc, size_fits_tag, first_fault}
 use Rattle.ferry_segment.proofs.CrcLemmas.{register_after-append}
 use Rattle.ferry_segment.specs.Reading.{IsChecked, IsTagged, tag_fault}
 
@@ -36,7 +41,8 @@ crc-lt bytes = xor_of_32 _ all_ones (register_after-lt all_ones bytes (omega ari
 -- the parts of an entry with a key behind its size
 pub keyed : (bytes : List ℕ) → 41 ≤ length bytes → drop 8 bytes ≡ get_or bytes 8 0 ∷ (take 32 (drop 9 bytes) ++ drop 41 bytes)
 keyed bytes h =
-    let parts : take 32 (drop 9 bytes) ++ drop 41 bytes ≡ drop 9 bytes = ap (λ k. take 32 (drop 9 bytes) ++ k) (sym (drop-drop 32 9 bytes)) ∙ take-append-drop 32 (drop 9 bytes) in
+    let parts : take 32 (drop 9 bytes) ++ drop 41 bytes ≡ drop 9 bytes =
+    ap (λ k. take 32 (drop 9 bytes) ++ k) (sym (drop-drop 32 9 bytes)) ∙ take-append-drop 32 (drop 9 bytes) in
     drop_more bytes 8 0 (omega arith) ∙ ap (λ k. get_or bytes 8 0 ∷ k) (sym parts)
 
 key_length : (bytes : List ℕ) → 41 ≤ length bytes → length (take 32 (drop 9 bytes)) ≡ 32
@@ -48,7 +54,8 @@ put_right tag size e h = rw (e, lt-ltb 40 size h) refl
 delete_right : (tag size : ℕ) → tag ≡ 1 → size ≡ 41 → cond (ltb 2 tag) (Some Tag) (cond (not (size_fits_tag size tag)) (Some Size) None) ≡ None
 delete_right tag size e h = rw (e, h) refl
 
-pub tagged_put : (bytes : List ℕ) → 41 ≤ length bytes → get_or bytes 8 0 ≡ 0 → IsTagged bytes (PutEntry (take 32 (drop 9 bytes)) (take (length bytes - 41) (drop 41 bytes)))
+pub tagged_put : (bytes : List ℕ) → 41 ≤ length bytes → get_or bytes 8 0 ≡ 0
+    → IsTagged bytes (PutEntry (take 32 (drop 9 bytes)) (take (length bytes - 41) (drop 41 bytes)))
 tagged_put bytes h e =
     let rest : take (length bytes - 41) (drop 41 bytes) ≡ drop 41 bytes = take_rest bytes 41 in
     let key = key_length bytes h in
@@ -67,7 +74,10 @@ tagged_delete bytes h e =
     let key = key_length bytes (omega arith) in
     record {
       right = delete_right (get_or bytes 8 0) (length bytes) e h;
-      behind = keyed bytes (omega arith) ∙ (ap (λ k. k ∷ (take 32 (drop 9 bytes) ++ drop 41 bytes)) e ∙ ap (λ k. 1 ∷ k) (ap (λ k. take 32 (drop 9 bytes) ++ k) (drop_all 41 bytes (omega arith)) ∙ append-nil _));
+      behind =
+          keyed bytes (omega arith)
+          ∙ (ap (λ k. k ∷ (take 32 (drop 9 bytes) ++ drop 41 bytes)) e
+          ∙ ap (λ k. 1 ∷ k) (ap (λ k. take 32 (drop 9 bytes) ++ k) (drop_all 41 bytes (omega arith)) ∙ append-nil _));
       sized = omega arith;
       fits = λ small. key;
     }
@@ -132,27 +142,36 @@ first_fault-checked bytes entry h =
     let t5 : eqb (crc (take (stated_size bytes - 4) (drop 4 bytes))) (stated_crc bytes) ≡ true = eq-eqb _ _ h.right in
     rw (t1, t2, t3, t4, t5, tag, sized) refl
 
-front_byte : (n : ℕ) (bytes : List ℕ) (i : ℕ) → IsBytes bytes → get_or (take n bytes) i 0 < 256
+front_byte : (n : ℕ) (bytes : List ℕ) (i : ℕ) → ((k : ℕ) → k < n → get_or bytes k 0 < 256) → get_or (take n bytes) i 0 < 256
 front_byte n bytes i small =
     elim (cases_lt i n) [
-      | inl below ↦ subst (λ x. x < 256) (sym (get_or-take n bytes i 0 below)) (small i)
+      | inl below ↦ subst (λ x. x < 256) (sym (get_or-take n bytes i 0 below)) (small i below)
       | inr past ↦ subst (λ x. x < 256) (sym (get_or_past (take n bytes) i 0 (omega (arith, length-take n bytes)))) (omega arith)
     ]
 
 joined_takes : (i j : ℕ) (bytes : List ℕ) (n : ℕ) → i + j ≡ n → take i bytes ++ take j (drop i bytes) ≡ take n bytes
 joined_takes i j bytes n e = subst (λ k. take i bytes ++ take j (drop i bytes) ≡ take k bytes) e (sym (take-add i j bytes))
 
+-- the first eight of these are bytes
+abbrev pub AreSmall : List ℕ → Type 0
+AreSmall bytes = (i : ℕ) → i < 8 → get_or bytes i 0 < 256
+
 -- behind right checks of the size and of the tag, the bytes begin with the entry's spelling
-pub spelled : (bytes entry : List ℕ) (e : LogEntry) → IsBytes bytes → IsChecked bytes entry → IsTagged entry e → bytes ≡ spelling e ++ drop (size_of e) bytes
+pub spelled : (bytes entry : List ℕ) (e : LogEntry) → AreSmall bytes → IsChecked bytes entry → IsTagged entry e
+    → bytes ≡ spelling e ++ drop (size_of e) bytes
 unfolding spelling stated_crc stated_size
 spelled bytes entry e small h t =
     let n = stated_size bytes in
     let least : 9 ≤ n = h.least in
     let within : n ≤ length bytes = h.within in
     let sized : n ≡ size_of e = sym (length-take-le n bytes within) ∙ (sym (ap length h.front) ∙ t.sized) in
-    let crc_bytes : to_le_bytes w32 (stated_crc bytes) ≡ take 4 bytes = le_bytes_4 (take 4 bytes) _ (length-take-le 4 bytes (omega arith)) (λ i. front_byte 4 bytes i small) refl in
-    let size_bytes : to_le_bytes w32 n ≡ take 4 (drop 4 bytes) = le_bytes_4 (take 4 (drop 4 bytes)) _ (length-take-le 4 (drop 4 bytes) (omega (arith, length-drop 4 bytes))) (λ i. front_byte 4 (drop 4 bytes) i (λ k. subst (λ x. x < 256) (sym (get_or-drop 4 bytes k 0)) (small (4 + k)))) refl in
-    let rest : take (n - 4) (drop 4 bytes) ≡ drop 4 entry = sym (drop-take 4 (n - 4) bytes) ∙ (ap (λ k. drop 4 (take k bytes)) (let e : 4 + (n - 4) ≡ n = omega arith in e) ∙ ap (drop 4) (sym h.front)) in
+    let crc_bytes : to_le_bytes w32 (stated_crc bytes) ≡ take 4 bytes =
+    le_bytes_4 (take 4 bytes) _ (length-take-le 4 bytes (omega arith)) (λ i. front_byte 4 bytes i (λ k l. small k (omega arith))) refl in
+    let size_bytes : to_le_bytes w32 n ≡ take 4 (drop 4 bytes) =
+    le_bytes_4 (take 4 (drop 4 bytes)) _ (length-take-le 4 (drop 4 bytes) (omega (arith, length-drop 4 bytes)))
+    (λ i. front_byte 4 (drop 4 bytes) i (λ k l. subst (λ x. x < 256) (sym (get_or-drop 4 bytes k 0)) (small (4 + k) (omega arith)))) refl in
+    let rest : take (n - 4) (drop 4 bytes) ≡ drop 4 entry =
+    sym (drop-take 4 (n - 4) bytes) ∙ (ap (λ k. drop 4 (take k bytes)) (let e : 4 + (n - 4) ≡ n = omega arith in e) ∙ ap (drop 4) (sym h.front)) in
     let part : checked_part e ≡ take (n - 4) (drop 4 bytes) =
     ap (λ k. to_le_bytes w32 k ++ tagged e) (sym sized)
     ∙ (ap (λ k. k ++ tagged e) (size_bytes ∙ (sym (take-take 4 (n - 4) (drop 4 bytes) (omega arith)) ∙ ap (take 4) rest))
@@ -240,14 +259,15 @@ checked_of bytes right =
     }
 
 -- what breaks no rule begins with the spelling of an entry
-pub entry_of : (bytes : List ℕ) → IsBytes bytes → first_fault bytes ≡ None → (e : LogEntry) × Fits e × (size_of e ≤ length bytes) × (bytes ≡ spelling e ++ drop (size_of e) bytes)
+pub entry_of : (bytes : List ℕ) → IsBytes bytes → first_fault bytes ≡ None
+    → (e : LogEntry) × Fits e × (size_of e ≤ length bytes) × (bytes ≡ spelling e ++ drop (size_of e) bytes)
 entry_of bytes small right =
     let h = checked_of bytes right in
     let entry = take (stated_size bytes) bytes in
     let sized : length entry ≡ stated_size bytes = length-take-le _ bytes h.within in
     let t = tagged_of entry (omega (arith, h.least)) (sym (first_fault-checked bytes entry h) ∙ right) in
     let most : length entry ≤ entry_limit = omega (arith, h.most) in
-    (t.0, t.1.fits most, omega (arith, h.within, t.1.sized), spelled bytes entry t.0 small h t.1)
+    (t.0, t.1.fits most, omega (arith, h.within, t.1.sized), spelled bytes entry t.0 (λ i l. small i) h t.1)
 
 -- two lists that begin alike, of one length, are one
 pub same_fronts : {A : Type 0} (a b x y : List A) → length a ≡ length b → a ++ x ≡ b ++ y → (a ≡ b) × (x ≡ y)
@@ -285,47 +305,61 @@ one_spelling d e x y p q same =
 -- ---- IsEntryAt
 
 -- the entry at a place, from the parts of its reader
-pub entry_at : (bytes : List ℕ) (at : ℕ) (entry : List ℕ) (e : LogEntry) → at ≤ length bytes → IsBytes bytes → IsChecked (drop at bytes) entry → IsTagged entry e → IsEntryAt bytes at e (at + length entry)
+pub entry_at : (bytes : List ℕ) (at : ℕ) (entry : List ℕ) (e : LogEntry) → at ≤ length bytes → AreSmall (drop at bytes) → IsChecked (drop at bytes) entry
+    → IsTagged entry e → IsEntryAt bytes at e (at + length entry)
 entry_at bytes at entry e within small h t =
     let n = stated_size (drop at bytes) in
     let sized : length entry ≡ n = ap length h.front ∙ length-take-le n (drop at bytes) h.within in
     let left = length-drop at bytes in
-    let bytes_behind : IsBytes (drop at bytes) = λ i. subst (λ k. k < 256) (sym (get_or-drop at bytes i 0)) (small (at + i)) in
     record {
       fits = t.fits (omega (arith, h.most));
-      spelled = spelled (drop at bytes) entry e bytes_behind h t ∙ ap (λ k. spelling e ++ k) (drop-drop (size_of e) at bytes ∙ ap (λ k. drop k bytes) (let same : at + size_of e ≡ at + length entry = ap (λ k. at + k) (sym t.sized) in same));
+      spelled =
+          spelled (drop at bytes) entry e small h t
+          ∙ ap (λ k. spelling e ++ k) (drop-drop (size_of e) at bytes
+          ∙ ap (λ k. drop k bytes) (let same : at + size_of e ≡ at + length entry = ap (λ k. at + k) (sym t.sized) in same));
       ends = ap (λ k. at + k) t.sized;
       within = omega (arith, h.within);
     }
 
 -- what is spelled at a place is the entry there
-pub entry_only : (bytes : List ℕ) (at : ℕ) (d : LogEntry) (end : ℕ) → IsEntryAt bytes at d end → (e : LogEntry) (rest : List ℕ) → Fits e → drop at bytes ≡ spelling e ++ rest → (d ≡ e) × (end ≡ at + size_of e)
+pub entry_only : (bytes : List ℕ) (at : ℕ) (d : LogEntry) (end : ℕ) → IsEntryAt bytes at d end → (e : LogEntry) (rest : List ℕ) → Fits e
+    → drop at bytes ≡ spelling e ++ rest → (d ≡ e) × (end ≡ at + size_of e)
 entry_only bytes at d end h e rest fits same =
     let one = one_spelling d e _ rest h.fits fits (sym h.spelled ∙ same) in
     (one.0, h.ends ∙ ap (λ k. at + size_of k) one.0)
 
 -- where a rule is broken, no spelling stands
-pub no_spelling : (bytes : List ℕ) (fault : EntryFault) → first_fault bytes ≡ Some fault → (e : LogEntry) (rest : List ℕ) → Fits e → bytes ≡ spelling e ++ rest → ⊥
+pub no_spelling : (bytes : List ℕ) (fault : EntryFault) → first_fault bytes ≡ Some fault → (e : LogEntry) (rest : List ℕ) → Fits e
+    → bytes ≡ spelling e ++ rest → ⊥
 no_spelling bytes fault broken e rest fits same = let right : first_fault bytes ≡ None = ap first_fault same ∙ first_fault-spelling e rest fits in cc
 
 -- ---- what is written
 
 -- a head of the right fields, with the blob behind it
-pub put_spelled : (key blob size crc_bytes head : List ℕ) (n before after : ℕ) → length key ≡ 32 → n ≡ 41 + length blob → size ≡ to_le_bytes w32 n → before ≡ register_after all_ones (size ++ 0 ∷ key) → after ≡ register_after before blob → crc_bytes ≡ to_le_bytes w32 (bit_xor after all_ones) → head ≡ crc_bytes ++ size ++ 0 ∷ key → head ++ blob ≡ spelling (PutEntry key blob)
+pub put_spelled : (key blob size crc_bytes head : List ℕ) (n before after : ℕ) → length key ≡ 32 → n ≡ 41 + length blob → size ≡ to_le_bytes w32 n
+    → before ≡ register_after all_ones (size ++ 0 ∷ key) → after ≡ register_after before blob → crc_bytes ≡ to_le_bytes w32 (bit_xor after all_ones)
+    → head ≡ crc_bytes ++ size ++ 0 ∷ key → head ++ blob ≡ spelling (PutEntry key blob)
 unfolding spelling crc
 put_spelled key blob size crc_bytes head n before after sized counted p q e f g =
     let own : n ≡ size_of (PutEntry key blob) = omega (arith, length-append key blob) in
-    let part : size ++ 0 ∷ key ++ blob ≡ checked_part (PutEntry key blob) = append_assoc size (0 ∷ key) blob ∙ ap (λ k. k ++ (0 ∷ key ++ blob)) (p ∙ ap (to_le_bytes w32) own) in
+    let part : size ++ 0 ∷ key ++ blob ≡ checked_part (PutEntry key blob) =
+    append_assoc size (0 ∷ key) blob ∙ ap (λ k. k ++ (0 ∷ key ++ blob)) (p ∙ ap (to_le_bytes w32) own) in
     let summed : after ≡ register_after all_ones (checked_part (PutEntry key blob)) =
     e ∙ (ap (λ k. register_after k blob) q ∙ (sym (register_after-append all_ones (size ++ 0 ∷ key) blob) ∙ ap (register_after all_ones) part)) in
     let front : head ++ blob ≡ crc_bytes ++ (size ++ 0 ∷ key ++ blob) =
     ap (λ k. k ++ blob) g ∙ (ap (λ k. k ++ blob) (append_assoc crc_bytes size (0 ∷ key)) ∙ append_assoc crc_bytes (size ++ 0 ∷ key) blob) in
-    front ∙ (ap (λ k. k ++ (size ++ 0 ∷ key ++ blob)) (f ∙ ap (λ k. to_le_bytes w32 (bit_xor k all_ones)) summed) ∙ ap (λ k. to_le_bytes w32 (bit_xor (register_after all_ones (checked_part (PutEntry key blob))) all_ones) ++ k) part)
+    front
+    ∙ (ap (λ k. k ++ (size ++ 0 ∷ key ++ blob)) (f ∙ ap (λ k. to_le_bytes w32 (bit_xor k all_ones)) summed)
+    ∙ ap (λ k. to_le_bytes w32 (bit_xor (register_after all_ones (checked_part (PutEntry key blob))) all_ones) ++ k) part)
 
-pub delete_spelled : (key size crc_bytes head : List ℕ) (n before : ℕ) → length key ≡ 32 → n ≡ 41 → size ≡ to_le_bytes w32 n → before ≡ register_after all_ones (size ++ 1 ∷ key) → crc_bytes ≡ to_le_bytes w32 (bit_xor before all_ones) → head ≡ crc_bytes ++ size ++ 1 ∷ key → head ≡ spelling (DeleteEntry key)
+pub delete_spelled : (key size crc_bytes head : List ℕ) (n before : ℕ) → length key ≡ 32 → n ≡ 41 → size ≡ to_le_bytes w32 n
+    → before ≡ register_after all_ones (size ++ 1 ∷ key) → crc_bytes ≡ to_le_bytes w32 (bit_xor before all_ones) → head ≡ crc_bytes ++ size ++ 1 ∷ key
+    → head ≡ spelling (DeleteEntry key)
 unfolding spelling crc
 delete_spelled key size crc_bytes head n before sized counted p q f g =
     let own : n ≡ size_of (DeleteEntry key) = omega arith in
     let part : size ++ 1 ∷ key ≡ checked_part (DeleteEntry key) = ap (λ k. k ++ 1 ∷ key) (p ∙ ap (to_le_bytes w32) own) in
     let summed : before ≡ register_after all_ones (checked_part (DeleteEntry key)) = q ∙ ap (register_after all_ones) part in
-    g ∙ (append_assoc crc_bytes size (1 ∷ key) ∙ (ap (λ k. k ++ (size ++ 1 ∷ key)) (f ∙ ap (λ k. to_le_bytes w32 (bit_xor k all_ones)) summed) ∙ ap (λ k. to_le_bytes w32 (bit_xor (register_after all_ones (checked_part (DeleteEntry key))) all_ones) ++ k) part))
+    g ∙ (append_assoc crc_bytes size (1 ∷ key)
+    ∙ (ap (λ k. k ++ (size ++ 1 ∷ key)) (f ∙ ap (λ k. to_le_bytes w32 (bit_xor k all_ones)) summed)
+    ∙ ap (λ k. to_le_bytes w32 (bit_xor (register_after all_ones (checked_part (DeleteEntry key))) all_ones) ++ k) part))

@@ -1,3 +1,4 @@
 mod CrcLemmas
 pub mod EntryLemmas
+pub mod HeadLemmas
 pub mod SegmentLemmas

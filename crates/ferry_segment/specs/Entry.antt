@@ -7,8 +7,10 @@
 --     8       1          entry tag: 0 PUT, 1 DELETE, 2 COMMIT
 --     9       32         key (PUT, DELETE)
 --     41      size - 41  blob (PUT)
-use Rattle.std.specs.Prelude.{◌≡◌, ℕ, ◌+◌, ◌-◌, ◌<◌, ◌≤◌, Bool, true, false, ◌||◌, ◌&&◌, not, ◌==◌, nat_lt, if◌then◌else◌, List, [], ◌∷◌, ◌++◌, length, take, drop, slice_index, Option, Some, None}
+use Rattle.std.specs.Prelude.{◌≡◌, ℕ, ◌+◌, ◌-◌, ◌<◌, ◌≤◌, Bool, ◌||◌, not, ◌==◌, nat_lt, if◌then◌else◌, List, [], ◌∷◌, ◌++◌, length}
+use Rattle.std.specs.Prelude.{take, drop, slice_index, Option, Some, None}
 use Rattle.std.specs.Int.{w32, to_le_bytes, from_le_bytes}
+use Rattle.ferry_base.specs.Limits.{entry_limit}
 use Rattle.ferry_segment.specs.Crc.{crc}
 use Rattle.ferry_segment.specs.declared.entry.EntryFault.{EntryFault}
 use Rattle.ferry_segment.specs.declared.entry.EntryFault.TheVariants.{Short, Size, Crc, Tag}
@@ -21,15 +23,11 @@ pub data LogEntry : Type 0 where
   DeleteEntry : (key : List ℕ) → LogEntry
   CommitEntry : LogEntry
 
--- the entry that a value of the program stands for
-abbrev pub logged : Entry → LogEntry
-logged (Put key blob) = PutEntry key blob.now
-logged (Delete key) = DeleteEntry key
-logged Commit = CommitEntry
-
--- the most bytes of an entry
-abbrev pub entry_limit : ℕ
-entry_limit = 20971520
+-- what contracts see of an entry of the program
+abbrev pub entry_view : Entry → LogEntry
+entry_view (Put key blob) = PutEntry key blob.now
+entry_view (Delete key) = DeleteEntry key
+entry_view Commit = CommitEntry
 
 -- its bytes behind the size: the entry tag, the key, the blob
 abbrev pub tagged : LogEntry → List ℕ

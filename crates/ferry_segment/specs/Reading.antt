@@ -3,7 +3,8 @@ use Rattle.std.specs.Prelude.{◌≡◌, ℕ, ◌-◌, ◌≤◌, nat_lt, not, i
 use Rattle.ferry_segment.specs.Crc.{crc}
 use Rattle.ferry_segment.specs.declared.entry.EntryFault.{EntryFault}
 use Rattle.ferry_segment.specs.declared.entry.EntryFault.TheVariants.{Size, Tag}
-use Rattle.ferry_segment.specs.Entry.{LogEntry, tagged, size_of, Fits, entry_limit, stated_size, stated_crc, size_fits_tag}
+use Rattle.ferry_base.specs.Limits.{entry_limit}
+use Rattle.ferry_segment.specs.Entry.{LogEntry, tagged, size_of, Fits, stated_size, stated_crc, size_fits_tag}
 
 -- The front of the bytes is an entry's: its size is in range, and its CRC is right.
 pub record IsChecked (bytes entry : List ℕ) : Type 0 where

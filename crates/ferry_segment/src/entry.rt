@@ -1,29 +1,15 @@
 //! One log entry: its parts, its reader and its writers.
 ghost use Rattle.std.specs.Prelude.{◌≡◌, ◌≤◌, ◌+◌, ◌∷◌, ◌++◌, List, ℕ, length, take, drop, IfOk, IsOkAnd, MatchResult};
 ghost use Rattle.std.specs.Int.{w32, from_le_bytes};
-ghost use Rattle.ferry_segment.specs.Entry.{LogEntry, PutEntry, DeleteEntry, logged, spelling, size_of, Fits, IsEntryAt, first_fault};
+ghost use Rattle.ferry_base.specs.Limits.{blob_limit};
+ghost use Rattle.ferry_segment.specs.Entry.{LogEntry, PutEntry, DeleteEntry, entry_view, spelling, size_of, Fits, IsEntryAt, first_fault};
 ghost use Rattle.ferry_segment.specs.Crc.{all_ones, register_after};
-ghost use Rattle.ferry_segment.specs.Reading.{IsChecked, IsTagged, tag_fault};
+ghost use Rattle.ferry_segment.specs.Head.{entry_with};
 
 use crate::crc::{ALL_ONES, after_bytes, crc32};
+use crate::head::{DELETE, Head, PUT, read_head};
+use ferry_base::{Id, PUT_HEAD};
 use thiserror::Error;
-
-/// The id of a stored object, 32 bytes.
-pub type Id = [u8; 32];
-
-/// The most bytes of an entry: 20 MiB, as Borg's `MAX_OBJECT_SIZE` with its head.
-pub const ENTRY_LIMIT: usize = 20_971_520;
-
-/// The bytes of an entry before a blob: CRC, size, entry tag and key.
-pub const HEAD: usize = 41;
-
-const PUT: u8 = 0;
-
-const DELETE: u8 = 1;
-
-const COMMIT_TAG: u8 = 2;
-
-const COMMIT_SIZE: usize = 9;
 
 /// A log entry. The blob of a PUT borrows from the bytes that were read.
 #[derive(Clone, Copy, Debug, PartialEq, Eq)]
@@ -61,87 +47,43 @@ pub enum EntryFault {
 /// Source: BorgBackup 1.2, Internals, "Data structures and file formats", Segments.
 pub fn read_entry<'a>(bytes: &'a [u8], at: usize) -> Result<(Entry<'a>, usize), EntryFault>
     requires { at ≤ length bytes.now }
-    ensures entry { IfOk result (λ read. IsEntryAt bytes.now at (logged read.0) read.1) }
+    ensures entry { IfOk result (λ read. IsEntryAt bytes.now at (entry_view read.0) read.1) }
     // What is spelled here is read, whatever follows it.
     ensures only { (entry : LogEntry) (rest : List ℕ) → Fits entry → drop at bytes.now ≡ spelling entry ++ rest
-        → IsOkAnd result (λ read. (logged read.0 ≡ entry) × (read.1 ≡ at + size_of entry)) }
+        → IsOkAnd result (λ read. (entry_view read.0 ≡ entry) × (read.1 ≡ at + size_of entry)) }
     ensures fault { MatchResult result (λ _. first_fault (drop at bytes.now) ≡ None) (λ fault. first_fault (drop at bytes.now) ≡ Some fault) }
 {
-    let checked = match checked_entry(&bytes[at..]) {
-        Err(fault) => return Err(fault),
-        Ok(checked) => checked,
-    };
-    match tagged_entry(checked) {
-        Err(fault) => Err(fault),
-        Ok(entry) => Ok((entry, at + checked.len())),
-    }
+    let left = &bytes[at..];
+    let stated = read_head(left, left.len() as u64)?;
+    let size = stated.head.size as usize;
+    let head = stated.check(crc32(&left[4..size]))?;
+    Ok((entry_of(&left[..size], head), at + size))
 }
 
-/// The bytes of the entry at the front, whose size is in range and whose CRC is right.
-#[tactic(auto, unfolding(crate::specs::Entry::first_fault, crate::specs::Entry::stated_size, crate::specs::Entry::stated_crc))]
-fn checked_entry(bytes: &[u8]) -> Result<&[u8], EntryFault>
-    ensures { MatchResult result (λ entry. IsChecked bytes.now entry.now) (λ fault. first_fault bytes.now ≡ Some fault) }
+/// The entry that has this head.
+fn entry_of(entry: &[u8], head: Head) -> Entry<'_>
+    requires { (head.tag ≡ 0 → 41 ≤ length entry.now) }
+    ensures { entry_view result ≡ entry_with head entry.now }
 {
-    if bytes.len() < COMMIT_SIZE {
-        return Err(EntryFault::Short);
+    let key = head.key;
+    match head.tag {
+        PUT => Entry::Put {
+            key,
+            blob: &entry[PUT_HEAD..],
+        },
+        DELETE => Entry::Delete { key },
+        _ => Entry::Commit,
     }
-    let size = word_at(bytes, 4) as usize;
-    if size < COMMIT_SIZE || size > ENTRY_LIMIT {
-        return Err(EntryFault::Size);
-    }
-    if bytes.len() < size {
-        return Err(EntryFault::Short);
-    }
-    let entry = &bytes[..size];
-    if crc32(&entry[4..]) != word_at(bytes, 0) {
-        return Err(EntryFault::Crc);
-    }
-    Ok(entry)
-}
-
-/// The little-endian number of four bytes at `at`.
-fn word_at(bytes: &[u8], at: usize) -> u32
-    requires { at + 4 ≤ length bytes.now }
-    ensures { result ≡ from_le_bytes w32 (take 4 (drop at bytes.now)) }
-{
-    u32::from_le_bytes([bytes[at], bytes[at + 1], bytes[at + 2], bytes[at + 3]])
-}
-
-/// The entry that checked bytes are, by its tag.
-fn tagged_entry(entry: &[u8]) -> Result<Entry<'_>, EntryFault>
-    requires { 9 ≤ length entry.now }
-    ensures { MatchResult result (λ read. IsTagged entry.now (logged read)) (λ fault. tag_fault entry.now ≡ Some fault) }
-{
-    match entry[8] {
-        PUT if entry.len() >= HEAD => Ok(Entry::Put {
-            key: key_of(entry),
-            blob: &entry[HEAD..],
-        }),
-        DELETE if entry.len() == HEAD => Ok(Entry::Delete { key: key_of(entry) }),
-        COMMIT_TAG if entry.len() == COMMIT_SIZE => Ok(Entry::Commit),
-        PUT | DELETE | COMMIT_TAG => Err(EntryFault::Size),
-        _ => Err(EntryFault::Tag),
-    }
-}
-
-/// The key behind the entry tag.
-fn key_of(entry: &[u8]) -> Id
-    requires { 41 ≤ length entry.now }
-    ensures { result ≡ take 32 (drop 9 entry.now) }
-{
-    let mut key = [0; 32];
-    key.copy_from_slice(&entry[9..HEAD]);
-    key
 }
 
 /// The 41 bytes before a blob: with the blob behind them they are the PUT of the blob under the key.
 ///
 /// The blob is read for its CRC and not copied. Nothing is allocated.
 pub fn put_head(key: &Id, blob: &[u8]) -> [u8; 41]
-    requires { length blob.now ≤ 20971479 }
+    requires { length blob.now ≤ blob_limit }
     ensures { result ++ blob.now ≡ spelling (PutEntry key.now blob.now) }
 {
-    let size = ((HEAD + blob.len()) as u32).to_le_bytes();
+    let size = ((PUT_HEAD + blob.len()) as u32).to_le_bytes();
     let crc = head_register(size, PUT, key);
     let crc = after_bytes(crc, blob) ^ ALL_ONES;
     head_of(crc.to_le_bytes(), size, PUT, key)
@@ -151,7 +93,7 @@ pub fn put_head(key: &Id, blob: &[u8]) -> [u8; 41]
 pub fn delete_entry(key: &Id) -> [u8; 41]
     ensures { result ≡ spelling (DeleteEntry key.now) }
 {
-    let size = (HEAD as u32).to_le_bytes();
+    let size = (PUT_HEAD as u32).to_le_bytes();
     let crc = head_register(size, DELETE, key) ^ ALL_ONES;
     head_of(crc.to_le_bytes(), size, DELETE, key)
 }

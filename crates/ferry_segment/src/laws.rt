@@ -1,9 +1,16 @@
 //! Laws of the formats, each the contract of a function with nothing to do.
 ghost use Rattle.std.specs.Prelude.{◌≡◌, ◌⊎◌, ◌++◌, ℕ, List, drop, None};
+ghost use Rattle.ferry_segment.specs.Crc.{crc, crc_more};
 ghost use Rattle.ferry_segment.specs.Entry.{LogEntry, CommitEntry, IsBytes, Fits, spelling, size_of, first_fault};
 ghost use Rattle.ferry_segment.specs.Segment.{Splits, BreaksAt, magic};
 
 use crate::segment::{COMMIT, COMMIT_SEGMENT, MAGIC};
+
+/// A CRC goes on from that of the bytes before, and begins at 0.
+pub fn crc_laws()
+    ensures begins { (bytes : List ℕ) → crc bytes ≡ crc_more 0 bytes }
+    ensures joined { (front bytes : List ℕ) → crc (front ++ bytes) ≡ crc_more (crc front) bytes }
+{}
 
 /// What is an entry breaks no rule, what breaks no rule is an entry, and no entry's bytes begin another's.
 pub fn entry_laws()

@@ -7,12 +7,15 @@
 
 mod crc;
 mod entry;
+mod head;
 mod laws;
+mod remainders;
 mod segment;
 #[cfg(test)]
 mod tests;
 
-pub use crc::crc32;
-pub use entry::{ENTRY_LIMIT, Entry, EntryFault, HEAD, Id, delete_entry, put_head, read_entry};
-pub use laws::{constants_spelled, entry_laws, segment_laws};
+pub use crc::{crc32, crc32_more};
+pub use entry::{Entry, EntryFault, delete_entry, put_head, read_entry};
+pub use head::{Head, StatedHead, read_head};
+pub use laws::{constants_spelled, crc_laws, entry_laws, segment_laws};
 pub use segment::{COMMIT, COMMIT_SEGMENT, MAGIC, is_committed};

@@ -1,6 +1,6 @@
 //! A whole segment: its magic, the constants of a commit, and whether it is committed.
 ghost use Rattle.std.specs.Prelude.{◌≡◌, ◌↔◌, ◌++◌, IsTrue};
-ghost use Rattle.ferry_segment.specs.Entry.{logged};
+ghost use Rattle.ferry_segment.specs.Entry.{entry_view};
 ghost use Rattle.ferry_segment.specs.Segment.{Committed, commits};
 
 use crate::entry::{Entry, read_entry};
@@ -41,7 +41,7 @@ pub fn is_committed(bytes: &[u8]) -> bool
 
 /// Whether an entry is a COMMIT.
 fn is_commit(entry: &Entry) -> bool
-    ensures { result ≡ commits (logged entry.now) }
+    ensures { result ≡ commits (entry_view entry.now) }
 {
     matches!(entry, Entry::Commit)
 }

@@ -1,30 +1,17 @@
 use crate::{
-    COMMIT, COMMIT_SEGMENT, Entry, EntryFault, crc32, delete_entry, is_committed, put_head,
-    read_entry,
+    COMMIT, COMMIT_SEGMENT, Entry, EntryFault, crc32, crc32_more, delete_entry, is_committed,
+    put_head, read_entry, read_head,
 };
 use std::alloc::{AllocError, Global};
 use std::test::Fail;
 
-/// The definition, computed: the remainder of the division, one bit of the message at a time.
-fn divided_crc(bytes: &[u8]) -> u32 {
-    let mut register = 0xffff_ffff_u32;
-    for byte in bytes {
-        for bit in 0..8u32 {
-            let leaves = (register ^ (u32::from(*byte) >> bit)) & 1;
-            register = (register >> 1) ^ (if leaves == 1 { 0xedb8_8320 } else { 0 });
-        }
-    }
-    register ^ 0xffff_ffff
-}
-
-/// The check value of the CRC-32 of IEEE 802.3 for the digits 1 to 9, and the CRC of a COMMIT.
+/// Values that are published for the CRC-32 of IEEE 802.3: its check value, and a text of 43 bytes.
 #[test]
-fn crc32_ieee_check_value_and_the_division(rt: HostRuntime) {
+fn crc32_published_values(rt: HostRuntime) {
     assert_eq!(rt; crc32(b"123456789"), 0xcbf4_3926);
-    assert_eq!(rt; crc32(&[9, 0, 0, 0, 2]), 0x253c_f440);
-    for bytes in [&b""[..], b"a", b"\x00\x00\x00\x00", b"BORG_SEG", &[255; 70]] {
-        assert_eq!(rt; crc32(bytes), divided_crc(bytes), "{bytes:?}");
-    }
+    let text = b"The quick brown fox jumps over the lazy dog";
+    assert_eq!(rt; crc32(text), 0x414f_a339);
+    assert_eq!(rt; crc32_more(crc32(&text[..5]), &text[5..]), 0x414f_a339);
 }
 
 /// The PUT of a short blob.
@@ -34,54 +21,42 @@ fn put(alloc: Global, key: u8, blob: &[u8; 6]) -> Result<Vec<u8>, AllocError> {
     Ok(bytes)
 }
 
+/// Entries that are read, and a fault for each rule, with the size, the CRC and the entry tag of the bytes that have it.
 #[test]
-fn what_is_written_is_read_and_a_changed_byte_is_told(rt: HostRuntime) -> Result<(), Fail> {
+fn entries_and_faults(rt: HostRuntime) -> Result<(), Fail> {
     let entry = put(rt.alloc(), 0x11, b"abcdef")?;
     let (read, end) = read_entry(&entry, 0)?;
-    assert_eq!(rt; end, 47);
     assert!(rt;
-        matches!(read, Entry::Put { key, blob } if key == [0x11; 32] && blob == b"abcdef".as_slice())
+        end == 47
+            && matches!(read, Entry::Put { key, blob } if key == [0x11; 32] && blob == b"abcdef".as_slice())
     );
+    let front = put_head(&[0x11; 32], b"");
+    let head = read_head(&front, 41)?.check(crc32(&front[4..]))?;
+    assert!(rt; head.tag == 0 && head.key == [0x11; 32] && head.size == 41);
     let entry = delete_entry(&[7; 32]);
     let (read, end) = read_entry(&entry, 0)?;
-    assert!(rt; matches!(read, Entry::Delete { key } if key == [7; 32]));
-    assert_eq!(rt; end, 41);
+    assert!(rt; end == 41 && matches!(read, Entry::Delete { key } if key == [7; 32]));
     assert_eq!(rt; read_entry(&COMMIT_SEGMENT, 8), Ok((Entry::Commit, 17)));
-    assert_eq!(rt; read_entry(&COMMIT_SEGMENT, 17), Err(EntryFault::Short));
-    Ok(())
-}
-
-/// Each fault, with the size, the CRC and the entry tag of the bytes that have it.
-#[test]
-fn a_fault_for_each_rule(rt: HostRuntime) {
-    let with_tag = [0xd6, 0xc4, 0x3b, 0x52, 9, 0, 0, 0, 3];
-    assert_eq!(rt;
-        divided_crc(&with_tag[4..]),
-        u32::from_le_bytes([0xd6, 0xc4, 0x3b, 0x52])
-    );
     for (bytes, want) in [
         (&COMMIT[..8], EntryFault::Short),
         (&[0, 0, 0, 0, 8, 0, 0, 0, 2], EntryFault::Size),
         (&[0, 0, 0, 0, 1, 0, 64, 1, 2], EntryFault::Size),
         (&[0, 0, 0, 0, 0, 0, 64, 1, 2], EntryFault::Short),
         (&[0, 0, 0, 0, 9, 0, 0, 0, 2], EntryFault::Crc),
-        (&with_tag, EntryFault::Tag),
+        (&[0xd6, 0xc4, 0x3b, 0x52, 9, 0, 0, 0, 3], EntryFault::Tag),
     ] {
         assert_eq!(rt; read_entry(bytes, 0), Err(want), "{bytes:?}");
     }
+    Ok(())
 }
 
 #[test]
 fn a_commit_at_the_end_alone_commits(rt: HostRuntime) -> Result<(), Fail> {
     let mut segment = Vec::from_slice(rt.alloc(), &COMMIT_SEGMENT)?;
-    assert!(rt; is_committed(&segment));
     segment.extend_from_slice(&COMMIT)?;
-    assert!(rt; is_committed(&segment));
+    assert!(rt; is_committed(&segment) && !is_committed(b"BORG_SEG"));
     segment.extend_from_slice(&put(rt.alloc(), 0x11, b"COMMIT")?)?;
-    assert!(rt; !is_committed(&segment));
     segment.extend_from_slice(&COMMIT)?;
     assert!(rt; !is_committed(&segment));
-    assert!(rt; !is_committed(&COMMIT_SEGMENT[..16]));
-    assert!(rt; !is_committed(b"BORG_SEG"));
     Ok(())
 }

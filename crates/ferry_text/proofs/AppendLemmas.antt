@@ -17,14 +17,16 @@ keeps_front old now more front =
     take-append-le (length old) now more long ∙ front
 
 -- plain bytes are appended as they are
-pub appends_plain : (old now plain behind bytes : List ℕ) → Appends old now (plain ++ behind) bytes → AllPass is_plain plain → Appends old (now ++ plain) behind bytes
+pub appends_plain : (old now plain behind bytes : List ℕ) → Appends old now (plain ++ behind) bytes → AllPass is_plain plain
+    → Appends old (now ++ plain) behind bytes
 appends_plain old now plain behind bytes h all = record {
   front = keeps_front old now plain h.front;
   text = append_assoc now plain (escaped behind) ∙ ap (λ k. now ++ k) (sym (escaped-plain_front plain behind all)) ∙ h.text;
 }
 
 -- any other byte is appended as its escape
-pub appends_escape : (old now : List ℕ) (byte : ℕ) (left bytes : List ℕ) → Appends old now (byte ∷ left) bytes → is_plain byte ≡ false → Appends old (now ++ escape byte) left bytes
+pub appends_escape : (old now : List ℕ) (byte : ℕ) (left bytes : List ℕ) → Appends old now (byte ∷ left) bytes → is_plain byte ≡ false
+    → Appends old (now ++ escape byte) left bytes
 appends_escape old now byte left bytes h other = record {
   front = keeps_front old now (escape byte) h.front;
   text = append_assoc now (escape byte) (escaped left) ∙ ap (λ k. now ++ k) (sym (escaped-escape_cons byte left other)) ∙ h.text;
@@ -43,10 +45,12 @@ pub appends_first : (old now behind bytes out : List ℕ) → Appends old now be
 appends_first old now [] bytes out h long other is = absurd (omega arith)
 appends_first old now (byte ∷ left) bytes out h long other is =
     let whole : length left ≡ length (byte ∷ left) - 1 = omega arith in
-    rw is (subst (λ k. Appends old (now ++ escape byte) k bytes) (sym (take-length left) ∙ ap (λ n. take n left) whole) (appends_escape old now byte left bytes h other))
+    rw is (subst (λ k. Appends old (now ++ escape byte) k bytes) (sym (take-length left) ∙ ap (λ n. take n left) whole)
+    (appends_escape old now byte left bytes h other))
 
 -- the byte behind the longest plain front isn't plain
-pub first_other : (rest behind : List ℕ) (n : ℕ) → behind ≡ drop n rest → (n < length rest → is_plain (get_or rest n 0) ≡ false) → 1 ≤ length behind → is_plain (get_or behind 0 0) ≡ false
+pub first_other : (rest behind : List ℕ) (n : ℕ) → behind ≡ drop n rest → (n < length rest → is_plain (get_or rest n 0) ≡ false) → 1 ≤ length behind
+    → is_plain (get_or behind 0 0) ≡ false
 first_other rest behind n is end long =
     let inside : n < length rest = omega (arith, ap length is, length-drop n rest) in
     let here : n + 0 ≡ n = omega arith in

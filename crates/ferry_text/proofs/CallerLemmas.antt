@@ -38,7 +38,8 @@ length-escaped [] = let none : length (escaped []) ≡ 0 = ap length escaped-nil
 length-escaped (byte ∷ rest) =
     let one = length-escaped_byte byte (is_plain byte) refl in
     let more = length-escaped rest in
-    let whole : length (escaped (byte ∷ rest)) ≡ length (escaped_byte byte) + length (escaped rest) = ap length (escaped-cons byte rest) ∙ length-append (escaped_byte byte) (escaped rest) in
+    let whole : length (escaped (byte ∷ rest)) ≡ length (escaped_byte byte) + length (escaped rest) =
+    ap length (escaped-cons byte rest) ∙ length-append (escaped_byte byte) (escaped rest) in
     (omega arith, omega arith)
 
 -- an id has 64 digits

@@ -1,5 +1,6 @@
 -- What holds of all texts: different bytes have different texts, and a text is one line.
-use Rattle.std.proofs.Common.{◌≡◌, ◌≢◌, ℕ, ◌^◌, ◌<◌, ◌≤◌, ◌/◌, ◌%◌, Bool, true, false, List, [], ◌∷◌, ◌++◌, slice_index, All, Some, Ok, refl, sym, ap, subst, ◌∙◌, arith}
+use Rattle.std.proofs.Common.{◌≡◌, ◌≢◌, ℕ, ◌^◌, ◌<◌, ◌≤◌, ◌/◌, ◌%◌, Bool, true, false, List, [], ◌∷◌, ◌++◌, slice_index, All, Some, Ok, refl, sym, ap, subst}
+use Rattle.std.proofs.Common.{◌∙◌, arith}
 use Rattle.std.specs.Prelude.{decimal}
 use Rattle.std.specs.List.{AllPass}
 use Rattle.std.proofs.lemmas.Bool.Decides.{nat_tests}
@@ -39,20 +40,24 @@ escape_is byte = refl
 
 four_printed : (a b c d : ℕ) → IsPrinted a → IsPrinted b → IsPrinted c → IsPrinted d → All IsPrinted (a ∷ b ∷ c ∷ d ∷ [])
 four_printed a b c d first second third fourth =
-    All-cons IsPrinted a (b ∷ c ∷ d ∷ []) first (All-cons IsPrinted b (c ∷ d ∷ []) second (All-cons IsPrinted c (d ∷ []) third (All-cons IsPrinted d [] fourth (All-nil IsPrinted))))
+    All-cons IsPrinted a (b ∷ c ∷ d ∷ []) first
+    (All-cons IsPrinted b (c ∷ d ∷ []) second (All-cons IsPrinted c (d ∷ []) third (All-cons IsPrinted d [] fourth (All-nil IsPrinted))))
 
 backslash_printed : IsPrinted 92
 backslash_printed = (omega arith, λ e. absurd (omega arith))
 
 escape_printed : (byte : ℕ) → byte < 128 → All IsPrinted (escape byte)
 escape_printed byte below =
-    subst (All IsPrinted) (sym (escape_is byte)) (four_printed 92 120 (slice_index lower_digits (byte / 16)) (slice_index lower_digits (byte % 16)) backslash_printed (printed_plain 120 refl) (digit_printed (byte / 16) (omega arith)) (digit_printed (byte % 16) (omega arith)))
+    subst (All IsPrinted) (sym (escape_is byte))
+    (four_printed 92 120 (slice_index lower_digits (byte / 16)) (slice_index lower_digits (byte % 16)) backslash_printed (printed_plain 120 refl)
+    (digit_printed (byte / 16) (omega arith)) (digit_printed (byte % 16) (omega arith)))
 
 text_printed : (byte : ℕ) (rest : List ℕ) (b : Bool) → is_plain byte ≡ b → All IsPrinted (escaped rest) → All IsPrinted (escaped (byte ∷ rest))
 text_printed byte rest true plain h =
     subst (All IsPrinted) (sym (escaped-plain_cons byte rest plain)) (All-cons IsPrinted byte (escaped rest) (printed_plain byte plain) h)
 text_printed byte rest false other h =
-    subst (All IsPrinted) (sym (escaped-escape_cons byte rest other)) (All-append IsPrinted (escape byte) (escaped rest) (escape_printed byte (other_below byte other)) h)
+    subst (All IsPrinted) (sym (escaped-escape_cons byte rest other))
+    (All-append IsPrinted (escape byte) (escaped rest) (escape_printed byte (other_below byte other)) h)
 
 -- no text has a byte below 32, or the byte 127
 pub escaped_printed : (bytes : List ℕ) → All IsPrinted (escaped bytes)
@@ -95,7 +100,8 @@ cons_same a b x y same = (cc, cc)
 first_same : (a b : ℕ) (x y : List ℕ) (p q : Bool) → is_plain a ≡ p → is_plain b ≡ q → escaped (a ∷ x) ≡ escaped (b ∷ y) → (a ≡ b) × (escaped x ≡ escaped y)
 first_same a b x y true true p q same = cons_same a b (escaped x) (escaped y) (sym (escaped-plain_cons a x p) ∙ same ∙ escaped-plain_cons b y q)
 first_same a b x y true false p q same = absurd (plain_apart a b (escaped x) (escaped y) p (sym (escaped-plain_cons a x p) ∙ same ∙ escaped-escape_cons b y q))
-first_same a b x y false true p q same = absurd (plain_apart b a (escaped y) (escaped x) q (sym (escaped-plain_cons b y q) ∙ sym same ∙ escaped-escape_cons a x p))
+first_same a b x y false true p q same =
+    absurd (plain_apart b a (escaped y) (escaped x) q (sym (escaped-plain_cons b y q) ∙ sym same ∙ escaped-escape_cons a x p))
 first_same a b x y false false p q same =
     escape_same a b (escaped x) (escaped y) (other_below a p) (other_below b q) (sym (escaped-escape_cons a x p) ∙ same ∙ escaped-escape_cons b y q)
 

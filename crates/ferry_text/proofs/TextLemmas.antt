@@ -24,4 +24,5 @@ escaped-escape_cons byte rest other = escaped-cons byte rest ∙ ap (λ b. cond 
 pub escaped-plain_front : (front rest : List ℕ) → AllPass is_plain front → escaped (front ++ rest) ≡ front ++ escaped rest
 escaped-plain_front [] rest plain = refl
 escaped-plain_front (byte ∷ front) rest plain =
-    escaped-plain_cons byte (front ++ rest) (plain 0 0 (omega arith)) ∙ ap (λ k. byte ∷ k) (escaped-plain_front front rest (All-tail (λ x. is_plain x ≡ true) byte front plain))
+    escaped-plain_cons byte (front ++ rest) (plain 0 0 (omega arith))
+    ∙ ap (λ k. byte ∷ k) (escaped-plain_front front rest (All-tail (λ x. is_plain x ≡ true) byte front plain))

@@ -2,11 +2,9 @@
 ghost use Rattle.std.specs.Prelude.{◌≡◌, ◌++◌, OnOk, OnErr, decimal};
 ghost use Rattle.hex.specs.Hex.{encode_lower};
 
+use ferry_base::Id;
 use itoa::Buffer;
 use std::alloc::AllocError;
-
-/// The name of a stored object: 32 bytes.
-pub type Id = [u8; 32];
 
 /// Appends an id: 64 hex digits in lower case, the high four bits of each byte first.
 ///

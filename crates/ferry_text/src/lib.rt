@@ -12,5 +12,5 @@ mod laws;
 mod tests;
 
 pub use escape::write_text;
-pub use fields::{Id, write_id, write_number};
+pub use fields::{write_id, write_number};
 pub use laws::text_laws;

@@ -1,3 +1,3 @@
-mod KeyLemmas
 mod KeysLemmas
 mod ListLemmas
+mod StatusLemmas

@@ -19,4 +19,4 @@ key_lines keys = flat_map (λ e. key_line e.0 e.1.size) keys
 pub record IsListing (files : Files) (text : List ℕ) : Type 0 where
   pub state : LogState
   pub is : IsStateOf files state
-  pub lines : text ≡ key_lines (entries state.live)
+  pub lines : text ≡ key_lines (entries state.opened)

@@ -1,3 +1,4 @@
+pub mod Devices
 pub mod Key
 pub mod Keys
 pub mod List

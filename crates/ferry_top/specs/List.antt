@@ -2,7 +2,7 @@
 use Rattle.std.specs.Prelude.{◌≡◌, ℕ, List}
 use Rattle.ferry_disk.specs.Files.{Files}
 use Rattle.ferry_repo.specs.Fault.{IsOfFiles}
-use Rattle.ferry_repo.specs.Opening.{RepoState, OpensTo, RefusesRepo}
+use Rattle.ferry_repo.specs.Opening.{RepoState, OpensFilesTo, RefusesRepo}
 use Rattle.ferry_top.specs.declared.status.Refusal.{Refusal}
 use Rattle.ferry_top.specs.declared.status.Refusal.TheVariants.{Repo}
 use Rattle.ferry_view.specs.Lines.{archive_lines}
@@ -10,7 +10,7 @@ use Rattle.ferry_view.specs.Lines.{archive_lines}
 -- The files open under the passphrase, and the text has the line of each archive of their manifest, in byte order of names.
 pub record IsArchiveListing (passphrase : List ℕ) (files : Files) (text : List ℕ) : Type 0 where
   pub repo : RepoState
-  pub opens : OpensTo files passphrase repo
+  pub opens : OpensFilesTo files passphrase repo
   pub lines : text ≡ archive_lines repo.manifest.archives
 
 -- what a refusal says of the files of a source that is to be opened

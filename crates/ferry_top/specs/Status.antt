@@ -1,9 +1,5 @@
 -- The numbers of the statuses, their fault lines, and what a refusal says of the source's files.
-use Rattle.std.specs.Prelude.{ℕ, List, [], ◌∷◌, ◌++◌, codes, decimal}
-use Rattle.ferry_config.specs.declared.fault.ConfigFault.{ConfigFault}
-use Rattle.ferry_config.specs.declared.fault.ConfigFault.TheVariants as Config
-use Rattle.ferry_keyblob.specs.declared.fault.KeyFault.{KeyFault}
-use Rattle.ferry_keyblob.specs.declared.fault.KeyFault.TheVariants as Key
+use Rattle.std.specs.Prelude.{ℕ, Bool, true, false, List, [], ◌∷◌, ◌++◌, codes, decimal}
 use Rattle.ferry_disk.specs.Files.{Files}
 use Rattle.ferry_log.specs.Log.{IsUncommitted, IsDamaged}
 use Rattle.ferry_log.specs.declared.fault.LogFault.{LogFault}
@@ -13,8 +9,10 @@ use Rattle.ferry_top.specs.declared.status.Status.TheVariants.{Done, Usage, Memo
 use Rattle.ferry_top.specs.declared.status.Refusal.{Refusal}
 use Rattle.ferry_top.specs.declared.status.Refusal.TheVariants.{Repo}
 use Rattle.ferry_repo.specs.Reason.{reason}
+use Rattle.ferry_view.specs.declared.fault.ViewFault.{ViewFault}
+use Rattle.ferry_view.specs.declared.fault.ViewFault.TheVariants as View
 use Rattle.ferry_repo.specs.declared.fault.RepoFault.{RepoFault}
-use Rattle.ferry_repo.specs.declared.fault.RepoFault.TheVariants.{NoCommit, Damaged, Config, Key, Missing, Blob, Manifest, Device, Memory as RepoMemory}
+use Rattle.ferry_repo.specs.declared.fault.RepoFault.TheVariants.{NoCommit, Damaged, Device, Memory as RepoMemory}
 
 -- the number that the program ends with
 abbrev pub status_number : Status → ℕ
@@ -32,21 +30,16 @@ log_status (Log.Damaged segment at) = SourceRefused (Repo (Damaged segment at))
 log_status Log.Device = SourceDevice
 log_status Log.Memory = Memory
 
--- the status where the source's file `config` doesn't read
-abbrev pub config_status : ConfigFault → Status
-config_status Config.Memory = Memory
-config_status fault = SourceRefused (Repo (Config fault))
-
--- the status where the source's key doesn't read or open
-abbrev pub key_status : KeyFault → Status
-key_status Key.Memory = Memory
-key_status fault = SourceRefused (Repo (Key fault))
-
 -- the status where the source doesn't open
 abbrev pub repo_status : RepoFault → Status
 repo_status Device = SourceDevice
 repo_status RepoMemory = Memory
 repo_status fault = SourceRefused (Repo fault)
+
+-- the status where not all could be shown
+abbrev pub view_status : ViewFault → Status
+view_status View.Output = OutputDevice
+view_status View.Memory = Memory
 
 -- the fault line of the first wrong word
 abbrev pub usage_line : ℕ → List ℕ
@@ -70,3 +63,15 @@ abbrev pub RefusesKeys : Files → Refusal → Type 0
 RefusesKeys files (Repo NoCommit) = IsUncommitted files
 RefusesKeys files (Repo (Damaged segment at)) = IsDamaged files segment at
 RefusesKeys files (Repo fault) = ⊥
+
+-- ---- which device a status says has failed
+
+-- whether it is the source's
+abbrev pub source_failed : Status → Bool
+source_failed SourceDevice = true
+source_failed status = false
+
+-- whether it is the output
+abbrev pub output_failed : Status → Bool
+output_failed OutputDevice = true
+output_failed status = false

@@ -1,68 +1,54 @@
 //! The command that opens the repository key.
-ghost use Rattle.std.specs.Prelude.{◌≡◌, ◌++◌, OnOk, OnErr, IfOk, IfErr, IfSome, Ok, Err, option_map};
-ghost use Rattle.ferry_disk.specs.Files.{contents_at};
-ghost use Rattle.ferry_disk.specs.Device.{WritesSome, HasSinkCause, HasStoreCause, files_told};
-ghost use Rattle.ferry_config.specs.Config.{config_of};
-ghost use Rattle.ferry_keyblob.specs.Envelope.{envelope_of};
-ghost use Rattle.ferry_top.specs.Key.{IsIdLine, IsKeyRefusal};
-ghost use Rattle.ferry_top.specs.Run.{KeyOut, HasSourceCause};
+ghost use Rattle.std.specs.Prelude.{IfOk};
+ghost use Rattle.ferry_disk.specs.Device.{KeptWhere, RoseWhere, heard};
+ghost use Rattle.ferry_disk.specs.declared.name.Name.TheVariants as FileName;
+ghost use Rattle.ferry_keyblob.specs.Opening.{key_view};
+ghost use Rattle.ferry_top.specs.Devices.{written};
+ghost use Rattle.ferry_top.specs.Keys.{key_line};
+ghost use Rattle.ferry_top.specs.Run.{DoesTask};
+ghost use Rattle.ferry_top.specs.Status.{source_failed};
+ghost use Rattle.ferry_top.specs.declared.words.Task.TheVariants as TheTask;
+ghost use Rattle.std.specs.Prelude.{◌≡◌, Ok};
 
 use crate::lines::push_line;
-use crate::status::{Status, of_config, of_key};
-use ferry_config::read_config;
-use ferry_disk::{Name, Shelf, Sink, SinkFault, StoreFault};
-use ferry_keyblob::{open_key, read_envelope};
-use ferry_log::read_whole;
-use std::alloc::Global;
+use crate::status::{Status, of_repo, of_view};
+use ferry_disk::{Shelf, Sink};
+use ferry_repo::{Unlocked, unlock};
+use ferry_view::send;
+use std::alloc::{AllocError, Global};
 
 /// Opens the key in the source's `config` with a passphrase, and prints its repository id and iterations.
+#[tactic(auto, using(crate::proofs::StatusLemmas::causes))]
 pub(crate) fn key<S: Shelf, K: Sink>(
     alloc: Global,
     passphrase: &[u8],
     source: &mut S,
     out: &mut K,
 ) -> Status
-    ensures out { KeyOut passphrase.now (S.told source.old) (K.written out.old) (K.faults out.old) result (K.written out.new) (K.faults out.new) }
-    ensures same { files_told (S.told source.new) ≡ files_told (S.told source.old) }
-    ensures cause { HasSourceCause (S.faults source.old) (S.faults source.new) result }
+    ensures out { DoesTask (Ok TheTask.Key) passphrase.now (S.told source.old)
+        (written (K.written out.old) (K.faults out.old)) result (written (K.written out.new) (K.faults out.new)) }
+    ensures same { KeptWhere (source_failed result) (heard (S.told source.old)) (S.told source.new) }
+    ensures cause { RoseWhere (source_failed result) (S.faults source.old) (S.faults source.new) }
 {
-    let mut bytes = Vec::new(alloc);
-    match read_whole(source, Name::Config, &mut bytes) {
-        Ok(()) => {}
-        Err(StoreFault::Failed) => return Status::SourceDevice,
-        Err(StoreFault::Memory) => return Status::Memory,
-    }
-    let line = match key_line(alloc, passphrase, &bytes) {
-        Ok(line) => line,
-        Err(status) => return status,
+    let unlocked = match unlock(alloc, source, passphrase) {
+        Ok(unlocked) => unlocked,
+        Err(fault) => return of_repo(fault),
     };
-    match out.write(&line) {
+    let line = match id_line(alloc, &unlocked) {
+        Ok(line) => line,
+        Err(_) => return Status::Memory,
+    };
+    match send(&line, out) {
         Ok(()) => Status::Done,
-        Err(SinkFault::Failed) => Status::OutputDevice,
-        Err(SinkFault::Memory) => Status::Memory,
+        Err(fault) => of_view(fault),
     }
 }
 
-/// The line of the key in a file `config`, or the status that refuses it.
-fn key_line(alloc: Global, passphrase: &[u8], config: &[u8]) -> Result<Vec<u8>, Status>
-    ensures line { IfOk result (λ line. IsIdLine passphrase.now config.now line.items) }
-    ensures refused { IfErr result (IsKeyRefusal passphrase.now config.now) }
+/// The line of a key: its repository id and its iterations.
+fn id_line(alloc: Global, unlocked: &Unlocked) -> Result<Vec<u8>, AllocError>
+    ensures line { IfOk result (λ line. line.items ≡ key_line (key_view unlocked.now.key).repository_id unlocked.now.iterations) }
 {
-    let config = match read_config(alloc, config) {
-        Ok(config) => config,
-        Err(fault) => return Err(of_config(fault)),
-    };
-    let envelope = match read_envelope(alloc, config.key.as_slice()) {
-        Ok(envelope) => envelope,
-        Err(fault) => return Err(of_key(fault)),
-    };
-    let key = match open_key(alloc, config.key.as_slice(), passphrase) {
-        Ok(key) => key,
-        Err(fault) => return Err(of_key(fault)),
-    };
     let mut line = Vec::new(alloc);
-    match push_line(&mut line, &key.repository_id, envelope.iterations) {
-        Ok(()) => Ok(line),
-        Err(_) => Err(Status::Memory),
-    }
+    push_line(&mut line, &unlocked.key.repository_id, unlocked.iterations)?;
+    Ok(line)
 }

@@ -1,57 +1,60 @@
 //! The command that lists the live keys.
-ghost use Rattle.std.specs.Prelude.{◌≡◌, ◌++◌, OnOk, OnErr, option_map};
-ghost use Rattle.std.specs.FinMap.{entries};
-ghost use Rattle.ferry_disk.specs.Device.{WritesSome, HasSinkCause, files_told};
+ghost use Rattle.std.specs.Prelude.{◌≡◌, ◌++◌, Ok, OnOk, OnErr, option_map};
+ghost use Rattle.std.specs.FinMap.{entries, empty};
+ghost use Rattle.ferry_disk.specs.Device.{WritesSome, HasCause, KeptWhere, RoseWhere, heard};
+ghost use Rattle.ferry_top.specs.Devices.{written};
 ghost use Rattle.ferry_top.specs.Keys.{key_lines};
-ghost use Rattle.ferry_top.specs.Run.{KeysOut, HasSourceCause};
+ghost use Rattle.ferry_top.specs.Run.{DoesTask};
+ghost use Rattle.ferry_top.specs.Status.{source_failed};
+ghost use Rattle.ferry_top.specs.declared.words.Task.TheVariants as TheTask;
+ghost use Rattle.ferry_view.specs.Output.{view_failed};
 
 use crate::lines::push_line;
-use crate::status::{Status, of_log};
-use ferry_disk::{Shelf, Sink, SinkFault};
-use ferry_log::{Id, Log, open_log};
+use crate::status::{Status, of_log, of_view};
+use ferry_base::Id;
+use ferry_disk::{Shelf, Sink};
+use ferry_log::{Log, open_log};
+use ferry_view::{ViewFault, send, send_full};
 use std::alloc::Global;
 
-/// How many bytes of lines are kept before they go out.
-const FULL: usize = 65_536;
-
 /// Lists the source's live keys, each with the size of its blob.
-pub(crate) fn keys<S: Shelf, K: Sink>(alloc: Global, source: &mut S, out: &mut K) -> Status
-    ensures out { KeysOut (S.told source.old) (K.written out.old) (K.faults out.old) result (K.written out.new) (K.faults out.new) }
-    ensures same { files_told (S.told source.new) ≡ files_told (S.told source.old) }
-    ensures cause { HasSourceCause (S.faults source.old) (S.faults source.new) result }
+#[tactic(auto, using(crate::proofs::StatusLemmas::causes))]
+pub(crate) fn keys<S: Shelf, K: Sink>(
+    alloc: Global,
+    passphrase: &[u8],
+    source: &mut S,
+    out: &mut K,
+) -> Status
+    ensures out { DoesTask (Ok TheTask.Keys) passphrase.now (S.told source.old)
+        (written (K.written out.old) (K.faults out.old)) result (written (K.written out.new) (K.faults out.new)) }
+    ensures same { KeptWhere (source_failed result) (heard (S.told source.old)) (S.told source.new) }
+    ensures cause { RoseWhere (source_failed result) (S.faults source.old) (S.faults source.new) }
 {
+    let _ = passphrase;
     let log = match open_log(alloc, source) {
         Ok(log) => log,
         Err(fault) => return of_log(fault),
     };
     match write_keys(alloc, &log, out) {
         Ok(()) => Status::Done,
-        Err(SinkFault::Failed) => Status::OutputDevice,
-        Err(SinkFault::Memory) => Status::Memory,
+        Err(fault) => of_view(fault),
     }
 }
 
-/// Writes the lines of the live keys, many at a time.
-fn write_keys<K: Sink>(alloc: Global, log: &Log, out: &mut K) -> Result<(), SinkFault>
-    ensures ok { OnOk result (K.written out.new ≡ option_map (λ w. w ++ key_lines (entries log.now.live)) (K.written out.old)) }
-    ensures err { OnErr result (WritesSome (K.written out.old) (key_lines (entries log.now.live)) (K.written out.new)) }
-    ensures cause { HasSinkCause (K.faults out.old) (K.faults out.new) result }
+/// Writes the lines of the live keys of a log that has learnt none, many at a time.
+fn write_keys<K: Sink>(alloc: Global, log: &Log, out: &mut K) -> Result<(), ViewFault>
+    requires { log.now.learnt ≡ empty }
+    ensures ok { OnOk result (K.written out.new ≡ option_map (λ w. w ++ key_lines (entries log.now.opened)) (K.written out.old)) }
+    ensures err { OnErr result (WritesSome (K.written out.old) (key_lines (entries log.now.opened)) (K.written out.new)) }
+    ensures cause { HasCause view_failed (K.faults out.old) (K.faults out.new) result }
 {
     let mut lines = Vec::new(alloc);
     let mut last: Option<Id> = None;
     while let Some(found) = log.next_key(last.as_ref()) {
         let key = found.0;
-        match push_line(&mut lines, &key, found.1.size) {
-            Ok(()) => {}
-            Err(_) => return Err(SinkFault::Memory),
-        }
-        if lines.len() >= FULL {
-            match out.write(&lines) {
-                Ok(()) => lines.clear(),
-                Err(fault) => return Err(fault),
-            }
-        }
+        push_line(&mut lines, &key, found.1.size)?;
+        send_full(&mut lines, out)?;
         last = Some(key);
     }
-    out.write(&lines)
+    send(&lines, out)
 }

@@ -2,7 +2,7 @@
 ghost use Rattle.std.specs.Prelude.{◌≡◌, ◌++◌, OnOk};
 ghost use Rattle.ferry_top.specs.Keys.{key_line};
 
-use ferry_log::Id;
+use ferry_base::Id;
 use ferry_text::{write_id, write_number};
 use std::alloc::AllocError;
 

@@ -1,24 +1,28 @@
 //! The command that lists the archives.
-ghost use Rattle.std.specs.Prelude.{◌≡◌};
-ghost use Rattle.ferry_disk.specs.Device.{files_told};
-ghost use Rattle.ferry_top.specs.Run.{ListOut, HasSourceCause};
+ghost use Rattle.std.specs.Prelude.{Ok};
+ghost use Rattle.ferry_disk.specs.Device.{KeptWhere, RoseWhere, heard};
+ghost use Rattle.ferry_top.specs.Devices.{written};
+ghost use Rattle.ferry_top.specs.Run.{DoesTask};
+ghost use Rattle.ferry_top.specs.Status.{source_failed};
+ghost use Rattle.ferry_top.specs.declared.words.Task.TheVariants as TheTask;
 
-use crate::status::{Status, of_repo};
+use crate::status::{Status, of_repo, of_view};
 use ferry_disk::{Shelf, Sink};
 use ferry_repo::Repo;
-use ferry_view::ViewFault;
 use std::alloc::Global;
 
 /// Opens the source with a passphrase and lists its archives.
+#[tactic(auto, using(crate::proofs::StatusLemmas::causes))]
 pub(crate) fn list<S: Shelf, K: Sink>(
     alloc: Global,
     passphrase: &[u8],
     source: &mut S,
     out: &mut K,
 ) -> Status
-    ensures out { ListOut passphrase.now (S.told source.old) (K.written out.old) (K.faults out.old) result (K.written out.new) (K.faults out.new) }
-    ensures same { files_told (S.told source.new) ≡ files_told (S.told source.old) }
-    ensures cause { HasSourceCause (S.faults source.old) (S.faults source.new) result }
+    ensures out { DoesTask (Ok TheTask.List) passphrase.now (S.told source.old)
+        (written (K.written out.old) (K.faults out.old)) result (written (K.written out.new) (K.faults out.new)) }
+    ensures same { KeptWhere (source_failed result) (heard (S.told source.old)) (S.told source.new) }
+    ensures cause { RoseWhere (source_failed result) (S.faults source.old) (S.faults source.new) }
 {
     let mut repo = match Repo::open(alloc, source, passphrase) {
         Ok(repo) => repo,
@@ -26,7 +30,6 @@ pub(crate) fn list<S: Shelf, K: Sink>(
     };
     match ferry_view::list(alloc, &mut repo, out) {
         Ok(()) => Status::Done,
-        Err(ViewFault::Output) => Status::OutputDevice,
-        Err(ViewFault::Memory) => Status::Memory,
+        Err(fault) => of_view(fault),
     }
 }

@@ -1,8 +1,9 @@
 //! The fault lines.
 ghost use Rattle.std.specs.Prelude.{◌≡◌, ◌++◌, IfOk, OnOk, OnErr, option_map};
-ghost use Rattle.ferry_disk.specs.Device.{WritesSome, HasSinkCause};
+ghost use Rattle.ferry_disk.specs.Device.{WritesSome, HasCause, sink_failed};
 ghost use Rattle.ferry_top.specs.Status.{usage_line, refused_line};
 ghost use Rattle.ferry_repo.specs.Reason.{reason};
+ghost use Rattle.ferry_top.specs.Devices.{written};
 ghost use Rattle.ferry_top.specs.Run.{Reports};
 
 use crate::status::{Refusal, Status};
@@ -12,7 +13,7 @@ use std::alloc::{AllocError, Global};
 
 /// Writes the fault line of a status that has one. Where the output doesn't take it, the status tells alone.
 pub(crate) fn report<K: Sink>(alloc: Global, status: &Status, out: &mut K)
-    ensures { Reports status.now (K.written out.old) (K.faults out.old) (K.written out.new) (K.faults out.new) }
+    ensures { Reports status.now (written (K.written out.old) (K.faults out.old)) (written (K.written out.new) (K.faults out.new)) }
 {
     let _ = match status {
         Status::Done | Status::OutputDevice => return,
@@ -27,7 +28,7 @@ pub(crate) fn report<K: Sink>(alloc: Global, status: &Status, out: &mut K)
 fn write_refused<K: Sink>(alloc: Global, fault: &RepoFault, out: &mut K) -> Result<(), SinkFault>
     ensures ok { OnOk result (K.written out.new ≡ option_map (λ w. w ++ refused_line fault.now) (K.written out.old)) }
     ensures err { OnErr result (WritesSome (K.written out.old) (refused_line fault.now) (K.written out.new)) }
-    ensures cause { HasSinkCause (K.faults out.old) (K.faults out.new) result }
+    ensures cause { HasCause sink_failed (K.faults out.old) (K.faults out.new) result }
 {
     match refused_line(alloc, fault) {
         Ok(line) => out.write(&line),
@@ -60,7 +61,7 @@ fn append_reason(fault: &RepoFault, line: &mut Vec<u8>) -> Result<(), AllocError
 fn write_usage<K: Sink>(alloc: Global, word: u64, out: &mut K) -> Result<(), SinkFault>
     ensures ok { OnOk result (K.written out.new ≡ option_map (λ w. w ++ usage_line word) (K.written out.old)) }
     ensures err { OnErr result (WritesSome (K.written out.old) (usage_line word) (K.written out.new)) }
-    ensures cause { HasSinkCause (K.faults out.old) (K.faults out.new) result }
+    ensures cause { HasCause sink_failed (K.faults out.old) (K.faults out.new) result }
 {
     match format!(in alloc; "usage: word {word}\n") {
         Ok(line) => out.write(line.as_bytes()),

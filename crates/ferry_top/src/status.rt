@@ -1,17 +1,17 @@
 //! How a run ends.
 ghost use Rattle.std.specs.Prelude.{◌≡◌};
-ghost use Rattle.ferry_top.specs.Status.{status_number, log_status, config_status, key_status, repo_status};
+ghost use Rattle.ferry_top.specs.Status.{status_number, log_status, repo_status, view_status};
 
-use ferry_config::ConfigFault;
-use ferry_keyblob::KeyFault;
+use ferry_base::Bytes;
 use ferry_log::LogFault;
 use ferry_repo::RepoFault;
+use ferry_view::ViewFault;
 
 /// The passphrases of the source and of the target, as bytes. The caller owns them.
 #[derive(Drop)]
 pub struct Secrets {
-    pub source: Vec<u8>,
-    pub target: Vec<u8>,
+    pub source: Bytes,
+    pub target: Bytes,
 }
 
 /// How a run ended. A status other than `Done` and `OutputDevice` has a fault line, which goes to the output.
@@ -68,26 +68,6 @@ pub(crate) fn of_log(fault: LogFault) -> Status
     }
 }
 
-/// The status of a source whose file `config` doesn't read.
-pub(crate) fn of_config(fault: ConfigFault) -> Status
-    ensures { result ≡ config_status fault }
-{
-    match fault {
-        ConfigFault::Memory => Status::Memory,
-        fault => Status::SourceRefused(Refusal::Repo(RepoFault::Config(fault))),
-    }
-}
-
-/// The status of a source whose key doesn't read or open.
-pub(crate) fn of_key(fault: KeyFault) -> Status
-    ensures { result ≡ key_status fault }
-{
-    match fault {
-        KeyFault::Memory => Status::Memory,
-        fault => Status::SourceRefused(Refusal::Repo(RepoFault::Key(fault))),
-    }
-}
-
 /// The status of a source that doesn't open.
 pub(crate) fn of_repo(fault: RepoFault) -> Status
     ensures { result ≡ repo_status fault }
@@ -96,5 +76,15 @@ pub(crate) fn of_repo(fault: RepoFault) -> Status
         RepoFault::Device => Status::SourceDevice,
         RepoFault::Memory => Status::Memory,
         fault => Status::SourceRefused(Refusal::Repo(fault)),
+    }
+}
+
+/// The status where not all could be shown.
+pub(crate) fn of_view(fault: ViewFault) -> Status
+    ensures { result ≡ view_status fault }
+{
+    match fault {
+        ViewFault::Output => Status::OutputDevice,
+        ViewFault::Memory => Status::Memory,
     }
 }

@@ -1,10 +1,12 @@
 use crate::{Refusal, RepoFault, Secrets, Status, places_fit, run};
-use ferry_disk::{MemoryDepot, MemoryEntropy, MemoryShelf, MemorySink, Name};
-use ferry_segment::{COMMIT, COMMIT_SEGMENT, ENTRY_LIMIT, HEAD, MAGIC, delete_entry, put_head};
+use ferry_base::{BLOB_LIMIT, Bytes, Id};
+use ferry_disk::{MemoryDepot, MemoryEntropy, MemoryShelf, MemorySink, Name, Shelf, StoreFault};
+use ferry_repo::Repo;
+use ferry_segment::{COMMIT, COMMIT_SEGMENT, MAGIC, delete_entry, put_head};
 use std::alloc::{AllocError, Global};
 use std::test::Fail;
 
-const KEY: [u8; 32] = [0x11; 32];
+const KEY: Id = [0x11; 32];
 
 /// The lines of blobs of 3, 5 and no bytes under the key.
 const THREE: &str = "1111111111111111111111111111111111111111111111111111111111111111 3\n";
@@ -96,6 +98,12 @@ const COMPRESSED: &str =
     eb72ba86695cdad41013a50a1338ed95b4e68c44e8cf6022fa9107ada7f357eab7282ac5587f6b354bc0be1944d3ab6e13c6\
     83c782b1307cc53bc4a0a52cd93d43623404e37cb7ed400242";
 
+/// The chunk `hello` of that repository, sealed, and its id.
+const CHUNK: &str =
+    "0300de9c6700c3edd6dad9fef9c4822d92f988438d177093e95bd166de64a69cee00000000000000649dcdba5740209b";
+
+const CHUNK_ID: &str = "04985b39cf4b04ada01f70e336bbd872152b429321dfb8576f6108e5f9ecf112";
+
 /// What a segment of a case holds behind its magic.
 #[derive(Clone, Copy)]
 enum Part {
@@ -106,14 +114,19 @@ enum Part {
     Commit,
 }
 
+/// Appends a PUT.
+fn push_put(bytes: &mut Vec<u8>, key: &Id, blob: &[u8]) -> Result<(), AllocError> {
+    if blob.len() <= BLOB_LIMIT {
+        bytes.extend_from_slice(&put_head(key, blob))?;
+        bytes.extend_from_slice(blob)?;
+    }
+    Ok(())
+}
+
 fn segment(alloc: Global, part: Part) -> Result<Vec<u8>, AllocError> {
     let mut bytes = Vec::from_slice(alloc, &MAGIC)?;
     match part {
-        Part::Put(blob) | Part::Changed(blob) if blob.len() <= ENTRY_LIMIT - HEAD => {
-            bytes.extend_from_slice(&put_head(&KEY, blob))?;
-            bytes.extend_from_slice(blob)?;
-        }
-        Part::Put(_) | Part::Changed(_) => {}
+        Part::Put(blob) | Part::Changed(blob) => push_put(&mut bytes, &KEY, blob)?,
         Part::Delete => bytes.extend_from_slice(&delete_entry(&KEY))?,
         Part::Commit => bytes.extend_from_slice(&COMMIT)?,
     }
@@ -123,15 +136,49 @@ fn segment(alloc: Global, part: Part) -> Result<Vec<u8>, AllocError> {
     Ok(bytes)
 }
 
-/// A source whose segments, from number 0 on, hold one part each.
-fn source(alloc: Global, parts: &[Part], failing: Vec<u64>) -> Result<MemoryShelf, AllocError> {
+/// The files of segments, from number 0 on, that hold one part each.
+fn segments(alloc: Global, parts: &[Part]) -> Result<Vec<(Name, Vec<u8>)>, AllocError> {
     let mut files = Vec::new(alloc);
     let mut number = 0u64;
     for part in parts {
         files.push((Name::Segment(number), segment(alloc, *part)?))?;
         number = number.wrapping_add(1);
     }
-    MemoryShelf::new(alloc, files, failing)
+    Ok(files)
+}
+
+/// A file `config` of these texts.
+fn config(alloc: Global, texts: &[&str]) -> Result<(Name, Vec<u8>), AllocError> {
+    let mut bytes = Vec::new(alloc);
+    for text in texts {
+        bytes.extend_from_slice(text.as_bytes())?;
+    }
+    Ok((Name::Config, bytes))
+}
+
+/// A repository with this sealed manifest, or none where the text is empty, and the chunk.
+fn repository(alloc: Global, manifest: &str) -> Result<Vec<(Name, Vec<u8>)>, Fail> {
+    let mut bytes = Vec::from_slice(alloc, &MAGIC)?;
+    push_put(&mut bytes, &id(alloc)?, &hex::decode(alloc, CHUNK)?)?;
+    let blob = hex::decode(alloc, manifest)?;
+    if !blob.is_empty() {
+        push_put(&mut bytes, &[0; 32], &blob)?;
+    }
+    let mut files = Vec::new(alloc);
+    files.push((Name::Segment(0), bytes))?;
+    files.push((Name::Segment(1), Vec::from_slice(alloc, &COMMIT_SEGMENT)?))?;
+    files.push(config(alloc, &[CONFIG, OPEN_KEY])?)?;
+    Ok(files)
+}
+
+/// The id of the chunk.
+fn id(alloc: Global) -> Result<Id, Fail> {
+    let mut id = [0; 32];
+    let bytes = hex::decode(alloc, CHUNK_ID)?;
+    if bytes.len() == 32 {
+        id.copy_from_slice(&bytes);
+    }
+    Ok(id)
 }
 
 fn strings(alloc: Global, words: &[&str]) -> Result<Vec<String>, AllocError> {
@@ -142,18 +189,8 @@ fn strings(alloc: Global, words: &[&str]) -> Result<Vec<String>, AllocError> {
     Ok(strings)
 }
 
-/// Runs the words over a source and an output, and answers the status.
+/// Runs the words under a passphrase over a source and an output, and answers the status.
 fn status_of(
-    alloc: Global,
-    words: &[&str],
-    source: &mut MemoryShelf,
-    out: &mut MemorySink,
-) -> Result<Status, AllocError> {
-    status_under(alloc, PASSPHRASE, words, source, out)
-}
-
-/// The same under a passphrase.
-fn status_under(
     alloc: Global,
     passphrase: &[u8],
     words: &[&str],
@@ -162,8 +199,8 @@ fn status_under(
 ) -> Result<Status, AllocError> {
     let words = strings(alloc, words)?;
     let secrets = Secrets {
-        source: Vec::from_slice(alloc, passphrase)?,
-        target: Vec::new(alloc),
+        source: Bytes::new(Vec::from_slice(alloc, passphrase)?),
+        target: Bytes::new(Vec::new(alloc)),
     };
     let mut target = MemoryDepot::new(alloc, Vec::new(alloc), Vec::new(alloc))?;
     let mut entropy = MemoryEntropy::new(alloc, Vec::new(alloc))?;
@@ -178,261 +215,257 @@ fn status_under(
     ))
 }
 
-/// Whether `keys` over the parts ends with this number and prints this text.
-fn keys_print(alloc: Global, parts: &[Part], number: u8, text: &str) -> Result<bool, AllocError> {
-    let mut source = source(alloc, parts, Vec::new(alloc))?;
-    let mut out = MemorySink::new(alloc, Vec::new(alloc))?;
-    let status = status_of(alloc, &["keys"], &mut source, &mut out)?;
-    Ok(status.number() == number && out.bytes() == text.as_bytes())
-}
-
-/// The smallest repository, as Borg spells its segment: the magic and a COMMIT.
-#[test]
-fn a_commit_alone_has_no_keys(rt: HostRuntime) -> Result<(), Fail> {
-    let spelled = b"BORG_SEG\x40\xf4\x3c\x25\x09\x00\x00\x00\x02";
-    assert_eq!(rt; spelled, &COMMIT_SEGMENT);
-    assert!(rt; keys_print(rt.alloc(), &[Part::Commit], 0, "")?);
-    Ok(())
-}
-
-#[test]
-fn the_last_entry_of_a_key_counts(rt: HostRuntime) -> Result<(), Fail> {
-    let alloc = rt.alloc();
-    let (put, then) = (Part::Put(b"abc"), Part::Put(b"abcde"));
-    assert!(rt; keys_print(alloc, &[put, Part::Delete, then, Part::Commit], 0, FIVE)?);
-    assert!(rt; keys_print(alloc, &[put, Part::Delete, Part::Commit], 0, "")?);
-    assert!(rt; keys_print(alloc, &[Part::Put(b""), Part::Commit], 0, EMPTY)?);
-    Ok(())
-}
-
-#[test]
-fn segments_above_the_last_commit_dont_count(rt: HostRuntime) -> Result<(), Fail> {
-    let alloc = rt.alloc();
-    let put = Part::Put(b"abc");
-    assert!(rt; keys_print(alloc, &[put, Part::Commit, Part::Put(b"abcde")], 0, THREE)?);
-    assert!(rt;
-        keys_print(
-            alloc,
-            &[put, Part::Commit, Part::Changed(b"abcde")],
-            0,
-            THREE
-        )?
-    );
-    Ok(())
-}
-
-#[test]
-fn a_source_is_refused_by_its_first_fault(rt: HostRuntime) -> Result<(), Fail> {
-    let alloc = rt.alloc();
-    let (put, then) = (Part::Put(b"abc"), Part::Put(b"abcde"));
-    let none = "source refused: no commit\n";
-    assert!(rt; keys_print(alloc, &[put, Part::Delete, then], 8, none)?);
-    assert!(rt; keys_print(alloc, &[], 8, none)?);
-    let damaged = "source refused: damaged segment 0 at 8\n";
-    assert!(rt;
-        keys_print(
-            alloc,
-            &[Part::Changed(b"abc"), Part::Commit, then],
-            8,
-            damaged
-        )?
-    );
-    Ok(())
-}
-
-/// Whether `key` under a passphrase over a `config` of these texts, or without one where there are none, ends with this number
-/// and prints this text.
-fn key_prints(
+/// Whether the words under a passphrase over these files, of whose calls those listed fail, end with this number and print this text.
+fn prints(
     alloc: Global,
     passphrase: &[u8],
-    config: &[&str],
+    words: &[&str],
+    files: Vec<(Name, Vec<u8>)>,
+    failing: &[u64],
     number: u8,
     text: &str,
 ) -> Result<bool, AllocError> {
-    let mut bytes = Vec::new(alloc);
-    for part in config {
-        bytes.extend_from_slice(part.as_bytes())?;
-    }
-    let mut files = Vec::new(alloc);
-    if !config.is_empty() {
-        files.push((Name::Config, bytes))?;
-    }
-    let mut source = MemoryShelf::new(alloc, files, Vec::new(alloc))?;
+    let mut source = MemoryShelf::new(alloc, files, Vec::from_slice(alloc, failing)?)?;
     let mut out = MemorySink::new(alloc, Vec::new(alloc))?;
-    let status = status_under(alloc, passphrase, &["key"], &mut source, &mut out)?;
+    let status = status_of(alloc, passphrase, words, &mut source, &mut out)?;
     Ok(status.number() == number && out.bytes() == text.as_bytes())
+}
+
+/// Whether `keys` over each of these lists of parts ends with its number and prints its text.
+fn keys_print(alloc: Global, cases: &[(&[Part], u8, &str)]) -> Result<bool, AllocError> {
+    let mut all = true;
+    for (parts, number, text) in cases {
+        let files = segments(alloc, parts)?;
+        all &= prints(alloc, PASSPHRASE, &["keys"], files, &[], *number, text)?;
+    }
+    Ok(all)
+}
+
+/// The first is the smallest repository, as Borg spells its segment: the magic and a COMMIT.
+#[test]
+fn keys_are_listed_up_to_the_last_commit(rt: HostRuntime) -> Result<(), Fail> {
+    let spelled = b"BORG_SEG\x40\xf4\x3c\x25\x09\x00\x00\x00\x02";
+    assert_eq!(rt; spelled, &COMMIT_SEGMENT);
+    let (put, then) = (Part::Put(b"abc"), Part::Put(b"abcde"));
+    let none = "source refused: no commit\n";
+    let damaged = "source refused: damaged segment 0 at 8\n";
+    let cases: [(&[Part], u8, &str); 8] = [
+        (&[Part::Commit], 0, ""),
+        (&[put, Part::Delete, then, Part::Commit], 0, FIVE),
+        (&[put, Part::Delete, Part::Commit], 0, ""),
+        (&[Part::Put(b""), Part::Commit], 0, EMPTY),
+        (&[put, Part::Commit, then], 0, THREE),
+        (&[put, Part::Commit, Part::Changed(b"abcde")], 0, THREE),
+        (&[put, Part::Delete, then], 8, none),
+        (&[Part::Changed(b"abc"), Part::Commit, then], 8, damaged),
+    ];
+    assert!(rt; keys_print(rt.alloc(), &cases)?);
+    Ok(())
+}
+
+/// Whether `key` under each passphrase over a `config` of its texts, or without one where there are none, ends with its number and
+/// prints its text, also where each call of the source but the length and the bytes of `config` fails.
+fn key_prints(alloc: Global, cases: &[(&[u8], &[&str], u8, &str)]) -> Result<bool, AllocError> {
+    let mut all = true;
+    for (passphrase, texts, number, text) in cases {
+        let mut files = Vec::new(alloc);
+        if !texts.is_empty() {
+            files.push(config(alloc, texts)?)?;
+        }
+        let failing = [3, 4, 5, 6, 7, 8];
+        all &= prints(alloc, passphrase, &["key"], files, &failing, *number, text)?;
+    }
+    Ok(all)
 }
 
 #[test]
 fn a_key_opens_with_its_passphrase_alone(rt: HostRuntime) -> Result<(), Fail> {
-    let alloc = rt.alloc();
     let line = "2222222222222222222222222222222222222222222222222222222222222222 100000\n";
-    let right = [CONFIG, SEALED];
-    assert!(rt; key_prints(alloc, PASSPHRASE, &right, 0, line)?);
-    assert!(rt; key_prints(alloc, b"Passphrase", &right, 8, "source refused: key 5\n")?);
-    let none = [CONFIG, NO_ITERATIONS];
-    assert!(rt; key_prints(alloc, PASSPHRASE, &none, 8, "source refused: key 4\n")?);
-    let short = [CONFIG, "key = AAAA\n"];
-    assert!(rt; key_prints(alloc, PASSPHRASE, &short, 8, "source refused: key 1\n")?);
+    let cases: [(&[u8], &[&str], u8, &str); 7] = [
+        (PASSPHRASE, &[CONFIG, SEALED], 0, line),
+        (
+            b"Passphrase",
+            &[CONFIG, SEALED],
+            8,
+            "source refused: key 5\n",
+        ),
+        (
+            PASSPHRASE,
+            &[CONFIG, NO_ITERATIONS],
+            8,
+            "source refused: key 4\n",
+        ),
+        (
+            PASSPHRASE,
+            &[CONFIG, "key = AAAA\n"],
+            8,
+            "source refused: key 1\n",
+        ),
+        (PASSPHRASE, &[], 8, "source refused: config 1\n"),
+        (
+            PASSPHRASE,
+            &["[repository]\nversion = 2\n"],
+            8,
+            "source refused: config 2\n",
+        ),
+        (
+            PASSPHRASE,
+            &[CONFIG, "key = *\n"],
+            8,
+            "source refused: config 4\n",
+        ),
+    ];
+    assert!(rt; key_prints(rt.alloc(), &cases)?);
     Ok(())
 }
 
-#[test]
-fn a_config_is_looked_at_before_its_key(rt: HostRuntime) -> Result<(), Fail> {
-    let alloc = rt.alloc();
-    let other = ["[repository]\nversion = 2\n", ""];
-    let wrong = [CONFIG, "key = *\n"];
-    assert!(rt; key_prints(alloc, PASSPHRASE, &[], 8, "source refused: config 1\n")?);
-    assert!(rt; key_prints(alloc, PASSPHRASE, &other, 8, "source refused: config 2\n")?);
-    assert!(rt; key_prints(alloc, PASSPHRASE, &wrong, 8, "source refused: config 4\n")?);
-    Ok(())
-}
-
-/// Whether `list` under a passphrase over a repository with this sealed manifest, or none where the text is empty, ends with this
-/// number and prints this text.
-fn list_prints(
-    alloc: Global,
-    passphrase: &[u8],
-    manifest: &str,
-    number: u8,
-    text: &str,
-) -> Result<bool, Fail> {
-    let mut bytes = Vec::from_slice(alloc, &MAGIC)?;
-    let blob = hex::decode(alloc, manifest)?;
-    if !blob.is_empty() && blob.len() <= ENTRY_LIMIT - HEAD {
-        bytes.extend_from_slice(&put_head(&[0; 32], &blob))?;
-        bytes.extend_from_slice(&blob)?;
+/// Whether `list` under each passphrase over a repository with its sealed manifest ends with its number and prints its text.
+fn list_prints(alloc: Global, cases: &[(&[u8], &str, u8, &str)]) -> Result<bool, Fail> {
+    let mut all = true;
+    for (passphrase, manifest, number, text) in cases {
+        let files = repository(alloc, manifest)?;
+        all &= prints(alloc, passphrase, &["list"], files, &[], *number, text)?;
     }
-    let mut config = Vec::from_slice(alloc, CONFIG.as_bytes())?;
-    config.extend_from_slice(OPEN_KEY.as_bytes())?;
-    let mut files = Vec::new(alloc);
-    files.push((Name::Segment(0), bytes))?;
-    files.push((Name::Segment(1), Vec::from_slice(alloc, &COMMIT_SEGMENT)?))?;
-    files.push((Name::Config, config))?;
-    let mut source = MemoryShelf::new(alloc, files, Vec::new(alloc))?;
-    let mut out = MemorySink::new(alloc, Vec::new(alloc))?;
-    let status = status_under(alloc, passphrase, &["list"], &mut source, &mut out)?;
-    Ok(status.number() == number && out.bytes() == text.as_bytes())
+    Ok(all)
 }
 
 #[test]
 fn archives_are_listed_on_a_line_each(rt: HostRuntime) -> Result<(), Fail> {
-    let alloc = rt.alloc();
     let lines = "2222222222222222222222222222222222222222222222222222222222222222 \
         2020-01-01T00:00:00.000000 a\\x0a\n\
         1111111111111111111111111111111111111111111111111111111111111111 \
         2021-01-01T00:00:00.000000 b\n";
-    assert!(rt; list_prints(alloc, PASSPHRASE, NO_ARCHIVES, 0, "")?);
-    assert!(rt; list_prints(alloc, PASSPHRASE, TWO_ARCHIVES, 0, lines)?);
-    Ok(())
-}
-
-#[test]
-fn a_repository_without_its_manifest_is_refused(rt: HostRuntime) -> Result<(), Fail> {
-    let alloc = rt.alloc();
     let missing = "source refused: missing \
         0000000000000000000000000000000000000000000000000000000000000000\n";
     let compressed = "source refused: blob 4 \
         0000000000000000000000000000000000000000000000000000000000000000\n";
-    assert!(rt; list_prints(alloc, PASSPHRASE, "", 8, missing)?);
-    assert!(rt; list_prints(alloc, PASSPHRASE, COMPRESSED, 8, compressed)?);
-    assert!(rt;
-        list_prints(
-            alloc,
-            PASSPHRASE,
-            UNTAGGED,
-            8,
-            "source refused: manifest 3\n"
-        )?
+    let cases: [(&[u8], &str, u8, &str); 6] = [
+        (PASSPHRASE, NO_ARCHIVES, 0, ""),
+        (PASSPHRASE, TWO_ARCHIVES, 0, lines),
+        (PASSPHRASE, "", 8, missing),
+        (PASSPHRASE, COMPRESSED, 8, compressed),
+        (PASSPHRASE, UNTAGGED, 8, "source refused: manifest 3\n"),
+        (b"Passphrase", NO_ARCHIVES, 8, "source refused: key 5\n"),
+    ];
+    assert!(rt; list_prints(rt.alloc(), &cases)?);
+    Ok(())
+}
+
+/// A shelf in memory that tells nothing, so that its files may change.
+#[derive(Drop)]
+struct Silent {
+    shelf: MemoryShelf,
+}
+
+impl Shelf for Silent {
+    ghost use Rattle.std.specs.Prelude.{None};
+
+    ghost told = { λ _. None };
+
+    ghost faults = { λ s. s.shelf.faults };
+
+    fn segments(&mut self, alloc: Global) -> Result<Vec<u64>, StoreFault> {
+        self.shelf.segments(alloc)
+    }
+
+    fn size(&mut self, name: Name) -> Result<Option<u64>, StoreFault> {
+        self.shelf.size(name)
+    }
+
+    fn read_at(&mut self, name: Name, at: u64, into: &mut [u8]) -> Result<usize, StoreFault> {
+        self.shelf.read_at(name, at, into)
+    }
+}
+
+#[test]
+fn a_chunk_opens_under_its_id_where_it_still_lies(rt: HostRuntime) -> Result<(), Fail> {
+    let alloc = rt.alloc();
+    let id = id(alloc)?;
+    let shelf = MemoryShelf::new(alloc, repository(alloc, TWO_ARCHIVES)?, Vec::new(alloc))?;
+    let mut source = Silent { shelf };
+    let mut repo = Repo::open(alloc, &mut source, PASSPHRASE)?;
+    assert_eq!(rt; repo.log().transaction(), 1);
+    assert_eq!(rt; repo.config().per_dir, 1000);
+    assert_eq!(rt; repo.manifest().archives.as_slice().len(), 2);
+    assert_eq!(rt;
+        repo.chunk(&mut source, &id)?.as_slice(),
+        b"hello".as_slice()
     );
+    for other in [[0; 32], [7; 32]] {
+        let missing = repo.chunk(&mut source, &other);
+        assert!(rt; missing.is_err_and(|fault| fault == RepoFault::Missing(other)));
+    }
+    let cut = vec![in alloc; (Name::Segment(0), Vec::from_slice(alloc, &MAGIC)?)]?;
+    source.shelf = MemoryShelf::new(alloc, cut, Vec::new(alloc))?;
+    let damaged = RepoFault::Damaged { segment: 0, at: 49 };
     assert!(rt;
-        list_prints(
-            alloc,
-            b"Passphrase",
-            NO_ARCHIVES,
-            8,
-            "source refused: key 5\n"
-        )?
+        repo.chunk(&mut source, &id)
+            .is_err_and(|fault| fault == damaged)
     );
     Ok(())
 }
 
-/// Words that are no command, with the number of the first wrong one.
+/// Whether each of these lists of words, none of which is a command, ends with the number of its first wrong word and its line.
+fn words_are_wrong(alloc: Global, cases: &[(&[&str], &str)]) -> Result<bool, AllocError> {
+    let mut all = true;
+    for (words, line) in cases {
+        let files = segments(alloc, &[Part::Commit])?;
+        all &= prints(alloc, PASSPHRASE, words, files, &[1], 2, line)?;
+    }
+    Ok(all)
+}
+
 #[test]
 fn the_first_wrong_word_is_told(rt: HostRuntime) -> Result<(), Fail> {
     let alloc = rt.alloc();
-    let cases: [(&[&str], u64); 7] = [
-        (&[], 1),
-        (&["list", "x"], 2),
-        (&["Keys", "x"], 1),
-        (&["keys", "x"], 2),
-        (&["keys", "--block", "64"], 2),
-        (&["keys", "--", "--"], 3),
-        (&["key", "x"], 2),
+    let cases: [(&[&str], &str); 7] = [
+        (&[], "usage: word 1\n"),
+        (&["list", "x"], "usage: word 2\n"),
+        (&["Keys", "x"], "usage: word 1\n"),
+        (&["keys", "x"], "usage: word 2\n"),
+        (&["keys", "--block", "64"], "usage: word 2\n"),
+        (&["keys", "--", "--"], "usage: word 3\n"),
+        (&["key", "x"], "usage: word 2\n"),
     ];
-    for (words, number) in cases {
-        let mut source = source(alloc, &[Part::Commit], Vec::new(alloc))?;
-        let mut out = MemorySink::new(alloc, Vec::new(alloc))?;
-        let status = status_of(alloc, words, &mut source, &mut out)?;
-        assert_eq!(rt; status, Status::Usage(number));
-        assert_eq!(rt; status.number(), 2);
-        let line = format!(in alloc; "usage: word {number}\n")?;
-        assert_eq!(rt; out.bytes(), line.as_bytes());
+    assert!(rt; words_are_wrong(alloc, &cases)?);
+    let files = segments(alloc, &[Part::Commit])?;
+    assert!(rt; prints(alloc, PASSPHRASE, &["keys", "--"], files, &[], 0, "")?);
+    for (words, fits) in [
+        (["a", "b", "keys"].as_slice(), true),
+        (["a", "b"].as_slice(), false),
+        (["a", "a", "keys"].as_slice(), false),
+        (["-", "-", "keys"].as_slice(), true),
+    ] {
+        assert_eq!(rt; places_fit(&strings(alloc, words)?), fits);
     }
-    let mut source = source(alloc, &[Part::Commit], Vec::new(alloc))?;
-    let mut out = MemorySink::new(alloc, Vec::new(alloc))?;
-    let status = status_of(alloc, &["keys", "--"], &mut source, &mut out)?;
-    assert_eq!(rt; status, Status::Done);
     Ok(())
 }
 
+/// A failed call of the source, then of the output, and a fault line that the output doesn't take, which leaves the status as it is.
 #[test]
 fn a_failing_device_is_told_by_its_status(rt: HostRuntime) -> Result<(), Fail> {
     let alloc = rt.alloc();
     let parts = [Part::Put(b"abc"), Part::Commit];
     for call in 1..6u64 {
-        let mut source = source(alloc, &parts, Vec::from_slice(alloc, &[call])?)?;
-        let mut out = MemorySink::new(alloc, Vec::new(alloc))?;
-        let status = status_of(alloc, &["keys"], &mut source, &mut out)?;
-        assert_eq!(rt; status.number(), 4, "call {call}");
-        assert_eq!(rt; out.bytes(), b"source device failed\n".as_slice());
-        let again = status_of(alloc, &["keys"], &mut source, &mut out)?;
-        assert_eq!(rt; again, Status::Done);
+        let files = segments(alloc, &parts)?;
+        let line = "source device failed\n";
+        assert!(rt;
+            prints(alloc, PASSPHRASE, &["keys"], files, &[call], 4, line)?,
+            "{call}"
+        );
     }
-    let mut source = source(alloc, &parts, Vec::new(alloc))?;
-    let mut out = MemorySink::new(alloc, Vec::from_slice(alloc, &[1])?)?;
-    let status = status_of(alloc, &["keys"], &mut source, &mut out)?;
-    assert_eq!(rt; status.number(), 7);
-    assert!(rt; out.bytes().is_empty());
-    Ok(())
-}
-
-/// A fault line that the output doesn't take leaves the status as it is.
-#[test]
-fn a_fault_line_that_is_lost_changes_no_status(rt: HostRuntime) -> Result<(), Fail> {
-    let alloc = rt.alloc();
-    let mut source = source(alloc, &[Part::Put(b"abc")], Vec::new(alloc))?;
-    let mut out = MemorySink::new(alloc, Vec::from_slice(alloc, &[1])?)?;
-    let status = status_of(alloc, &["keys"], &mut source, &mut out)?;
-    let refusal = Refusal::Repo(RepoFault::NoCommit);
-    assert_eq!(rt; status, Status::SourceRefused(refusal));
-    assert!(rt; out.bytes().is_empty());
-    Ok(())
-}
-
-#[test]
-fn places_are_two_folders_or_none(rt: HostRuntime) -> Result<(), Fail> {
-    let alloc = rt.alloc();
-    let cases: [(&[&str], bool); 6] = [
-        (&[], false),
-        (&["a", "b"], false),
-        (&["a", "b", "keys"], true),
-        (&["a", "a", "keys"], false),
-        (&["-", "-", "keys"], true),
-        (&["a", "-", "keys", "x"], true),
-    ];
-    for (words, fits) in cases {
-        assert_eq!(rt; places_fit(&strings(alloc, words)?), fits);
+    for (parts, want) in [
+        (parts.as_slice(), Status::OutputDevice),
+        (
+            [Part::Put(b"abc")].as_slice(),
+            Status::SourceRefused(Refusal::Repo(RepoFault::NoCommit)),
+        ),
+    ] {
+        let mut source = MemoryShelf::new(alloc, segments(alloc, parts)?, Vec::new(alloc))?;
+        let mut out = MemorySink::new(alloc, Vec::from_slice(alloc, &[1])?)?;
+        let status = status_of(alloc, PASSPHRASE, &["keys"], &mut source, &mut out)?;
+        assert_eq!(rt; status, want);
+        assert!(rt; out.bytes().is_empty());
     }
     Ok(())
 }

@@ -1,15 +1,15 @@
 //! The top call.
 ghost use Rattle.std.specs.Prelude.{◌≡◌, ℕ, map, string_bytes, IfErr, MatchResult};
-ghost use Rattle.ferry_disk.specs.Device.{files_told};
+ghost use Rattle.ferry_top.specs.Devices.{devices, store, drawn, written};
 ghost use Rattle.ferry_top.specs.Words.{words_of};
-ghost use Rattle.ferry_top.specs.Run.{RunOut, HasSourceCause};
+ghost use Rattle.ferry_top.specs.Run.{Runs};
 
 use crate::key::key;
 use crate::keys::keys;
 use crate::list::list;
 use crate::report::report;
 use crate::status::{Secrets, Status};
-use crate::words::{Command, read_words};
+use crate::words::{Task, read_words};
 use ferry_disk::{Depot, Entropy, Shelf, Sink};
 use std::alloc::Global;
 
@@ -31,16 +31,17 @@ pub fn run<S: Shelf, D: Depot, E: Entropy, K: Sink>(
 ) -> Status
     ensures usage { MatchResult (words_of (map string_bytes words.now)) (λ _. (n : ℕ) → result ≡ Status.Usage n → ⊥) (λ n. result ≡ Status.Usage n) }
     ensures idle { IfErr (words_of (map string_bytes words.now)) (λ _. source.new ≡ source.old) }
-    ensures out { RunOut (words_of (map string_bytes words.now)) secrets.now.source.items (S.told source.old) (K.written out.old) (K.faults out.old) result (K.written out.new) (K.faults out.new) }
-    ensures same { files_told (S.told source.new) ≡ files_told (S.told source.old) }
-    ensures cause { HasSourceCause (S.faults source.old) (S.faults source.new) result }
-    ensures target { target.new ≡ target.old }
-    ensures entropy { entropy.new ≡ entropy.old }
+    ensures runs { Runs (words_of (map string_bytes words.now)) secrets.now.source
+        (devices (store (S.told source.old) (S.faults source.old)) (store (D.told target.old) (D.faults target.old))
+        (drawn (E.drawn entropy.old) (E.faults entropy.old)) (written (K.written out.old) (K.faults out.old)))
+        result
+        (devices (store (S.told source.new) (S.faults source.new)) (store (D.told target.new) (D.faults target.new))
+        (drawn (E.drawn entropy.new) (E.faults entropy.new)) (written (K.written out.new) (K.faults out.new))) }
 {
     let status = match read_words(words) {
-        Ok(Command::Keys) => keys(alloc, source, out),
-        Ok(Command::Key) => key(alloc, &secrets.source, source, out),
-        Ok(Command::List) => list(alloc, &secrets.source, source, out),
+        Ok(Task::Keys) => keys(alloc, secrets.source.as_slice(), source, out),
+        Ok(Task::Key) => key(alloc, secrets.source.as_slice(), source, out),
+        Ok(Task::List) => list(alloc, secrets.source.as_slice(), source, out),
         Err(word) => Status::Usage(word),
     };
     report(alloc, &status, out);

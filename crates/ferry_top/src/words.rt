@@ -13,9 +13,9 @@ pub fn places_fit(words: &[String]) -> bool
     }
 }
 
-/// A command.
+/// What the words ask for.
 #[derive(Clone, Copy)]
-pub(crate) enum Command {
+pub(crate) enum Task {
     /// Lists the live keys.
     Keys,
     /// Opens the repository key.
@@ -25,19 +25,19 @@ pub(crate) enum Command {
 }
 
 /// The command that the words are, or the number, from 1, of the first word at which they can't go on to one.
-pub(crate) fn read_words(words: &[String]) -> Result<Command, u64>
+pub(crate) fn read_words(words: &[String]) -> Result<Task, u64>
     ensures { result ≡ spec.words_of (map string_bytes words.now) }
 {
     match words {
-        [name, ..] if name.as_str() == "keys" => alone(words, Command::Keys),
-        [name, ..] if name.as_str() == "key" => alone(words, Command::Key),
-        [name, ..] if name.as_str() == "list" => alone(words, Command::List),
+        [name, ..] if name.as_str() == "keys" => alone(words, Task::Keys),
+        [name, ..] if name.as_str() == "key" => alone(words, Task::Key),
+        [name, ..] if name.as_str() == "list" => alone(words, Task::List),
         _ => Err(1),
     }
 }
 
 /// The command, where nothing stands behind its name, or `--` alone.
-fn alone(words: &[String], command: Command) -> Result<Command, u64>
+fn alone(words: &[String], command: Task) -> Result<Task, u64>
     requires { 1 ≤ length words.now }
     ensures { result ≡ spec.alone command (drop 1 (map string_bytes words.now)) }
 {

@@ -15,7 +15,9 @@ lines-cons a all = refl
 pub lines-append : (all bs : List ArchiveRef) → archive_lines (all ++ bs) ≡ archive_lines all ++ archive_lines bs
 lines-append [] bs = ap (λ k. k ++ archive_lines bs) (sym lines-none)
 lines-append (a ∷ all) bs =
-    lines-cons a (all ++ bs) ∙ (ap (λ k. archive_line a ++ k) (lines-append all bs) ∙ (sym (append_assoc (archive_line a) (archive_lines all) (archive_lines bs)) ∙ ap (λ k. k ++ archive_lines bs) (sym (lines-cons a all))))
+    lines-cons a (all ++ bs)
+    ∙ (ap (λ k. archive_line a ++ k) (lines-append all bs)
+    ∙ (sym (append_assoc (archive_line a) (archive_lines all) (archive_lines bs)) ∙ ap (λ k. k ++ archive_lines bs) (sym (lines-cons a all))))
 
 take_next : (all : List ArchiveRef) (place : ℕ) (d : ArchiveRef) → place < length all → take (suc place) all ≡ take place all ++ get_or all place d ∷ []
 take_next [] place d lt = absurd (omega arith)
@@ -23,9 +25,13 @@ take_next (a ∷ all) zero d lt = refl
 take_next (a ∷ all) (suc place) d lt = ap (λ k. a ∷ k) (take_next all place d (omega arith))
 
 -- the lines with one more
-pub lines-more : (all : List ArchiveRef) (place : ℕ) (d : ArchiveRef) → place < length all → archive_lines (take (place + 1) all) ≡ archive_lines (take place all) ++ archive_line (get_or all place d)
+pub lines-more : (all : List ArchiveRef) (place : ℕ) (d : ArchiveRef) → place < length all
+    → archive_lines (take (place + 1) all) ≡ archive_lines (take place all) ++ archive_line (get_or all place d)
 lines-more all place d lt =
-    rw (add-one place) (ap archive_lines (take_next all place d lt) ∙ (lines-append (take place all) (get_or all place d ∷ []) ∙ ap (λ k. archive_lines (take place all) ++ k) (lines-cons (get_or all place d) [] ∙ (ap (λ k. archive_line (get_or all place d) ++ k) lines-none ∙ append-nil (archive_line (get_or all place d))))))
+    rw (add-one place) (ap archive_lines (take_next all place d lt)
+    ∙ (lines-append (take place all) (get_or all place d ∷ [])
+    ∙ ap (λ k. archive_lines (take place all) ++ k)
+    (lines-cons (get_or all place d) [] ∙ (ap (λ k. archive_line (get_or all place d) ++ k) lines-none ∙ append-nil (archive_line (get_or all place d))))))
 
 -- the lines of the rest follow
 pub lines-rest : (all : List ArchiveRef) (place : ℕ) → archive_lines all ≡ archive_lines (take place all) ++ archive_lines (drop place all)

@@ -1,6 +1,5 @@
 -- What has gone to the output while text is gathered, and what a fault says of it.
-use Rattle.std.specs.Prelude.{◌≡◌, ℕ, List, ◌++◌, Option, Result, MatchResult, option_map}
-use Rattle.ferry_disk.specs.Device.{Rose}
+use Rattle.std.specs.Prelude.{◌≡◌, ℕ, List, ◌++◌, Bool, true, false, Option, option_map}
 use Rattle.ferry_disk.specs.declared.sink.SinkFault.{SinkFault}
 use Rattle.ferry_disk.specs.declared.sink.SinkFault.TheVariants as Sink
 use Rattle.ferry_view.specs.declared.fault.ViewFault.{ViewFault}
@@ -11,13 +10,10 @@ abbrev pub sink_fault : SinkFault → ViewFault
 sink_fault Sink.Failed = Output
 sink_fault Sink.Memory = Memory
 
--- The output's count of faults rose where it failed, and is the same at any other answer.
-abbrev pub FaultCause : ℕ → ℕ → ViewFault → Type 0
-FaultCause before now Output = Rose before now
-FaultCause before now Memory = now ≡ before
-
-abbrev pub HasOutputCause : {T : Type 0} → ℕ → ℕ → Result T ViewFault → Type 0
-HasOutputCause before now result = MatchResult result (λ _. now ≡ before) (FaultCause before now)
+-- whether the output failed
+abbrev pub view_failed : ViewFault → Bool
+view_failed Output = true
+view_failed Memory = false
 
 -- Of a text, the front has gone to the output, and the rest is gathered.
 pub record Sends (old now : Option (List ℕ)) (gathered text : List ℕ) : Type 0 where

@@ -1,12 +1,12 @@
 //! The listing of the archives.
 ghost use Rattle.std.specs.Prelude.{◌≡◌, ◌++◌, OnOk, OnErr, option_map};
-ghost use Rattle.ferry_disk.specs.Device.{WritesSome};
-ghost use Rattle.ferry_repo.specs.Opening.{state_of};
+ghost use Rattle.ferry_disk.specs.Device.{WritesSome, HasCause};
+ghost use Rattle.ferry_repo.specs.Opening.{repo_view};
 ghost use Rattle.ferry_view.specs.Lines.{archive_line, archive_lines};
-ghost use Rattle.ferry_view.specs.Output.{HasOutputCause};
+ghost use Rattle.ferry_view.specs.Output.{view_failed};
 
-use crate::fault::{ViewFault, of_sink};
-use crate::output::send_full;
+use crate::fault::ViewFault;
+use crate::output::{send, send_full};
 use ferry_disk::Sink;
 use ferry_manifest::ArchiveRef;
 use ferry_repo::Repo;
@@ -18,11 +18,11 @@ use std::alloc::{AllocError, Global};
 /// Texts are escaped, so an archive has one line whatever its name is. Only `Output` and `Memory` come.
 pub fn list<K: Sink>(alloc: Global, repo: &mut Repo, out: &mut K) -> Result<(), ViewFault>
     ensures ok { OnOk result (K.written out.new
-        ≡ option_map (λ w. w ++ archive_lines (state_of repo.old).manifest.archives) (K.written out.old)) }
+        ≡ option_map (λ w. w ++ archive_lines (repo_view repo.old).manifest.archives) (K.written out.old)) }
     ensures err { OnErr result (
-        WritesSome (K.written out.old) (archive_lines (state_of repo.old).manifest.archives) (K.written out.new)) }
-    ensures kept { repo.new ≡ repo.old }
-    ensures cause { HasOutputCause (K.faults out.old) (K.faults out.new) result }
+        WritesSome (K.written out.old) (archive_lines (repo_view repo.old).manifest.archives) (K.written out.new)) }
+    ensures kept { repo_view repo.new ≡ repo_view repo.old }
+    ensures cause { HasCause view_failed (K.faults out.old) (K.faults out.new) result }
 {
     write_archives(alloc, repo.manifest().archives.as_slice(), out)
 }
@@ -36,23 +36,14 @@ fn write_archives<K: Sink>(
     ensures ok { OnOk result (
         K.written out.new ≡ option_map (λ w. w ++ archive_lines archives.now) (K.written out.old)) }
     ensures err { OnErr result (WritesSome (K.written out.old) (archive_lines archives.now) (K.written out.new)) }
-    ensures cause { HasOutputCause (K.faults out.old) (K.faults out.new) result }
+    ensures cause { HasCause view_failed (K.faults out.old) (K.faults out.new) result }
 {
     let mut text = Vec::new(alloc);
     for place in 0..archives.len() {
-        match push_archive(&archives[place], &mut text) {
-            Ok(()) => {}
-            Err(_) => return Err(ViewFault::Memory),
-        }
-        match send_full(&mut text, out) {
-            Ok(()) => {}
-            Err(fault) => return Err(fault),
-        }
+        push_archive(&archives[place], &mut text)?;
+        send_full(&mut text, out)?;
     }
-    match out.write(&text) {
-        Ok(()) => Ok(()),
-        Err(fault) => Err(of_sink(fault)),
-    }
+    send(&text, out)
 }
 
 /// Appends the line of an archive.

@@ -1,6 +1,5 @@
 //! Why not all is shown.
 ghost use Rattle.std.specs.Prelude.{◌≡◌};
-ghost use Rattle.ferry_view.specs.Output.{sink_fault};
 ghost use Rattle.ferry_view.specs.declared.fault.ViewFault.TheVariants.{Memory};
 
 use ferry_disk::SinkFault;
@@ -26,12 +25,15 @@ impl From<AllocError> for ViewFault {
     }
 }
 
-/// The fault where the output took not all bytes.
-pub(crate) fn of_sink(fault: SinkFault) -> ViewFault
-    ensures { result ≡ sink_fault fault }
-{
-    match fault {
-        SinkFault::Failed => ViewFault::Output,
-        SinkFault::Memory => ViewFault::Memory,
+impl From<SinkFault> for ViewFault {
+    ghost use Rattle.ferry_view.specs.Output.{sink_fault};
+
+    ghost from_gives = { λ fault gives. gives ≡ sink_fault fault };
+
+    fn from(fault: SinkFault) -> ViewFault {
+        match fault {
+            SinkFault::Failed => ViewFault::Output,
+            SinkFault::Memory => ViewFault::Memory,
+        }
     }
 }

@@ -7,8 +7,7 @@
 mod archives;
 mod fault;
 mod output;
-#[cfg(test)]
-mod tests;
 
 pub use archives::list;
 pub use fault::ViewFault;
+pub use output::{send, send_full};

@@ -1,16 +1,18 @@
 -- Lemmas on the first wrong word.
-use Rattle.std.proofs.Common.{◌≡◌, ℕ, zero, suc, ◌+◌, ◌-◌, ◌<◌, ◌≤◌, true, false, List, [], ◌∷◌, ◌++◌, length, take, drop, replicate, inl, inr, Option, Some, None, Result, Ok, Err, refl, ap, ◌∙◌, subst, arith, sym, append_assoc, codes}
+use Rattle.std.proofs.Common.{◌≡◌, ℕ, zero, suc, ◌+◌, ◌-◌, ◌<◌, ◌≤◌, true, false, List, [], ◌∷◌, ◌++◌, length, take, drop, replicate, inl, inr, Option}
+use Rattle.std.proofs.Common.{Some, None, Result, Ok, Err, refl, ap, ◌∙◌, subst, arith, sym, append_assoc, codes}
 use Rattle.std.proofs.lemmas.Bool.{cases_lt}
 use Rattle.std.proofs.lemmas.List.{append-nil, length-append, length-replicate, length-take-le, take-append-drop}
 use Rattle.std.proofs.Math.Seq.{take-add, take-append-add}
 use Rattle.std.specs.List.{AllByRecursion}
 use Rattle.std.specs.Str.{IsUtf8, bytes_eq}
 use Rattle.ferry_words.specs.Words.{Row, Operands, rows, row_of, options_end, is_option, operands_of, made, made_of, meaning_by, command_of}
-use Rattle.ferry_words.specs.Laws.{GoesOn, IsAhead, IsCommand, IsFirstWrong, IsMissing, IsPlainAhead, IsWrong, Stops}
+use Rattle.ferry_words.specs.Laws.{CanGoOn, IsAhead, IsCommand, IsFirstWrong, IsMissing, IsPlainAhead, IsWrong, CannotGoOn}
 use Rattle.ferry_words.specs.declared.command.Command.{Command}
 use Rattle.ferry_words.specs.declared.command.Command.TheVariants.{Keys}
 use Rattle.ferry_words.proofs.TableLemmas.{IsNamed, listed_found, row_named}
-use Rattle.ferry_words.proofs.WordsLemmas.{AreMiscounted, IsNoOption, made_miscounted, meant_spelled, operands_read, option_read, over_made, row_read, spelled_meant}
+use Rattle.ferry_words.proofs.WordsLemmas.{AreMiscounted, IsNoOption, made_miscounted, meant_spelled, operands_read, option_read, over_made, row_read}
+use Rattle.ferry_words.proofs.WordsLemmas.{spelled_meant}
 
 -- ---- IsAhead
 
@@ -47,10 +49,10 @@ utf8_keys : IsUtf8 (codes "keys")
 unfolding lib.Utf8.encode
 utf8_keys = (codes "keys", (refl, refl))
 
--- ---- Stops
+-- ---- CannotGoOn
 
 -- words that mean no command, whatever stands behind them, stop
-stops_by : (front : List (List ℕ)) (number : ℕ) → ((more : List (List ℕ)) → command_of (front ++ more) ≡ Err number) → Stops front
+stops_by : (front : List (List ℕ)) (number : ℕ) → ((more : List (List ℕ)) → command_of (front ++ more) ≡ Err number) → CannotGoOn front
 stops_by front number wrong more command h =
     let meant : command_of (front ++ more) ≡ Ok command = spelled_meant (front ++ more) command h in
     let told : command_of (front ++ more) ≡ Err number = wrong more in
@@ -58,7 +60,7 @@ stops_by front number wrong more command h =
 
 -- ---- the word of a command
 
-nothing_goes_on : GoesOn []
+nothing_goes_on : CanGoOn []
 unfolding command_of row_of operands_of made
 nothing_goes_on = (codes "keys" ∷ [], Keys, (utf8_keys, tt), meant_spelled (codes "keys" ∷ []) Keys refl)
 
@@ -70,7 +72,7 @@ no_words = record {
   unfinished = λ command h. let meant = spelled_meant [] command h in cc;
 }
 
-unknown_stops : (word : List ℕ) → row_of word ≡ None → Stops (word ∷ [])
+unknown_stops : (word : List ℕ) → row_of word ≡ None → CannotGoOn (word ∷ [])
 unfolding command_of
 unknown_stops word unknown = stops_by (word ∷ []) 1 (λ more. ap (λ (found : Option Row). meaning_by found more) unknown)
 
@@ -85,7 +87,7 @@ unknown_word word behind unknown = record {
 -- ---- the place of an option
 
 -- a row's word goes on: with `--` and empty operands, as few as the row takes
-word_goes_on : (row : Row) → IsNamed rows row.word row → GoesOn (row.word ∷ [])
+word_goes_on : (row : Row) → IsNamed rows row.word row → CanGoOn (row.word ∷ [])
 word_goes_on row named =
     let found = listed_found row named.listed in
     let few = replicate row.form.least [] in
@@ -135,7 +137,7 @@ take_behind word ahead operands n number e =
     ap (λ (number : ℕ). take number (word ∷ (ahead ++ operands))) next ∙ ap (λ (rest : List (List ℕ)). word ∷ rest) (take-append-add ahead operands n)
 
 most_go_on : (row : Row) (ahead operands : List (List ℕ)) → IsNamed rows row.word row → IsAhead ahead operands → row.form.most < length operands
-    → GoesOn (row.word ∷ (ahead ++ take row.form.most operands))
+    → CanGoOn (row.word ∷ (ahead ++ take row.form.most operands))
 most_go_on row ahead operands named free over =
     let found = listed_found row named.listed in
     let most = take row.form.most operands in
@@ -154,7 +156,7 @@ most_go_on row ahead operands named free over =
     ([], row.form.make most, tt, this)
 
 over_stops : (row : Row) (ahead operands : List (List ℕ)) → IsNamed rows row.word row → IsAhead ahead operands → row.form.most < length operands
-    → Stops (row.word ∷ (ahead ++ take (suc row.form.most) operands))
+    → CannotGoOn (row.word ∷ (ahead ++ take (suc row.form.most) operands))
 over_stops row ahead operands named free over =
     let found = (listed_found row named.listed).found in
     let more_than_fit = take (suc row.form.most) operands in
@@ -171,8 +173,12 @@ too_many : (row : Row) (ahead operands : List (List ℕ)) (number : ℕ) → IsN
 too_many row ahead operands number named free over e = record {
   numbered = omega (arith, e);
   there = omega (arith, e, over, length-append ahead operands);
-  before = subst GoesOn (sym (take_behind row.word ahead operands row.form.most (number - 1) (omega (arith, e)))) (most_go_on row ahead operands named free over);
-  stops = subst Stops (sym (take_behind row.word ahead operands (suc row.form.most) number (omega (arith, e)))) (over_stops row ahead operands named free over);
+  before =
+      subst CanGoOn (sym (take_behind row.word ahead operands row.form.most (number - 1) (omega (arith, e))))
+      (most_go_on row ahead operands named free over);
+  stops =
+      subst CannotGoOn (sym (take_behind row.word ahead operands (suc row.form.most) number (omega (arith, e))))
+      (over_stops row ahead operands named free over);
 }
 
 -- ---- too few operands
@@ -229,7 +235,8 @@ read_wrong row behind number named told (Ok operands) r e =
     let first = read.numbered in
     let unfinished = unfinished_by (row.word ∷ behind) number told in
     let counted : AreMiscounted row.form record { first = length ahead + 2; words = operands.words } number =
-    subst (λ (first : ℕ). AreMiscounted row.form record { first = first; words = operands.words } number) first (made_miscounted row.form operands number e) in
+    subst (λ (first : ℕ). AreMiscounted row.form record { first = first; words = operands.words } number) first
+    (made_miscounted row.form operands number e) in
     let at_spelled = miscounted_wrong row ahead operands.words number named read.free
     (subst (λ (behind : List (List ℕ)). (command : Command) → IsCommand (row.word ∷ behind) command → ⊥) read.spelled unfinished) counted in
     subst (λ (behind : List (List ℕ)). IsFirstWrong (row.word ∷ behind) number) (sym read.spelled) at_spelled
@@ -257,7 +264,7 @@ told_wrong (word ∷ behind) number told = meant_wrong word behind number told (
 -- ---- one first wrong word
 
 -- words that go on to a command don't stop at any of them
-no_stop_before : (words : List (List ℕ)) (m n : ℕ) → m ≤ n → GoesOn (take n words) → Stops (take m words) → ⊥
+no_stop_before : (words : List (List ℕ)) (m n : ℕ) → m ≤ n → CanGoOn (take n words) → CannotGoOn (take m words) → ⊥
 no_stop_before words m n within goes stops =
     let behind = take (n - m) (drop m words) in
     let parted : take n words ≡ take m words ++ behind =
@@ -267,7 +274,7 @@ no_stop_before words m n within goes stops =
     (subst (λ (front : List (List ℕ)). IsCommand front goes.1) (append_assoc (take m words) behind more)
     (subst (λ (front : List (List ℕ)). IsCommand (front ++ more) goes.1) parted goes.3))
 
-no_stop_in : (words : List (List ℕ)) (m : ℕ) → GoesOn words → Stops (take m words) → ⊥
+no_stop_in : (words : List (List ℕ)) (m : ℕ) → CanGoOn words → CannotGoOn (take m words) → ⊥
 no_stop_in words m goes stops =
     stops (drop m words ++ goes.0) goes.1
     (subst (λ (front : List (List ℕ)). IsCommand front goes.1) (append_assoc (take m words) (drop m words) goes.0)
@@ -294,7 +301,8 @@ no_command words number command (inl h) is =
     h.stops (drop number words) command (subst (λ (words : List (List ℕ)). IsCommand words command) (sym (take-append-drop number words)) is)
 no_command words number command (inr h) is = h.unfinished command is
 
-wrong_by : (words : List (List ℕ)) (number : ℕ) → IsFirstWrong words number → (meaning : Result Command ℕ) → command_of words ≡ meaning → meaning ≡ Err number
+wrong_by : (words : List (List ℕ)) (number : ℕ) → IsFirstWrong words number → (meaning : Result Command ℕ) → command_of words ≡ meaning
+    → meaning ≡ Err number
 wrong_by words number h (Ok command) e = absurd (no_command words number command h (meant_spelled words command e))
 wrong_by words number h (Err other) e = ap Err (one_wrong words other number (told_wrong words other e) h)
 

@@ -1,5 +1,6 @@
 -- Lemmas on the table of the commands.
-use Rattle.std.proofs.Common.{◌≡◌, ℕ, zero, suc, ◌<◌, ◌≤◌, Bool, true, false, cond, List, [], ◌∷◌, length, get_or, find, Contains, Some, refl, ap, ◌∙◌, subst, arith, sym}
+use Rattle.std.proofs.Common.{◌≡◌, ℕ, zero, suc, ◌<◌, ◌≤◌, Bool, true, false, cond, List, [], ◌∷◌, length, get_or, find, Contains, Some, refl, ap, ◌∙◌}
+use Rattle.std.proofs.Common.{subst, arith, sym}
 use Rattle.std.proofs.lemmas.Slice.Eq.{bytes_eq-Decides}
 use Rattle.std.specs.Str.{bytes_eq}
 use Rattle.ferry_words.specs.Words.{Row, rows, row_of}

@@ -1,5 +1,6 @@
 -- Lemmas on what words mean.
-use Rattle.std.proofs.Common.{◌≡◌, ℕ, ◌+◌, ◌<◌, ◌≤◌, nat_lt, Bool, true, false, cond, List, [], ◌∷◌, ◌++◌, length, ◌⊎◌, inl, inr, Option, Some, None, Result, Ok, Err, refl, ap, ◌∙◌, subst, sym}
+use Rattle.std.proofs.Common.{◌≡◌, ℕ, ◌+◌, ◌<◌, ◌≤◌, nat_lt, Bool, true, false, cond, List, [], ◌∷◌, ◌++◌, length, ◌⊎◌, inl, inr, Option, Some, None}
+use Rattle.std.proofs.Common.{Result, Ok, Err, refl, ap, ◌∙◌, subst, sym}
 use Rattle.std.proofs.lemmas.Bool.{cases_Bool, ltb-true, ltb-false, lt-ltb, le-ltb}
 use Rattle.std.proofs.lemmas.Slice.Eq.{bytes_eq-Decides}
 use Rattle.std.specs.Str.{bytes_eq}
@@ -32,7 +33,8 @@ pub ahead_read : (ahead operands : List (List ℕ)) → IsAhead ahead operands
 ahead_read ahead operands (inl e) =
     subst (λ (ahead : List (List ℕ)). operands_of (ahead ++ operands) ≡ Ok record { first = length ahead + 2; words = operands }) (sym e) (ended operands)
 ahead_read ahead operands (inr h) =
-    subst (λ (ahead : List (List ℕ)). operands_of (ahead ++ operands) ≡ Ok record { first = length ahead + 2; words = operands }) (sym h.0) (plain operands h.1)
+    subst (λ (ahead : List (List ℕ)). operands_of (ahead ++ operands) ≡ Ok record { first = length ahead + 2; words = operands }) (sym h.0)
+    (plain operands h.1)
 
 -- the operands are read from these words, with this ahead of them
 pub record AreRead (behind : List (List ℕ)) (operands : Operands) : Type 0 where
@@ -96,7 +98,8 @@ IsMaking form operands (Err number) = AreMiscounted form operands number
 
 making_by : (form : Form) (operands : Operands) (over under : Bool)
     → nat_lt form.most (length operands.words) ≡ over → nat_lt (length operands.words) form.least ≡ under
-    → IsMaking form operands (cond over (Err (operands.first + form.most)) (cond under (Err (operands.first + length operands.words)) (Ok (form.make operands.words))))
+    → IsMaking form operands
+    (cond over (Err (operands.first + form.most)) (cond under (Err (operands.first + length operands.words)) (Ok (form.make operands.words))))
 making_by form operands true under o u = inl (ltb-true _ _ o, refl)
 making_by form operands false true o u = inr (ltb-true _ _ u, refl)
 making_by form operands false false o u = record { enough = ltb-false _ _ u; fitting = ltb-false _ _ o; made = refl }
@@ -167,4 +170,5 @@ pub spelled_meant : (words : List (List ℕ)) (command : Command) → IsCommand 
 spelled_meant words command h =
     ap command_of h.spelled
     ∙ row_read h.row h.ahead h.operands (listed_found h.row h.listed).found h.free
-    ∙ make_made h.row.form record { first = length h.ahead + 2; words = h.operands } command record { enough = h.enough; fitting = h.fitting; made = h.made }
+    ∙ make_made h.row.form record { first = length h.ahead + 2; words = h.operands } command record
+    { enough = h.enough; fitting = h.fitting; made = h.made }

@@ -26,24 +26,24 @@ pub record IsCommand (words : List (List ℕ)) (command : Command) : Type 0 wher
   pub made : command ≡ row.form.make operands
 
 -- the words can go on to a command: with some texts behind them they are one
-abbrev pub GoesOn : List (List ℕ) → Type 0
-GoesOn front = (more : List (List ℕ)) × (command : Command) × AllByRecursion IsUtf8 more × IsCommand (front ++ more) command
+abbrev pub CanGoOn : List (List ℕ) → Type 0
+CanGoOn front = (more : List (List ℕ)) × (command : Command) × AllByRecursion IsUtf8 more × IsCommand (front ++ more) command
 
 -- the words can't go on to a command: whatever stands behind them, they are none
-abbrev pub Stops : List (List ℕ) → Type 0
-Stops front = (more : List (List ℕ)) (command : Command) → IsCommand (front ++ more) command → ⊥
+abbrev pub CannotGoOn : List (List ℕ) → Type 0
+CannotGoOn front = (more : List (List ℕ)) (command : Command) → IsCommand (front ++ more) command → ⊥
 
 -- the word of this number, from 1, is the first with which the words can't go on to a command
 pub record IsWrong (words : List (List ℕ)) (number : ℕ) : Type 0 where
   pub numbered : 1 ≤ number
   pub there : number ≤ length words
-  pub before : GoesOn (take (number - 1) words)
-  pub stops : Stops (take number words)
+  pub before : CanGoOn (take (number - 1) words)
+  pub stops : CannotGoOn (take number words)
 
 -- the word of this number, behind the last, is missing: the words can go on to a command, and are none
 pub record IsMissing (words : List (List ℕ)) (number : ℕ) : Type 0 where
   pub numbered : number ≡ length words + 1
-  pub before : GoesOn words
+  pub before : CanGoOn words
   pub unfinished : (command : Command) → IsCommand words command → ⊥
 
 -- the number that is told of words that are no command

@@ -10,7 +10,7 @@ number_of_usage (Word n) = 1
 number_of_usage Memory = 2
 
 -- the answer is this command, this wrong word, or that memory ran out
-abbrev pub Answers : Result Command Usage → Result Command ℕ → Type 0
-Answers (Ok command) meaning = meaning ≡ Ok command
-Answers (Err (Word n)) meaning = meaning ≡ Err n
-Answers (Err Memory) meaning = ⊤
+abbrev pub IsAnswer : Result Command Usage → Result Command ℕ → Type 0
+IsAnswer (Ok command) meaning = meaning ≡ Ok command
+IsAnswer (Err (Word n)) meaning = meaning ≡ Err n
+IsAnswer (Err Memory) meaning = ⊤

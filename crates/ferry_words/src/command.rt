@@ -1,8 +1,8 @@
-ghost use Rattle.std.specs.Prelude.{◌≡◌};
+//! The commands.
 
-use std::marker::Model;
+use ferry_base::Bytes;
 
-/// A command, with its operands.
+/// A command, with its operands, each the bytes of a word in UTF-8.
 #[derive(Drop)]
 pub enum Command {
     /// `keys`: lists the live keys of the source.
@@ -14,43 +14,13 @@ pub enum Command {
     /// `list NAME`: lists the items of an archive of the source.
     ListItems {
         /// The archive's name.
-        name: WordBytes,
+        name: Bytes,
     },
     /// `extract NAME PATH`: writes the contents of a file in an archive of the source.
     Extract {
         /// The archive's name.
-        name: WordBytes,
+        name: Bytes,
         /// The item's path.
-        path: WordBytes,
+        path: Bytes,
     },
-}
-
-/// The bytes of a word in UTF-8, which contracts see as a list.
-#[derive(Drop)]
-pub struct WordBytes {
-    bytes: Vec<u8>,
-}
-
-impl Model for WordBytes {
-    ghost use Rattle.std.specs.Prelude.{ℕ, List};
-
-    ghost Value = { List ℕ };
-
-    ghost view = { λ a. a.bytes.items };
-}
-
-impl WordBytes {
-    /// The word of these bytes.
-    pub fn new(bytes: Vec<u8>) -> WordBytes
-        ensures bytes { result ≡ bytes.items }
-    {
-        WordBytes { bytes }
-    }
-
-    /// The bytes.
-    pub fn as_slice(&self) -> &[u8]
-        ensures bytes { result.now ≡ self.now }
-    {
-        self.bytes.as_slice()
-    }
 }

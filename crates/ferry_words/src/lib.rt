@@ -12,7 +12,7 @@ mod reading;
 mod tests;
 mod usage;
 
-pub use command::{Command, WordBytes};
+pub use command::Command;
 pub use laws::words_laws;
 pub use reading::read_words;
 pub use usage::Usage;

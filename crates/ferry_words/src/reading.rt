@@ -1,12 +1,13 @@
 //! The reader.
 
 ghost use Rattle.std.specs.Prelude.{◌≡◌, ◌≢◌, ◌≤◌, ℕ, Ok, Err, IfOk, IfErr, map, string_bytes};
-ghost use Rattle.ferry_words.specs.Usage.{Answers};
+ghost use Rattle.ferry_words.specs.Usage.{IsAnswer};
 ghost use Rattle.ferry_words.specs.Words as spec;
 ghost use Rattle.ferry_words.specs.Words.{command_of};
 
-use crate::command::{Command, WordBytes};
+use crate::command::Command;
 use crate::usage::Usage;
+use ferry_base::Bytes;
 use std::alloc::{AllocError, Global};
 
 /// The operands among the words behind the command's word.
@@ -44,26 +45,24 @@ pub fn read_words(alloc: Global, words: &[String]) -> Result<Command, Usage>
 /// The command, where it has no operand.
 #[tactic(auto, unfolding(crate::specs::Words::made))]
 fn alone(behind: &[String], command: Command) -> Result<Command, Usage>
-    ensures answer { Answers result
+    ensures answer { IsAnswer result
         (spec.made_of (spec.form 0 0 (λ _. command)) (spec.operands_of (map string_bytes behind.now))) }
 {
-    match operands_of(behind) {
-        Err(number) => Err(Usage::Word(number)),
-        Ok(operands) if operands.words.is_empty() => Ok(command),
-        Ok(operands) => Err(Usage::Word(operands.first)),
+    let operands = operands_of(behind)?;
+    if operands.words.is_empty() {
+        Ok(command)
+    } else {
+        Err(Usage::Word(operands.first))
     }
 }
 
 /// `list` with no operand, or with an archive's name.
 #[tactic(auto, unfolding(crate::specs::Words::made))]
 fn list(alloc: Global, behind: &[String]) -> Result<Command, Usage>
-    ensures answer { Answers result
+    ensures answer { IsAnswer result
         (spec.made_of (spec.form 0 1 spec.listed) (spec.operands_of (map string_bytes behind.now))) }
 {
-    let operands = match operands_of(behind) {
-        Err(number) => return Err(Usage::Word(number)),
-        Ok(operands) => operands,
-    };
+    let operands = operands_of(behind)?;
     match operands.words {
         [] => Ok(Command::List),
         [name] => Ok(Command::ListItems {
@@ -76,13 +75,10 @@ fn list(alloc: Global, behind: &[String]) -> Result<Command, Usage>
 /// `extract` with an archive's name and a path.
 #[tactic(auto, unfolding(crate::specs::Words::made))]
 fn extract(alloc: Global, behind: &[String]) -> Result<Command, Usage>
-    ensures answer { Answers result
+    ensures answer { IsAnswer result
         (spec.made_of (spec.form 2 2 spec.extracted) (spec.operands_of (map string_bytes behind.now))) }
 {
-    let operands = match operands_of(behind) {
-        Err(number) => return Err(Usage::Word(number)),
-        Ok(operands) => operands,
-    };
+    let operands = operands_of(behind)?;
     match operands.words {
         [] => Err(Usage::Word(operands.first)),
         [_] => Err(Usage::Word(operands.first + 1)),
@@ -96,18 +92,19 @@ fn extract(alloc: Global, behind: &[String]) -> Result<Command, Usage>
 
 /// The operands among the words behind the command's word, or the number of the word that is wrong in an option's place.
 #[tactic(auto, unfolding(crate::specs::Words::operands_of))]
-fn operands_of(behind: &[String]) -> Result<Operands<'_>, u64>
+fn operands_of(behind: &[String]) -> Result<Operands<'_>, Usage>
     ensures operands { IfOk result (λ operands. (operands.first ≤ 3)
         × (spec.operands_of (map string_bytes behind.now)
         ≡ Ok record { first = operands.first; words = map string_bytes operands.words.now })) }
-    ensures wrong { IfErr result (λ number. spec.operands_of (map string_bytes behind.now) ≡ Err number) }
+    ensures wrong { IfErr result (λ usage. (number : ℕ) × (usage ≡ Usage.Word number)
+        × (spec.operands_of (map string_bytes behind.now) ≡ Err number)) }
 {
     match behind {
         [end, rest @ ..] if end.as_str() == "--" => Ok(Operands {
             first: 3,
             words: rest,
         }),
-        [word, ..] if is_option(word.as_str()) => Err(2),
+        [word, ..] if is_option(word.as_str()) => Err(Usage::Word(2)),
         _ => Ok(Operands {
             first: 2,
             words: behind,
@@ -123,9 +120,9 @@ fn is_option(word: &str) -> bool
 }
 
 /// A copy of a word's bytes.
-fn bytes_of(alloc: Global, word: &String) -> Result<WordBytes, AllocError>
+fn bytes_of(alloc: Global, word: &String) -> Result<Bytes, AllocError>
     ensures bytes { IfOk result (λ bytes. bytes ≡ string_bytes word.now) }
 {
     let bytes = Vec::from_slice(alloc, word.as_bytes())?;
-    Ok(WordBytes::new(bytes))
+    Ok(Bytes::new(bytes))
 }

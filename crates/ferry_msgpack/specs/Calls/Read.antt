@@ -5,7 +5,7 @@ use Rattle.ferry_msgpack.specs.declared.fault.PackFault.TheVariants.{Memory}
 use Rattle.ferry_msgpack.specs.declared.value.Value.{Value}
 use Rattle.ferry_msgpack.specs.Tree.{Tree}
 use Rattle.ferry_msgpack.specs.Spelling.{Spells}
-use Rattle.ferry_msgpack.specs.View.{view}
+use Rattle.ferry_msgpack.specs.View.{value_view}
 
 -- the bytes from start to stop spell the value
 pub record StandsAt (bytes : List ℕ) (start : ℕ) (t : Tree) (stop : ℕ) : Type 0 where
@@ -15,7 +15,7 @@ pub record StandsAt (bytes : List ℕ) (start : ℕ) (t : Tree) (stop : ℕ) : T
 
 -- the value and the place behind it, unless memory ran out
 abbrev pub IsValueUnlessMemory : Result (Value × ℕ) PackFault → Tree → ℕ → Type 0
-IsValueUnlessMemory (Ok x) t stop = (view x.0 ≡ t) × (x.1 ≡ stop)
+IsValueUnlessMemory (Ok x) t stop = (value_view x.0 ≡ t) × (x.1 ≡ stop)
 IsValueUnlessMemory (Err fault) t stop = fault ≡ Memory
 
 -- this fault, unless memory ran out

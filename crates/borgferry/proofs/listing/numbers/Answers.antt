@@ -6,4 +6,6 @@ use Rattle.borgferry.proofs.listing.numbers.Goals as goal
 
 pub returns-clause-increasing : goal.returns-clause-increasing
 returns-clause-increasing c =
-    IfOk-weaker c.keys_of.result _ _ (λ numbers e. subst IsStrictlyIncreasing (sym e) (IsStrictlyIncreasing-from_sorted _ c.keys_of.ensures.ordered)) c.keys_of.ensures.keys
+    IfOk-weaker c.keys_of.result _ _
+    (λ numbers e. subst IsStrictlyIncreasing (sym e) (IsStrictlyIncreasing-from_sorted _ c.keys_of.ensures.ordered))
+    c.keys_of.ensures.keys

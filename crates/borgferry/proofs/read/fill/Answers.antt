@@ -11,10 +11,14 @@ loop-preserved g c =
     elim c.match-read.branch [
       | in-Ok w ↦ record {
         within = search rules;
-        bytes = rw w.count-is (subst (Consumes _ _) (sym (take-filled _ _ c.loop.into _ _ c.loop.invariant.within w.in-Ok.ensures.bound.0)) (Consumes-trans _ _ _ _ _ c.loop.invariant.bytes w.in-Ok.ensures.bytes.0));
+        bytes = rw w.count-is (subst (Consumes _ _)
+            (sym (take-filled _ _ c.loop.into _ _ c.loop.invariant.within w.in-Ok.ensures.bound.0))
+            (Consumes-trans _ _ _ _ _ c.loop.invariant.bytes w.in-Ok.ensures.bytes.0));
       }
       | in-Err w ↦ record {
         within = search rules;
-        bytes = rw w.count-is (subst (Consumes _ _) (sym (take-put_mid_below _ _ _ _ _ (le_refl _) c.loop.invariant.within)) (Consumes-kept _ _ _ _ c.loop.invariant.bytes w.in-Err.ensures.bytes));
+        bytes = rw w.count-is (subst (Consumes _ _)
+            (sym (take-put_mid_below _ _ _ _ _ (le_refl _) c.loop.invariant.within))
+            (Consumes-kept _ _ _ _ c.loop.invariant.bytes w.in-Err.ensures.bytes));
       }
     ]

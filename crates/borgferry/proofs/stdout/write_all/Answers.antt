@@ -10,7 +10,9 @@ loop-preserved g c =
     elim c.match-write.branch [
       | in-Ok w ↦ record {
         within = search rules;
-        bytes = rw w.done-is (subst (Appends _ _) (take-passed c.loop.done w.in-Ok.more c.args.bytes.now) (Appends-trans _ _ _ _ _ c.loop.invariant.bytes w.in-Ok.ensures.bytes));
+        bytes = rw w.done-is (subst (Appends _ _)
+            (take-passed c.loop.done w.in-Ok.more c.args.bytes.now)
+            (Appends-trans _ _ _ _ _ c.loop.invariant.bytes w.in-Ok.ensures.bytes));
       }
       | in-Err w ↦ record {
         within = search rules;

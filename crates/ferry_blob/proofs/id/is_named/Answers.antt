@@ -1,6 +1,6 @@
 use Rattle.std.proofs.Common.{◌≡◌, sym, ◌∙◌}
 use Rattle.std.specs.Str.{bytes_eq}
-use Rattle.ferry_blob.specs.Blob.{zero_id}
+use Rattle.ferry_base.specs.Limits.{zero_id}
 use Rattle.ferry_blob.proofs.BlobLemmas.{named_other, named_zero, tested}
 use Rattle.ferry_blob.proofs.id.is_named.Goals as goal
 

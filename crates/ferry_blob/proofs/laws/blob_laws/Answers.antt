@@ -1,5 +1,6 @@
 use Rattle.ferry_blob.proofs.BlobLemmas.{content_is, fault_kind, fault_short, opened_at, opens_no_fault}
-use Rattle.ferry_blob.proofs.LawLemmas.{compressed_is, id_is, is_compressed, is_id, is_mac, kind_is, mac_is, one_content, opens_zero, short_is, zero_unrefused}
+use Rattle.ferry_blob.proofs.LawLemmas.{compressed_is, id_is, is_compressed, is_id, is_mac, kind_is, mac_is, one_content, opens_zero, short_is}
+use Rattle.ferry_blob.proofs.LawLemmas.{zero_unrefused}
 use Rattle.ferry_blob.proofs.laws.blob_laws.Goals as goal
 
 pub returns-clause-opens : goal.returns-clause-opens

@@ -1,6 +1,6 @@
 use Rattle.std.proofs.Common.{ℕ, List, drop, sym, ap, subst, ◌∙◌}
 use Rattle.std.proofs.lemmas.List.{take_rest}
-use Rattle.ferry_blob.specs.Blob.{Opens, nonce_of}
+use Rattle.ferry_blob.specs.Blob.{OpensTo, nonce_of}
 use Rattle.ferry_blob.proofs.SealLemmas.{sealed-nonce, sealed-opens, sealed_by}
 use Rattle.ferry_blob.proofs.sealing.seal.Goals as goal
 
@@ -12,7 +12,7 @@ returns-clause-blob c =
 pub returns-clause-opens : goal.returns-clause-opens
 returns-clause-opens c id named =
     let content = drop 43 c.args.buffer.now in
-    subst (λ (blob : List ℕ). Opens c.args.keys.now id blob content) (sym (returns-clause-blob c))
+    subst (λ (blob : List ℕ). OpensTo c.args.keys.now id blob content) (sym (returns-clause-blob c))
     (sealed-opens c.args.keys.now c.args.nonce id content c.ranges.nonce.fits named)
 
 pub returns-clause-nonce : goal.returns-clause-nonce

@@ -11,7 +11,8 @@ loop-number-init c = refl
 pub loop-number-preserved : goal.loop-number-preserved
 unfolding ctr
 loop-number-preserved c =
-    piece_more c.args.key.now c.args.nonce c.loop-number.number _ c.args.text.now c.loop-number.text c.add_to_piece.new.piece (omega arith) (omega arith) c.loop-number.invariant
+    piece_more c.args.key.now c.args.nonce c.loop-number.number _ c.args.text.now c.loop-number.text c.add_to_piece.new.piece (omega arith)
+    (omega arith) c.loop-number.invariant
     (rw (c.new-schedule.ensures.words, c.from.ensures) at c.add_to_piece.ensures.sum)
 
 pub returns : goal.returns

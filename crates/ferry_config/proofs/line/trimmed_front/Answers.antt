@@ -23,4 +23,7 @@ returns c =
     let text = c.args.text.now in
     let all : c.loop-start.start ≡ length text = omega arith in
     let whole : trimmed_front text ≡ trimmed_front (drop (length text) text) = rw all at c.loop-start.invariant in
-    record { trimmed = take_rest text (length text) ∙ drop_all (length text) text (omega arith) ∙ sym (whole ∙ ap trimmed_front (drop_all (length text) text (omega arith)) ∙ trimmed_front-nil) }
+    record {
+      trimmed = take_rest text (length text) ∙ drop_all (length text) text (omega arith)
+          ∙ sym (whole ∙ ap trimmed_front (drop_all (length text) text (omega arith)) ∙ trimmed_front-nil);
+    }

@@ -18,6 +18,8 @@ returns c =
     c.in_ok-append_line-3.ensures.ok ∙ ap (λ n. c.append_line-2.new.text.items ++ ended (before_id ++ n)) c.requires in
     record {
       ok = third
-          ∙ ap (λ (front : List ℕ). front ++ ended (before_id ++ encode_lower c.args.config.now.id)) (second ∙ ap (λ (front : List ℕ). front ++ ended (before_limit ++ decimal c.args.config.now.limit)) first)
-          ∙ three_lines text before_per_dir (decimal c.args.config.now.per_dir) before_limit (decimal c.args.config.now.limit) before_id (encode_lower c.args.config.now.id);
+          ∙ ap (λ (front : List ℕ). front ++ ended (before_id ++ encode_lower c.args.config.now.id)) (second
+          ∙ ap (λ (front : List ℕ). front ++ ended (before_limit ++ decimal c.args.config.now.limit)) first)
+          ∙ three_lines text before_per_dir (decimal c.args.config.now.per_dir) before_limit (decimal c.args.config.now.limit) before_id
+          (encode_lower c.args.config.now.id);
     }

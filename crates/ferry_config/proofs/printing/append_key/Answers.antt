@@ -8,7 +8,8 @@ pub loop-number-init : goal.loop-number-init
 loop-number-init c =
     let text = c.args.text.now.items in
     let key = c.args.key.now in
-    c.in_ok-append_line.ensures.ok ∙ ap (λ first. text ++ ended (codes "key = " ++ first)) c.piece.ensures.piece ∙ ap (λ lines. text ++ lines) (sym (key_lines_to-zero key))
+    c.in_ok-append_line.ensures.ok ∙ ap (λ first. text ++ ended (codes "key = " ++ first)) c.piece.ensures.piece
+    ∙ ap (λ lines. text ++ lines) (sym (key_lines_to-zero key))
 
 pub loop-number-preserved : goal.loop-number-preserved
 loop-number-preserved c =

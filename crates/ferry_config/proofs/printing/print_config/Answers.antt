@@ -10,14 +10,17 @@ use Rattle.ferry_config.proofs.printing.print_config.Goals as goal
 
 pub append_key-requires : goal.append_key-requires
 append_key-requires c =
-    let key : c.as_bytes-2.result.now ≡ encode_of standard c.args.config.now.key = c.as_bytes-2.ensures.value ∙ c.in_ok-key.ensures.text ∙ ap (encode_of standard) c.as_slice.ensures.bytes in
+    let key : c.as_bytes-2.result.now ≡ encode_of standard c.args.config.now.key =
+    c.as_bytes-2.ensures.value ∙ c.in_ok-key.ensures.text ∙ ap (encode_of standard) c.as_slice.ensures in
     rw key (length-encode_of c.args.config.now.key c.requires.key)
 
 pub returns : goal.returns
 returns c =
     let config = c.args.config.now in
-    let key : c.as_bytes-2.result.now ≡ encode_of standard config.key = c.as_bytes-2.ensures.value ∙ c.in_ok-key.ensures.text ∙ ap (encode_of standard) c.as_slice.ensures.bytes in
-    let head : c.append_head.new.text.items ≡ flat_map ended (head_lines config) = c.in_ok-append_head.ensures.ok ∙ ap (λ front. front ++ flat_map ended (head_lines config)) c.new-text.ensures.items in
+    let key : c.as_bytes-2.result.now ≡ encode_of standard config.key =
+    c.as_bytes-2.ensures.value ∙ c.in_ok-key.ensures.text ∙ ap (encode_of standard) c.as_slice.ensures in
+    let head : c.append_head.new.text.items ≡ flat_map ended (head_lines config) =
+    c.in_ok-append_head.ensures.ok ∙ ap (λ front. front ++ flat_map ended (head_lines config)) c.new-text.ensures.items in
     let whole : c.append_key.new.text.items ≡ flat_map ended (head_lines config ++ key_lines (encode_of standard config.key)) =
     c.in_ok-append_key.ensures.ok
     ∙ ap (λ (front : List ℕ). front ++ flat_map ended (key_lines c.as_bytes-2.result.now)) head
@@ -26,7 +29,8 @@ returns c =
     let text : c.append_key.new.text.items ≡ config_text config = whole ∙ sym (config_text-lines config) in
     let some : 0 < length (encode_of standard config.key) = length-encode_of config.key c.requires.key in
     let decoded : decode_of standard (encode_of standard config.key) ≡ Ok config.key =
-    ap (decode_of standard) (sym (c.in_ok-key.ensures.text ∙ ap (encode_of standard) c.as_slice.ensures.bytes)) ∙ c.in_ok-key.ensures.round_trip refl ∙ ap Ok c.as_slice.ensures.bytes in
+    ap (decode_of standard) (sym (c.in_ok-key.ensures.text ∙ ap (encode_of standard) c.as_slice.ensures))
+    ∙ c.in_ok-key.ensures.round_trip refl ∙ ap Ok c.as_slice.ensures in
     let printable : IsPrintable config = record {
       dir_least = c.requires.per_dir.0;
       dir_most = c.requires.per_dir.1;

@@ -1,8 +1,8 @@
 use Rattle.std.proofs.Common.{◌≡◌, drop, map}
 use Rattle.std.specs.List.{list_any}
 use Rattle.ferry_config.specs.Section.{is_formless}
-use Rattle.ferry_config.specs.Shown.{shown}
+use Rattle.ferry_config.specs.View.{line_view}
 use Rattle.ferry_config.proofs.section.has_formless.Given as goal
 
 abbrev pub invariant-loop-place : goal.invariant-loop-place
-invariant-loop-place l = list_any is_formless (map shown l.lines) ≡ list_any is_formless (map shown (drop l.place l.lines))
+invariant-loop-place l = list_any is_formless (map line_view l.lines) ≡ list_any is_formless (map line_view (drop l.place l.lines))

@@ -31,5 +31,6 @@ returns c =
     let place = c.loop-digit.digit-index in
     let behind : drop place text ≡ [] = drop_all place text (omega arith) in
     let digits : all_ascii_digits text ≡ true = c.loop-digit.invariant.digits ∙ ap all_ascii_digits behind in
-    let number : number_from 0 text ≡ c.loop-digit.number = c.loop-digit.invariant.number ∙ ap (number_from c.loop-digit.number) behind ∙ number_from-nil c.loop-digit.number in
+    let number : number_from 0 text ≡ c.loop-digit.number =
+    c.loop-digit.invariant.number ∙ ap (number_from c.loop-digit.number) behind ∙ number_from-nil c.loop-digit.number in
     record { number = spelled-end text c.loop-digit.number digits number c.loop-digit.invariant.small }

@@ -13,7 +13,8 @@ loop-name-preserved-in-Continue-1 c =
     let next : c.loop-name.name-iterator.rest.items ≡ e ∷ rest = search rules in
     let named : is_among names c.as_slice.result.now ≡ false = sym c.is_among.ensures.among ∙ c.if-not-is_among.true in
     let other = rw c.as_slice.ensures.value at named in
-    rw c.in_ok-push.ensures.items (sym (keep_next names c.loop-name.kept.items rest e other) ∙ ap (kept_with names c.loop-name.kept.items) (sym next) ∙ c.loop-name.invariant)
+    rw c.in_ok-push.ensures.items (sym (keep_next names c.loop-name.kept.items rest e other) ∙ ap (kept_with names c.loop-name.kept.items) (sym next)
+    ∙ c.loop-name.invariant)
 
 pub loop-name-preserved : goal.loop-name-preserved
 loop-name-preserved c =
@@ -28,6 +29,9 @@ loop-name-preserved c =
 pub returns : goal.returns
 returns c =
     let names = map (λ n. n.now) c.args.names.now in
-    let last : c.loop-name.name-iterator.rest.items ≡ [] = none_left c.loop-name.name-iterator.rest.items (omega (arith, c.loop-name.name-iterator.rest.ok, c.in-None.ensures.steps.0)) in
-    let all = sym (kept_all names c.loop-name.kept.items) ∙ ap (kept_with names c.loop-name.kept.items) (sym last) ∙ c.loop-name.invariant ∙ kept_none names c.args.pairs.items in
+    let last : c.loop-name.name-iterator.rest.items ≡ [] =
+    none_left c.loop-name.name-iterator.rest.items (omega (arith, c.loop-name.name-iterator.rest.ok, c.in-None.ensures.steps.0)) in
+    let all =
+    sym (kept_all names c.loop-name.kept.items) ∙ ap (kept_with names c.loop-name.kept.items) (sym last) ∙ c.loop-name.invariant
+    ∙ kept_none names c.args.pairs.items in
     record { others = ap pairs_view all ∙ without-filter names c.args.pairs.items }

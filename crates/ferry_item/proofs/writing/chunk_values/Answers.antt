@@ -11,6 +11,8 @@ loop-place-preserved c =
     let place = c.loop-place.place in
     let told = c.in_ok-value.ensures in
     record {
-      values = rw c.in_ok-push.ensures.items (trees_more c.loop-place.values.items c.in_ok-value.value chunks place _ (omega arith) c.loop-place.invariant.values told.value);
+      values =
+          rw c.in_ok-push.ensures.items (trees_more c.loop-place.values.items c.in_ok-value.value chunks place _ (omega arith) c.loop-place.invariant.values
+          told.value);
       range = range_more chunks place _ (omega arith) c.loop-place.invariant.range told.id told.csize;
     }

@@ -1,14 +1,21 @@
-use Rattle.std.proofs.lemmas.Result.{on_ok_weaker}
-use Rattle.ferry_log.proofs.LiveLemmas.{takes_put, takes_delete, takes_commit}
+use Rattle.std.proofs.Common.{refl, arith}
+use Rattle.ferry_log.proofs.LiveLemmas.{taken_put, taken_delete, taken_commit}
 use Rattle.ferry_log.proofs.live.take_entry.Goals as goal
 
-pub returns-in-Put : goal.returns-in-Put
-returns-in-Put c =
-    let fits = rw c.in-Put.is at c.requires.fits in
-    record { ok = rw c.in-Put.is (on_ok_weaker c.put_place.result (takes_put c.args.segment c.args.at c.in-Put.key c.in-Put.blob.now _ _ fits.0) c.put_place.ensures.ok) }
+pub returns-in_ok-insert-in-0 : goal.returns-in_ok-insert-in-0
+returns-in_ok-insert-in-0 c = record {
+  taken = λ entry fits is.
+      taken_put c.args.segment c.args.at c.args.head.now _ c.args.live.now.entries c.insert.new.self.entries entry fits is c.in-0.is refl
+      c.in_ok-insert-in-0.ensures.updates.0 c.in_ok-insert-in-0.ensures.entries;
+}
 
-pub returns-in-Delete : goal.returns-in-Delete
-returns-in-Delete c = record { ok = rw c.in-Delete.is (takes_delete c.args.segment c.args.at c.in-Delete.key _ _ c.drop_place.ensures) }
+pub returns-in-1 : goal.returns-in-1
+returns-in-1 c = record {
+  taken =
+      λ entry fits is. taken_delete c.args.segment c.args.at c.args.head.now c.args.live.now.entries c.remove.new.self.entries entry is c.in-1.is
+      c.remove.ensures.updates.0 c.remove.ensures.entries;
+}
 
-pub returns-in-Commit : goal.returns-in-Commit
-returns-in-Commit c = record { ok = rw c.in-Commit.is (takes_commit c.args.segment c.args.at c.args.live.now.items) }
+pub returns-in_default : goal.returns-in_default
+returns-in_default c =
+    record { taken = λ entry fits is. taken_commit c.args.segment c.args.at c.args.head.now c.args.live.now.entries entry is (omega arith) (omega arith) }

@@ -1,15 +1,28 @@
-use Rattle.std.proofs.Common.{ap, map, ◌∙◌}
-use Rattle.ferry_log.specs.Opening.{counted_live}
-use Rattle.ferry_log.proofs.StateLemmas.{told_state, told_damaged}
+use Rattle.std.proofs.Common.{ap}
+use Rattle.std.specs.FinMap.{from_entries}
+use Rattle.ferry_log.specs.Live.{key_cmp}
+use Rattle.ferry_log.proofs.OpeningLemmas.{err_matches}
+use Rattle.ferry_log.proofs.StateLemmas.{state_of, damaged_of}
+use Rattle.ferry_log.proofs.WindowLemmas.{tells_on}
 use Rattle.ferry_log.proofs.log.open_segments.Goals as goal
 
-pub returns-in-Err-take_segments-clause-refused : goal.returns-in-Err-take_segments-clause-refused
-returns-in-Err-take_segments-clause-refused g c =
-    let end = c.in-Ok.ensures in
-    told_damaged (g.S.Shelf.told c.args.shelf.now) (g.S.Shelf.told c.log_length.new.shelf) c.args.numbers.now c.in-Ok.count c.in-Err-take_segments.fault end.same end.within.0 end.within.1 end.end c.in-Err-take_segments.ensures.refused
+pub returns-in_err-take_segments-clause-opened : goal.returns-in_err-take_segments-clause-opened
+returns-in_err-take_segments-clause-opened g c files tells is =
+    let end = c.in_ok-count.ensures in
+    let fault = c.in_err-take_segments.field-0.0 in
+    let tells_now = tells_on (g.S.Shelf.told c.args.shelf.now) (g.S.Shelf.told c.log_length.new.shelf) files end.same tells in
+    err_matches c.from_residual-in_err-take_segments.result fault _ _ c.from_residual-in_err-take_segments.ensures.1
+    (damaged_of files c.args.numbers.now c.in_ok-count.count fault end.within.0 end.within.1 c.requires is (end.end files tells)
+    (c.in_err-take_segments.ensures.taken files tells_now))
 
-pub returns-clause-log : goal.returns-clause-log
-returns-clause-log g c =
-    let end = c.in-Ok.ensures in
-    told_state (g.S.Shelf.told c.args.shelf.now) (g.S.Shelf.told c.log_length.new.shelf) c.args.numbers.now c.in-Ok.count c.take_segments.new.live.items c.take_segments.new.extents.items _ end.same end.within.0 end.within.1 c.requires end.end c.in-Ok-take_segments.ensures.taken
-    (c.with_live-extents.ensures ∙ ap (λ ps. map (counted_live ps) c.take_segments.new.extents.items) c.deref.ensures.value)
+pub returns-clause-opened : goal.returns-clause-opened
+returns-clause-opened g c files tells is =
+    let end = c.in_ok-count.ensures in
+    let tells_now = tells_on (g.S.Shelf.told c.args.shelf.now) (g.S.Shelf.told c.log_length.new.shelf) files end.same tells in
+    state_of files c.args.numbers.now c.in_ok-count.count c.take_segments.new.live.entries c.take_segments.new.extents.items
+    c.with_live-extents.result.items (from_entries {R = key_cmp} c.new.result.entries)
+    end.within.0 end.within.1 c.requires is (end.end files tells) (c.in_ok-take_segments.ensures.taken files tells_now)
+    c.with_live-extents.ensures.counted c.with_live-extents.ensures.ordered (ap (from_entries {R = key_cmp}) c.new.ensures.empty)
+
+pub returns-clause-learnt : goal.returns-clause-learnt
+returns-clause-learnt g c = ap (from_entries {R = key_cmp}) c.new.ensures.empty

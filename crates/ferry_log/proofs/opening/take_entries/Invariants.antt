@@ -1,10 +1,25 @@
-use Rattle.std.proofs.Common.{length, ◌-◌}
+use Rattle.std.proofs.Common.{◌≡◌, ◌≤◌, ◌-◌}
+use Rattle.ferry_segment.specs.Segment.{HasMagic}
+use Rattle.ferry_disk.specs.Device.{heard}
+use Rattle.ferry_disk.specs.Files.{Files, segment_bytes}
+use Rattle.ferry_log.specs.Window.{Tells, IsWindowOf, OnSame}
 use Rattle.ferry_log.proofs.OpeningLemmas.{TakenUpTo}
 use Rattle.ferry_log.proofs.opening.take_entries.Given as goal
 
--- the entries so far read, and the pairs go on with them
+-- the entries so far read, and the places go on with them
 abbrev pub invariant-loop-at : goal.invariant-loop-at
-invariant-loop-at l = TakenUpTo l.segment l.bytes l.at l.fn.live.items l.live.items
+invariant-loop-at g l = record {
+  within : l.at ≤ l.size;
+  size : l.size ≡ l.fn.window.size;
+  own : l.segment ≡ l.fn.window.segment;
+  segment : OnSame l.fn.window l.window;
+  taken : (files : Files) → Tells (g.S.Shelf.told l.fn.shelf) files → IsWindowOf (segment_bytes files l.fn.window.segment) l.fn.window
+      → HasMagic (segment_bytes files l.fn.window.segment)
+      → TakenUpTo l.fn.window.segment (segment_bytes files l.fn.window.segment) l.at l.fn.live.entries l.live.entries
+      × IsWindowOf (segment_bytes files l.fn.window.segment) l.window;
+  same : heard (g.S.Shelf.told l.shelf) ≡ heard (g.S.Shelf.told l.fn.shelf);
+  faults : g.S.Shelf.faults l.shelf ≡ g.S.Shelf.faults l.fn.shelf;
+}
 
 abbrev pub decreases-loop-at : goal.decreases-loop-at
-decreases-loop-at l = length l.bytes - l.at
+decreases-loop-at g l = l.size - l.at

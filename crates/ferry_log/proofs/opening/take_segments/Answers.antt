@@ -1,39 +1,47 @@
-use Rattle.std.proofs.Common.{refl, ap, map, subst, sym, ◌∙◌}
-use Rattle.ferry_log.specs.Pairs.{KeysDiffer}
-use Rattle.ferry_log.proofs.OpeningLemmas.{told_has_none, told_has_more, told_stopped, told_has_all, cause_since, segments_more, segments_all}
+use Rattle.std.proofs.Common.{refl, ap, map, take, subst, sym, ◌∙◌, get_or, [], ◌∷◌, ◌++◌}
+use Rattle.std.proofs.lemmas.List.{take_more}
+use Rattle.ferry_disk.specs.Files.{segment_bytes}
+use Rattle.ferry_log.specs.Opening.{HasTaken, IsStopped}
+use Rattle.ferry_log.proofs.OpeningLemmas.{has_none, has_more, stopped_at, err_matches}
+use Rattle.ferry_log.proofs.WindowLemmas.{tells_on}
 use Rattle.ferry_log.proofs.opening.take_segments.Goals as goal
 
 pub loop-number-init : goal.loop-number-init
 loop-number-init g c = record {
   segments = ap (map (λ e. e.segment)) c.requires.no_extents;
-  differ = subst KeysDiffer (sym c.requires.no_pairs) tt;
-  taken = told_has_none (g.S.Shelf.told c.args.shelf.now) _ _ c.requires.no_pairs c.requires.no_extents;
+  taken = λ files tells. has_none files c.args.live.now.entries c.args.extents.now.items c.requires.no_places c.requires.no_extents;
   same = refl;
   faults = refl;
 }
 
-pub returns-in-Err-clause-refused : goal.returns-in-Err-clause-refused
-returns-in-Err-clause-refused g c =
+pub returns-in_err-take_segment-clause-taken : goal.returns-in_err-take_segment-clause-taken
+returns-in_err-take_segment-clause-taken g c files tells =
     let old = c.loop-number.invariant in
-    told_stopped (g.S.Shelf.told c.args.shelf.now) (g.S.Shelf.told c.loop-number.shelf) c.args.numbers.now c.loop-number.number-index _ _ c.in-Err.fault old.same c.loop-number-test.true old.taken c.in-Err.ensures.refused
-
-pub returns-in-Err-clause-cause : goal.returns-in-Err-clause-cause
-returns-in-Err-clause-cause g c = cause_since _ _ _ c.in-Err.fault c.loop-number.invariant.faults c.in-Err.ensures.cause
+    let fault = c.in_err-take_segment.field-0.0 in
+    let read =
+    c.in_err-take_segment.ensures.taken files (tells_on (g.S.Shelf.told c.args.shelf.now) (g.S.Shelf.told c.loop-number.shelf) files old.same tells) in
+    err_matches c.from_residual.result c.in_err-take_segment.field-0.0
+    (λ x. HasTaken files c.args.numbers.now c.take_segment.new.live.entries c.take_segment.new.extents.items) (IsStopped files c.args.numbers.now)
+    c.from_residual.ensures.1
+    (stopped_at files c.args.numbers.now c.loop-number.number-index 0 c.loop-number.live.entries c.loop-number.extents.items fault c.loop-number-test.true
+    (old.taken files tells) read)
 
 pub loop-number-preserved : goal.loop-number-preserved
 loop-number-preserved g c =
     let old = c.loop-number.invariant in
-    let taken = c.in-Ok.ensures in
+    let new = c.in_ok-take_segment.ensures in
+    let numbers = c.args.numbers.now in
+    let i = c.loop-number.number-index in
+    let n = get_or numbers i 0 in
     record {
-      segments = segments_more c.args.numbers.now c.loop-number.number-index _ _ _ c.loop-number-test.true old.segments taken.extent;
-      differ = taken.taken.takes.differ old.differ;
-      taken = told_has_more (g.S.Shelf.told c.args.shelf.now) (g.S.Shelf.told c.loop-number.shelf) c.args.numbers.now c.loop-number.number-index _ _ _ _ c.take_segment.new.bytes.items old.same c.loop-number-test.true old.taken taken.bytes taken.taken taken.extent taken.small;
-      same = taken.same ∙ old.same;
-      faults = taken.cause ∙ old.faults;
+      segments = new.extent ∙ (ap (λ xs. xs ++ n ∷ []) old.segments ∙ sym (take_more numbers i 0 c.loop-number-test.true));
+      taken = λ files tells.
+          let read = new.taken files (tells_on (g.S.Shelf.told c.args.shelf.now) (g.S.Shelf.told c.loop-number.shelf) files old.same tells) in
+          subst (λ ns. HasTaken files ns c.take_segment.new.live.entries c.take_segment.new.extents.items)
+          (sym (take_more numbers i 0 c.loop-number-test.true))
+          (has_more files (take i numbers) c.loop-number.live.entries c.take_segment.new.live.entries c.loop-number.extents.items
+          c.take_segment.new.extents.items n (segment_bytes files n)
+          (old.taken files tells) refl read.0 read.2 read.1);
+      same = new.same ∙ old.same;
+      faults = new.cause ∙ old.faults;
     }
-
-pub returns-clause-taken : goal.returns-clause-taken
-returns-clause-taken g c = told_has_all (g.S.Shelf.told c.args.shelf.now) c.args.numbers.now c.loop-number.number-index _ _ c.loop-number-test.false c.loop-number.invariant.taken
-
-pub returns-clause-segments : goal.returns-clause-segments
-returns-clause-segments g c = segments_all c.args.numbers.now c.loop-number.number-index _ c.loop-number-test.false c.loop-number.invariant.segments

@@ -10,7 +10,8 @@ loop-done-init c =
     let passphrase = c.args.passphrase.now in
     let salt = c.args.salt.now in
     let keyed : IsKeyed256 c.copy.result passphrase = rw c.copy.ensures.copy c.new-keyed.ensures.keyed in
-    let first : c.mac_of_parts-last.result ≡ iterate passphrase salt 0 = c.mac_of_parts-last.ensures.mac passphrase keyed ∙ sym (iterate-first passphrase salt) in
+    let first : c.mac_of_parts-last.result ≡ iterate passphrase salt 0 =
+    c.mac_of_parts-last.ensures.mac passphrase keyed ∙ sym (iterate-first passphrase salt) in
     record {
       last = first;
       sum = rw (iterates-first passphrase salt, ← first) (sym (xor_of_all-one c.mac_of_parts-last.result (omega arith)));
@@ -22,7 +23,8 @@ loop-done-preserved c =
     let salt = c.args.salt.now in
     let done = c.loop-done.done in
     let keyed : IsKeyed256 c.copy-in-loop-done.result passphrase = rw c.copy-in-loop-done.ensures.copy c.new-keyed.ensures.keyed in
-    let mac : c.mac-last.result ≡ hmac256 passphrase (iterate passphrase salt (done - 1)) = c.mac-last.ensures.mac passphrase keyed ∙ ap (hmac256 passphrase) c.loop-done.invariant.last in
+    let mac : c.mac-last.result ≡ hmac256 passphrase (iterate passphrase salt (done - 1)) =
+    c.mac-last.ensures.mac passphrase keyed ∙ ap (hmac256 passphrase) c.loop-done.invariant.last in
     let last : c.mac-last.result ≡ iterate passphrase salt done = mac ∙ sym (iterate-next passphrase salt done (omega arith)) in
     let place : done + 1 - 1 ≡ done = omega arith in
     record {

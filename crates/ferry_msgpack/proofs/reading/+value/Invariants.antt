@@ -21,7 +21,9 @@ abbrev pub decreases-pairs_of : goal.decreases-pairs_of
 decreases-pairs_of l = 4 * l.depth + 1
 
 abbrev pub invariant-items_of-items : goal.invariant-items_of-items
-invariant-items_of-items l = with_front (items_view l.items.items) (items_at (value_at l.depth) (l.count - l.counter) l.rest) ≡ items_at (value_at l.depth) l.count l.bytes
+invariant-items_of-items l =
+    with_front (items_view l.items.items) (items_at (value_at l.depth) (l.count - l.counter) l.rest) ≡ items_at (value_at l.depth) l.count l.bytes
 
 abbrev pub invariant-pairs_of-pairs : goal.invariant-pairs_of-pairs
-invariant-pairs_of-pairs l = pairs_at (value_at l.depth) (l.count - l.counter) (pairs_view l.found.entries) l.rest ≡ pairs_at (value_at l.depth) l.count no_pairs l.bytes
+invariant-pairs_of-pairs l =
+    pairs_at (value_at l.depth) (l.count - l.counter) (pairs_view l.found.entries) l.rest ≡ pairs_at (value_at l.depth) l.count no_pairs l.bytes

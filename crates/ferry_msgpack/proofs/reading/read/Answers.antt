@@ -1,6 +1,6 @@
 use Rattle.std.proofs.Common.{◌≡◌, drop, Ok, ◌+◌, arith}
 use Rattle.std.proofs.lemmas.Result.{err_from_is_err_and}
-use Rattle.ferry_msgpack.specs.View.{view}
+use Rattle.ferry_msgpack.specs.View.{value_view}
 use Rattle.ferry_msgpack.specs.Reading.{value_at}
 use Rattle.ferry_msgpack.proofs.Places.{from_place, rest_within, stands, read_only, failed_only, failed_breaks, breaks_failed, read_unbroken, read_writable}
 use Rattle.ferry_msgpack.proofs.WritableLemmas.{AreBytes-from}
@@ -27,25 +27,31 @@ returns-in_err-value-clause-fault c =
 
 pub overflow_sub-result : goal.overflow_sub-result
 overflow_sub-result c =
-    let is : value_at 64 (drop c.args.at c.args.bytes.now) ≡ Ok (view c.in_ok-value.value, c.in_ok-value.rest.now) = rw (from_place c.args.bytes.now c.args.at) at c.in_ok-value.ensures in
-    rest_within c.args.bytes.now c.args.at (view c.in_ok-value.value) c.in_ok-value.rest.now is
+    let is : value_at 64 (drop c.args.at c.args.bytes.now) ≡ Ok (value_view c.in_ok-value.value, c.in_ok-value.rest.now) =
+    rw (from_place c.args.bytes.now c.args.at) at c.in_ok-value.ensures in
+    rest_within c.args.bytes.now c.args.at (value_view c.in_ok-value.value) c.in_ok-value.rest.now is
 
 pub returns-clause-found : goal.returns-clause-found
 returns-clause-found c =
-    let is : value_at 64 (drop c.args.at c.args.bytes.now) ≡ Ok (view c.in_ok-value.value, c.in_ok-value.rest.now) = rw (from_place c.args.bytes.now c.args.at) at c.in_ok-value.ensures in
-    stands c.args.bytes.now c.args.at (view c.in_ok-value.value) c.in_ok-value.rest.now c.requires is
+    let is : value_at 64 (drop c.args.at c.args.bytes.now) ≡ Ok (value_view c.in_ok-value.value, c.in_ok-value.rest.now) =
+    rw (from_place c.args.bytes.now c.args.at) at c.in_ok-value.ensures in
+    stands c.args.bytes.now c.args.at (value_view c.in_ok-value.value) c.in_ok-value.rest.now c.requires is
 
 pub returns-clause-only : goal.returns-clause-only
 returns-clause-only c =
-    let is : value_at 64 (drop c.args.at c.args.bytes.now) ≡ Ok (view c.in_ok-value.value, c.in_ok-value.rest.now) = rw (from_place c.args.bytes.now c.args.at) at c.in_ok-value.ensures in
-    read_only c.args.bytes.now c.args.at (view c.in_ok-value.value) c.in_ok-value.rest.now c.requires is
+    let is : value_at 64 (drop c.args.at c.args.bytes.now) ≡ Ok (value_view c.in_ok-value.value, c.in_ok-value.rest.now) =
+    rw (from_place c.args.bytes.now c.args.at) at c.in_ok-value.ensures in
+    read_only c.args.bytes.now c.args.at (value_view c.in_ok-value.value) c.in_ok-value.rest.now c.requires is
 
 pub returns-clause-fault : goal.returns-clause-fault
 returns-clause-fault c =
-    let is : value_at 64 (drop c.args.at c.args.bytes.now) ≡ Ok (view c.in_ok-value.value, c.in_ok-value.rest.now) = rw (from_place c.args.bytes.now c.args.at) at c.in_ok-value.ensures in
-    read_unbroken (drop c.args.at c.args.bytes.now) (view c.in_ok-value.value) c.in_ok-value.rest.now is
+    let is : value_at 64 (drop c.args.at c.args.bytes.now) ≡ Ok (value_view c.in_ok-value.value, c.in_ok-value.rest.now) =
+    rw (from_place c.args.bytes.now c.args.at) at c.in_ok-value.ensures in
+    read_unbroken (drop c.args.at c.args.bytes.now) (value_view c.in_ok-value.value) c.in_ok-value.rest.now is
 
 pub returns-clause-writable : goal.returns-clause-writable
 returns-clause-writable c =
-    let is : value_at 64 (drop c.args.at c.args.bytes.now) ≡ Ok (view c.in_ok-value.value, c.in_ok-value.rest.now) = rw (from_place c.args.bytes.now c.args.at) at c.in_ok-value.ensures in
-    read_writable (drop c.args.at c.args.bytes.now) (view c.in_ok-value.value) c.in_ok-value.rest.now (AreBytes-from _ (λ i. rw get_or-drop (omega (arith, c.type_inv.bytes (c.args.at + i))))) is
+    let is : value_at 64 (drop c.args.at c.args.bytes.now) ≡ Ok (value_view c.in_ok-value.value, c.in_ok-value.rest.now) =
+    rw (from_place c.args.bytes.now c.args.at) at c.in_ok-value.ensures in
+    read_writable (drop c.args.at c.args.bytes.now) (value_view c.in_ok-value.value) c.in_ok-value.rest.now
+    (AreBytes-from _ (λ i. rw get_or-drop (omega (arith, c.type_inv.bytes (c.args.at + i))))) is

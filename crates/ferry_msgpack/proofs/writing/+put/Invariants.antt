@@ -1,11 +1,11 @@
 use Rattle.std.proofs.Common.{◌≡◌, ◌+◌, ◌*◌}
-use Rattle.ferry_msgpack.specs.View.{view, items_view, pairs_view}
+use Rattle.ferry_msgpack.specs.View.{value_view, items_view, pairs_view}
 use Rattle.ferry_msgpack.specs.Writable.{depth, items_depth, pairs_depth}
 use Rattle.ferry_msgpack.proofs.Appending.{with_items, with_pairs}
 use Rattle.ferry_msgpack.proofs.writing.+put.Given as goal
 
 abbrev pub decreases-put_value : goal.decreases-put_value
-decreases-put_value l = 2 * depth (view l.value.now)
+decreases-put_value l = 2 * depth (value_view l.value.now)
 
 abbrev pub decreases-put_items : goal.decreases-put_items
 decreases-put_items l = 2 * items_depth (items_view l.items.now.items) + 1

@@ -1,7 +1,7 @@
 use Rattle.std.proofs.Common.{◌≡◌, ◌-◌, ◌≤◌, length, take, drop, subst, sym, ap, ◌∙◌, rules}
 use Rattle.std.specs.List.{copy_within}
 use Rattle.std.proofs.lemmas.List.{take_at}
-use Rattle.ferry_blob.specs.Blob.{Opens}
+use Rattle.ferry_blob.specs.Blob.{OpensTo as OpensBlob}
 use Rattle.ferry_repo.proofs.ObjectLemmas.{moved_front}
 use Rattle.ferry_repo.proofs.object.content_of.Goals as goal
 
@@ -16,5 +16,6 @@ returns-clause-content c =
     let shifted : c.copy_within.new.self.items ≡ copy_within plain 43 (length plain) 0 =
     c.copy_within.ensures.items ∙ ap (λ b. copy_within b 43 c.args.blob.len 0) whole ∙ ap (λ n. copy_within plain 43 n 0) held in
     let kept : 43 ≤ length plain = search rules in
-    let moved : c.truncate.new.self.items ≡ drop 43 plain = c.truncate.ensures.items ∙ ap (λ n. take (n - 43) c.copy_within.new.self.items) size ∙ ap (take (length plain - 43)) shifted ∙ moved_front plain 43 kept in
-    subst (Opens keys id c.args.blob.items) (sym moved) (subst (λ b. Opens keys id b (drop 43 plain)) c.deref_mut.ensures.value c.in-Ok.ensures.opened)
+    let moved : c.truncate.new.self.items ≡ drop 43 plain = c.truncate.ensures.items ∙ ap (λ n. take (n - 43) c.copy_within.new.self.items) size
+    ∙ ap (take (length plain - 43)) shifted ∙ moved_front plain 43 kept in
+    subst (OpensBlob keys id c.args.blob.items) (sym moved) (subst (λ b. OpensBlob keys id b (drop 43 plain)) c.deref_mut.ensures.value c.in-Ok.ensures.opened)

@@ -1,15 +1,28 @@
-use Rattle.std.proofs.Common.{inr, subst}
+use Rattle.std.proofs.Common.{sym, subst}
 use Rattle.std.specs.FinMap.{entries}
-use Rattle.ferry_disk.specs.Device.{SinkCause}
-use Rattle.ferry_top.specs.Keys.{key_lines}
+use Rattle.ferry_top.specs.Devices.{written}
+use Rattle.ferry_top.specs.Keys.{key_lines, IsListing}
+use Rattle.ferry_top.specs.Run.{Prints}
+use Rattle.ferry_top.specs.Status.{RefusesKeys}
+use Rattle.ferry_top.specs.declared.status.Status.{Status}
 use Rattle.ferry_top.proofs.KeysLemmas.{listing_of}
+use Rattle.ferry_top.proofs.StatusLemmas.{cut_text}
 use Rattle.ferry_top.proofs.keys.keys.Goals as goal
 
 pub returns-in-Ok-write_keys-clause-out : goal.returns-in-Ok-write_keys-clause-out
-returns-in-Ok-write_keys-clause-out g c = (key_lines (entries c.in-Ok.log.live), listing_of (g.S.Shelf.told c.args.source.now) c.in-Ok.log c.in-Ok.ensures.log, c.in-Ok-write_keys.ensures.ok, c.in-Ok-write_keys.ensures.cause)
-
-pub returns-in-Err-Failed-clause-out : goal.returns-in-Err-Failed-clause-out
-returns-in-Err-Failed-clause-out g c = (key_lines (entries c.in-Ok.log.live), listing_of (g.S.Shelf.told c.args.source.now) c.in-Ok.log c.in-Ok.ensures.log, c.in-Err-Failed.ensures.err, subst (SinkCause (g.K.Sink.faults c.args.out.now) (g.K.Sink.faults c.write_keys.new.out)) c.in-Err-Failed.field-0-is c.in-Err-Failed.ensures.cause)
+returns-in-Ok-write_keys-clause-out g c = (
+  key_lines (entries c.in-Ok.log.opened),
+  listing_of (g.S.Shelf.told c.args.source.now) c.in-Ok.log c.in-Ok.ensures.log,
+  c.in-Ok-write_keys.ensures.ok,
+  c.in-Ok-write_keys.ensures.cause,
+)
 
 pub returns-clause-out : goal.returns-clause-out
-returns-clause-out g c = inr (key_lines (entries c.in-Ok.log.live), listing_of (g.S.Shelf.told c.args.source.now) c.in-Ok.log c.in-Ok.ensures.log, c.in-Err-Memory.ensures.err, subst (SinkCause (g.K.Sink.faults c.args.out.now) (g.K.Sink.faults c.write_keys.new.out)) c.in-Err-Memory.field-0-is c.in-Err-Memory.ensures.cause)
+returns-clause-out g c =
+    let source = g.S.Shelf.told c.args.source.now in
+    let before = written (g.K.Sink.written c.args.out.now) (g.K.Sink.faults c.args.out.now) in
+    let after = written (g.K.Sink.written c.write_keys.new.out) (g.K.Sink.faults c.write_keys.new.out) in
+    let fault = c.in-Err-write_keys.fault in
+    subst (λ (s : Status). Prints IsListing RefusesKeys source before s after) (sym c.of_view.ensures)
+    (cut_text IsListing RefusesKeys source before after (key_lines (entries c.in-Ok.log.opened)) fault (listing_of source c.in-Ok.log c.in-Ok.ensures.log)
+    c.in-Err-write_keys.ensures.err c.in-Err-write_keys.ensures.cause)

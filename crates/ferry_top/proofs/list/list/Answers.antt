@@ -1,21 +1,32 @@
-use Rattle.std.proofs.Common.{inr, subst}
-use Rattle.ferry_repo.specs.Opening.{state_of}
+use Rattle.std.proofs.Common.{sym, subst}
+use Rattle.ferry_repo.specs.Opening.{repo_view}
 use Rattle.ferry_view.specs.Lines.{archive_lines}
-use Rattle.ferry_view.specs.Output.{FaultCause}
+use Rattle.ferry_top.specs.Devices.{written}
+use Rattle.ferry_top.specs.List.{IsArchiveListing, RefusesOpening}
+use Rattle.ferry_top.specs.Run.{Prints}
+use Rattle.ferry_top.specs.declared.status.Status.{Status}
 use Rattle.ferry_top.proofs.ListLemmas.{archives_of}
+use Rattle.ferry_top.proofs.StatusLemmas.{cut_text}
 use Rattle.ferry_top.proofs.list.list.Goals as goal
 
 pub returns-in-Ok-list-clause-out : goal.returns-in-Ok-list-clause-out
 returns-in-Ok-list-clause-out g c =
-    let repo = state_of c.in-Ok.repo in
-    (archive_lines repo.manifest.archives, archives_of (g.S.Shelf.told c.args.source.now) c.args.passphrase.now repo c.in-Ok.ensures.repository, c.in-Ok-list.ensures.ok, c.in-Ok-list.ensures.cause)
-
-pub returns-in-Err-Output-clause-out : goal.returns-in-Err-Output-clause-out
-returns-in-Err-Output-clause-out g c =
-    let repo = state_of c.in-Ok.repo in
-    (archive_lines repo.manifest.archives, archives_of (g.S.Shelf.told c.args.source.now) c.args.passphrase.now repo c.in-Ok.ensures.repository, c.in-Err-Output.ensures.err, subst (FaultCause (g.K.Sink.faults c.args.out.now) (g.K.Sink.faults c.list.new.out)) c.in-Err-Output.field-0-is c.in-Err-Output.ensures.cause)
+    let repo = repo_view c.in-Ok.repo in (
+      archive_lines repo.manifest.archives,
+      archives_of (g.S.Shelf.told c.args.source.now) c.args.passphrase.now repo c.in-Ok.ensures.repository,
+      c.in-Ok-list.ensures.ok,
+      c.in-Ok-list.ensures.cause,
+    )
 
 pub returns-clause-out : goal.returns-clause-out
 returns-clause-out g c =
-    let repo = state_of c.in-Ok.repo in
-    inr (archive_lines repo.manifest.archives, archives_of (g.S.Shelf.told c.args.source.now) c.args.passphrase.now repo c.in-Ok.ensures.repository, c.in-Err-Memory.ensures.err, subst (FaultCause (g.K.Sink.faults c.args.out.now) (g.K.Sink.faults c.list.new.out)) c.in-Err-Memory.field-0-is c.in-Err-Memory.ensures.cause)
+    let source = g.S.Shelf.told c.args.source.now in
+    let pass = c.args.passphrase.now in
+    let before = written (g.K.Sink.written c.args.out.now) (g.K.Sink.faults c.args.out.now) in
+    let after = written (g.K.Sink.written c.list.new.out) (g.K.Sink.faults c.list.new.out) in
+    let repo = repo_view c.in-Ok.repo in
+    let fault = c.in-Err-list.fault in
+    subst (λ (s : Status). Prints (IsArchiveListing pass) (RefusesOpening pass) source before s after) (sym c.of_view.ensures)
+    (cut_text (IsArchiveListing pass) (RefusesOpening pass) source before after (archive_lines repo.manifest.archives) fault
+    (archives_of source pass repo c.in-Ok.ensures.repository)
+    c.in-Err-list.ensures.err c.in-Err-list.ensures.cause)

@@ -1,4 +1,4 @@
-use Rattle.std.proofs.Common.{◌≡◌, sym, ◌∙◌, ap, Option, option_map}
+use Rattle.std.proofs.Common.{sym, ◌∙◌, ap, option_map}
 use Rattle.ferry_disk.specs.Files.{file_at}
 use Rattle.ferry_disk.specs.Memory.{files_of}
 use Rattle.ferry_disk.proofs.FilesLemmas.{get-seen, copied_map}

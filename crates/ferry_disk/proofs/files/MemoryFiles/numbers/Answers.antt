@@ -7,8 +7,10 @@ use Rattle.ferry_disk.proofs.files.MemoryFiles.numbers.Goals as goal
 
 pub returns-clause-numbers : goal.returns-clause-numbers
 returns-clause-numbers c =
-    IfOk-weaker c.keys_of.result _ _ (λ numbers e. e ∙ sym (numbers-seen (λ v. v.items) c.args.self.now.segments.entries c.keys_of.ensures.ordered)) c.keys_of.ensures.keys
+    IfOk-weaker c.keys_of.result _ _ (λ numbers e. e ∙ sym (numbers-seen (λ v. v.items) c.args.self.now.segments.entries c.keys_of.ensures.ordered))
+    c.keys_of.ensures.keys
 
 pub returns-clause-increasing : goal.returns-clause-increasing
 returns-clause-increasing c =
-    IfOk-weaker c.keys_of.result _ _ (λ numbers e. subst IsStrictlyIncreasing (sym e) (IsStrictlyIncreasing-from_sorted _ c.keys_of.ensures.ordered)) c.keys_of.ensures.keys
+    IfOk-weaker c.keys_of.result _ _ (λ numbers e. subst IsStrictlyIncreasing (sym e) (IsStrictlyIncreasing-from_sorted _ c.keys_of.ensures.ordered))
+    c.keys_of.ensures.keys

@@ -1,57 +1,107 @@
-use Rattle.std.proofs.Common.{◌≡◌, Ok, [], subst, ◌∙◌, refl}
-use Rattle.ferry_blob.specs.Blob.{zero_id}
-use Rattle.ferry_config.specs.Config.{config_of}
+use Rattle.std.proofs.Common.{◌≡◌, Ok, [], IfSome, refl, sym, ◌∙◌, subst}
+use Rattle.ferry_base.specs.Limits.{zero_id}
+use Rattle.ferry_config.specs.declared.config.Config.{Config}
+use Rattle.ferry_disk.specs.Device.{told_files}
 use Rattle.ferry_disk.specs.Files.{contents_at}
 use Rattle.ferry_disk.specs.declared.name.Name.TheVariants as Name
-use Rattle.ferry_disk.proofs.DeviceLemmas.{told_with}
-use Rattle.ferry_log.specs.State.{IsStateOf}
-use Rattle.ferry_manifest.specs.Manifest.{shown, manifest_of}
+use Rattle.ferry_disk.proofs.DeviceLemmas.{told_same, told_then, told_with}
+use Rattle.ferry_keyblob.specs.Opening.{key_view}
+use Rattle.ferry_log.specs.State.{IsStateOf, FitsFiles}
+use Rattle.ferry_log.proofs.FitsLemmas.{opened_fits}
+use Rattle.ferry_mac.specs.declared.keys.Keys.{Keys}
+use Rattle.ferry_manifest.specs.Manifest.Text.{manifest_view, manifest_of}
 use Rattle.ferry_repo.specs.Objects.{HoldsObject, RefusesObject}
-use Rattle.ferry_repo.specs.Opening.{OpensTo, RefusesRepo, Unlocks}
-use Rattle.ferry_repo.specs.Parts.{RefusesManifest}
-use Rattle.ferry_repo.proofs.OpeningLemmas.{reads, unlocked, object_refused, manifest_refused}
+use Rattle.ferry_repo.specs.Opening.{OpensFilesTo, RefusesRepo, RefusesKey, UnlocksTo, UnlocksFiles, IsNoManifest}
+use Rattle.ferry_repo.specs.declared.fault.RepoFault.{RepoFault}
+use Rattle.ferry_repo.proofs.FaultLemmas.{gives_err}
+use Rattle.ferry_repo.proofs.OpeningLemmas.{key_refused, unlocks_files, object_refused, manifest_refused}
 use Rattle.ferry_repo.proofs.repo.Repo.open.Goals as goal
 
-pub returns-in-Err-object-clause-refused : goal.returns-in-Err-object-clause-refused
-returns-in-Err-object-clause-refused g c =
+pub returns-in_err-unlocked-clause-refused : goal.returns-in_err-unlocked-clause-refused
+returns-in_err-unlocked-clause-refused g c =
     let told = g.S.Shelf.told in
     let pass = c.args.passphrase.now in
-    let log = c.in-Ok.log in
-    let config = c.in-Ok-config.config in
-    let keys = c.in-Ok-keys.keys in
-    let fault = c.in-Err-object.fault in
-    let unlocks = told_with (told c.args.shelf.now) (told c.open_log.new.shelf) (λ f. IsStateOf f log) (λ f. config_of (contents_at f Name.Config) ≡ Ok config) (λ f. Unlocks f pass config keys)
-    c.in-Ok.ensures.same (λ f is read. unlocked f pass config keys (reads f log is) read c.in-Ok-keys.ensures.keys) c.in-Ok.ensures.log c.in-Ok-config.ensures.config in
-    told_with (told c.args.shelf.now) (told c.config.new.shelf) (λ f. Unlocks f pass config keys) (λ f. RefusesObject f keys zero_id fault) (λ f. RefusesRepo f pass fault)
-    (c.in-Ok-config.ensures.same ∙ c.in-Ok.ensures.same) (λ f opened refused. object_refused f pass config keys fault opened refused) unlocks c.in-Err-object.ensures.refused
+    let log = c.in_ok-log.log in
+    let fault = c.in_err-unlocked.field-0.0 in
+    gives_err c.from_residual-in_err-unlocked.result _ _ c.from_residual-in_err-unlocked.ensures.1 (λ y is.
+    subst (λ (f : RepoFault). IfSome (told c.args.shelf.now) (λ t. RefusesRepo (told_files t) pass f)) (sym is)
+    (told_with (told c.args.shelf.now) (told c.open_log.new.shelf) (λ f. IsStateOf f log) (λ f. RefusesKey (contents_at f Name.Config) pass fault)
+    (λ f. RefusesRepo f pass fault)
+    c.in_ok-log.ensures.same (λ f i r. key_refused f pass log fault i r) c.in_ok-log.ensures.log c.in_err-unlocked.ensures.refused))
 
-pub returns-in-Err-manifest-clause-refused : goal.returns-in-Err-manifest-clause-refused
-returns-in-Err-manifest-clause-refused g c =
+pub object-requires : goal.object-requires
+object-requires g c =
+    let told = g.S.Shelf.told in
+    let log = c.in_ok-log.log in
+    record {
+      fits = told_same (told c.args.shelf.now) (told c.unlock.new.shelf) (λ f. FitsFiles f log) (c.in_ok-unlocked.ensures.same ∙ c.in_ok-log.ensures.same)
+          (told_then (told c.args.shelf.now) (λ f. IsStateOf f log) (λ f. FitsFiles f log) (λ f is. opened_fits f log is) c.in_ok-log.ensures.log);
+    }
+
+pub returns-in_err-content-clause-refused : goal.returns-in_err-content-clause-refused
+returns-in_err-content-clause-refused g c =
     let told = g.S.Shelf.told in
     let pass = c.args.passphrase.now in
-    let log = c.in-Ok.log in
-    let config = c.in-Ok-config.config in
-    let keys = c.in-Ok-keys.keys in
-    let content = c.in-Ok-object.content.items in
-    let fault = c.in-Err-manifest.fault in
-    let refused = subst (λ s. RefusesManifest keys s fault) c.deref.ensures.value c.in-Err-manifest.ensures.refused in
-    let unlocks = told_with (told c.args.shelf.now) (told c.open_log.new.shelf) (λ f. IsStateOf f log) (λ f. config_of (contents_at f Name.Config) ≡ Ok config) (λ f. Unlocks f pass config keys)
-    c.in-Ok.ensures.same (λ f is read. unlocked f pass config keys (reads f log is) read c.in-Ok-keys.ensures.keys) c.in-Ok.ensures.log c.in-Ok-config.ensures.config in
-    told_with (told c.args.shelf.now) (told c.config.new.shelf) (λ f. Unlocks f pass config keys) (λ f. HoldsObject f keys zero_id content) (λ f. RefusesRepo f pass fault)
-    (c.in-Ok-config.ensures.same ∙ c.in-Ok.ensures.same) (λ f opened holds. manifest_refused f pass config keys content fault opened holds refused) unlocks c.in-Ok-object.ensures.content
+    let log = c.in_ok-log.log in
+    let u = c.in_ok-unlocked.unlocked in
+    let keys = u.key.keys in
+    let fault = c.in_err-content.field-0.0 in
+    let unlocks = told_with (told c.args.shelf.now) (told c.open_log.new.shelf) (λ f. IsStateOf f log)
+    (λ f. UnlocksTo (contents_at f Name.Config) pass u.config u.iterations (key_view u.key))
+    (λ f. UnlocksFiles f pass log u.config keys) c.in_ok-log.ensures.same
+    (λ f i r. unlocks_files f pass log u.config u.iterations (key_view u.key) i r) c.in_ok-log.ensures.log c.in_ok-unlocked.ensures.unlocked in
+    gives_err c.from_residual-in_err-content.result _ _ c.from_residual-in_err-content.ensures.1 (λ y is.
+    subst (λ (f : RepoFault). IfSome (told c.args.shelf.now) (λ t. RefusesRepo (told_files t) pass f)) (sym is)
+    (told_with (told c.args.shelf.now) (told c.unlock.new.shelf) (λ f. UnlocksFiles f pass log u.config keys)
+    (λ f. RefusesObject f log keys zero_id fault) (λ f. RefusesRepo f pass fault)
+    (c.in_ok-unlocked.ensures.same ∙ c.in_ok-log.ensures.same) (λ f i r. object_refused f pass log u.config keys fault i r) unlocks
+    c.in_err-content.ensures.refused))
+
+pub returns-in_err-manifest-clause-refused : goal.returns-in_err-manifest-clause-refused
+returns-in_err-manifest-clause-refused g c =
+    let told = g.S.Shelf.told in
+    let pass = c.args.passphrase.now in
+    let log = c.in_ok-log.log in
+    let u = c.in_ok-unlocked.unlocked in
+    let keys = u.key.keys in
+    let content = c.in_ok-content.content.items in
+    let fault = c.in_err-manifest.field-0.0 in
+    let refused = subst (λ s. IsNoManifest keys s fault) c.deref.ensures.value c.in_err-manifest.ensures.refused in
+    let unlocks = told_with (told c.args.shelf.now) (told c.open_log.new.shelf) (λ f. IsStateOf f log)
+    (λ f. UnlocksTo (contents_at f Name.Config) pass u.config u.iterations (key_view u.key))
+    (λ f. UnlocksFiles f pass log u.config keys) c.in_ok-log.ensures.same
+    (λ f i r. unlocks_files f pass log u.config u.iterations (key_view u.key) i r) c.in_ok-log.ensures.log c.in_ok-unlocked.ensures.unlocked in
+    gives_err c.from_residual-in_err-manifest.result _ _ c.from_residual-in_err-manifest.ensures.1 (λ y is.
+    subst (λ (f : RepoFault). IfSome (told c.args.shelf.now) (λ t. RefusesRepo (told_files t) pass f)) (sym is)
+    (told_with (told c.args.shelf.now) (told c.unlock.new.shelf) (λ f. UnlocksFiles f pass log u.config keys)
+    (λ f. HoldsObject f log keys zero_id content) (λ f. RefusesRepo f pass fault)
+    (c.in_ok-unlocked.ensures.same ∙ c.in_ok-log.ensures.same) (λ f i h. manifest_refused f pass log u.config keys content fault i h refused) unlocks
+    c.in_ok-content.ensures.content))
 
 pub returns-clause-repository : goal.returns-clause-repository
 returns-clause-repository g c =
     let told = g.S.Shelf.told in
     let pass = c.args.passphrase.now in
-    let log = c.in-Ok.log in
-    let config = c.in-Ok-config.config in
-    let keys = c.in-Ok-keys.keys in
-    let content = c.in-Ok-object.content.items in
-    let text = shown c.in-Ok-manifest.manifest in
-    let manifest = subst (λ s. manifest_of keys s ≡ Ok text) c.deref.ensures.value c.in-Ok-manifest.ensures.manifest in
-    let unlocks = told_with (told c.args.shelf.now) (told c.open_log.new.shelf) (λ f. IsStateOf f log) (λ f. config_of (contents_at f Name.Config) ≡ Ok config) (λ f. IsStateOf f log × Unlocks f pass config keys)
-    c.in-Ok.ensures.same (λ f is read. (is, unlocked f pass config keys (reads f log is) read c.in-Ok-keys.ensures.keys)) c.in-Ok.ensures.log c.in-Ok-config.ensures.config in
-    told_with (told c.args.shelf.now) (told c.config.new.shelf) (λ f. IsStateOf f log × Unlocks f pass config keys) (λ f. HoldsObject f keys zero_id content)
-    (λ f. OpensTo f pass (record { log = log; config = config; keys = keys; manifest = text; cached = [] }))
-    (c.in-Ok-config.ensures.same ∙ c.in-Ok.ensures.same) (λ f known holds. record { log = known.0; opens = record { unlocks = known.1; content = content; object = holds; manifest_is = manifest }; cached = refl }) unlocks c.in-Ok-object.ensures.content
+    let log = c.in_ok-log.log in
+    let u = c.in_ok-unlocked.unlocked in
+    let keys = u.key.keys in
+    let content = c.in_ok-content.content.items in
+    let text = manifest_view c.in_ok-manifest.manifest in
+    let read = subst (λ s. manifest_of keys s ≡ Ok text) c.deref.ensures.value c.in_ok-manifest.ensures.manifest in
+    let unlocks = told_with (told c.args.shelf.now) (told c.open_log.new.shelf) (λ f. IsStateOf f log)
+    (λ f. UnlocksTo (contents_at f Name.Config) pass u.config u.iterations (key_view u.key))
+    (λ f. UnlocksFiles f pass log u.config keys) c.in_ok-log.ensures.same
+    (λ f i r. unlocks_files f pass log u.config u.iterations (key_view u.key) i r) c.in_ok-log.ensures.log c.in_ok-unlocked.ensures.unlocked in
+    let opens = told_with (told c.args.shelf.now) (told c.unlock.new.shelf) (λ f. UnlocksFiles f pass log u.config keys)
+    (λ f. HoldsObject f log keys zero_id content)
+    (λ f. OpensFilesTo f pass (record { log = log; config = u.config; keys = keys; manifest = text; cached = [] }))
+    (c.in_ok-unlocked.ensures.same ∙ c.in_ok-log.ensures.same)
+    (λ f i holds. record { opens = record { unlocks = i; content = content; object = holds; manifest_is = read }; cached = refl }) unlocks
+    c.in_ok-content.ensures.content in
+    let made = c.settings-config.ensures in
+    subst (λ (k : Config). IfSome (told c.args.shelf.now)
+    (λ t. OpensFilesTo (told_files t) pass (record { log = log; config = k; keys = c.settings-config.result.1; manifest = text; cached = [] })))
+    (sym made.config)
+    (subst (λ (k : Keys). IfSome (told c.args.shelf.now)
+    (λ t. OpensFilesTo (told_files t) pass (record { log = log; config = u.config; keys = k; manifest = text; cached = [] })))
+    (sym made.keys) opens)

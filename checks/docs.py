@@ -1,0 +1,301 @@
+#!/usr/bin/env python3
+"""Holds the papers of the repository to it: docs.py [--write] [CRATE ..]
+
+Each public definition of a crate's specs/ stands in docs/DEFINITIONS.md with its sentence and its file; each named clause of a
+public call stands in the README.md of its crate beside the call, and each that the front page names is one; crates.txt is the
+table of docs/ARCHITECTURE.md; the links of the papers, and the files, wrong bodies and tests that they name, are there; no line
+of code or proofs has more than 160 columns, texts in quotes apart. One line for each thing that is missing, and at the end 'N passed, M failed';
+status 1 where M isn't 0. With names of crates, those alone are looked at. With --write the rows of definitions that are missing
+are first put at the end of their crate's section, and the table of crates gets what crates.txt says.
+"""
+import glob
+import os
+import re
+import sys
+
+TOP = os.path.join(os.path.dirname(os.path.abspath(__file__)), "..")
+WIDEST = 160
+DEFINITION = re.compile(r"^(?:(?:abbrev|unfoldable) pub|pub (?:record|data)) ([^\s:({]+)")
+DEFINITION_OF_SEVERAL = re.compile(r"^  pub (?:data )?([^\s:({]+)")
+FILE = re.compile(r"(?<![\w/.])((?:src|specs|proofs|must-fail|checks|bench|docs)/[\w./-]+\.(?:rt|antt|py|sh|md|edit)(?:\.in)?)")
+SHORT_HEAD = "| Name | One sentence | File |"
+QUOTED = re.compile(r'"(?:[^"\\]|\\.)*"')
+TICKED = re.compile(r"`([^`]+)`")
+
+PAPERS = sorted(path for form in ("*.md", "docs/*.md", "bench/*.md", "crates/*/*.md") for path in glob.glob(form, root_dir=TOP))
+
+passed = 0
+missing = []
+
+
+def read(path):
+    with open(os.path.join(TOP, path), encoding="utf-8") as file:
+        return file.read()
+
+
+def judge(is_right, what):
+    global passed
+    if is_right:
+        passed += 1
+    else:
+        missing.append(what)
+
+
+def listed():
+    """The crates of crates.txt, each with the crates that it stands on."""
+    lines = (line.partition("#")[0] for line in read("crates.txt").splitlines())
+    pairs = (line.partition(":") for line in lines if line.strip())
+    return {name.strip(): below.split() for name, _, below in pairs}
+
+
+def definitions(crate):
+    """The public definitions of a crate's specs/: name, the sentence that stands above it, and the file in specs/.
+
+    A definition without a comment of its own belongs to the one above it, and shares its sentence.
+    """
+    folder = os.path.join(TOP, "crates", crate, "specs")
+    for path in sorted(glob.glob(folder + "/**/*.antt", recursive=True)):
+        with open(path, encoding="utf-8") as file:
+            lines = file.read().splitlines()
+        said, sentence, is_comment, are_several = [], "", False, False
+        for line in lines:
+            if line[:1].strip() and not line.startswith("--"):
+                are_several = line.split()[-1] == "mutual"
+            comment = re.match(r"^ *-- ?(?!-)(.*)$", line)
+            if comment:
+                said = [*said, comment[1].strip()] if is_comment else [comment[1].strip()]
+            is_comment = bool(comment)
+            found = DEFINITION_OF_SEVERAL.match(line) if are_several else DEFINITION.match(line)
+            if found:
+                sentence, said = " ".join(said) or sentence, []
+                yield found[1], sentence, os.path.relpath(path, folder)
+            elif line.startswith("use "):
+                said = []
+
+
+def sentence_of(comment):
+    """A comment as a sentence: the first letter of a word large, and a full stop at its end."""
+    is_word = re.match(r"(a|[a-z']{2,})\b(?![(\[])", comment)
+    large = comment[:1].upper() + comment[1:] if is_word else comment
+    return large if large.endswith(".") or not large else large + "."
+
+
+def section(text, name):
+    """The part of a paper under this heading."""
+    return (re.split(rf"(?m)^## {name}\n", text, maxsplit=1) + [""])[1].split("\n## ")[0]
+
+
+def rows_of(text):
+    """The rows of the tables in a text, as lists of cells, without their heads."""
+    rows = [[cell.strip() for cell in re.split(r"(?<!\\)\|", line)[1:-1]] for line in text.splitlines() if line.startswith("|")]
+    is_line = [set("".join(row)) <= set("-: ") for row in rows]
+    return [row for row, is_this, is_next in zip(rows, is_line, [*is_line[1:], False]) if not is_this and not is_next]
+
+
+def defined_rows(crate, paper):
+    """The rows of a crate's section by the names that they are of."""
+    rows = {}
+    for row in rows_of(section(paper, crate)):
+        for name in TICKED.findall(row[0]):
+            rows.setdefault(name.split()[0], []).append(row)
+    return rows
+
+
+def lacking(crate, paper):
+    """The definitions of a crate that have no row with their file."""
+    rows = defined_rows(crate, paper)
+    return [it for it in definitions(crate) if not any(it[2] in " ".join(row) for row in rows.get(it[0], []))]
+
+
+def look_at_definitions(crate, paper):
+    """Each definition has a row in the section of its crate, with its file, and each row is of one."""
+    there = {name for name, _, _ in definitions(crate)}
+    lacks = {name for name, _, _ in lacking(crate, paper)}
+    for name in sorted(there):
+        judge(name not in lacks, f"docs/DEFINITIONS.md, {crate}: no row of `{name}`")
+    for name in sorted(set(defined_rows(crate, paper)) - there):
+        judge(False, f"docs/DEFINITIONS.md, {crate}: `{name}` is no public definition of its specs/")
+
+
+def write_definitions(crate):
+    """Puts a row for each sentence that has none at the end of a crate's section, the definitions of one sentence in one row."""
+    paper = read("docs/DEFINITIONS.md")
+    groups = {}
+    for name, comment, file in lacking(crate, paper):
+        groups.setdefault((sentence_of(comment), file), []).append(f"`{name}`")
+    rows = "".join(f"| {', '.join(names)} | {sentence} | {file} |\n" for (sentence, file), names in groups.items())
+    if rows:
+        old = section(paper, crate)
+        table = old.rstrip("\n") + "\n"
+        if table.split("\n\n")[-1].splitlines()[0] != SHORT_HEAD:
+            table += f"\n{SHORT_HEAD}\n|---|---|---|\n"
+        if not old:
+            paper = paper.rstrip("\n") + f"\n\n## {crate}\n"
+        before, _, after = paper.partition(f"\n## {crate}\n")
+        paper = f"{before}\n## {crate}\n{table}{rows}\n{after[len(old):].lstrip(chr(10))}"
+        with open(os.path.join(TOP, "docs", "DEFINITIONS.md"), "w", encoding="utf-8") as file:
+            file.write(paper.rstrip("\n") + "\n")
+
+
+def write_architecture(crates):
+    """Puts what crates.txt says into the table of crates."""
+    paper = read("docs/ARCHITECTURE.md")
+    for name, below in crates.items():
+        cell = f" {stands_on(below)} |" if below else " |"
+        paper = re.sub(rf"(?m)^(\| {name} \|[^|]*\|)[^|]*\|", lambda row: row[1] + cell, paper)
+    with open(os.path.join(TOP, "docs", "ARCHITECTURE.md"), "w", encoding="utf-8") as file:
+        file.write(paper)
+
+
+def stands_on(below):
+    """What a crate stands on as the table of crates has it: our own without their common front."""
+    return ", ".join(it.removeprefix("ferry_") for it in below)
+
+
+def exported(crate):
+    """The names that a crate's root hands out."""
+    path = os.path.join(TOP, "crates", crate, "src", "lib.rt")
+    if not os.path.isfile(path):
+        return set()
+    with open(path, encoding="utf-8") as file:
+        uses = re.findall(r"(?ms)^pub use ([^;]+);", file.read())
+    return {name.split("::")[-1].strip().split(" as ")[-1] for use in uses for name in re.sub(r"^.*\{|\}", "", use, flags=re.S).split(",") if name.strip()}
+
+
+def clauses(crate):
+    """The named clauses of a crate's public calls: the call, as it is called, and the clause.
+
+    Public are the functions that the root hands out, the public methods of its types, and the methods of its traits.
+    """
+    names = exported(crate)
+    for path in sorted(glob.glob(os.path.join(TOP, "crates", crate, "src", "**", "*.rt"), recursive=True)):
+        with open(path, encoding="utf-8") as file:
+            lines = file.read().splitlines()
+        owner, is_trait, call = "", False, None
+        for line in lines:
+            block = re.match(r"^(?:pub )?(impl|trait)\b(?:<.*?>)? *(.*?) *\{?$", line)
+            if block:
+                is_trait = block[1] == "trait"
+                is_own = is_trait or " for " not in block[2]
+                owner = re.match(r"\w*", block[2])[0] if is_own else None
+            elif line.startswith("}"):
+                owner, is_trait, call = "", False, None
+            head = re.match(r"^( *)(pub )?(?:const )?fn (\w+)", line)
+            if head:
+                is_public = head[3] in names if not head[1] else bool(owner) and owner in names and (is_trait or head[2])
+                call = head[3] if is_public else None
+            clause = re.match(r"^ *ensures\*? (\w+) \{", line)
+            if call and clause:
+                yield (f"{owner}::{call}" if owner else call), clause[1]
+
+
+def units(paper):
+    """The rows of a page, a row without a call being one more of the call above it, and its paragraphs and points."""
+    call = ""
+    for block in re.split(r"\n\s*\n", paper):
+        if block.lstrip().startswith("|"):
+            for row in rows_of(block):
+                call = row[0] or call
+                yield " | ".join([call, *row[1:]])
+        else:
+            yield from re.split(r"\n(?=[-*] )", block)
+
+
+def look_at_clauses(crate):
+    """Each clause of a public call stands in the crate's page, in a row or paragraph that names the call, or that names none."""
+    named = sorted(set(clauses(crate)))
+    calls = {call.split("::")[-1] for call, _ in named} - {clause for _, clause in named}
+    page = [{word for text in TICKED.findall(unit) for word in re.findall(r"\w+", text)} for unit in units(read(f"crates/{crate}/README.md"))]
+    for call, clause in named:
+        found = any(clause in words and (call.split("::")[-1] in words or not calls & words) for words in page)
+        judge(found, f"crates/{crate}/README.md: no clause `{clause}` of `{call}`")
+
+
+def look_at_front_page(crates):
+    """Each clause that README.md names `of` a call or a type is one of its clauses."""
+    there = {}
+    for crate in crates:
+        for call, clause in clauses(crate):
+            for name in {call, *call.split("::")}:
+                there.setdefault(name, set()).add(clause)
+    for names, call in re.findall(r"((?:`\w+`(?:, )?)+) of `([\w:]+)`", re.sub(r"\s+", " ", read("README.md"))):
+        for name in TICKED.findall(names):
+            judge(name in there.get(call, ()), f"README.md: `{call}` has no clause `{name}`")
+
+
+def look_at_architecture(crates):
+    """The table of crates has each crate of crates.txt with what it stands on, and others only as planned."""
+    rows = {row[0]: row for row in rows_of(section(read("docs/ARCHITECTURE.md"), "The crates"))}
+    for name, below in crates.items():
+        want = stands_on(below)
+        got = rows[name][2] if name in rows else None
+        judge(got == want, f"docs/ARCHITECTURE.md: {name} stands on {want or 'nothing'}, and the table has {got!r}")
+    for name in rows:
+        judge(name in crates or rows[name][3].startswith("planned"), f"docs/ARCHITECTURE.md: {name} isn't in crates.txt, and not called planned")
+
+
+def look_at_links():
+    """The links of the papers lead to files that are there."""
+    for path in PAPERS:
+        for to in re.findall(r"\]\(([^)#]+)[^)]*\)", read(path)):
+            if "://" not in to:
+                judge(os.path.exists(os.path.join(TOP, os.path.dirname(path), to)), f"{path}: the link to {to} leads nowhere")
+
+
+def look_at_files():
+    """The files of the repository that a paper names by their folder are there, below the top or in a crate that it speaks of."""
+    papers = {path: (read(path), path.split("/")[1] if path.startswith("crates/") else "*") for path in PAPERS}
+    parts = re.split(r"(?m)^## ", papers.pop("docs/DEFINITIONS.md")[0])
+    papers.update({f"docs/DEFINITIONS.md, {part.split(chr(10))[0]}": (part, part.split("\n")[0]) for part in parts[1:]})
+    for path, (text, crate) in papers.items():
+        for name in sorted(set(FILE.findall(text))):
+            places = [name, *(f"crates/{it}/{name}" for it in {crate, *TICKED.findall(text)})]
+            judge(any(glob.glob(place, root_dir=TOP) for place in places), f"{path}: there is no {name}")
+
+
+def look_at_evidence():
+    """The wrong bodies and the tests that a page names are there."""
+    edits = {os.path.basename(path).removesuffix(".edit") for path in glob.glob("crates/*/must-fail/*.edit", root_dir=TOP)}
+    code = "".join(read(path) for path in glob.glob("crates/*/src/**/*.rt", root_dir=TOP, recursive=True))
+    for path in ["docs/DECISIONS.md", *sorted(glob.glob("crates/*/*.md", root_dir=TOP))]:
+        page = re.sub(r"\s+", " ", read(path))
+        for kind, names in re.findall(r"\b(wrong bod(?:y|ies)|tests?) ((?:`[^`]+`(?:, and |, | and )?)+)", page):
+            for name in TICKED.findall(names):
+                is_there = name in edits if kind.startswith("wrong") else name in code
+                judge(is_there, f"{path}: there is no {kind.replace('bodies', 'body').removesuffix('s')} `{name}`")
+
+
+def look_at_widths(crate):
+    """No line of code, definitions or proofs is wider than 160 columns, texts in quotes apart."""
+    for end in ("rt", "antt"):
+        for path in sorted(glob.glob(f"crates/{crate}/**/*.{end}", root_dir=TOP, recursive=True)):
+            if "/out/" not in path:
+                lines = [QUOTED.sub("", line) for line in read(path).splitlines()]
+                wide = [number for number, line in enumerate(lines, 1) if len(line) > WIDEST]
+                judge(not wide, f"{path}: more than {WIDEST} columns in line {', '.join(map(str, wide))}")
+
+
+def main(words):
+    crates = listed()
+    chosen = [word for word in words if word != "--write"]
+    if "--write" in words:
+        for crate in chosen or crates:
+            write_definitions(crate)
+        write_architecture(crates)
+    paper = read("docs/DEFINITIONS.md")
+    for crate in chosen or crates:
+        look_at_definitions(crate, paper)
+        look_at_clauses(crate)
+        look_at_widths(crate)
+    if not chosen:
+        look_at_front_page(crates)
+        look_at_architecture(crates)
+        look_at_links()
+        look_at_files()
+        look_at_evidence()
+    print(*missing, sep="\n", end="\n" if missing else "")
+    print(f"{passed} passed, {len(missing)} failed")
+    return 1 if missing or not passed else 0
+
+
+sys.exit(main(sys.argv[1:]))

@@ -1,0 +1,173 @@
+//! What a status means and what to do about it, in plain words: one line for standard error beside the fault line of standard
+//! output. docs/FORMATS.md has the lines as a table.
+
+use crate::folder::Presence;
+use ferry_base::ZERO_ID;
+use ferry_blob::BlobFault;
+use ferry_config::ConfigFault;
+use ferry_keyblob::KeyFault;
+use ferry_manifest::MetaFault;
+use ferry_top::{Refusal, RepoFault, Status};
+
+/// Where the words name no source, target and command.
+pub const FORM: &str =
+    "the form is borgferry SOURCE TARGET COMMAND; the two places are folders that differ, or - for none; borgferry --help says more";
+
+/// Where a passphrase isn't UTF-8.
+pub const NOT_TEXT: &str =
+    "set the variable to the passphrase as UTF-8, or leave it out where the command doesn't need it";
+
+/// Where memory was refused.
+pub const MEMORY: &str =
+    "the system refused memory, which says nothing of the repository: free some or allow the program more, and run it again";
+
+/// Where standard output can't be written. It has no fault line, which would go there too.
+pub const OUTPUT: &str =
+    "standard output can't be written, so lines are missing: see whether its disk is full or the program behind the pipe has ended";
+
+const DEVICE: &str =
+    "the files of SOURCE can't be read: see that it is a folder, that you may read all of it and that its disk answers";
+
+/// The line of a status, without its end, where a command ended with one.
+///
+/// `command` is the first word of the command, and `source` says whether the source's folder is there. `None` where the command
+/// is done.
+pub fn advice(status: &Status, command: &str, source: Presence) -> Option<&'static str> {
+    match status {
+        Status::Done => None,
+        Status::Usage(_) => Some(form_of(command)),
+        Status::Memory => Some(MEMORY),
+        Status::SourceDevice => Some(DEVICE),
+        Status::OutputDevice => Some(OUTPUT),
+        Status::SourceRefused(Refusal::Repo(fault)) => Some(of_repo(fault, source)),
+    }
+}
+
+/// The form of a command's words.
+fn form_of(command: &str) -> &'static str {
+    match command {
+        "keys" => "the form is borgferry SOURCE TARGET keys, with nothing behind it",
+        "key" => "the form is borgferry SOURCE TARGET key, with nothing behind it",
+        "list" => "the form is borgferry SOURCE TARGET list, with nothing behind it",
+        _ => {
+            "the form is borgferry SOURCE TARGET COMMAND, and the commands are keys, key and list; borgferry --help says what they do"
+        }
+    }
+}
+
+/// A source that is refused. A folder that isn't there reads as one without files, so this is told in the place of what such a
+/// folder lacks first.
+fn of_repo(fault: &RepoFault, source: Presence) -> &'static str {
+    match (fault, source) {
+        (RepoFault::NoCommit | RepoFault::Config(ConfigFault::Section), Presence::Absent) => {
+            "the folder SOURCE isn't there: see how it is spelled, and from which folder a path without / in front goes"
+        }
+        (RepoFault::NoCommit | RepoFault::Config(ConfigFault::Section), Presence::Unnamed) => {
+            "SOURCE is - or empty, which stands for no folder: name the folder of the repository"
+        }
+        (RepoFault::NoCommit, Presence::There) => {
+            "no segment below SOURCE/data ends with a commit: see that SOURCE is a repository's own folder, with config and data in it"
+        }
+        (RepoFault::Damaged { .. }, _) => {
+            "this segment's file isn't as Borg wrote it: take the file of another copy of the repository, or see what borg check finds"
+        }
+        (RepoFault::Config(fault), _) => of_config(*fault),
+        (RepoFault::Key(fault), _) => of_key(*fault),
+        (RepoFault::Missing(id), _) => of_missing(*id == ZERO_ID),
+        (RepoFault::Blob(id, fault), _) => of_blob(*fault, *id == ZERO_ID),
+        (RepoFault::Manifest(fault), _) => of_manifest(*fault),
+        (RepoFault::Device, _) => DEVICE,
+        (RepoFault::Memory, _) => MEMORY,
+    }
+}
+
+fn of_config(fault: ConfigFault) -> &'static str {
+    match fault {
+        ConfigFault::Section => {
+            "SOURCE/config isn't there or has no single section [repository]: see that SOURCE is a repository's own folder"
+        }
+        ConfigFault::Version => {
+            "version in SOURCE/config isn't 1: only repositories that Borg 1 has made are read"
+        }
+        ConfigFault::Id => {
+            "id in SOURCE/config isn't 64 hex digits: take config from another copy of the repository"
+        }
+        ConfigFault::Key => {
+            "SOURCE/config has no key that reads: only repositories made with --encryption=repokey are read, which have theirs there"
+        }
+        ConfigFault::Number => {
+            "segments_per_dir or max_segment_size in SOURCE/config isn't plain digits from 1 to 4294967295: write 2097152 for 2M, say"
+        }
+        ConfigFault::Repeat => {
+            "a name stands twice in SOURCE/config: take out the line that is wrong"
+        }
+        ConfigFault::Memory => MEMORY,
+    }
+}
+
+fn of_key(fault: KeyFault) -> &'static str {
+    match fault {
+        KeyFault::Pack => {
+            "the key in SOURCE/config isn't whole: take config from another copy of the repository, or use borg key import"
+        }
+        KeyFault::Field => {
+            "the key in SOURCE/config lacks a part that Borg 1 writes: take config from another copy, or use borg key import"
+        }
+        KeyFault::Algorithm => {
+            "the key in SOURCE/config is sealed in a way that Borg 1 doesn't use: only keys that Borg 1 has made are opened"
+        }
+        KeyFault::Iterations => {
+            "the key in SOURCE/config wants no iterations or more than 10000000: borg key change-passphrase seals it with 100000"
+        }
+        KeyFault::Passphrase => {
+            "the passphrase doesn't open the key: set the variable BORG_OTHER_PASSPHRASE to the passphrase of SOURCE"
+        }
+        KeyFault::Memory => MEMORY,
+    }
+}
+
+fn of_missing(is_manifest: bool) -> &'static str {
+    if is_manifest {
+        "there is no manifest, which lists the archives: see that no file of SOURCE is missing; on a copy, borg check --repair makes it anew"
+    } else {
+        "the repository lacks an object that it needs: see that no file of SOURCE is missing, and what borg check finds"
+    }
+}
+
+fn of_blob(fault: BlobFault, is_manifest: bool) -> &'static str {
+    match fault {
+        BlobFault::Kind => {
+            "the object isn't of a repository made with --encryption=repokey, and no others are read"
+        }
+        BlobFault::Short => {
+            "the object is too short to be an encrypted one: see what borg check --verify-data finds, and look at another copy"
+        }
+        BlobFault::Mac => {
+            "the object was changed, or sealed with another key: see what borg check --verify-data finds, and look at another copy"
+        }
+        BlobFault::Compressed if is_manifest => {
+            "the manifest is compressed: borg create --compression none SOURCE::NAME FOLDER writes it plain, and an empty FOLDER will do"
+        }
+        BlobFault::Compressed => {
+            "the object is compressed: borg recreate --recompress --compression none SOURCE stores its archives plain"
+        }
+        BlobFault::Id => {
+            "the object isn't the one that its id names: see what borg check --verify-data finds, and look at another copy"
+        }
+    }
+}
+
+fn of_manifest(fault: MetaFault) -> &'static str {
+    match fault {
+        MetaFault::Pack | MetaFault::Field | MetaFault::TooLarge => {
+            "the manifest isn't as Borg 1 writes it: see what borg check finds, and look at another copy of the repository"
+        }
+        MetaFault::TagMissing => {
+            "the manifest has no authentication tag, so anybody may have written it: if you trust it, borg upgrade --tam SOURCE adds one"
+        }
+        MetaFault::Tag => {
+            "the manifest's authentication tag is wrong, so it was changed without the key: don't trust it, look at another copy"
+        }
+        MetaFault::Memory => MEMORY,
+    }
+}

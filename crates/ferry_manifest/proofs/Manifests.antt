@@ -1,0 +1,8 @@
+pub mod ReadLemmas
+pub mod OrderLemmas
+pub mod PackableLemmas
+pub mod WriteLemmas
+pub mod OrderedLemmas
+pub mod PartsLemmas
+pub mod AgainLemmas
+pub mod LawLemmas

@@ -1,8 +1,0 @@
-use Rattle.std.proofs.Common.{◌≡◌, take}
-use Rattle.ferry_msgpack.specs.View.{items_view}
-use Rattle.ferry_manifest.specs.Writing.{raws}
-use Rattle.ferry_manifest.proofs.ReadLemmas.{names_view}
-use Rattle.ferry_manifest.proofs.writing.raws.Given as goal
-
-abbrev pub invariant-loop-place : goal.invariant-loop-place
-invariant-loop-place l = items_view l.values.items ≡ raws (names_view (take l.place l.contents))

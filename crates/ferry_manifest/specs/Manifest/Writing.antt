@@ -1,0 +1,88 @@
+-- The packed bytes of a manifest that is written. BorgBackup 1.2 Internals, "Data structures and file formats", The
+-- manifest. Each map is written by the one shortest spelling.
+use Rattle.std.specs.Prelude.{◌≡◌, ℕ, ◌≤◌, List, [], ◌∷◌, length, map, replicate, codes, false, pos, Option, Some, None, ⊤}
+use Rattle.std.specs.Ordering.{nat_cmp}
+use Rattle.std.specs.declared.cmp.Ordering.TheVariants.{Less}
+use Rattle.std.specs.Cmp.Lexicographic.{slice_cmp}
+use Rattle.ferry_mac.specs.Hmac.{hmac512}
+use Rattle.ferry_mac.specs.declared.keys.Keys.{Keys}
+use Rattle.ferry_msgpack.specs.Tree.{number, raw, array, table, Pairs, no_pairs, pair, put}
+use Rattle.ferry_msgpack.specs.Shortest.{shortest}
+use Rattle.ferry_msgpack.specs.Writable.{depth, IsWritable}
+use Rattle.ferry_fields.specs.Others.{has_among}
+use Rattle.ferry_manifest.specs.Manifest.Text.{ManifestText, field_names}
+use Rattle.ferry_manifest.specs.Values.{pairs_of_table, raws}
+use Rattle.ferry_manifest.specs.Tag.{manifest_info, tag_key}
+use Rattle.ferry_manifest.specs.declared.manifest.ArchiveRef.{ArchiveRef}
+
+-- the name is below the first of these names, by byte order
+abbrev pub IsBelowNames : List ℕ → List (List ℕ) → Type 0
+IsBelowNames name [] = ⊤
+IsBelowNames name (n ∷ ns) = slice_cmp nat_cmp name n ≡ Less
+
+-- each name is below the next one
+abbrev pub AreIncreasing : List (List ℕ) → Type 0
+AreIncreasing [] = ⊤
+AreIncreasing (n ∷ ns) = IsBelowNames n ns × AreIncreasing ns
+
+-- the names of archives
+abbrev pub archive_names : List ArchiveRef → List (List ℕ)
+archive_names archives = map (λ archive. archive.name) archives
+
+-- a manifest that can be packed: the names of the archives and of items increase, `config` and the other names are
+-- tables that can be written, `config` also inside another map, and none of the other names is a field's
+pub record IsPackable (manifest : ManifestText) : Type 0 where
+  pub archives : AreIncreasing (archive_names manifest.archives)
+  pub item_keys : AreIncreasing manifest.item_keys
+  pub config : manifest.config ≡ table (pairs_of_table manifest.config)
+  pub config_writable : IsWritable manifest.config
+  pub config_depth : depth manifest.config ≤ 63
+  pub more : manifest.more ≡ table (pairs_of_table manifest.more)
+  pub more_writable : IsWritable manifest.more
+  pub apart : has_among field_names (pairs_of_table manifest.more) ≡ false
+
+-- the id of each archive has 32 bytes, as arrays of the code have
+abbrev pub HaveIds : List ArchiveRef → Type 0
+HaveIds [] = ⊤
+HaveIds (archive ∷ archives) = (length archive.id ≡ 32) × HaveIds archives
+
+-- the map of an archive
+unfoldable pub archive_fields : ArchiveRef → Pairs
+archive_fields archive = put (codes "id") (raw archive.id) (put (codes "time") (raw archive.time) no_pairs)
+
+-- the archives by their names
+unfoldable pub archive_pairs : List ArchiveRef → Pairs
+archive_pairs [] = no_pairs
+archive_pairs (archive ∷ archives) = pair archive.name (table (archive_fields archive)) (archive_pairs archives)
+
+-- the map of an authentication tag and its salt
+unfoldable pub tag_pairs : List ℕ → List ℕ → Pairs
+tag_pairs hmac salt =
+    put (codes "hmac") (raw hmac) (put (codes "salt") (raw salt) (put (codes "type") (raw (codes "HKDF_HMAC_SHA512")) no_pairs))
+
+-- the pairs, with the timestamp where there is one
+abbrev pub with_timestamp : Option (List ℕ) → Pairs → Pairs
+with_timestamp None pairs = pairs
+with_timestamp (Some timestamp) pairs = put (codes "timestamp") (raw timestamp) pairs
+
+-- the pairs of a manifest but for its tag
+unfoldable pub untagged_pairs : ManifestText → Pairs
+untagged_pairs manifest =
+    put (codes "version") (number (pos 1))
+    (put (codes "archives") (table (archive_pairs manifest.archives))
+    (put (codes "item_keys") (array (raws manifest.item_keys))
+    (put (codes "config") manifest.config
+    (with_timestamp manifest.timestamp (pairs_of_table manifest.more)))))
+
+-- the pairs of a manifest with this tag and salt
+unfoldable pub manifest_pairs : ManifestText → List ℕ → List ℕ → Pairs
+manifest_pairs manifest hmac salt = put (codes "tam") (table (tag_pairs hmac salt)) (untagged_pairs manifest)
+
+-- the packed bytes of a manifest with this tag and salt
+unfoldable pub packed : ManifestText → List ℕ → List ℕ → List ℕ
+packed manifest hmac salt = shortest (table (manifest_pairs manifest hmac salt))
+
+-- the packed bytes of a manifest under these keys: the tag is that of the bytes with 64 zero bytes in its place
+unfoldable pub manifest_text : Keys → List ℕ → ManifestText → List ℕ
+manifest_text keys salt manifest =
+    packed manifest (hmac512 (tag_key manifest_info keys salt) (packed manifest (replicate 64 0) salt)) salt

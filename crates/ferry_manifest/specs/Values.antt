@@ -1,0 +1,13 @@
+-- Values that both kinds of records are packed from.
+use Rattle.std.specs.Prelude.{ℕ, List, [], ◌∷◌, unwrap_or}
+use Rattle.ferry_msgpack.specs.Tree.{Tree, raw, Items, no_items, item, Pairs, no_pairs}
+use Rattle.ferry_fields.specs.Fields.{pairs_in}
+
+-- the pairs of a table
+abbrev pub pairs_of_table : Tree → Pairs
+pairs_of_table t = unwrap_or (pairs_in t) no_pairs
+
+-- these bytes as the values of an array
+unfoldable pub raws : List (List ℕ) → Items
+raws [] = no_items
+raws (content ∷ contents) = item (raw content) (raws contents)

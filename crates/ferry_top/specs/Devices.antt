@@ -1,0 +1,48 @@
+-- What the four devices of a run tell and count, and what each status says of them.
+use Rattle.std.specs.Prelude.{◌≡◌, ℕ, true, List, Option}
+use Rattle.ferry_disk.specs.Device.{Told, Rose, RoseWhere, KeptWhere, heard}
+use Rattle.ferry_top.specs.Status.{source_failed, output_failed}
+use Rattle.ferry_top.specs.declared.status.Status.{Status}
+
+-- a repository's device: what it tells, and its count of faults
+pub record Store : Type 0 where
+  pub told : Option Told
+  pub faults : ℕ
+
+-- the source of random bytes: those that it has handed out, and its count of faults
+pub record Drawn : Type 0 where
+  pub bytes : Option (List ℕ)
+  pub faults : ℕ
+
+-- the output: what was written to it, and its count of faults
+pub record Written : Type 0 where
+  pub bytes : Option (List ℕ)
+  pub faults : ℕ
+
+-- all four
+pub record Devices : Type 0 where
+  pub source : Store
+  pub target : Store
+  pub entropy : Drawn
+  pub output : Written
+
+abbrev pub store : Option Told → ℕ → Store
+store told faults = record { told = told; faults = faults }
+
+abbrev pub drawn : Option (List ℕ) → ℕ → Drawn
+drawn bytes faults = record { bytes = bytes; faults = faults }
+
+abbrev pub written : Option (List ℕ) → ℕ → Written
+written bytes faults = record { bytes = bytes; faults = faults }
+
+abbrev pub devices : Store → Store → Drawn → Written → Devices
+devices source target entropy output = record { source = source; target = target; entropy = entropy; output = output }
+
+-- The table of causes. A failed device is the status only where its count of faults rose, and its failed call was the last; at every
+-- other status the source tells and counts what it did. Target and entropy are not used.
+pub record HasCauses (status : Status) (before after : Devices) : Type 0 where
+  pub source : RoseWhere (source_failed status) before.source.faults after.source.faults
+  pub kept : KeptWhere (source_failed status) (heard before.source.told) after.source.told
+  pub target : after.target ≡ before.target
+  pub entropy : after.entropy ≡ before.entropy
+  pub output : output_failed status ≡ true → Rose before.output.faults after.output.faults
