@@ -3,8 +3,8 @@
 #
 # usage: bash bench/blob.sh
 #
-# A figure is the best of three runs over 64 MiB, in contents of 2 MiB, of 64 KiB and of 1 KiB. 1 MB is 10^6 bytes. The
-# opening checks the MAC, decrypts, and compares the id.
+# A figure is the best of many turns, by processor time, and of three such runs. 1 MB is 10^6 bytes. The opening checks the
+# MAC, decrypts, and compares the id.
 set -euo pipefail
 . "$(dirname "$0")/program.sh"
 
@@ -15,16 +15,17 @@ least_time() {
     done | sort -n | head -n 1
 }
 
-# row PROGRAM CALL LENGTH TIMES: the speed of so many calls on contents of so many bytes
+# row PROGRAM CALL LENGTH TIMES: the speed of the fastest of so many calls on contents of so many bytes
 row() {
-    awk -v call="$2" -v len="$3" -v times="$4" -v time="$(least_time "$1" "time-$2 $3 $4")" \
-        'BEGIN { printf "%-4s  %8d bytes  %8.1f MB/s\n", call, len, len * times * 1000 / time }'
+    awk -v call="$2" -v len="$3" -v time="$(least_time "$1" "time-$2 $3 $4")" \
+        'BEGIN { printf "%-4s  %8d bytes  %8.1f MB/s  %12.2f microseconds\n", call, len, len * 1000 / time, time / 1000 }'
 }
 
 blob=$(build_program ferry_blob ferry_mac anyhow)
 
 for call in seal open; do
     row "$blob" "$call" 2097152 32
-    row "$blob" "$call" 65536 1024
-    row "$blob" "$call" 1024 65536
+    row "$blob" "$call" 65536 500
+    row "$blob" "$call" 1024 10000
+    row "$blob" "$call" 100 20000
 done

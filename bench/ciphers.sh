@@ -3,8 +3,9 @@
 #
 # usage: bash bench/ciphers.sh
 #
-# A figure is the best of five runs of half a second or so. 1 MB is 10^6 bytes. To add a crate:
-# a program in bench/programs/ that answers lines `time-CALL ..` with nanoseconds, and its lines below.
+# A figure is the best of 200 turns over 64 KiB, by processor time, and of five such runs; openssl's is what it tells of one
+# second. 1 MB is 10^6 bytes. To add a crate: a program in bench/programs/ that answers lines `time-CALL ..` with
+# nanoseconds, and its lines below.
 set -euo pipefail
 . "$(dirname "$0")/program.sh"
 
@@ -20,10 +21,15 @@ megabytes() {
     awk -v bytes="$1" -v time="$2" 'BEGIN { printf "%.1f", bytes * 1000 / time }'
 }
 
-# openssl_megabytes ARGUMENT..: what `openssl speed` tells of buffers of 8192 bytes, in MB a second
+# speed PROGRAM CALL LENGTH TIMES: the MB a second of the fastest of so many turns over a buffer of so many bytes
+speed() {
+    megabytes "$3" "$(least_time "$1" "time-$2 $3 $4")"
+}
+
+# openssl_megabytes ARGUMENT..: what `openssl speed` tells of buffers of 64 KiB, in MB a second of processor time
 openssl_megabytes() {
     if command -v openssl >/dev/null; then
-        openssl speed -seconds 1 -bytes 8192 "$@" 2>/dev/null | awk 'END { sub("k$", "", $NF); printf "%.1f", $NF / 1000 }'
+        openssl speed -seconds 1 -bytes 65536 "$@" 2>/dev/null | awk 'END { sub("k$", "", $NF); printf "%.1f", $NF / 1000 }'
     else
         echo "not installed"
     fi
@@ -36,9 +42,18 @@ row() {
 
 aes=$(build_program ferry_aes anyhow hex)
 
-row "MB a second, buffers of 8192 bytes" ""
-row "keystream, ferry_aes" "$(megabytes $((8192 * 2000)) "$(least_time "$aes" 'time-keystream 8192 2000')")"
+row "MB a second, buffers of 64 KiB" ""
+row "keystream, ferry_aes, in bit planes" "$(speed "$aes" keystream 65536 200)"
+row "the same block by block, byte by byte" "$(speed "$aes" bytewise 65536 40)"
+row "Schedule::sixteen, ferry_aes" "$(speed "$aes" sixteen 65536 200)"
 row "AES-256-CTR, openssl" "$(openssl_megabytes -evp aes-256-ctr)"
-# the bits of AES-NI and of the vector code taken away: openssl's code in plain instructions
+# the bit of AES-NI taken away: openssl's code in bit planes, on vectors
 row "AES-256-CTR, openssl without AES instructions" \
+    "$(OPENSSL_ia32cap='~0x200000200000000' openssl_megabytes -evp aes-256-ctr)"
+# the bit of SSSE3 too: openssl's code in plain instructions
+row "AES-256-CTR, openssl in plain instructions" \
     "$(OPENSSL_ia32cap='~0x200020200000000' openssl_megabytes -evp aes-256-ctr)"
+row "keystream of 16 bytes, nanoseconds" "$(least_time "$aes" 'time-keystream 16 20000')"
+row "the same block by block, byte by byte" "$(least_time "$aes" 'time-bytewise 16 20000')"
+row "keystream of 128 bytes, nanoseconds" "$(least_time "$aes" 'time-keystream 128 20000')"
+row "the same block by block, byte by byte" "$(least_time "$aes" 'time-bytewise 128 20000')"

@@ -14,40 +14,46 @@ from cryptography.hazmat.primitives.ciphers import Cipher, algorithms, modes
 CASES = 1000
 
 
-def counter(source):
-    """A counter of 128 bits, often one whose carry goes past 32, 64 or all bits within the case."""
-    low = source.choice([None, 32, 64, 128])
+def counter(source, low):
+    """A counter of 128 bits; one whose carry goes past so many bits within the first blocks where they are told."""
     if low is None:
         return source.getrandbits(128)
     high = source.choice([0, source.getrandbits(128)]) % 2 ** (128 - low)
     return (high * 2**low + 2**low - source.randrange(40)) % 2**128
 
 
-def length(source):
-    """A number of bytes, often near the end of a block."""
-    blocks = source.randrange(40)
-    return max(0, 16 * blocks + source.choice([-1, 0, 0, 1, source.randrange(16)]))
-
-
-def keystream(source):
+def keystream(source, low, size):
+    """A stream of so many bytes."""
     key = source.randbytes(32)
-    number = counter(source)
-    size = length(source)
+    number = counter(source, low)
     cipher = Cipher(algorithms.AES(key), modes.CTR(number.to_bytes(16, "big")))
     answer = cipher.encryptor().update(bytes(size))
     return f"keystream {key.hex()} {number:032x} {size}", answer.hex()
 
 
-# for each crate, what makes a line and its answer
+def streams(source):
+    """Every length from 0 to 600, and lengths around 16384 at every remainder of a group of 128 bytes, with each carry."""
+    sizes = [*range(601), *range(16384 - 64, 16384 + 65)]
+    return [keystream(source, low, size) for size in sizes for low in [None, 32, 64, 128]]
+
+
+def sixteen(source):
+    """Sixteen blocks, each for itself."""
+    key, texts = source.randbytes(32), source.randbytes(256)
+    answer = Cipher(algorithms.AES(key), modes.ECB()).encryptor().update(texts)
+    return f"sixteen {key.hex()} {texts.hex()}", answer.hex()
+
+
+# for each crate, what makes its lines and their answers
 KINDS = {
-    "ferry_aes": [keystream],
+    "ferry_aes": [streams, lambda source: [sixteen(source) for _ in range(CASES)]],
 }
 
 
 def main():
     crate, program, seed = sys.argv[1:]
     source = random.Random(int(seed))
-    cases = [kind(source) for kind in KINDS[crate] for _ in range(CASES)]
+    cases = [case for kind in KINDS[crate] for case in kind(source)]
     lines = "".join(line + "\n" for line, _ in cases)
     told = subprocess.run([program], input=lines, capture_output=True, text=True, check=True)
     answers = told.stdout.split("\n")[:-1]

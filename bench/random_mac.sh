@@ -1,5 +1,5 @@
 #!/usr/bin/env bash
-# A thousand random cases, 250 of each call of `ferry_mac`, compared with Python's `hmac` and
+# A thousand random cases, 200 of each call of `ferry_mac`, compared with Python's `hmac` and
 # `hashlib`. The program that computes them is made, proved and run in a temporary folder. An
 # argument is the seed; without one it is drawn and printed.
 set -eu
@@ -19,11 +19,12 @@ cp HANDLES "$folder/"
 printf 'ferry_mac: sha2\nmac_cases: ferry_mac hex anyhow\n' > "$folder/crates.txt"
 
 cat > "$folder/crates/mac_cases/src/main.rt" <<'PROGRAM'
-//! Reads a case a line, as `CALL HEX HEX HEX NUMBER`, and prints the result of each in hex.
+//! Reads a case a line, as `CALL HEX HEX HEX NUMBER`, with two more texts in hex behind them for
+//! `hmac256_four`, and prints the result of each in hex.
 #![tactic(auto)]
 
 use anyhow::{Context, Result, bail};
-use ferry_mac::{hkdf512, hmac256, hmac512, pbkdf2};
+use ferry_mac::{hkdf512, hmac256, hmac256_four, hmac512, pbkdf2};
 use std::alloc::Global;
 
 fn bytes_of(alloc: Global, word: Option<&str>) -> Result<Vec<u8>> {
@@ -44,6 +45,20 @@ fn result_of(alloc: Global, line: &str) -> Result<String> {
     let iterations = number.parse::<u32>().context("the number")?;
     let text = match call {
         "hmac256" => hex::encode(alloc, &hmac256(first.as_slice(), second.as_slice()))?,
+        "hmac256_four" => {
+            let fourth = bytes_of(alloc, words.next())?;
+            let fifth = bytes_of(alloc, words.next())?;
+            let macs = hmac256_four(
+                first.as_slice(),
+                [
+                    second.as_slice(),
+                    third.as_slice(),
+                    fourth.as_slice(),
+                    fifth.as_slice(),
+                ],
+            );
+            hex::encode(alloc, macs.as_flattened())?
+        }
         "hmac512" => hex::encode(alloc, &hmac512(first.as_slice(), second.as_slice()))?,
         "hkdf512" => {
             let derived = hkdf512(first.as_slice(), second.as_slice(), third.as_slice());
@@ -78,7 +93,13 @@ def length(block):
     """Short ones, those about a block's length, and long ones."""
     return random.choice([random.randrange(0, 40), block + random.randrange(-2, 3), random.randrange(0, 400)])
 
-def wanted(call, first, second, third, number):
+def near_a_block():
+    """A length about a multiple of 64, where a block or the padding's last block begins."""
+    return max(0, 64 * random.randrange(0, 10) + random.randrange(-10, 11))
+
+def wanted(call, first, second, third, number, *more):
+    if call == "hmac256_four":
+        return "".join(hmac.new(first, text, "sha256").hexdigest() for text in (second, third, *more))
     if call == "hmac256":
         return hmac.new(first, second, "sha256").hexdigest()
     if call == "hmac512":
@@ -92,12 +113,17 @@ seed, cases, results = sys.argv[1:]
 random.seed(seed)
 with open(cases, "w") as lines, open(results, "w") as answers:
     for turn in range(1000):
-        call = ("hmac256", "hmac512", "hkdf512", "pbkdf2")[turn % 4]
-        block = 64 if call in ("hmac256", "pbkdf2") else 128
+        call = ("hmac256", "hmac512", "hkdf512", "pbkdf2", "hmac256_four")[turn % 5]
+        block = 64 if call in ("hmac256", "hmac256_four", "pbkdf2") else 128
         words = [random.randbytes(length(block)) for _ in range(3)]
         number = random.choice([1, 2, 3, random.randrange(1, 1000)])
-        lines.write(f"{call} x{words[0].hex()} x{words[1].hex()} x{words[2].hex()} {number}\n")
-        answers.write(wanted(call, *words, number) + "\n")
+        more = []
+        if call == "hmac256_four":
+            words[1:] = [random.randbytes(near_a_block()) for _ in range(2)]
+            more = [random.randbytes(near_a_block()) for _ in range(2)]
+        texts = "".join(f" x{text.hex()}" for text in more)
+        lines.write(f"{call} x{words[0].hex()} x{words[1].hex()} x{words[2].hex()} {number}{texts}\n")
+        answers.write(wanted(call, *words, number, *more) + "\n")
 PYTHON
 python3 "$folder/cases.py" "$seed" "$folder/cases" "$folder/wanted"
 

@@ -140,9 +140,11 @@ def write_definitions(crate):
 def write_architecture(crates):
     """Puts what crates.txt says into the table of crates."""
     paper = read("docs/ARCHITECTURE.md")
+    table = old = section(paper, "The crates")
     for name, below in crates.items():
         cell = f" {stands_on(below)} |" if below else " |"
-        paper = re.sub(rf"(?m)^(\| {name} \|[^|]*\|)[^|]*\|", lambda row: row[1] + cell, paper)
+        table = re.sub(rf"(?m)^(\| {name} \|[^|]*\|)[^|]*\|", lambda row: row[1] + cell, table)
+    paper = paper.replace(old, table, 1)
     with open(os.path.join(TOP, "docs", "ARCHITECTURE.md"), "w", encoding="utf-8") as file:
         file.write(paper)
 

@@ -76,6 +76,13 @@ fn of_repo(fault: &RepoFault, source: Presence) -> &'static str {
         (RepoFault::Missing(id), _) => of_missing(*id == ZERO_ID),
         (RepoFault::Blob(id, fault), _) => of_blob(*fault, *id == ZERO_ID),
         (RepoFault::Manifest(fault), _) => of_manifest(*fault),
+        (RepoFault::Archive(_, fault), _) => of_record(*fault),
+        (RepoFault::Item(_, _), _) => {
+            "an item of the archive isn't as Borg 1 writes it, or was repaired with parts lost: see what borg check finds, and look at another copy"
+        }
+        (RepoFault::Size(_), _) => {
+            "a part of a file isn't as long as its archive says: see what borg check --verify-data finds, and look at another copy"
+        }
         (RepoFault::Device, _) => DEVICE,
         (RepoFault::Memory, _) => MEMORY,
     }
@@ -167,6 +174,18 @@ fn of_manifest(fault: MetaFault) -> &'static str {
         }
         MetaFault::Tag => {
             "the manifest's authentication tag is wrong, so it was changed without the key: don't trust it, look at another copy"
+        }
+        MetaFault::Memory => MEMORY,
+    }
+}
+
+fn of_record(fault: MetaFault) -> &'static str {
+    match fault {
+        MetaFault::Pack | MetaFault::Field | MetaFault::TagMissing | MetaFault::TooLarge => {
+            "the archive's record isn't as Borg 1 writes it: see what borg check finds, and look at another copy of the repository"
+        }
+        MetaFault::Tag => {
+            "the archive's authentication tag is wrong, so its record was changed without the key: don't trust it, look at another copy"
         }
         MetaFault::Memory => MEMORY,
     }

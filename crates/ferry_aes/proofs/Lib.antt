@@ -5,3 +5,7 @@ pub mod KeyExpansionLemmas
 pub mod CounterModeLemmas
 pub mod FieldFacts
 pub mod CallerLemmas
+pub mod BitLemmas
+pub mod ByteLemmas
+pub mod CircuitLemmas
+pub mod PlanesLemmas

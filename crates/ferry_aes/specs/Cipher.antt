@@ -1,5 +1,6 @@
 -- CIPHER of AES-256, FIPS 197, section 5.1: 14 rounds over a state of 4 by 4 bytes.
-use Rattle.std.specs.Prelude.{ℕ, zero, suc, List}
+use Rattle.std.specs.Prelude.{ℕ, zero, suc, ◌*◌, List, take, drop}
+use Rattle.std.specs.List.{flat_map, range_with_len}
 use Rattle.ferry_aes.specs.State.{state_of, block_of}
 use Rattle.ferry_aes.specs.Rounds.{sub_bytes, shift_rows, mix_columns, add_round_key}
 use Rattle.ferry_aes.specs.KeyExpansion.{key_expansion}
@@ -24,3 +25,11 @@ cipher w input = block_of (last_round w (after_round w (state_of input) 13))
 -- AES-256: the block that a block becomes under a key of 32 bytes (5)
 abbrev pub aes256 : List ℕ → List ℕ → List ℕ
 aes256 key input = cipher (key_expansion key) input
+
+-- piece i of bytes, 16 of them
+abbrev pub piece : List ℕ → ℕ → List ℕ
+piece bytes i = take 16 (drop (16 * i) bytes)
+
+-- the first blocks of bytes, as many as told, each encrypted for itself and joined
+unfoldable pub each_encrypted : List (List ℕ) → List ℕ → ℕ → List ℕ
+each_encrypted w bytes count = flat_map (λ i. cipher w (piece bytes i)) (range_with_len 0 count)

@@ -5,3 +5,5 @@ pub mod Rounds
 pub mod KeyExpansion
 pub mod Cipher
 pub mod CounterMode
+pub mod Circuit
+pub mod Planes

@@ -43,6 +43,10 @@ fn words_blocks_and_stream_of_fips_197_and_sp_800_38a(rt: HostRuntime) {
     assert!(rt; words[59] == [0x70, 0x6c, 0x63, 0x1e]);
     let (text, block) = BLOCK_C_3;
     assert!(rt; Schedule::new(&COUNTED_KEY).block(&text) == block);
+    let mut texts = [0u8; 256];
+    texts[240..].copy_from_slice(&text);
+    Schedule::new(&COUNTED_KEY).sixteen(&mut texts);
+    assert!(rt; texts.ends_with(&block));
     let schedule = Schedule::new(&KEY);
     let mut stream = [0u8; 64];
     keystream(
@@ -56,4 +60,8 @@ fn words_blocks_and_stream_of_fips_197_and_sp_800_38a(rt: HostRuntime) {
     keystream(&schedule, u128::from(u64::MAX), &mut cut);
     let next = schedule.block(&[0, 0, 0, 0, 0, 0, 0, 1, 0, 0, 0, 0, 0, 0, 0, 0]);
     assert!(rt; next.starts_with(&cut[16..]));
+    // Behind counter 2^128 - 1 comes 0: here in the second eight blocks, which are cut.
+    let mut wrapped = [0u8; 150];
+    keystream(&schedule, u128::MAX - 8, &mut wrapped);
+    assert!(rt; schedule.block(&[0; 16]).starts_with(&wrapped[144..]));
 }

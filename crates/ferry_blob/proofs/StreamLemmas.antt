@@ -62,13 +62,13 @@ ctr-append key n k xs ys whole =
 -- ---- a piece of a text, in place
 
 -- the pieces before number `number` are encrypted, and then this one too, which may be cut
-pub piece_more : (key : List ℕ) (n number count : ℕ) (text before piece : List ℕ) → 4096 * number < length text
-    → count ≡ min 4096 (length text - 4096 * number)
-    → before ≡ ctr key n (take (4096 * number) text) ++ drop (4096 * number) text
-    → piece ≡ ctr key (n + 256 * number) (take count (drop (4096 * number) before))
-    → put_mid (4096 * number) count before piece ≡ ctr key n (take (4096 * (number + 1)) text) ++ drop (4096 * (number + 1)) text
+pub piece_more : (key : List ℕ) (n number count : ℕ) (text before piece : List ℕ) → 16384 * number < length text
+    → count ≡ min 16384 (length text - 16384 * number)
+    → before ≡ ctr key n (take (16384 * number) text) ++ drop (16384 * number) text
+    → piece ≡ ctr key (n + 1024 * number) (take count (drop (16384 * number) before))
+    → put_mid (16384 * number) count before piece ≡ ctr key n (take (16384 * (number + 1)) text) ++ drop (16384 * (number + 1)) text
 piece_more key n number count text before piece within cut so_far is =
-    let at = 4096 * number in
+    let at = 16384 * number in
     let front = take at text in
     let rest = drop at text in
     let long : length front ≡ at = length-take-le at text (omega arith) in
@@ -76,13 +76,13 @@ piece_more key n number count text before piece within cut so_far is =
     let done : length (ctr key n front) ≡ at = length-ctr key n front ∙ long in
     let kept : take at before ≡ ctr key n front = ap (take at) so_far ∙ take_at (ctr key n front) rest at done in
     let left : drop at before ≡ rest = ap (drop at) so_far ∙ drop_at (ctr key n front) rest at done in
-    let next : 4096 * (number + 1) ≡ at + 4096 = omega arith in
-    let measured : count ≡ min 4096 (length rest) = omega arith in
-    let first : take count rest ≡ take 4096 rest = ap (λ m. take m rest) measured ∙ take_min 4096 rest in
-    let behind : drop count rest ≡ drop 4096 rest = ap (λ m. drop m rest) measured ∙ drop_min 4096 rest in
-    let taken : take (at + 4096) text ≡ front ++ take 4096 rest = take-add at 4096 text in
-    let dropped : drop 4096 rest ≡ drop (at + 4096) text = drop-drop 4096 at text in
-    let joined : ctr key n (front ++ take 4096 rest) ≡ ctr key n front ++ ctr key (n + 256 * number) (take 4096 rest) =
-    ctr-append key n (256 * number) front (take 4096 rest) (omega arith) in
+    let next : 16384 * (number + 1) ≡ at + 16384 = omega arith in
+    let measured : count ≡ min 16384 (length rest) = omega arith in
+    let first : take count rest ≡ take 16384 rest = ap (λ m. take m rest) measured ∙ take_min 16384 rest in
+    let behind : drop count rest ≡ drop 16384 rest = ap (λ m. drop m rest) measured ∙ drop_min 16384 rest in
+    let taken : take (at + 16384) text ≡ front ++ take 16384 rest = take-add at 16384 text in
+    let dropped : drop 16384 rest ≡ drop (at + 16384) text = drop-drop 16384 at text in
+    let joined : ctr key n (front ++ take 16384 rest) ≡ ctr key n front ++ ctr key (n + 1024 * number) (take 16384 rest) =
+    ctr-append key n (1024 * number) front (take 16384 rest) (omega arith) in
     rw (is, kept, left, first, behind, next, taken, joined, ← dropped)
-    (sym (append_assoc (ctr key n front) (ctr key (n + 256 * number) (take 4096 rest)) (drop 4096 rest)))
+    (sym (append_assoc (ctr key n front) (ctr key (n + 1024 * number) (take 16384 rest)) (drop 16384 rest)))

@@ -6,15 +6,15 @@ ghost use Rattle.ferry_aes.specs.CounterMode.{ctr, key_stream, xor_lists};
 use ferry_aes::{Schedule, keystream};
 use ferry_lanes::xor_into;
 
-/// The number of bytes of key stream that are held at a time: 256 counter blocks.
-const PIECE: usize = 4096;
+/// The number of bytes of key stream that are held at a time: 1024 counter blocks.
+const PIECE: usize = 16384;
 
 /// The number of counter blocks of a piece.
-const PIECE_BLOCKS: usize = 256;
+const PIECE_BLOCKS: usize = 1024;
 
 /// Adds the key stream from `counter` on to a piece.
 fn add_to_piece(schedule: &Schedule, counter: u128, piece: &mut [u8])
-    requires { length piece.old ≤ 4096 }
+    requires { length piece.old ≤ 16384 }
     ensures sum { piece.new ≡ xor_lists piece.old (key_stream schedule.now counter (length piece.old)) }
 {
     let mut stream = [0u8; PIECE];

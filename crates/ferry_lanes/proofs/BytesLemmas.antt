@@ -1,5 +1,6 @@
 -- Lemmas on specs/Bytes.antt, and on lists of bytes that are compared place by place.
-use Rattle.std.proofs.Common.{◌≡◌, ◌≢◌, ℕ, ◌+◌, ◌<◌, ◌≤◌, min, List, [], ◌∷◌, length, get_or, take, bit_xor, All, refl, sym, ap, ◌==◌, eq-eqb, ◌∙◌}
+use Rattle.std.proofs.Common.{◌≡◌, ◌≢◌, ℕ, ◌+◌, ◌<◌, ◌≤◌, min, List, [], ◌∷◌}
+use Rattle.std.proofs.Common.{length, get_or, take, bit_xor, All, refl, sym, ap, ◌==◌, eq-eqb, ◌∙◌}
 use Rattle.std.proofs.Common.{below_more, arith}
 use lib.Bits.{or_comm, xor_assoc, xor_self, xor_zero_r, xor_zero_l}
 use Rattle.std.specs.Prelude.{bit_or}

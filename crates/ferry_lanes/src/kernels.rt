@@ -1,6 +1,11 @@
-//! Plain loops over bytes.
-ghost use Rattle.std.specs.Prelude.{◌≡◌, ◌≢◌, ◌<◌, ◌≤◌, ◌↔◌, IsTrue, All, length, take, slice_index};
+//! Plain loops over bytes, and a loop over vectors of 32 bytes where it is faster.
+ghost use Rattle.std.specs.Prelude.{ℕ, ◌≡◌, ◌≢◌, ◌<◌, ◌≤◌, ◌+◌, ◌↔◌, IsTrue, All, length, take, slice_index};
 ghost use Rattle.ferry_lanes.specs.Bytes.{xor_lists, leading_zeros};
+
+use std::simd::prelude::*;
+
+/// The number of bytes in a vector.
+const LANES: usize = 32;
 
 /// Adds `with` to `into` by xor, byte by byte.
 pub fn xor_into(into: &mut [u8], with: &[u8])
@@ -12,6 +17,29 @@ pub fn xor_into(into: &mut [u8], with: &[u8])
     }
 }
 
+/// Whether the vector from byte `at` on has only zero bytes.
+#[inline(always)]
+fn is_zero_vector(bytes: &[u8], at: usize) -> bool
+    requires { at + 32 ≤ length bytes.now }
+    ensures { IsTrue result → (k : ℕ) → at ≤ k → k < at + 32 → slice_index bytes.now k ≡ 0 }
+{
+    let vector = u8x32::from_slice(&bytes[at..]);
+    vector.simd_ne(u8x32::splat(0)).to_bitmask() == 0
+}
+
+/// The number of bytes in the whole vectors of zero bytes that `bytes` begins with.
+fn zero_vectors(bytes: &[u8]) -> usize
+    ensures zeros { (k : ℕ) → k < result → slice_index bytes.now k ≡ 0 }
+    ensures within { result ≤ length bytes.now }
+{
+    for number in 0..bytes.len() / LANES {
+        if !is_zero_vector(bytes, LANES * number) {
+            return LANES * number;
+        }
+    }
+    bytes.len() / LANES * LANES
+}
+
 /// The number of zero bytes that `bytes` begins with.
 pub fn zero_prefix(bytes: &[u8]) -> usize
     ensures count { result ≡ leading_zeros bytes.now }
@@ -19,8 +47,8 @@ pub fn zero_prefix(bytes: &[u8]) -> usize
     ensures end { result < length bytes.now → slice_index bytes.now result ≢ 0 }
     ensures within { result ≤ length bytes.now }
 {
-    for (i, byte) in bytes.iter().enumerate() {
-        if *byte != 0 {
+    for i in zero_vectors(bytes)..bytes.len() {
+        if bytes[i] != 0 {
             return i;
         }
     }

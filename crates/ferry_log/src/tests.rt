@@ -1,108 +1,85 @@
 use crate::{Extent, Head, LogFault, Place, head_at, open_log};
 use ferry_base::{BLOB_LIMIT, Id};
 use ferry_disk::{MemoryShelf, Name};
-use ferry_segment::{COMMIT, COMMIT_SEGMENT, MAGIC, delete_entry, put_head};
+use ferry_segment::{COMMIT, MAGIC, delete_entry, put_head};
 use std::alloc::{AllocError, Global};
 use std::test::Fail;
 
 const KEY: Id = [0x11; 32];
 
-/// A segment of one PUT of the key.
-fn put(alloc: Global, blob: &[u8]) -> Result<Vec<u8>, AllocError> {
+/// What a segment of a case holds behind its magic: a PUT of the key with a blob of so many bytes 7, the same with its last byte
+/// changed, a DELETE of the key, or a COMMIT.
+#[derive(Clone, Copy)]
+enum Part {
+    Put(usize),
+    Changed(usize),
+    Delete,
+    Commit,
+}
+
+fn segment(alloc: Global, part: Part) -> Result<Vec<u8>, AllocError> {
     let mut bytes = Vec::from_slice(alloc, &MAGIC)?;
-    if blob.len() <= BLOB_LIMIT {
-        bytes.extend_from_slice(&put_head(&KEY, blob))?;
-        bytes.extend_from_slice(blob)?;
+    match part {
+        Part::Put(size) | Part::Changed(size) => {
+            let blob = vec![in alloc; 7; size.min(BLOB_LIMIT)]?;
+            bytes.extend_from_slice(&put_head(&KEY, &blob))?;
+            bytes.extend_from_slice(&blob)?;
+        }
+        Part::Delete => bytes.extend_from_slice(&delete_entry(&KEY))?,
+        Part::Commit => bytes.extend_from_slice(&COMMIT)?,
     }
-    Ok(bytes)
-}
-
-/// A segment of one DELETE of the key.
-fn delete(alloc: Global) -> Result<Vec<u8>, AllocError> {
-    let mut bytes = Vec::from_slice(alloc, &MAGIC)?;
-    bytes.extend_from_slice(&delete_entry(&KEY))?;
-    Ok(bytes)
-}
-
-/// A segment of a COMMIT.
-fn commit(alloc: Global) -> Result<Vec<u8>, AllocError> {
-    Vec::from_slice(alloc, &COMMIT_SEGMENT)
-}
-
-/// The same bytes with the last one changed.
-fn changed(bytes: Vec<u8>) -> Vec<u8> {
-    let mut bytes = bytes;
-    if let Some(last) = bytes.last_mut() {
+    if let (Part::Changed(_), Some(last)) = (part, bytes.last_mut()) {
         *last ^= 1;
     }
-    bytes
+    Ok(bytes)
 }
 
-/// A shelf of segments that are numbered from 0.
-fn shelf_of(alloc: Global, segments: Vec<Vec<u8>>) -> Result<MemoryShelf, AllocError> {
+/// A shelf of segments, from number 0 on, that hold one part each.
+fn shelf_of(alloc: Global, parts: &[Part]) -> Result<MemoryShelf, AllocError> {
     let mut files = Vec::new(alloc);
     let mut number = 0u64;
-    for bytes in segments {
-        files.push((Name::Segment(number), bytes))?;
+    for part in parts {
+        files.push((Name::Segment(number), segment(alloc, *part)?))?;
         number = number.wrapping_add(1);
     }
     MemoryShelf::new(alloc, files, Vec::new(alloc))
 }
 
 /// The size of the key's blob in the log of these segments, where it is live.
-fn size_in(alloc: Global, segments: Vec<Vec<u8>>) -> Result<Option<u32>, LogFault> {
-    let mut shelf = shelf_of(alloc, segments)?;
+fn size_in(alloc: Global, parts: &[Part]) -> Result<Option<u32>, LogFault> {
+    let mut shelf = shelf_of(alloc, parts)?;
     let log = open_log(alloc, &mut shelf)?;
     Ok(log.find(&KEY).map(|place| place.size))
 }
 
+/// Whether the logs of these parts have the key's blob at these sizes, or are refused so.
+fn sizes_are(alloc: Global, cases: &[(&[Part], Result<Option<u32>, LogFault>)]) -> bool {
+    cases
+        .iter()
+        .all(|(parts, want)| size_in(alloc, parts) == *want)
+}
+
 #[test]
 fn the_last_entry_of_a_key_counts_up_to_the_last_commit(rt: HostRuntime) -> Result<(), Fail> {
-    let alloc = rt.alloc();
-    let mut long = Vec::new(alloc);
-    long.resize(140_000, 7)?;
+    let (short, long) = (Part::Put(3), Part::Put(140_000));
+    let (delete, commit) = (Part::Delete, Part::Commit);
     let damaged = LogFault::Damaged { segment: 0, at: 8 };
-    for (segments, want) in [
-        (vec![in alloc; commit(alloc)?]?, Ok(None)),
-        (
-            vec![in alloc;
-                put(alloc, b"abc")?,
-                delete(alloc)?,
-                put(alloc, &long)?,
-                commit(alloc)?,
-            ]?,
-            Ok(Some(140_000)),
-        ),
-        (
-            vec![in alloc; put(alloc, &long)?, delete(alloc)?, commit(alloc)?]?,
-            Ok(None),
-        ),
-        (
-            vec![in alloc; put(alloc, b"abc")?, delete(alloc)?]?,
-            Err(LogFault::NoCommit),
-        ),
-        (
-            vec![in alloc;
-                put(alloc, b"abc")?,
-                commit(alloc)?,
-                changed(put(alloc, &long)?),
-            ]?,
-            Ok(Some(3)),
-        ),
-        (
-            vec![in alloc; changed(put(alloc, &long)?), commit(alloc)?]?,
-            Err(damaged),
-        ),
-    ] {
-        assert_eq!(rt; size_in(alloc, segments), want);
-    }
+    let cases: [(&[Part], Result<Option<u32>, LogFault>); 6] = [
+        (&[commit], Ok(None)),
+        (&[short, delete, long, commit], Ok(Some(140_000))),
+        (&[long, delete, commit], Ok(None)),
+        (&[short, delete], Err(LogFault::NoCommit)),
+        (&[short, commit, Part::Changed(140_000)], Ok(Some(3))),
+        (&[Part::Changed(140_000), commit], Err(damaged)),
+    ];
+    assert!(rt; sizes_are(rt.alloc(), &cases));
     Ok(())
 }
 
 #[test]
 fn an_empty_blob_by_each_call(rt: HostRuntime) -> Result<(), Fail> {
     let alloc = rt.alloc();
-    let mut shelf = shelf_of(alloc, vec![in alloc; put(alloc, b"")?, commit(alloc)?]?)?;
+    let mut shelf = shelf_of(alloc, &[Part::Put(0), Part::Commit])?;
     let log = open_log(alloc, &mut shelf)?;
     let place = Place {
         segment: 0,

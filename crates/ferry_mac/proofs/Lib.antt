@@ -1,3 +1,7 @@
 pub mod XorLemmas
 pub mod PbkdfLemmas
 pub mod CallerLemmas
+mod LaneLemmas
+mod RoundLemmas
+mod EndingLemmas
+mod FourLemmas

@@ -6,14 +6,18 @@
 //! SHA-2 is the specification of the crate `sha2`. No call takes memory, and none refuses.
 #![tactic(auto)]
 
+mod compression;
+mod four;
 mod hkdf;
 mod keys;
+mod lanes;
 mod mac256;
 mod mac512;
 mod pbkdf;
 #[cfg(test)]
 mod tests;
 
+pub use four::hmac256_four;
 pub use hkdf::hkdf512;
 pub use keys::Keys;
 pub use mac256::hmac256;

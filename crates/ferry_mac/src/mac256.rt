@@ -7,13 +7,13 @@ ghost use Rattle.ferry_mac.specs.Hmac.{block_key, filled, hmac256, xored_with};
 use sha2::{Digest, Sha256};
 
 /// SHA-256 takes its message in blocks of 64 bytes (FIPS 180-4, 5.2.1).
-const BLOCK_LEN: usize = 64;
+pub(crate) const BLOCK_LEN: usize = 64;
 
 /// The byte of ipad (RFC 2104, section 2).
-const INNER_PAD: u8 = 0x36;
+pub(crate) const INNER_PAD: u8 = 0x36;
 
 /// The byte of opad (RFC 2104, section 2).
-const OUTER_PAD: u8 = 0x5c;
+pub(crate) const OUTER_PAD: u8 = 0x5c;
 
 /// Computes HMAC-SHA-256 of `bytes` under `key`, which may have any length.
 ///
@@ -80,7 +80,7 @@ impl Keyed256 {
 }
 
 /// The key as one block: hashed first where it is longer than a block, and filled with zeros.
-fn block_of(key: &[u8]) -> [u8; 64]
+pub(crate) fn block_of(key: &[u8]) -> [u8; 64]
     ensures block { result ≡ block_key sha256 64 key.now }
 {
     if key.len() <= BLOCK_LEN {
@@ -102,7 +102,7 @@ fn filled(key: &[u8]) -> [u8; 64]
 }
 
 /// Each byte of `block` xored with `pad`.
-fn padded(block: &[u8; 64], pad: u8) -> [u8; 64]
+pub(crate) fn padded(block: &[u8; 64], pad: u8) -> [u8; 64]
     ensures padded { result ≡ xored_with pad block.now }
 {
     let mut out = *block;

@@ -1,6 +1,6 @@
 //! Vectors of the standards, and those that Python and OpenSSL compute.
 
-use crate::{hkdf512, hmac256, hmac512, pbkdf2};
+use crate::{hkdf512, hmac256, hmac256_four, hmac512, pbkdf2};
 
 /// A key, a text, and what their MACs over SHA-256 and SHA-512 begin with.
 struct MacCase {
@@ -199,5 +199,45 @@ fn macs_and_derived_bytes_are_those_of_the_vectors(rt: HostRuntime) {
         assert!(rt; 0 < case.iterations);
         let derived = pbkdf2(case.passphrase, case.salt, case.iterations);
         assert!(rt; derived.as_slice() == case.derived);
+    }
+}
+
+/// A length, and what the MAC of so many bytes `a` under the key `Jefe` begins with, as Python's
+/// `hmac` computes it. The lengths lie about those at which the padding begins a new block.
+static LENGTH_CASES: [(usize, [u8; 8]); 12] = [
+    (0, [0x92, 0x35, 0x98, 0xca, 0x6d, 0x64, 0xaf, 0x2a]),
+    (1, [0x71, 0xfe, 0xc6, 0xc1, 0x1c, 0xe8, 0xe5, 0x68]),
+    (55, [0x29, 0x0d, 0x2f, 0xb7, 0xeb, 0x5d, 0xfb, 0x60]),
+    (56, [0xcc, 0xa8, 0xb2, 0x37, 0x67, 0x5f, 0x24, 0x05]),
+    (63, [0xd5, 0xa2, 0xcc, 0x4f, 0x52, 0x49, 0xd4, 0x73]),
+    (64, [0x22, 0x13, 0xfe, 0x45, 0x97, 0xfb, 0x22, 0x99]),
+    (65, [0x75, 0x3d, 0x64, 0x62, 0xcb, 0x31, 0xd3, 0x1a]),
+    (119, [0xc9, 0xb5, 0x2f, 0x38, 0xee, 0xc8, 0xc1, 0xc8]),
+    (120, [0x13, 0xea, 0x18, 0x7f, 0x89, 0x6a, 0xa8, 0xdc]),
+    (127, [0x61, 0xf9, 0x79, 0x73, 0x71, 0x7f, 0xee, 0xea]),
+    (128, [0x27, 0xfe, 0xa4, 0xa1, 0x1f, 0xc9, 0xc6, 0xcc]),
+    (200, [0x2e, 0x86, 0xea, 0xe8, 0x6f, 0xb6, 0xd4, 0x6b]),
+];
+
+#[test]
+fn four_macs_are_those_of_the_vectors_and_of_unequal_lengths(rt: HostRuntime) {
+    for case in &RFC_4231_CASES {
+        let macs = hmac256_four(case.key, [case.text, case.key, case.text, case.key]);
+        assert!(rt; macs[0].starts_with(case.sha256));
+        assert!(rt; macs[2].starts_with(case.sha256));
+    }
+    let bytes = [0x61u8; 200];
+    for first in 0..12usize {
+        let places = [first, (first + 1) % 12, (first + 5) % 12, (first + 11) % 12];
+        let texts = [
+            &bytes[..LENGTH_CASES[places[0]].0],
+            &bytes[..LENGTH_CASES[places[1]].0],
+            &bytes[..LENGTH_CASES[places[2]].0],
+            &bytes[..LENGTH_CASES[places[3]].0],
+        ];
+        let macs = hmac256_four(b"Jefe", texts);
+        for place in 0..4usize {
+            assert!(rt; macs[place].starts_with(&LENGTH_CASES[places[place]].1));
+        }
     }
 }

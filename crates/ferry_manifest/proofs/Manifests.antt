@@ -3,6 +3,5 @@ pub mod OrderLemmas
 pub mod PackableLemmas
 pub mod WriteLemmas
 pub mod OrderedLemmas
-pub mod PartsLemmas
 pub mod AgainLemmas
 pub mod LawLemmas

@@ -1,7 +1,9 @@
 pub mod Fault
+pub mod Values
 pub mod Place
 pub mod Walk
 pub mod Tag
-pub mod Values
+pub mod Stated
+pub mod Tagged
 pub mod Manifest
 pub mod Record

@@ -11,6 +11,10 @@ use Rattle.ferry_manifest.specs.Walk.{zeroed}
 abbrev pub manifest_info : List ℕ
 manifest_info = codes "borg-metadata-authentication-manifest"
 
+-- the info text for an archive's record
+abbrev pub archive_info : List ℕ
+archive_info = codes "borg-metadata-authentication-archive"
+
 -- the key of the tag, from the info text, the secrets of the repository and the tag's salt
 unfoldable pub tag_key : List ℕ → Keys → List ℕ → List ℕ
 tag_key info keys salt = hkdf512 (keys.id_key ++ (keys.enc_key ++ keys.enc_hmac_key)) salt info

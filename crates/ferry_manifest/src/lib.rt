@@ -1,17 +1,21 @@
-//! The manifest of a repository, read with its authentication tag and written, and the records of
-//! its archives.
+//! The manifest of a repository and the records of its archives, read with their authentication tags
+//! and written with them.
 //!
-//! The layers above may rely on this: `read_manifest` answers what `manifest_of` says of the bytes
-//! under the keys, `read_archive` what `archive_of` says, and what `write_manifest` and `write_archive`
-//! give is read as what was written. The format is that of BorgBackup 1.2 (Internals, "Data structures
-//! and file formats", The manifest, and Archives).
+//! The layers above may rely on this: under the keys of the repository `read_manifest` answers what
+//! `manifest_of` says of the bytes, and `read_archive` what `archive_of` says; what `write_manifest` and
+//! `write_archive` give is read as what was written, a record as a tagged one. The format is that of
+//! BorgBackup 1.2 (Internals, "Data structures and file formats", The manifest, and Archives).
 #![tactic(auto)]
 
 mod fault;
 mod manifest;
+mod packing;
 mod place;
 mod record;
+mod stated;
 mod tag;
+#[cfg(test)]
+mod tests;
 mod values;
 
 pub use fault::MetaFault;

@@ -4,8 +4,6 @@ ghost use Rattle.std.specs.Prelude.{◌≡◌};
 
 pub(crate) mod laws;
 pub(crate) mod reading;
-#[cfg(test)]
-mod tests;
 pub(crate) mod writing;
 
 use ferry_base::{Bytes, Id};

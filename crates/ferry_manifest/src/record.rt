@@ -4,8 +4,6 @@ ghost use Rattle.std.specs.Prelude.{◌≡◌};
 
 pub(crate) mod laws;
 pub(crate) mod reading;
-#[cfg(test)]
-mod tests;
 pub(crate) mod writing;
 
 use ferry_base::{Bytes, Id};
@@ -25,6 +23,8 @@ pub struct Archive {
     pub params: Option<Value>,
     /// The table of all names but `items`, `chunker_params` and `tam`, which is kept as it is.
     pub fields: Value,
+    /// Whether the record that was read has an authentication tag. What is written has one.
+    pub tagged: bool,
 }
 
 /// Some ids of objects, which contracts see as a list of lists.

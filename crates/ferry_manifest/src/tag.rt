@@ -9,15 +9,11 @@ use crate::place::zeroed;
 use ferry_mac::{Keys, hkdf512, hmac512};
 use std::alloc::{AllocError, Global};
 
-/// The info text for the key of a manifest's tag (BorgBackup 1.2, `crypto/key.py`, `_tam_key`).
+/// The info text for the key of a manifest's tag (BorgBackup 1.2, `crypto/key.py`, `_tam_key` with the context `manifest`).
 pub(crate) const MANIFEST_INFO: &[u8] = b"borg-metadata-authentication-manifest";
 
-/// An authentication tag as it is stated, and its salt.
-#[derive(Clone, Copy)]
-pub(crate) struct StatedTag {
-    pub(crate) hmac: [u8; 64],
-    pub(crate) salt: [u8; 64],
-}
+/// The info text for the key of an archive record's tag (the same with the context `archive`).
+pub(crate) const ARCHIVE_INFO: &[u8] = b"borg-metadata-authentication-archive";
 
 /// The tag that packed bytes have to have: that of the bytes with 64 zero bytes in the tag's place.
 #[tactic(auto, unfolding(crate::specs::Tag::tag_of))]

@@ -7,6 +7,7 @@ ghost use Rattle.ferry_msgpack.specs.Shortest.{shortest};
 ghost use Rattle.ferry_msgpack.specs.View.{value_view, pairs_view};
 ghost use Rattle.ferry_msgpack.specs.Writable.{IsWritable};
 ghost use Rattle.ferry_fields.specs.Fields.{pairs_in, raw_of};
+ghost use Rattle.ferry_fields.specs.Sizes.{IsOrdered};
 
 use crate::fault::MetaFault;
 use ferry_base::CONTENT_LIMIT;
@@ -25,12 +26,23 @@ pub(crate) fn raw_of(value: &Value) -> Option<&[u8]>
     }
 }
 
+/// The pairs of a value that is a map.
+#[tactic(auto, using(ferry_msgpack::proofs::ViewLemmas::view_table))]
+pub(crate) fn pairs_in(value: &Value) -> Option<&[(Vec<u8>, Value)]>
+    ensures { option_map (λ x. pairs_view x.now) result ≡ pairs_in (value_view value.now) }
+{
+    match value {
+        Value::Table(pairs) => Some(pairs.as_slice()),
+        _ => None,
+    }
+}
+
 /// A copy of the pairs of a table.
 pub(crate) fn pairs_of_table(
     alloc: Global,
     value: &Value,
 ) -> Result<BTreeMap<Vec<u8>, Value>, AllocError>
-    requires { IsWritable (value_view value.now) }
+    requires { IsOrdered (value_view value.now) }
     ensures pairs { IfOk result (λ pairs.
         pairs_view pairs.entries ≡ unwrap_or (pairs_in (value_view value.now)) no_pairs) }
 {

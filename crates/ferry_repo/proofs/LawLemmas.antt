@@ -147,6 +147,9 @@ chunk_apart files log keys id content (Fault.Damaged segment at) holds of_files 
 chunk_apart files log keys id content (Fault.Config fault) holds of_files refuses = refuses
 chunk_apart files log keys id content (Fault.Key fault) holds of_files refuses = refuses
 chunk_apart files log keys id content (Fault.Manifest fault) holds of_files refuses = refuses
+chunk_apart files log keys id content (Fault.Archive named fault) holds of_files refuses = refuses
+chunk_apart files log keys id content (Fault.Item named fault) holds of_files refuses = refuses
+chunk_apart files log keys id content (Fault.Size named) holds of_files refuses = refuses
 chunk_apart files log keys id content Fault.Device holds of_files refuses = of_files
 chunk_apart files log keys id content Fault.Memory holds of_files refuses = of_files
 
@@ -169,6 +172,9 @@ one_chunk_fault files log keys id (Fault.Damaged segment at) g of_f of_g hf hg =
 one_chunk_fault files log keys id (Fault.Config fault) g of_f of_g hf hg = absurd hf
 one_chunk_fault files log keys id (Fault.Key fault) g of_f of_g hf hg = absurd hf
 one_chunk_fault files log keys id (Fault.Manifest fault) g of_f of_g hf hg = absurd hf
+one_chunk_fault files log keys id (Fault.Archive named fault) g of_f of_g hf hg = absurd hf
+one_chunk_fault files log keys id (Fault.Item named fault) g of_f of_g hf hg = absurd hf
+one_chunk_fault files log keys id (Fault.Size named) g of_f of_g hf hg = absurd hf
 one_chunk_fault files log keys id Fault.Device g of_f of_g hf hg = absurd of_f
 one_chunk_fault files log keys id Fault.Memory g of_f of_g hf hg = absurd of_f
 one_chunk_fault files log keys id f Fault.NoCommit of_f of_g hf hg = absurd hg
@@ -176,6 +182,9 @@ one_chunk_fault files log keys id f (Fault.Damaged segment at) of_f of_g hf hg =
 one_chunk_fault files log keys id f (Fault.Config fault) of_f of_g hf hg = absurd hg
 one_chunk_fault files log keys id f (Fault.Key fault) of_f of_g hf hg = absurd hg
 one_chunk_fault files log keys id f (Fault.Manifest fault) of_f of_g hf hg = absurd hg
+one_chunk_fault files log keys id f (Fault.Archive named fault) of_f of_g hf hg = absurd hg
+one_chunk_fault files log keys id f (Fault.Item named fault) of_f of_g hf hg = absurd hg
+one_chunk_fault files log keys id f (Fault.Size named) of_f of_g hf hg = absurd hg
 one_chunk_fault files log keys id f Fault.Device of_f of_g hf hg = absurd of_g
 one_chunk_fault files log keys id f Fault.Memory of_f of_g hf hg = absurd of_g
 
@@ -351,6 +360,9 @@ repo_apart files passphrase repo (Fault.Manifest fault) opens of_files refuses =
     opens.opens.unlocks refuses.unlocks opens.opens.object refuses.object opens.opens.manifest_is refuses.refused in
     cc
 repo_apart files passphrase repo Fault.Device opens of_files refuses = of_files
+repo_apart files passphrase repo (Fault.Archive named fault) opens of_files refuses = refuses
+repo_apart files passphrase repo (Fault.Item named fault) opens of_files refuses = refuses
+repo_apart files passphrase repo (Fault.Size named) opens of_files refuses = refuses
 repo_apart files passphrase repo Fault.Memory opens of_files refuses = of_files
 
 one_key_fault : (files : Files) (passphrase : List ℕ) (c d : Config) (f g : KeyFault) → config_of (contents_at files Name.Config) ≡ Ok c
@@ -448,5 +460,11 @@ one_repo_fault files passphrase (Fault.Manifest f) (Fault.Manifest g) of_f of_g 
     ap Fault.Manifest (one_manifest_fault files passphrase f g hf hg)
 one_repo_fault files passphrase Fault.Device g of_f of_g hf hg = absurd of_f
 one_repo_fault files passphrase Fault.Memory g of_f of_g hf hg = absurd of_f
+one_repo_fault files passphrase (Fault.Archive named fault) g of_f of_g hf hg = absurd hf
+one_repo_fault files passphrase (Fault.Item named fault) g of_f of_g hf hg = absurd hf
+one_repo_fault files passphrase (Fault.Size named) g of_f of_g hf hg = absurd hf
 one_repo_fault files passphrase f Fault.Device of_f of_g hf hg = absurd of_g
 one_repo_fault files passphrase f Fault.Memory of_f of_g hf hg = absurd of_g
+one_repo_fault files passphrase f (Fault.Archive named fault) of_f of_g hf hg = absurd hg
+one_repo_fault files passphrase f (Fault.Item named fault) of_f of_g hf hg = absurd hg
+one_repo_fault files passphrase f (Fault.Size named) of_f of_g hf hg = absurd hg

@@ -2,3 +2,10 @@ pub mod FaultLemmas
 pub mod ObjectLemmas
 pub mod OpeningLemmas
 pub mod LawLemmas
+pub mod ArchiveLemmas
+pub mod WalkLemmas
+pub mod ComesLemmas
+pub mod WalkLawLemmas
+pub mod ContentLemmas
+pub mod WholeLemmas
+pub mod KeptLemmas

@@ -9,7 +9,7 @@ use Rattle.ferry_log.specs.declared.place.Place.{Place}
 use Rattle.ferry_log.proofs.FitsLemmas.{place_holds}
 use Rattle.ferry_mac.specs.declared.keys.Keys.{Keys}
 use Rattle.ferry_repo.specs.declared.fault.RepoFault.{RepoFault}
-use Rattle.ferry_repo.specs.declared.fault.RepoFault.TheVariants.{NoCommit, Damaged, Config, Key, Missing, Blob, Manifest, Device, Memory}
+use Rattle.ferry_repo.specs.declared.fault.RepoFault.TheVariants.{NoCommit, Damaged, Config, Key, Missing, Blob, Manifest, Archive, Item, Size, Device, Memory}
 use Rattle.ferry_repo.specs.Objects.{HasBlob, RefusesObject, LosesBlob, BreaksBlob}
 
 -- the bytes behind a place, moved to the front
@@ -41,6 +41,9 @@ not_lost files log id place keys (Key fault) fits found lost = lost
 not_lost files log id place keys (Missing named) fits found lost = absurd lost
 not_lost files log id place keys (Blob named fault) fits found lost = absurd lost
 not_lost files log id place keys (Manifest fault) fits found lost = lost
+not_lost files log id place keys (Archive named fault) fits found lost = lost
+not_lost files log id place keys (Item named fault) fits found lost = lost
+not_lost files log id place keys (Size named) fits found lost = lost
 
 -- what a blob's refusal says of the object
 pub breaks_object : (files : Files) (log : LogState) (keys : Keys) (id blob : List ℕ) (fault : RepoFault) → HasBlob files log id blob
@@ -53,5 +56,8 @@ breaks_object files log keys id blob (Config fault) has broken = broken
 breaks_object files log keys id blob (Key fault) has broken = broken
 breaks_object files log keys id blob (Missing named) has broken = absurd broken
 breaks_object files log keys id blob (Manifest fault) has broken = broken
+breaks_object files log keys id blob (Archive named fault) has broken = broken
+breaks_object files log keys id blob (Item named fault) has broken = broken
+breaks_object files log keys id blob (Size named) has broken = broken
 breaks_object files log keys id blob Device has broken = tt
 breaks_object files log keys id blob Memory has broken = tt

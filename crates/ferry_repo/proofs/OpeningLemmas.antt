@@ -38,6 +38,9 @@ key_refused files passphrase log (Fault.Damaged segment at) is refused = absurd 
 key_refused files passphrase log (Fault.Missing id) is refused = absurd refused
 key_refused files passphrase log (Fault.Blob id fault) is refused = absurd refused
 key_refused files passphrase log (Fault.Manifest fault) is refused = absurd refused
+key_refused files passphrase log (Fault.Archive id fault) is refused = absurd refused
+key_refused files passphrase log (Fault.Item id fault) is refused = absurd refused
+key_refused files passphrase log (Fault.Size id) is refused = absurd refused
 
 pub unlocks_files : (files : Files) (passphrase : List ℕ) (log : LogState) (config : Config) (iterations : ℕ) (key : Opened) → IsStateOf files log
     → UnlocksTo (contents_at files Name.Config) passphrase config iterations key → UnlocksFiles files passphrase log config key.keys
@@ -58,6 +61,9 @@ object_refused files passphrase log config keys (Fault.Damaged segment at) unloc
 object_refused files passphrase log config keys (Fault.Config fault) unlocks refused = absurd refused
 object_refused files passphrase log config keys (Fault.Key fault) unlocks refused = absurd refused
 object_refused files passphrase log config keys (Fault.Manifest fault) unlocks refused = absurd refused
+object_refused files passphrase log config keys (Fault.Archive id fault) unlocks refused = absurd refused
+object_refused files passphrase log config keys (Fault.Item id fault) unlocks refused = absurd refused
+object_refused files passphrase log config keys (Fault.Size id) unlocks refused = absurd refused
 
 pub manifest_refused : (files : Files) (passphrase : List ℕ) (log : LogState) (config : Config) (keys : Keys) (content : List ℕ) (fault : RepoFault)
     → UnlocksFiles files passphrase log config keys → HoldsObject files log keys zero_id content → IsNoManifest keys content fault
@@ -72,6 +78,9 @@ manifest_refused files passphrase log config keys content (Fault.Config fault) u
 manifest_refused files passphrase log config keys content (Fault.Key fault) unlocks holds refused = absurd refused
 manifest_refused files passphrase log config keys content (Fault.Missing id) unlocks holds refused = absurd refused
 manifest_refused files passphrase log config keys content (Fault.Blob id fault) unlocks holds refused = absurd refused
+manifest_refused files passphrase log config keys content (Fault.Archive id fault) unlocks holds refused = absurd refused
+manifest_refused files passphrase log config keys content (Fault.Item id fault) unlocks holds refused = absurd refused
+manifest_refused files passphrase log config keys content (Fault.Size id) unlocks holds refused = absurd refused
 
 -- ---- keys
 

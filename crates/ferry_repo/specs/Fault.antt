@@ -1,9 +1,11 @@
 -- The faults of a repository: those of its parts, and which are the device's.
-use Rattle.std.specs.Prelude.{Bool, true, false}
+use Rattle.std.specs.Prelude.{ℕ, List, Bool, true, false}
 use Rattle.ferry_config.specs.declared.fault.ConfigFault.{ConfigFault}
 use Rattle.ferry_config.specs.declared.fault.ConfigFault.TheVariants as Config
 use Rattle.ferry_disk.specs.declared.shelf.StoreFault.{StoreFault}
 use Rattle.ferry_disk.specs.declared.shelf.StoreFault.TheVariants as Store
+use Rattle.ferry_item.specs.declared.fault.ItemFault.{ItemFault}
+use Rattle.ferry_item.specs.declared.fault.ItemFault.TheVariants as Items
 use Rattle.ferry_keyblob.specs.declared.fault.KeyFault.{KeyFault}
 use Rattle.ferry_keyblob.specs.declared.fault.KeyFault.TheVariants as Key
 use Rattle.ferry_log.specs.declared.fault.LogFault.{LogFault}
@@ -11,7 +13,7 @@ use Rattle.ferry_log.specs.declared.fault.LogFault.TheVariants as Log
 use Rattle.ferry_manifest.specs.declared.fault.MetaFault.{MetaFault}
 use Rattle.ferry_manifest.specs.declared.fault.MetaFault.TheVariants as Meta
 use Rattle.ferry_repo.specs.declared.fault.RepoFault.{RepoFault}
-use Rattle.ferry_repo.specs.declared.fault.RepoFault.TheVariants.{NoCommit, Damaged, Config, Key, Manifest, Device, Memory}
+use Rattle.ferry_repo.specs.declared.fault.RepoFault.TheVariants.{NoCommit, Damaged, Config, Key, Manifest, Archive, Item, Device, Memory}
 
 -- the fault of a repository whose log doesn't open
 abbrev pub log_fault : LogFault → RepoFault
@@ -39,6 +41,16 @@ key_fault fault = Key fault
 abbrev pub manifest_fault : MetaFault → RepoFault
 manifest_fault Meta.Memory = Memory
 manifest_fault fault = Manifest fault
+
+-- that of an archive's record, which has this id
+abbrev pub archive_fault : List ℕ → MetaFault → RepoFault
+archive_fault id Meta.Memory = Memory
+archive_fault id fault = Archive id fault
+
+-- that of the items of an archive, whose record has this id
+abbrev pub item_fault : List ℕ → ItemFault → RepoFault
+item_fault id Items.Memory = Memory
+item_fault id fault = Item id fault
 
 -- whether a repository's device failed
 abbrev pub repo_failed : RepoFault → Bool

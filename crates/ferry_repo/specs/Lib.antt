@@ -2,3 +2,6 @@ pub mod Fault
 pub mod Objects
 pub mod Reason
 pub mod Opening
+pub mod Archives
+pub mod Walk
+pub mod Whole

@@ -9,7 +9,7 @@ use Rattle.ferry_log.specs.State.{LogState, place_in, IsBlobAt}
 use Rattle.ferry_log.specs.declared.place.Place.{Place}
 use Rattle.ferry_mac.specs.declared.keys.Keys.{Keys}
 use Rattle.ferry_repo.specs.declared.fault.RepoFault.{RepoFault}
-use Rattle.ferry_repo.specs.declared.fault.RepoFault.TheVariants.{NoCommit, Damaged, Config, Key, Missing, Blob, Manifest, Device, Memory}
+use Rattle.ferry_repo.specs.declared.fault.RepoFault.TheVariants.{NoCommit, Damaged, Config, Key, Missing, Blob, Manifest, Archive, Item, Size, Device, Memory}
 
 -- The log has a place for the id, and this blob lies there.
 pub record HasBlob (files : Files) (log : LogState) (id blob : List ℕ) : Type 0 where
@@ -42,6 +42,9 @@ RefusesObject files log keys id (Key fault) = ⊥
 RefusesObject files log keys id (Missing named) = (named ≡ id) × IsMissing log id
 RefusesObject files log keys id (Blob named fault) = (named ≡ id) × BreaksObject files log keys id fault
 RefusesObject files log keys id (Manifest fault) = ⊥
+RefusesObject files log keys id (Archive named fault) = ⊥
+RefusesObject files log keys id (Item named fault) = ⊥
+RefusesObject files log keys id (Size named) = ⊥
 RefusesObject files log keys id Device = Unit {0}
 RefusesObject files log keys id Memory = Unit {0}
 
@@ -67,3 +70,7 @@ LosesBlob bytes place fault = ⊥
 abbrev pub BreaksBlob : Keys → List ℕ → List ℕ → RepoFault → Type 0
 BreaksBlob keys id blob (Blob named fault) = (named ≡ id) × (blob_fault keys id blob ≡ Some fault)
 BreaksBlob keys id blob fault = ⊥
+
+-- Each blob that is there in these files, by this log, is there in those by that.
+abbrev pub KeepsBlobs : Files → LogState → Files → LogState → Type 0
+KeepsBlobs files log others after = (id blob : List ℕ) → HasBlob files log id blob → HasBlob others after id blob

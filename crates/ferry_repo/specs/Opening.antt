@@ -114,6 +114,9 @@ RefusesRepo files passphrase (Fault.Key fault) = ReadsLog files × RefusesKey (c
 RefusesRepo files passphrase (Fault.Missing id) = RefusesRoot files passphrase (Fault.Missing id)
 RefusesRepo files passphrase (Fault.Blob id fault) = RefusesRoot files passphrase (Fault.Blob id fault)
 RefusesRepo files passphrase (Fault.Manifest fault) = RefusesManifest files passphrase (Fault.Manifest fault)
+RefusesRepo files passphrase (Fault.Archive id fault) = ⊥
+RefusesRepo files passphrase (Fault.Item id fault) = ⊥
+RefusesRepo files passphrase (Fault.Size id) = ⊥
 RefusesRepo files passphrase Fault.Device = Unit {0}
 RefusesRepo files passphrase Fault.Memory = Unit {0}
 

@@ -1,13 +1,16 @@
 //! Why a repository or a part of it can't be read.
 ghost use Rattle.std.specs.Prelude.{◌≡◌};
+ghost use Rattle.ferry_repo.specs.Fault.{archive_fault, item_fault};
 
 use ferry_base::Id;
 use ferry_blob::BlobFault;
 use ferry_config::ConfigFault;
 use ferry_disk::StoreFault;
+use ferry_item::ItemFault;
 use ferry_keyblob::KeyFault;
 use ferry_log::LogFault;
 use ferry_manifest::MetaFault;
+use std::alloc::AllocError;
 use thiserror::Error;
 
 /// Why a repository doesn't open, or a chunk of it can't be read. The faults of parts are never those of memory, which is
@@ -36,6 +39,15 @@ pub enum RepoFault {
     /// The object under the zero id is no manifest.
     #[error("the manifest doesn't read: {0}")]
     Manifest(MetaFault),
+    /// The chunk of this id is no archive's record.
+    #[error("an archive's record doesn't read: {1}")]
+    Archive(Id, MetaFault),
+    /// The items of the archive with the record of this id don't read.
+    #[error("an item doesn't read: {1}")]
+    Item(Id, ItemFault),
+    /// The content of the id has another length than an item states.
+    #[error("a content has another length than is stated")]
+    Size(Id),
     /// The device failed.
     #[error("the device failed")]
     Device,
@@ -56,6 +68,16 @@ impl From<LogFault> for RepoFault {
             LogFault::Device => RepoFault::Device,
             LogFault::Memory => RepoFault::Memory,
         }
+    }
+}
+
+impl From<AllocError> for RepoFault {
+    ghost use Rattle.ferry_repo.specs.declared.fault.RepoFault.TheVariants.{Memory};
+
+    ghost from_gives = { λ _ fault. fault ≡ Memory };
+
+    fn from(_error: AllocError) -> RepoFault {
+        RepoFault::Memory
     }
 }
 
@@ -108,5 +130,25 @@ impl From<MetaFault> for RepoFault {
             MetaFault::Memory => RepoFault::Memory,
             fault => RepoFault::Manifest(fault),
         }
+    }
+}
+
+/// The fault where the record of this id doesn't read.
+pub(crate) fn of_archive(id: Id, fault: MetaFault) -> RepoFault
+    ensures { result ≡ archive_fault id fault }
+{
+    match fault {
+        MetaFault::Memory => RepoFault::Memory,
+        fault => RepoFault::Archive(id, fault),
+    }
+}
+
+/// The fault where the items of the archive with the record of this id don't read.
+pub(crate) fn of_item(id: Id, fault: ItemFault) -> RepoFault
+    ensures { result ≡ item_fault id fault }
+{
+    match fault {
+        ItemFault::Memory => RepoFault::Memory,
+        fault => RepoFault::Item(id, fault),
     }
 }

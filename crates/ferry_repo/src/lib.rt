@@ -12,9 +12,11 @@ mod object;
 mod opening;
 mod reason;
 mod repo;
+mod walk;
 
 pub use fault::RepoFault;
-pub use laws::{chunk_laws, repo_laws};
+pub use laws::{chunk_laws, kept_laws, repo_laws, walk_laws, whole_laws};
 pub use opening::{Unlocked, unlock};
 pub use reason::write_reason;
 pub use repo::Repo;
+pub use walk::Walk;

@@ -39,8 +39,11 @@ fn append_reason(fault: &RepoFault, into: &mut Vec<u8>) -> Result<(), AllocError
         RepoFault::Config(fault) => append_number(b"config ", fault.number(), into),
         RepoFault::Key(fault) => append_number(b"key ", fault.number(), into),
         RepoFault::Missing(id) => append_id(b"missing ", id, into),
-        RepoFault::Blob(id, fault) => append_blob(fault.number(), id, into),
+        RepoFault::Blob(id, fault) => append_both(b"blob ", fault.number(), id, into),
         RepoFault::Manifest(fault) => append_number(b"manifest ", fault.number(), into),
+        RepoFault::Archive(id, fault) => append_both(b"record ", fault.number(), id, into),
+        RepoFault::Item(id, fault) => append_both(b"items ", fault.number(), id, into),
+        RepoFault::Size(id) => append_id(b"size ", id, into),
         RepoFault::Device | RepoFault::Memory => Ok(()),
     }
 }
@@ -75,13 +78,13 @@ fn append_damaged(segment: u64, at: u64, into: &mut Vec<u8>) -> Result<(), Alloc
     write_number(u128::from(at), into)
 }
 
-/// Appends a blob's fault and its id.
-fn append_blob(number: u8, id: &Id, into: &mut Vec<u8>) -> Result<(), AllocError>
+/// Appends a word, a number and an id.
+fn append_both(word: &[u8], number: u8, id: &Id, into: &mut Vec<u8>) -> Result<(), AllocError>
     ensures ok { OnOk result (into.new.items ≡ into.old.items
-        ++ (codes "blob " ++ (decimal number ++ (32 ∷ encode_lower id.now)))) }
+        ++ (word.now ++ (decimal number ++ (32 ∷ encode_lower id.now)))) }
     ensures err { OnErr result (take (length into.old.items) into.new.items ≡ into.old.items) }
 {
-    into.extend_from_slice(b"blob ")?;
+    into.extend_from_slice(word)?;
     write_number(u128::from(number), into)?;
     into.extend_from_slice(b" ")?;
     write_id(id, into)

@@ -1,20 +1,26 @@
 //! An opened repository.
-ghost use Rattle.std.specs.Prelude.{◌≡◌, IfOk, IfErr, IfSome};
+ghost use Rattle.std.specs.Prelude.{◌≡◌, IfOk, IfErr, IfSome, option_map, Ok, false};
+ghost use Rattle.ferry_disk.specs.Files.{Files};
 ghost use Rattle.ferry_disk.specs.Device.{KeepsTold, HasCause, told_files};
 ghost use Rattle.ferry_manifest.specs.Manifest.Text.{manifest_view};
+ghost use Rattle.ferry_manifest.specs.Record.Text.{archive_of, archive_view};
+ghost use Rattle.ferry_repo.specs.Archives.{archive_named, IsNoRecord, HoldsNamed, RefusesNamed, HoldsContent, RefusesContent};
 ghost use Rattle.ferry_repo.specs.Fault.{repo_failed};
 ghost use Rattle.ferry_repo.specs.Objects.{HoldsChunk, RefusesChunk};
 ghost use Rattle.ferry_repo.specs.Opening.{repo_view, OpensFilesTo, RefusesRepo, FitsRepo};
+ghost use Rattle.ferry_repo.specs.Walk.{walk_view, begin_walk, FitsWalk};
 
-use crate::fault::RepoFault;
+use crate::fault::{RepoFault, of_archive};
 use crate::object::object;
 use crate::opening::{manifest, settings, unlock};
+use crate::walk::Walk;
 use ferry_base::{Id, ZERO_ID};
 use ferry_config::Config;
 use ferry_disk::Shelf;
+use ferry_item::ChunkRef;
 use ferry_log::{Log, open_log};
 use ferry_mac::Keys;
-use ferry_manifest::Manifest;
+use ferry_manifest::{Archive, ArchiveRef, Ids, Manifest, read_archive};
 use std::alloc::Global;
 
 /// A repository opened for reading: it owns what it read of its log, its settings, its keys and its manifest. It is used with the
@@ -107,5 +113,96 @@ impl Repo {
             return Err(RepoFault::Missing(*id));
         }
         object(self.alloc, shelf, &self.log, &self.keys, id)
+    }
+
+    /// The content of an item's chunk, which has the size that the item states.
+    #[tactic(auto, using(crate::proofs::FaultLemmas::conversions))]
+    pub fn content<S: Shelf>(
+        &mut self,
+        shelf: &mut S,
+        chunk: &ChunkRef,
+    ) -> Result<Vec<u8>, RepoFault>
+        requires fits { IfSome (S.told shelf.old) (λ t. FitsRepo (told_files t) (repo_view self.old)) }
+        ensures content { IfOk result (λ content. IfSome (S.told shelf.old) (λ t.
+            HoldsContent (told_files t) (repo_view self.old).log (repo_view self.old).keys chunk.now content.items)) }
+        ensures refused { IfErr result (λ fault. IfSome (S.told shelf.old) (λ t.
+            RefusesContent (told_files t) (repo_view self.old).log (repo_view self.old).keys chunk.now fault)) }
+        ensures kept { repo_view self.new ≡ repo_view self.old }
+        ensures same { KeepsTold repo_failed (S.told shelf.old) (S.told shelf.new) result }
+        ensures cause { HasCause repo_failed (S.faults shelf.old) (S.faults shelf.new) result }
+    {
+        let content = self.chunk(shelf, &chunk.id)?;
+        if content.len() as u64 != chunk.size {
+            return Err(RepoFault::Size(chunk.id));
+        }
+        Ok(content)
+    }
+
+    /// The id of the record of the archive of a name, and none where the manifest has no such name.
+    pub fn record_id(&self, name: &[u8]) -> Option<Id>
+        ensures id { result ≡ option_map (λ a. a.id) (archive_named name.now (repo_view self.now).manifest.archives) }
+    {
+        id_named(self.manifest.archives.as_slice(), name)
+    }
+
+    /// The record of the archive of a name, and none where the manifest has no such name.
+    #[tactic(auto, using(crate::proofs::FaultLemmas::conversions))]
+    pub fn archive<S: Shelf>(
+        &mut self,
+        shelf: &mut S,
+        name: &[u8],
+    ) -> Result<Option<Archive>, RepoFault>
+        requires fits { IfSome (S.told shelf.old) (λ t. FitsRepo (told_files t) (repo_view self.old)) }
+        ensures archive { IfOk result (λ found. IfSome (S.told shelf.old) (λ t.
+            HoldsNamed (told_files t) (repo_view self.old).log (repo_view self.old).keys
+            (archive_named name.now (repo_view self.old).manifest.archives) (option_map archive_view found))) }
+        ensures refused { IfErr result (λ fault. IfSome (S.told shelf.old) (λ t.
+            RefusesNamed (told_files t) (repo_view self.old).log (repo_view self.old).keys
+            (archive_named name.now (repo_view self.old).manifest.archives) fault)) }
+        ensures kept { repo_view self.new ≡ repo_view self.old }
+        ensures same { KeepsTold repo_failed (S.told shelf.old) (S.told shelf.new) result }
+        ensures cause { HasCause repo_failed (S.faults shelf.old) (S.faults shelf.new) result }
+    {
+        let Some(id) = self.record_id(name) else {
+            return Ok(None);
+        };
+        let content = self.chunk(shelf, &id)?;
+        let archive = record_in(self.alloc, &self.keys, id, &content)?;
+        Ok(Some(archive))
+    }
+
+    /// A walk over the items of an archive, whose record has this id, from the front of its stream.
+    pub fn walk(&self, id: &Id, archive: &Archive) -> Result<Walk, RepoFault>
+        ensures walk { IfOk result (λ walk. walk_view walk ≡ begin_walk id.now archive.now.items) }
+        // In front of its stream a walk fits all files.
+        ensures fits { IfOk result (λ walk. (files : Files) → FitsWalk files (repo_view self.now).log (repo_view self.now).keys (walk_view walk)) }
+        ensures memory { IfErr result (λ fault. fault ≡ RepoFault.Memory) }
+    {
+        let ids = Vec::from_slice(self.alloc, archive.items.as_slice())?;
+        Ok(Walk::new(self.alloc, *id, Ids::new(ids)))
+    }
+}
+
+/// The id of the record of the archive of a name.
+fn id_named(archives: &[ArchiveRef], name: &[u8]) -> Option<Id>
+    ensures id { result ≡ option_map (λ a. a.id) (archive_named name.now archives.now) }
+{
+    for place in 0..archives.len() {
+        if archives[place].name.as_slice() == name {
+            return Some(archives[place].id);
+        }
+    }
+    None
+}
+
+/// The record that the chunk of this id is.
+fn record_in(alloc: Global, keys: &Keys, id: Id, content: &[u8]) -> Result<Archive, RepoFault>
+    ensures record { IfOk result (λ archive. archive_of keys.now content.now ≡ Ok (archive_view archive)) }
+    ensures refused { IfErr result (IsNoRecord keys.now id content.now) }
+    ensures still { IfErr result (λ fault. repo_failed fault ≡ false) }
+{
+    match read_archive(alloc, keys, content) {
+        Ok(archive) => Ok(archive),
+        Err(fault) => Err(of_archive(id, fault)),
     }
 }

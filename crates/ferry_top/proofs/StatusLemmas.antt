@@ -32,6 +32,9 @@ failed_of_repo (Repo.Key fault) = refl
 failed_of_repo (Repo.Missing id) = refl
 failed_of_repo (Repo.Blob id fault) = refl
 failed_of_repo (Repo.Manifest fault) = refl
+failed_of_repo (Repo.Archive id fault) = refl
+failed_of_repo (Repo.Item id fault) = refl
+failed_of_repo (Repo.Size id) = refl
 failed_of_repo Repo.Device = refl
 failed_of_repo Repo.Memory = refl
 

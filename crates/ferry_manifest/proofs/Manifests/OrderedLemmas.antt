@@ -1,36 +1,22 @@
--- A manifest that is packable can be written, where its bytes are few enough.
-use Rattle.std.proofs.Common.{ℕ, suc, ◌≤◌, ◌<◌, List, [], ◌∷◌, length, codes, pos, inl, inr, Option, Some, None, subst, arith}
-use Rattle.std.proofs.lemmas.Bool.{cases_lt}
-use Rattle.ferry_base.specs.Limits.{content_limit}
-use Rattle.ferry_msgpack.specs.Tree.{number, raw, array, table, Pairs, no_pairs, put}
-use Rattle.ferry_msgpack.specs.Writable.{depth, items_depth, IsBelow, IsWritable}
-use Rattle.ferry_fields.specs.Sizes.{IsOrdered, ItemsOrdered}
-use Rattle.ferry_fields.proofs.SizeLemmas.{AreOrdered, no_pairs_ordered, put_ordered, ordered_writable, small_number, writable_ordered, writable_pairs_ordered}
+-- A manifest that is packable can be packed with a tag.
+use Rattle.std.proofs.Common.{◌≡◌, ℕ, ◌≤◌, List, [], ◌∷◌, codes, pos, Option, Some, None, sym, subst, arith}
+use Rattle.ferry_msgpack.specs.Tree.{Tree, number, raw, array, table, Pairs, no_pairs, put}
+use Rattle.ferry_msgpack.specs.Writable.{items_depth, IsBelow, IsWritable}
+use Rattle.ferry_fields.specs.Sizes.{ItemsOrdered}
+use Rattle.ferry_fields.proofs.SizeLemmas.{AreOrdered, no_pairs_ordered, put_ordered, small_number, writable_ordered, writable_pairs_ordered}
 use Rattle.ferry_manifest.specs.Manifest.Text.{ManifestText}
-use Rattle.ferry_manifest.specs.Manifest.Writing.{IsBelowNames, AreIncreasing, IsPackable, archive_fields, archive_names, archive_pairs, manifest_pairs, packed}
-use Rattle.ferry_manifest.specs.Manifest.Writing.{tag_pairs, untagged_pairs, with_timestamp}
+use Rattle.ferry_manifest.specs.Manifest.Writing.{IsBelowNames, AreIncreasing, IsPackable, archive_fields, archive_names, archive_pairs, untagged_pairs}
+use Rattle.ferry_manifest.specs.Manifest.Writing.{with_timestamp}
+use Rattle.ferry_manifest.specs.Tagged.{IsTaggable}
 use Rattle.ferry_manifest.specs.Values.{pairs_of_table, raws}
 use Rattle.ferry_manifest.specs.declared.manifest.ArchiveRef.{ArchiveRef}
-
--- pairs as the value of a name
-table_deep : (d : ℕ) (ps : Pairs) → AreOrdered d ps → depth (table ps) ≤ suc d
-table_deep d ps ordered = let deep = ordered.deep in omega arith
-
-table_ordered : (d : ℕ) (ps : Pairs) → AreOrdered d ps → IsOrdered (table ps)
-table_ordered d ps ordered = (ordered.increase, ordered.ordered)
+use Rattle.ferry_manifest.proofs.TaggedLemmas.{ordered_taggable, table_deep, table_ordered}
 
 fields_ordered : (archive : ArchiveRef) → AreOrdered 0 (archive_fields archive)
 unfolding archive_fields
 fields_ordered archive =
     put_ordered 0 (codes "id") (raw archive.id) (put (codes "time") (raw archive.time) no_pairs) (omega arith) tt
     (put_ordered 0 (codes "time") (raw archive.time) no_pairs (omega arith) tt (no_pairs_ordered 0))
-
-tag_ordered : (hmac salt : List ℕ) → AreOrdered 0 (tag_pairs hmac salt)
-unfolding tag_pairs
-tag_ordered hmac salt =
-    put_ordered 0 (codes "hmac") (raw hmac) _ (omega arith) tt
-    (put_ordered 0 (codes "salt") (raw salt) _ (omega arith) tt
-    (put_ordered 0 (codes "type") (raw (codes "HKDF_HMAC_SHA512")) no_pairs (omega arith) tt (no_pairs_ordered 0)))
 
 archives_below : (name : List ℕ) (archives : List ArchiveRef) → IsBelowNames name (archive_names archives) → IsBelow name (archive_pairs archives)
 unfolding archive_pairs
@@ -64,9 +50,9 @@ timestamp_ordered : (timestamp : Option (List ℕ)) (ps : Pairs) → AreOrdered 
 timestamp_ordered None ps ordered = ordered
 timestamp_ordered (Some t) ps ordered = put_ordered 63 (codes "timestamp") (raw t) ps (omega arith) tt ordered
 
-pub manifest_ordered : (manifest : ManifestText) (hmac salt : List ℕ) → IsPackable manifest → AreOrdered 63 (manifest_pairs manifest hmac salt)
-unfolding manifest_pairs untagged_pairs
-manifest_ordered manifest hmac salt packable =
+pub manifest_ordered : (manifest : ManifestText) → IsPackable manifest → AreOrdered 63 (untagged_pairs manifest)
+unfolding untagged_pairs
+manifest_ordered manifest packable =
     let more : AreOrdered 63 (pairs_of_table manifest.more) =
     writable_pairs_ordered (pairs_of_table manifest.more) (subst IsWritable packable.more packable.more_writable) in
     let stamped = timestamp_ordered manifest.timestamp (pairs_of_table manifest.more) more in
@@ -79,27 +65,8 @@ manifest_ordered manifest hmac salt packable =
     let archived =
     put_ordered 63 (codes "archives") (table (archive_pairs manifest.archives)) _ (omega arith)
     (table_ordered 1 (archive_pairs manifest.archives) listed) keyed in
-    let versioned = put_ordered 63 (codes "version") (number (pos 1)) _ (omega arith) (small_number 1 (omega arith)) archived in
-    let tag_deep = table_deep 0 (tag_pairs hmac salt) (tag_ordered hmac salt) in
-    put_ordered 63 (codes "tam") (table (tag_pairs hmac salt)) (untagged_pairs manifest) (omega arith)
-    (table_ordered 0 (tag_pairs hmac salt) (tag_ordered hmac salt)) versioned
+    put_ordered 63 (codes "version") (number (pos 1)) _ (omega arith) (small_number 1 (omega arith)) archived
 
-pub short_writable : (manifest : ManifestText) (hmac salt : List ℕ) → IsPackable manifest → length (packed manifest hmac salt) ≤ content_limit
-    → IsWritable (table (manifest_pairs manifest hmac salt))
-unfolding packed
-short_writable manifest hmac salt packable short =
-    ordered_writable (manifest_pairs manifest hmac salt) (manifest_ordered manifest hmac salt packable) (omega arith)
-
-pub either_size : (n : ℕ) (P : Type 0) → (n ≤ content_limit → P) → (P → ⊥) → content_limit < n
-either_size n P short not_so =
-    elim (cases_lt content_limit n) [
-      | inl more ↦ more
-      | inr few ↦ absurd (not_so (short few))
-    ]
-
--- what can't be written is too large
-pub unwritable_large : (manifest : ManifestText) (hmac salt : List ℕ) → IsPackable manifest → (IsWritable (table (manifest_pairs manifest hmac salt)) → ⊥)
-    → content_limit < length (packed manifest hmac salt)
-unwritable_large manifest hmac salt packable not_so =
-    either_size (length (packed manifest hmac salt)) (IsWritable (table (manifest_pairs manifest hmac salt))) (short_writable manifest hmac salt packable)
-    not_so
+-- a table of the pairs can be packed with a tag
+pub manifest_taggable : (manifest : ManifestText) (t : Tree) → IsPackable manifest → t ≡ table (untagged_pairs manifest) → IsTaggable t
+manifest_taggable manifest t packable is = subst IsTaggable (sym is) (ordered_taggable (untagged_pairs manifest) (manifest_ordered manifest packable))

@@ -9,9 +9,8 @@ use Rattle.ferry_fields.specs.Others.{without}
 use Rattle.ferry_fields.proofs.FieldLemmas.{value_of-here, value_of-other, value_of-none}
 use Rattle.ferry_fields.proofs.KeptLemmas.{without_writable, has_among-without}
 use Rattle.ferry_manifest.specs.Manifest.Text.{archive_from, archives_in, archives_of, config_in, field_names, in_order, item_keys_in, map_tree, raws_of}
-use Rattle.ferry_manifest.specs.Manifest.Text.{where_absent}
 use Rattle.ferry_manifest.specs.Manifest.Writing.{IsBelowNames, AreIncreasing, IsPackable, archive_names}
-use Rattle.ferry_manifest.specs.Values.{pairs_of_table}
+use Rattle.ferry_manifest.specs.Values.{pairs_of_table, where_absent}
 use Rattle.ferry_manifest.specs.declared.manifest.ArchiveRef.{ArchiveRef}
 use Rattle.ferry_manifest.proofs.Manifests.OrderLemmas.{in_order-increasing}
 

@@ -1,25 +1,28 @@
--- A record that is packable can be written, where its bytes are few enough, and what is written is read again.
+-- A record that is packable can be packed with a tag, and what is written is read again.
 use Rattle.std.proofs.Common.{◌≡◌, ℕ, true, false, ◌+◌, ◌≤◌, ◌<◌, List, [], ◌∷◌, ◌++◌, length, get_or, take, codes, Option, Some, None, Result, Ok, Err, IfOk}
 use Rattle.std.proofs.Common.{Vec, Global, refl, sym, ap, subst, ◌∙◌, arith}
 use Rattle.std.proofs.lemmas.List.{take_more, take_all}
-use Rattle.ferry_base.specs.Limits.{content_limit}
+use Rattle.ferry_mac.specs.declared.keys.Keys.{Keys}
 use Rattle.ferry_msgpack.specs.declared.value.Value.{Value}
 use Rattle.ferry_msgpack.specs.Tree.{Tree, raw, array, table, Pairs, put}
 use Rattle.ferry_msgpack.specs.View.{value_view, items_view}
-use Rattle.ferry_msgpack.specs.Shortest.{shortest}
 use Rattle.ferry_msgpack.specs.Writable.{IsWritable}
-use Rattle.ferry_fields.specs.Fields.{map_of, value_of, raw_in, has_version_1}
+use Rattle.ferry_fields.specs.Fields.{value_of, raw_in, has_version_1}
 use Rattle.ferry_fields.specs.Others.{without, has_among}
-use Rattle.ferry_fields.proofs.MapLemmas.{map_of-shortest}
 use Rattle.ferry_fields.proofs.OtherLemmas.{without-apart}
 use Rattle.ferry_fields.proofs.PutLemmas.{value_of-put, value_of-put_other, without-put}
-use Rattle.ferry_fields.proofs.SizeLemmas.{AreOrdered, put_ordered, ordered_writable, writable_ordered, writable_pairs_ordered}
-use Rattle.ferry_manifest.specs.Record.Text.{ArchiveText, apart_names, archive_of, id_of, ids_in, items_at, record_from}
-use Rattle.ferry_manifest.specs.Record.Writing.{AreIds, AreParams, IsPackableArchive, archive_text, record_pairs, with_params}
+use Rattle.ferry_fields.proofs.SizeLemmas.{AreOrdered, put_ordered, writable_ordered, writable_pairs_ordered}
+use Rattle.ferry_manifest.specs.Record.Text.{ArchiveText, apart_names, archive_of, as_tagged, id_of, ids_in, items_at, record_from}
+use Rattle.ferry_manifest.specs.Record.Writing.{AreIds, AreParams, IsPackableArchive, record_pairs, with_params}
+use Rattle.ferry_manifest.specs.Stated.{is_right, tag_in}
+use Rattle.ferry_manifest.specs.Tag.{archive_info}
+use Rattle.ferry_manifest.specs.Tagged.{IsTaggable, packed_tag, tag_pairs, tagged_pairs, tagged_text}
 use Rattle.ferry_manifest.specs.Values.{pairs_of_table, raws}
 use Rattle.ferry_manifest.specs.declared.fault.MetaFault.{MetaFault}
+use Rattle.ferry_manifest.specs.declared.stated.StatedTag.{StatedTag}
+use Rattle.ferry_manifest.proofs.TaggedLemmas.{length-packed_tag, ordered_taggable, tag_right, tag_said, tagged_map}
 use Rattle.ferry_manifest.proofs.Manifests.AgainLemmas.{absent}
-use Rattle.ferry_manifest.proofs.Manifests.OrderedLemmas.{raws_deep, raws_ordered, either_size}
+use Rattle.ferry_manifest.proofs.Manifests.OrderedLemmas.{raws_deep, raws_ordered}
 use Rattle.ferry_manifest.proofs.Manifests.WriteLemmas.{raws_push}
 
 -- ---- ids as values
@@ -54,15 +57,9 @@ record_ordered archive packable =
     put_ordered 63 (codes "items") (array (raws archive.items)) _ (omega arith) (raws_ordered archive.items)
     (params_ordered archive.params (pairs_of_table archive.fields) packable.params fields)
 
-short_record : (archive : ArchiveText) → IsPackableArchive archive → length (archive_text archive) ≤ content_limit → IsWritable (table (record_pairs archive))
-unfolding archive_text
-short_record archive packable short = ordered_writable (record_pairs archive) (record_ordered archive packable) (omega arith)
-
--- what can't be written is too large
-pub record_large : (archive : ArchiveText) → IsPackableArchive archive → (IsWritable (table (record_pairs archive)) → ⊥)
-    → content_limit < length (archive_text archive)
-record_large archive packable not_so =
-    either_size (length (archive_text archive)) (IsWritable (table (record_pairs archive))) (short_record archive packable) not_so
+-- a table of the pairs can be packed with a tag
+pub record_taggable : (archive : ArchiveText) (t : Tree) → IsPackableArchive archive → t ≡ table (record_pairs archive) → IsTaggable t
+record_taggable archive t packable is = subst IsTaggable (sym is) (ordered_taggable (record_pairs archive) (record_ordered archive packable))
 
 -- ---- what is written is read again
 
@@ -77,10 +74,12 @@ ids_said (id ∷ ids) sized = rw (id_said id sized.0, ids_said ids sized.1) refl
 items_said : (all : Pairs) (ids : List (List ℕ)) → value_of (codes "items") all ≡ Some (array (raws ids)) → AreIds ids → items_at all ≡ Some ids
 items_said all ids is sized = rw is (ids_said ids sized)
 
-record_said : (all : Pairs) (archive : ArchiveText) → has_version_1 all ≡ true → raw_in (codes "name") all ≡ Some archive.name
-    → items_at all ≡ Some archive.items → value_of (codes "chunker_params") all ≡ archive.params
-    → table (without apart_names all) ≡ archive.fields → record_from (Some all) ≡ Ok archive
-record_said all archive version name items params fields = rw (version, name, items, params, fields) refl
+record_said : (keys : Keys) (bytes : List ℕ) (all : Pairs) (archive : ArchiveText) (tam : Tree) (tag : StatedTag) → has_version_1 all ≡ true
+    → raw_in (codes "name") all ≡ Some archive.name → items_at all ≡ Some archive.items → value_of (codes "chunker_params") all ≡ archive.params
+    → table (without apart_names all) ≡ archive.fields → value_of (codes "tam") all ≡ Some tam → tag_in all ≡ Some (Some tag)
+    → is_right archive_info keys bytes tag ≡ true → record_from keys bytes (Some all) ≡ Ok (as_tagged archive)
+record_said keys bytes all archive tam tag version name items params fields there tagged right =
+    rw (version, name, items, params, fields, tagged, right, there) refl
 
 params_are : (params : Option Tree) (fields : Pairs) → has_among apart_names fields ≡ false
     → value_of (codes "chunker_params") (with_params params fields) ≡ params
@@ -99,43 +98,55 @@ params_version : (params : Option Tree) (fields : Pairs) → value_of (codes "ve
 params_version None fields = refl
 params_version (Some t) fields = value_of-put_other (codes "version") (codes "chunker_params") t fields refl
 
-pairs_again : (archive : ArchiveText) → IsPackableArchive archive → AreIds archive.items → record_from (Some (record_pairs archive)) ≡ Ok archive
-unfolding record_pairs
-pairs_again archive packable sized =
+pairs_again : (keys : Keys) (bytes : List ℕ) (archive : ArchiveText) (hmac salt : List ℕ) → IsPackableArchive archive → AreIds archive.items
+    → length hmac ≡ 64 → length salt ≡ 64 → is_right archive_info keys bytes (record { hmac = hmac; salt = salt }) ≡ true
+    → record_from keys bytes (Some (tagged_pairs (record_pairs archive) hmac salt)) ≡ Ok (as_tagged archive)
+unfolding tagged_pairs record_pairs
+pairs_again keys bytes archive hmac salt packable sized hmac_size salt_size right =
+    let tag = table (tag_pairs hmac salt) in
     let items = array (raws archive.items) in
     let fields = pairs_of_table archive.fields in
     let rest = with_params archive.params fields in
-    let all = put (codes "items") items rest in
+    let pairs = put (codes "items") items rest in
+    let all = put (codes "tam") tag pairs in
     let version_is : value_of (codes "version") all ≡ value_of (codes "version") fields =
-    value_of-put_other (codes "version") (codes "items") items rest refl ∙ params_version archive.params fields in
+    value_of-put_other (codes "version") (codes "tam") tag pairs refl ∙ value_of-put_other (codes "version") (codes "items") items rest refl
+    ∙ params_version archive.params fields in
     let name_is : value_of (codes "name") all ≡ value_of (codes "name") fields =
-    value_of-put_other (codes "name") (codes "items") items rest refl ∙ params_name archive.params fields in
+    value_of-put_other (codes "name") (codes "tam") tag pairs refl ∙ value_of-put_other (codes "name") (codes "items") items rest refl
+    ∙ params_name archive.params fields in
+    let items_are : value_of (codes "items") all ≡ Some items =
+    value_of-put_other (codes "items") (codes "tam") tag pairs refl ∙ value_of-put (codes "items") items rest in
+    let params_is : value_of (codes "chunker_params") all ≡ archive.params =
+    value_of-put_other (codes "chunker_params") (codes "tam") tag pairs refl ∙ value_of-put_other (codes "chunker_params") (codes "items") items rest refl
+    ∙ params_are archive.params fields packable.apart in
+    let fields_are : without apart_names all ≡ fields =
+    without-put apart_names (codes "tam") tag pairs refl ∙ without-put apart_names (codes "items") items rest refl
+    ∙ params_fields archive.params fields packable.apart in
     let version : has_version_1 all ≡ true = rw version_is packable.version in
     let name : raw_in (codes "name") all ≡ Some archive.name = rw name_is packable.name in
-    record_said all archive version name
-    (items_said all archive.items (value_of-put (codes "items") items rest) sized)
-    (value_of-put_other (codes "chunker_params") (codes "items") items rest refl ∙ params_are archive.params fields packable.apart)
-    (ap table (without-put apart_names (codes "items") items rest refl ∙ params_fields archive.params fields packable.apart) ∙ sym packable.fields)
+    record_said keys bytes all archive tag (record { hmac = hmac; salt = salt }) version name (items_said all archive.items items_are sized) params_is
+    (ap table fields_are ∙ sym packable.fields) (value_of-put (codes "tam") tag pairs) (tag_said pairs hmac salt hmac_size salt_size) right
 
-record_map : (archive : ArchiveText) → IsWritable (table (record_pairs archive)) → map_of (archive_text archive) ≡ Some (record_pairs archive)
-unfolding archive_text
-record_map archive writable = map_of-shortest (record_pairs archive) writable
-
-pub record_again : (archive : ArchiveText) → IsPackableArchive archive → AreIds archive.items → IsWritable (table (record_pairs archive))
-    → archive_of (archive_text archive) ≡ Ok archive
+text_again : (keys : Keys) (archive : ArchiveText) (salt : List ℕ) → IsPackableArchive archive → AreIds archive.items → length salt ≡ 64
+    → IsWritable (table (tagged_pairs (record_pairs archive) (packed_tag archive_info keys salt (record_pairs archive)) salt))
+    → archive_of keys (tagged_text archive_info keys salt (record_pairs archive)) ≡ Ok (as_tagged archive)
 unfolding archive_of
-record_again archive packable sized writable = ap record_from (record_map archive writable) ∙ pairs_again archive packable sized
+text_again keys archive salt packable sized salt_size writable =
+    let ps = record_pairs archive in
+    let bytes = tagged_text archive_info keys salt ps in
+    ap (record_from keys bytes) (tagged_map archive_info keys salt ps writable)
+    ∙ pairs_again keys bytes archive (packed_tag archive_info keys salt ps) salt packable sized (length-packed_tag archive_info keys salt ps) salt_size
+    (tag_right archive_info keys salt ps writable)
 
--- the bytes of a value are those of the record that it is
-pub text_shown : (archive : ArchiveText) (t : Tree) (result : Result (Vec ℕ Global) MetaFault) → t ≡ table (record_pairs archive)
-    → IfOk result (λ text. text.items ≡ shortest t) → IfOk result (λ text. text.items ≡ archive_text archive)
-unfolding archive_text
-text_shown archive t (Ok text) is text_is = text_is ∙ ap shortest is
-text_shown archive t (Err fault) is text_is = tt
-
--- the same of what a call returned
-pub record_written : (archive : ArchiveText) (result : Result (Vec ℕ Global) MetaFault) → IsPackableArchive archive → AreIds archive.items
-    → IsWritable (table (record_pairs archive))
-    → IfOk result (λ text. text.items ≡ archive_text archive) → IfOk result (λ text. archive_of text.items ≡ Ok archive)
-record_written archive (Ok text) packable sized writable is = ap archive_of is ∙ record_again archive packable sized writable
-record_written archive (Err fault) packable sized writable is = tt
+-- the same of what a call returned for a table
+pub written_again : (keys : Keys) (archive : ArchiveText) (salt : List ℕ) (ps : Pairs) (result : Result (Vec ℕ Global) MetaFault)
+    → IsPackableArchive archive → AreIds archive.items → length salt ≡ 64 → ps ≡ record_pairs archive
+    → IfOk result (λ text. text.items ≡ tagged_text archive_info keys salt ps)
+    → IfOk result (λ _. IsWritable (table (tagged_pairs ps (packed_tag archive_info keys salt ps) salt)))
+    → IfOk result (λ text. archive_of keys text.items ≡ Ok (as_tagged archive))
+written_again keys archive salt ps (Ok text) packable sized salt_size is text_is writable =
+    ap (archive_of keys) (text_is ∙ ap (tagged_text archive_info keys salt) is)
+    ∙ text_again keys archive salt packable sized salt_size
+    (subst (λ (qs : Pairs). IsWritable (table (tagged_pairs qs (packed_tag archive_info keys salt qs) salt))) is writable)
+written_again keys archive salt ps (Err fault) packable sized salt_size is text_is writable = tt

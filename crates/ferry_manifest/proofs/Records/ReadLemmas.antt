@@ -1,6 +1,6 @@
 -- Ids, read one after the other; what is read of a record can be packed.
-use Rattle.std.proofs.Common.{◌≡◌, ℕ, ◌+◌, ◌≤◌, ◌<◌, true, List, [], ◌∷◌, ◌++◌, length, get_or, drop, codes, Option, Some, None, option_map, refl, sym, ap, ◌∙◌}
-use Rattle.std.proofs.Common.{append_assoc, append-nil, arith}
+use Rattle.std.proofs.Common.{◌≡◌, ℕ, ◌+◌, ◌≤◌, ◌<◌, Bool, true, List, [], ◌∷◌, ◌++◌, length, get_or, drop, codes, Option, Some, None, option_map, refl}
+use Rattle.std.proofs.Common.{sym, ap, ◌∙◌, append_assoc, append-nil, arith}
 use Rattle.std.proofs.lemmas.List.{drop_all}
 use Rattle.ferry_msgpack.specs.declared.value.Value.{Value}
 use Rattle.ferry_msgpack.specs.Tree.{Tree, Items, table, Pairs}
@@ -65,11 +65,12 @@ params_from (Some t) is =
     (record { depth_fits = omega arith; fits = here.fits }, deep)
 
 -- what is said of a map is packable
-pub record_packable : (all : Pairs) (name : List ℕ) (items : List (List ℕ)) (params : Option Tree) (fields : Tree) → IsWritable (table all)
+pub record_packable : (all : Pairs) (name : List ℕ) (items : List (List ℕ)) (params : Option Tree) (fields : Tree) (tagged : Bool)
+    → IsWritable (table all)
     → has_version_1 all ≡ true → raw_in (codes "name") all ≡ Some name → params ≡ value_of (codes "chunker_params") all
     → fields ≡ table (without apart_names all)
-    → IsPackableArchive (record { name = name; items = items; params = params; fields = fields })
-record_packable all name items params fields writable version name_is params_are fields_are =
+    → IsPackableArchive (record { name = name; items = items; params = params; fields = fields; tagged = tagged })
+record_packable all name items params fields tagged writable version name_is params_are fields_are =
     let whole = writable.depth_fits in
     let deep : pairs_depth all ≤ 63 = omega arith in
     let fits : PairsFit all = writable.fits.2 in

@@ -1,22 +1,21 @@
 -- What the packed bytes of a manifest mean. BorgBackup 1.2 Internals, "Data structures and file formats", The manifest:
 -- a map with the names `version`, `timestamp`, `config`, `item_keys`, `archives` and `tam`; other names are kept.
-use Rattle.std.specs.Prelude.{◌≡◌, ℕ, ◌||◌, not, Bool, if◌then◌else◌, List, [], ◌∷◌, ◌++◌, fold, replicate, codes, Option, Some, None, is_none, unwrap_or}
+use Rattle.std.specs.Prelude.{ℕ, ◌||◌, not, Bool, if◌then◌else◌, List, [], ◌∷◌, fold, codes, Option, Some, None, is_none, unwrap_or}
 use Rattle.std.specs.Prelude.{option_and_then, option_map, Result, Ok, Err}
 use Rattle.std.specs.Ordering.{nat_cmp}
-use Rattle.std.specs.Str.{bytes_eq}
 use Rattle.std.specs.Cmp.Lexicographic.{slice_cmp}
 use Rattle.std.specs.BTreeSet.{insert_key}
-use Rattle.ferry_mac.specs.Hmac.{hmac512}
 use Rattle.ferry_mac.specs.declared.keys.Keys.{Keys}
 use Rattle.ferry_msgpack.specs.Tree.{Tree, nil, flag, number, raw, array, table, Items, no_items, item, Pairs, no_pairs, pair}
 use Rattle.ferry_msgpack.specs.View.{value_view}
-use Rattle.ferry_fields.specs.Fields.{map_of, value_of, raw_of, raw_in, raw32_in, raw64_in, pairs_in, has_version_1}
+use Rattle.ferry_fields.specs.Fields.{map_of, value_of, raw_of, raw_in, raw32_in, pairs_in, has_version_1}
 use Rattle.ferry_fields.specs.Others.{without}
-use Rattle.ferry_manifest.specs.Place.{TagStands}
-use Rattle.ferry_manifest.specs.Tag.{manifest_info, tag_key, tag_of}
+use Rattle.ferry_manifest.specs.Stated.{is_right, tag_in}
+use Rattle.ferry_manifest.specs.Tag.{manifest_info}
+use Rattle.ferry_manifest.specs.Values.{where_absent}
 use Rattle.ferry_manifest.specs.declared.manifest.ArchiveRef.{ArchiveRef}
 use Rattle.ferry_manifest.specs.declared.manifest.Manifest.{Manifest}
-use Rattle.ferry_manifest.specs.declared.tag.StatedTag.{StatedTag}
+use Rattle.ferry_manifest.specs.declared.stated.StatedTag.{StatedTag}
 use Rattle.ferry_manifest.specs.declared.fault.MetaFault.{MetaFault}
 use Rattle.ferry_manifest.specs.declared.fault.MetaFault.TheVariants.{Pack, Field, TagMissing, Tag}
 
@@ -43,11 +42,6 @@ abbrev pub field_names : List (List ℕ)
 field_names =
     codes "version" ∷ codes "timestamp" ∷ codes "config"
     ∷ codes "item_keys" ∷ codes "archives" ∷ codes "tam" ∷ []
-
--- what is said of a name: this where it is absent, or else what its value says
-abbrev pub where_absent : {A : Type 0} → A → (Tree → Option A) → Option Tree → Option A
-where_absent absent says None = Some absent
-where_absent absent says (Some t) = says t
 
 -- the timestamp, where the name is absent or has bytes
 abbrev pub timestamp_in : Pairs → Option (Option (List ℕ))
@@ -103,24 +97,6 @@ archives_of (pair name t pairs) =
 abbrev pub archives_in : Pairs → Option (List ArchiveRef)
 archives_in pairs = option_and_then archives_of (option_and_then pairs_in (value_of (codes "archives") pairs))
 
--- whether the type of the tag is the one that is known
-abbrev pub has_known_type : Pairs → Bool
-has_known_type fields = bytes_eq (unwrap_or (raw_in (codes "type") fields) []) (codes "HKDF_HMAC_SHA512")
-
--- the tag, from the pairs of its map
-abbrev pub tag_from : Pairs → Option StatedTag
-tag_from fields =
-    if has_known_type fields
-    then option_and_then
-    (λ hmac. option_map (λ salt. record { hmac = hmac; salt = salt }) (raw64_in (codes "salt") fields))
-    (raw64_in (codes "hmac") fields)
-    else None
-
--- the tag, where the name is absent or has a map with a tag of the known type
-abbrev pub tag_in : Pairs → Option (Option StatedTag)
-tag_in pairs =
-    where_absent None (λ t. option_map Some (option_and_then tag_from (pairs_in t))) (value_of (codes "tam") pairs)
-
 -- whether a field is missing or has another kind or length, or the version isn't 1
 abbrev pub lacks_field : Pairs → Bool
 lacks_field pairs =
@@ -145,7 +121,7 @@ text_in pairs = record {
 abbrev pub with_tag : Keys → List ℕ → ManifestText → Option StatedTag → Result ManifestText MetaFault
 with_tag keys bytes text None = Err TagMissing
 with_tag keys bytes text (Some tag) =
-    if bytes_eq (tag_of manifest_info keys tag.salt bytes) tag.hmac then Ok text else Err Tag
+    if is_right manifest_info keys bytes tag then Ok text else Err Tag
 
 -- the manifest of a map, where the bytes spell one
 abbrev pub manifest_from : Keys → List ℕ → Option Pairs → Result ManifestText MetaFault
@@ -157,21 +133,3 @@ manifest_from keys bytes (Some pairs) =
 -- what the packed bytes of a manifest mean under these keys: the first fault, or what is said
 unfoldable pub manifest_of : Keys → List ℕ → Result ManifestText MetaFault
 manifest_of keys bytes = manifest_from keys bytes (map_of bytes)
-
--- the pairs state this tag with this salt
-abbrev pub StatesTag : Pairs → List ℕ → List ℕ → Type 0
-StatesTag pairs hmac salt =
-    (tam : Pairs)
-    × (value_of (codes "tam") pairs ≡ Some (table tam))
-    × (raw64_in (codes "hmac") tam ≡ Some hmac)
-    × (raw64_in (codes "salt") tam ≡ Some salt)
-
--- a tag that the pairs state stands in its place, and is that of the bytes with 64 zero bytes there
-pub record IsTagged (keys : Keys) (bytes : List ℕ) (pairs : Pairs) : Type 0 where
-  pub hmac : List ℕ
-  pub salt : List ℕ
-  pub front : List ℕ
-  pub back : List ℕ
-  pub states : StatesTag pairs hmac salt
-  pub stands : TagStands bytes front hmac back
-  pub tag : hmac ≡ hmac512 (tag_key manifest_info keys salt) (front ++ (replicate 64 0 ++ back))

@@ -1,18 +1,17 @@
 -- The packed bytes of a manifest that is written. BorgBackup 1.2 Internals, "Data structures and file formats", The
 -- manifest. Each map is written by the one shortest spelling.
-use Rattle.std.specs.Prelude.{◌≡◌, ℕ, ◌≤◌, List, [], ◌∷◌, length, map, replicate, codes, false, pos, Option, Some, None, ⊤}
+use Rattle.std.specs.Prelude.{◌≡◌, ℕ, ◌≤◌, List, [], ◌∷◌, length, map, codes, false, pos, Option, Some, None, ⊤}
 use Rattle.std.specs.Ordering.{nat_cmp}
 use Rattle.std.specs.declared.cmp.Ordering.TheVariants.{Less}
 use Rattle.std.specs.Cmp.Lexicographic.{slice_cmp}
-use Rattle.ferry_mac.specs.Hmac.{hmac512}
 use Rattle.ferry_mac.specs.declared.keys.Keys.{Keys}
 use Rattle.ferry_msgpack.specs.Tree.{number, raw, array, table, Pairs, no_pairs, pair, put}
-use Rattle.ferry_msgpack.specs.Shortest.{shortest}
 use Rattle.ferry_msgpack.specs.Writable.{depth, IsWritable}
 use Rattle.ferry_fields.specs.Others.{has_among}
 use Rattle.ferry_manifest.specs.Manifest.Text.{ManifestText, field_names}
 use Rattle.ferry_manifest.specs.Values.{pairs_of_table, raws}
-use Rattle.ferry_manifest.specs.Tag.{manifest_info, tag_key}
+use Rattle.ferry_manifest.specs.Tag.{manifest_info}
+use Rattle.ferry_manifest.specs.Tagged.{tagged_text}
 use Rattle.ferry_manifest.specs.declared.manifest.ArchiveRef.{ArchiveRef}
 
 -- the name is below the first of these names, by byte order
@@ -55,11 +54,6 @@ unfoldable pub archive_pairs : List ArchiveRef → Pairs
 archive_pairs [] = no_pairs
 archive_pairs (archive ∷ archives) = pair archive.name (table (archive_fields archive)) (archive_pairs archives)
 
--- the map of an authentication tag and its salt
-unfoldable pub tag_pairs : List ℕ → List ℕ → Pairs
-tag_pairs hmac salt =
-    put (codes "hmac") (raw hmac) (put (codes "salt") (raw salt) (put (codes "type") (raw (codes "HKDF_HMAC_SHA512")) no_pairs))
-
 -- the pairs, with the timestamp where there is one
 abbrev pub with_timestamp : Option (List ℕ) → Pairs → Pairs
 with_timestamp None pairs = pairs
@@ -74,15 +68,6 @@ untagged_pairs manifest =
     (put (codes "config") manifest.config
     (with_timestamp manifest.timestamp (pairs_of_table manifest.more)))))
 
--- the pairs of a manifest with this tag and salt
-unfoldable pub manifest_pairs : ManifestText → List ℕ → List ℕ → Pairs
-manifest_pairs manifest hmac salt = put (codes "tam") (table (tag_pairs hmac salt)) (untagged_pairs manifest)
-
--- the packed bytes of a manifest with this tag and salt
-unfoldable pub packed : ManifestText → List ℕ → List ℕ → List ℕ
-packed manifest hmac salt = shortest (table (manifest_pairs manifest hmac salt))
-
--- the packed bytes of a manifest under these keys: the tag is that of the bytes with 64 zero bytes in its place
+-- the packed bytes of a manifest under these keys
 unfoldable pub manifest_text : Keys → List ℕ → ManifestText → List ℕ
-manifest_text keys salt manifest =
-    packed manifest (hmac512 (tag_key manifest_info keys salt) (packed manifest (replicate 64 0) salt)) salt
+manifest_text keys salt manifest = tagged_text manifest_info keys salt (untagged_pairs manifest)

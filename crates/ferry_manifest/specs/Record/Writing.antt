@@ -2,11 +2,13 @@
 -- Archives. Each map is written by the one shortest spelling.
 use Rattle.std.specs.Prelude.{◌≡◌, ℕ, ◌≤◌, true, false, List, [], ◌∷◌, length, codes, Option, Some, None}
 use Rattle.std.specs.Prelude.{⊤}
+use Rattle.ferry_mac.specs.declared.keys.Keys.{Keys}
 use Rattle.ferry_msgpack.specs.Tree.{Tree, array, table, Pairs, put}
-use Rattle.ferry_msgpack.specs.Shortest.{shortest}
 use Rattle.ferry_msgpack.specs.Writable.{depth, IsWritable}
 use Rattle.ferry_fields.specs.Fields.{raw_in, has_version_1}
 use Rattle.ferry_fields.specs.Others.{has_among}
+use Rattle.ferry_manifest.specs.Tag.{archive_info}
+use Rattle.ferry_manifest.specs.Tagged.{tagged_text}
 use Rattle.ferry_manifest.specs.Values.{pairs_of_table, raws}
 use Rattle.ferry_manifest.specs.Record.Text.{ArchiveText, apart_names}
 
@@ -35,10 +37,10 @@ abbrev pub with_params : Option Tree → Pairs → Pairs
 with_params None pairs = pairs
 with_params (Some t) pairs = put (codes "chunker_params") t pairs
 
--- the pairs of a record
+-- the pairs of a record but for its tag
 unfoldable pub record_pairs : ArchiveText → Pairs
 record_pairs archive = put (codes "items") (array (raws archive.items)) (with_params archive.params (pairs_of_table archive.fields))
 
--- the packed bytes of a record
-unfoldable pub archive_text : ArchiveText → List ℕ
-archive_text archive = shortest (table (record_pairs archive))
+-- the packed bytes of a record under these keys, which has a tag whether it had one or not
+unfoldable pub archive_text : Keys → List ℕ → ArchiveText → List ℕ
+archive_text keys salt archive = tagged_text archive_info keys salt (record_pairs archive)

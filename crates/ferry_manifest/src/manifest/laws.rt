@@ -7,8 +7,9 @@ ghost use Rattle.ferry_mac.specs.declared.keys.Keys.{Keys};
 ghost use Rattle.ferry_msgpack.specs.Tree.{Pairs, raw, table, put};
 ghost use Rattle.ferry_msgpack.specs.Spelling.{Spells};
 ghost use Rattle.ferry_fields.specs.Fields.{map_of, value_of};
-ghost use Rattle.ferry_manifest.specs.Manifest.Text.{IsTagged, ManifestText, StatesTag, in_order, lacks_field, manifest_of};
+ghost use Rattle.ferry_manifest.specs.Manifest.Text.{ManifestText, in_order, lacks_field, manifest_of};
 ghost use Rattle.ferry_manifest.specs.Place.{TagStands, first_place};
+ghost use Rattle.ferry_manifest.specs.Stated.{IsTagged, StatesTag};
 ghost use Rattle.ferry_manifest.specs.Tag.{manifest_info, tag_of};
 ghost use Rattle.ferry_manifest.specs.Walk.{zeroed};
 ghost use Rattle.ferry_manifest.specs.Manifest.Writing.{AreIncreasing, IsPackable};
@@ -49,7 +50,7 @@ pub fn manifest_laws()
     // What is read has its tag in its place.
     ensures tagged { (keys : Keys) (bytes : List ℕ) (manifest : ManifestText)
         → manifest_of keys bytes ≡ Ok manifest
-        → (pairs : Pairs) × (map_of bytes ≡ Some pairs) × IsTagged keys bytes pairs }
+        → (pairs : Pairs) × (map_of bytes ≡ Some pairs) × IsTagged manifest_info keys bytes pairs }
     // Bytes are refused as no map exactly where they spell none, with nothing behind it.
     ensures pack { (keys : Keys) (bytes : List ℕ)
         → (manifest_of keys bytes ≡ Err MetaFault.Pack) ↔ (map_of bytes ≡ None) }

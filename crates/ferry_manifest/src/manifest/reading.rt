@@ -7,16 +7,18 @@ ghost use Rattle.ferry_msgpack.specs.View.{value_view, items_view, pairs_view};
 ghost use Rattle.ferry_fields.specs.Fields.{pairs_in, raw_of};
 ghost use Rattle.ferry_fields.specs.Others.{without};
 ghost use Rattle.ferry_manifest.specs.Manifest.Text.{ManifestText, field_names, archive_from, archives_in, archives_of, config_in, in_order, item_keys_in};
-ghost use Rattle.ferry_manifest.specs.Manifest.Text.{lacks_field, manifest_from, manifest_of, raws_in, manifest_view, tag_from, tag_in, text_in, timestamp_in};
+ghost use Rattle.ferry_manifest.specs.Manifest.Text.{lacks_field, manifest_from, manifest_of, raws_in, manifest_view, text_in, timestamp_in};
 ghost use Rattle.ferry_manifest.specs.Manifest.Text.{with_tag};
 ghost use Rattle.ferry_manifest.specs.Manifest.Writing.{IsPackable};
+ghost use Rattle.ferry_manifest.specs.Stated.{tag_in};
 
 use crate::fault::MetaFault;
 use crate::manifest::{ArchiveRef, ArchiveRefs, Manifest, Names};
-use crate::tag::{MANIFEST_INFO, StatedTag, tag_of};
-use crate::values::raw_of;
+use crate::stated::{StatedTag, is_right, tag_in};
+use crate::tag::MANIFEST_INFO;
+use crate::values::{pairs_in, raw_of};
 use ferry_base::Bytes;
-use ferry_fields::{has_version_1, map_in, map_of, raw_in, raw32_in, raw64_in, value_of, without};
+use ferry_fields::{has_version_1, map_in, map_of, raw_in, raw32_in, value_of, without};
 use ferry_mac::Keys;
 use ferry_msgpack::Value;
 use std::alloc::{AllocError, Global};
@@ -141,46 +143,6 @@ fn archive_of(alloc: Global, name: &[u8], value: &Value) -> Result<ArchiveRef, M
     Ok(ArchiveRef { name, id, time })
 }
 
-/// The pairs of a value that is a map.
-#[tactic(auto, using(ferry_msgpack::proofs::ViewLemmas::view_table))]
-fn pairs_in(value: &Value) -> Option<&[(Vec<u8>, Value)]>
-    ensures { option_map (λ x. pairs_view x.now) result ≡ pairs_in (value_view value.now) }
-{
-    match value {
-        Value::Table(pairs) => Some(pairs.as_slice()),
-        _ => None,
-    }
-}
-
-/// The tag, where the name is absent or has a map with a tag of the known type.
-fn tag_in(pairs: &[(Vec<u8>, Value)]) -> Result<Option<StatedTag>, MetaFault>
-    ensures tag { IfOk result (λ tag. tag_in (pairs_view pairs.now) ≡ Some tag) }
-    ensures fault { IfErr result (λ fault.
-        (fault ≡ MetaFault.Field) × (tag_in (pairs_view pairs.now) ≡ None)) }
-{
-    let Some(value) = value_of(pairs, b"tam") else {
-        return Ok(None);
-    };
-    match tag_of_value(value) {
-        Some(tag) => Ok(Some(tag)),
-        None => Err(MetaFault::Field),
-    }
-}
-
-/// The tag, where the value is a map with a tag of the known type.
-fn tag_of_value(value: &Value) -> Option<StatedTag>
-    ensures { result ≡ option_and_then tag_from (pairs_in (value_view value.now)) }
-{
-    let fields = pairs_in(value)?;
-    let known = raw_in(fields, b"type")?;
-    if known != b"HKDF_HMAC_SHA512".as_slice() {
-        return None;
-    }
-    let hmac = raw64_in(fields, b"hmac")?;
-    let salt = raw64_in(fields, b"salt")?;
-    Some(StatedTag { hmac, salt })
-}
-
 /// Checks the tag that a packed manifest states.
 fn check_tag(
     alloc: Global,
@@ -197,11 +159,11 @@ fn check_tag(
     let Some(stated) = stated else {
         return Err(MetaFault::TagMissing);
     };
-    let tag = tag_of(alloc, MANIFEST_INFO, keys, &stated.salt, bytes)?;
-    if tag.as_slice() != stated.hmac.as_slice() {
-        return Err(MetaFault::Tag);
+    if is_right(alloc, MANIFEST_INFO, keys, bytes, &stated)? {
+        Ok(())
+    } else {
+        Err(MetaFault::Tag)
     }
-    Ok(())
 }
 
 /// What the fields of a manifest say, and the tag that it states.

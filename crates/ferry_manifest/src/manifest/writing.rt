@@ -3,60 +3,24 @@
 ghost use Rattle.std.specs.Prelude.{◌≡◌, ◌≢◌, ◌≤◌, ◌<◌, IfOk, IfErr, OnOk, Ok, Err, length, map, unwrap_or};
 ghost use Rattle.ferry_base.specs.Limits.{content_limit};
 ghost use Rattle.ferry_msgpack.specs.Tree.{table, no_pairs};
-ghost use Rattle.ferry_msgpack.specs.Shortest.{shortest};
 ghost use Rattle.ferry_msgpack.specs.View.{value_view, items_view, pairs_view};
-ghost use Rattle.ferry_msgpack.specs.Writable.{IsWritable};
 ghost use Rattle.ferry_fields.specs.Fields.{pairs_in};
 ghost use Rattle.ferry_manifest.specs.Manifest.Text.{manifest_of, manifest_view};
-ghost use Rattle.ferry_manifest.specs.Manifest.Writing.{HaveIds, IsPackable, archive_fields, archive_pairs, manifest_pairs, manifest_text, packed, tag_pairs};
-ghost use Rattle.ferry_manifest.specs.Manifest.Writing.{untagged_pairs, with_timestamp};
+ghost use Rattle.ferry_manifest.specs.Manifest.Writing.{HaveIds, IsPackable, archive_fields, archive_pairs, manifest_text, untagged_pairs};
+ghost use Rattle.ferry_manifest.specs.Manifest.Writing.{with_timestamp};
 ghost use Rattle.ferry_manifest.specs.Values.{raws};
 
 use crate::fault::MetaFault;
 use crate::manifest::{ArchiveRef, Manifest};
-use crate::tag::{MANIFEST_INFO, tag_of_blank};
-use crate::values::{pairs_of_table, short_text};
+use crate::packing::tagged_text;
+use crate::tag::MANIFEST_INFO;
+use crate::values::pairs_of_table;
 use ferry_base::Bytes;
 use ferry_fields::{put, put_raw, table_of};
 use ferry_mac::Keys;
-use ferry_msgpack::{Value, is_writable};
+use ferry_msgpack::Value;
 use std::alloc::{AllocError, Global};
 use std::collections::BTreeMap;
-
-/// The pairs of a manifest with this tag and salt.
-#[tactic(auto, unfolding(crate::specs::Manifest::Writing::manifest_pairs))]
-fn manifest_pairs(
-    alloc: Global,
-    manifest: &Manifest,
-    hmac: &[u8; 64],
-    salt: &[u8; 64],
-) -> Result<BTreeMap<Vec<u8>, Value>, AllocError>
-    requires { IsPackable (manifest_view manifest.now) }
-    ensures pairs { IfOk result (λ pairs.
-        pairs_view pairs.entries ≡ manifest_pairs (manifest_view manifest.now) hmac.now salt.now) }
-    ensures ids { IfOk result (λ _. HaveIds manifest.now.archives) }
-{
-    let mut pairs = untagged_pairs(alloc, manifest)?;
-    let tag = table_of(alloc, tag_pairs(alloc, hmac, salt)?)?;
-    put(alloc, &mut pairs, b"tam", tag)?;
-    Ok(pairs)
-}
-
-/// The map of an authentication tag and its salt.
-#[tactic(auto, unfolding(crate::specs::Manifest::Writing::tag_pairs))]
-fn tag_pairs(
-    alloc: Global,
-    hmac: &[u8; 64],
-    salt: &[u8; 64],
-) -> Result<BTreeMap<Vec<u8>, Value>, AllocError>
-    ensures pairs { IfOk result (λ pairs. pairs_view pairs.entries ≡ tag_pairs hmac.now salt.now) }
-{
-    let mut pairs = BTreeMap::new(alloc);
-    put_raw(alloc, &mut pairs, b"type", b"HKDF_HMAC_SHA512")?;
-    put_raw(alloc, &mut pairs, b"salt", salt)?;
-    put_raw(alloc, &mut pairs, b"hmac", hmac)?;
-    Ok(pairs)
-}
 
 /// The pairs of a manifest but for its tag.
 #[tactic(auto, unfolding(crate::specs::Manifest::Writing::untagged_pairs))]
@@ -139,36 +103,10 @@ fn archive_fields(alloc: Global, archive: &ArchiveRef) -> Result<Value, AllocErr
     table_of(alloc, fields)
 }
 
-/// The packed bytes of a manifest with this tag and salt, where they aren't too many.
-#[tactic(auto, unfolding(crate::specs::Manifest::Writing::packed))]
-fn packed(
-    alloc: Global,
-    manifest: &Manifest,
-    hmac: &[u8; 64],
-    salt: &[u8; 64],
-) -> Result<Vec<u8>, MetaFault>
-    requires { IsPackable (manifest_view manifest.now) }
-    ensures text { IfOk result (λ text. text.items ≡ packed (manifest_view manifest.now) hmac.now salt.now) }
-    ensures small { IfOk result (λ text. length text.items ≤ content_limit) }
-    ensures writable { IfOk result (λ _.
-        IsWritable (table (manifest_pairs (manifest_view manifest.now) hmac.now salt.now))) }
-    ensures ids { IfOk result (λ _. HaveIds manifest.now.archives) }
-    ensures large { IfErr result (λ fault. fault ≢ MetaFault.Memory → (fault ≡ MetaFault.TooLarge)
-        × (content_limit < length (packed (manifest_view manifest.now) hmac.now salt.now))) }
-{
-    let value = table_of(alloc, manifest_pairs(alloc, manifest, hmac, salt)?)?;
-    // Whatever can be written else, its order and depth are right: a length in it is 2^32 or more.
-    if !is_writable(&value) {
-        return Err(MetaFault::TooLarge);
-    }
-    short_text(alloc, &value)
-}
-
 /// Packs a manifest and makes its authentication tag, under the keys of its repository. A salt may
 /// serve once.
 ///
-/// The map is packed with 64 zero bytes as `hmac`, the tag is made of these bytes, and the map is
-/// packed again. `TooLarge` comes where the bytes would be more than `CONTENT_LIMIT`, the most that the
+/// `TooLarge` comes where the bytes would be more than `CONTENT_LIMIT`, the most that the
 /// content of an object has.
 ///
 /// Source: BorgBackup 1.2, Internals, "Data structures and file formats", The manifest.
@@ -188,7 +126,6 @@ pub fn write_manifest(
     ensures large { IfErr result (λ fault. fault ≢ MetaFault.Memory → (fault ≡ MetaFault.TooLarge)
         × (content_limit < length (manifest_text keys.now salt.now (manifest_view manifest.now)))) }
 {
-    let blank = packed(alloc, manifest, &[0u8; 64], salt)?;
-    let hmac = tag_of_blank(alloc, MANIFEST_INFO, keys, salt, blank.as_slice())?;
-    packed(alloc, manifest, &hmac, salt)
+    let map = table_of(alloc, untagged_pairs(alloc, manifest)?)?;
+    tagged_text(alloc, MANIFEST_INFO, keys, &map, salt)
 }

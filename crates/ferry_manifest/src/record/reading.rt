@@ -1,20 +1,24 @@
 //! The reader of packed archive records.
 
-ghost use Rattle.std.specs.Prelude.{◌≡◌, ◌≢◌, true, false, IfOk, IfErr, Ok, Err, Some, None, option_map, codes};
+ghost use Rattle.std.specs.Prelude.{◌≡◌, ◌≢◌, true, false, IfOk, IfErr, Ok, Err, Some, None, is_some, option_map, codes};
 ghost use Rattle.ferry_msgpack.specs.Tree.{table};
 ghost use Rattle.ferry_msgpack.specs.Writable.{IsWritable};
 ghost use Rattle.ferry_msgpack.specs.View.{value_view, items_view, pairs_view};
-ghost use Rattle.ferry_fields.specs.Fields.{value_of};
+ghost use Rattle.ferry_fields.specs.Fields.{has_version_1, raw_in, value_of};
 ghost use Rattle.ferry_fields.specs.Others.{without};
 ghost use Rattle.ferry_manifest.specs.Record.Writing.{IsPackableArchive};
-ghost use Rattle.ferry_manifest.specs.Record.Text.{IsRecordFault, apart_names, archive_of, id_of, ids_in, items_at, lacks_record_field, record_from};
-ghost use Rattle.ferry_manifest.specs.Record.Text.{archive_view};
+ghost use Rattle.ferry_manifest.specs.Record.Text.{ArchiveText, IsRecordFault, apart_names, archive_of, archive_view, id_of, ids_in, items_at};
+ghost use Rattle.ferry_manifest.specs.Record.Text.{lacks_record_field, record_from, unless_tag_differs};
+ghost use Rattle.ferry_manifest.specs.Stated.{tag_in};
 
 use crate::fault::MetaFault;
 use crate::record::{Archive, Ids};
+use crate::stated::{StatedTag, is_right, tag_in};
+use crate::tag::ARCHIVE_INFO;
 use crate::values::raw_of;
 use ferry_base::{Bytes, Id};
 use ferry_fields::{has_version_1, map_of, raw_in, value_of, without};
+use ferry_mac::Keys;
 use ferry_msgpack::Value;
 use std::alloc::{AllocError, Global};
 
@@ -84,51 +88,114 @@ fn other_fields(
     without(alloc, pairs, &names)
 }
 
-/// The record of a map.
-fn record_from(alloc: Global, pairs: Vec<(Vec<u8>, Value)>) -> Result<Archive, MetaFault>
-    requires { IsWritable (table (pairs_view pairs.items)) }
-    ensures archive { IfOk result (λ archive.
-        record_from (Some (pairs_view pairs.items)) ≡ Ok (archive_view archive)) }
-    ensures fault { IfErr result (λ fault. fault ≢ MetaFault.Memory
-        → record_from (Some (pairs_view pairs.items)) ≡ Err fault) }
-    ensures packable { IfOk result (λ archive. IsPackableArchive (archive_view archive)) }
+/// Whether a record has an authentication tag.
+fn is_tagged(pairs: &[(Vec<u8>, Value)]) -> bool
+    ensures { result ≡ is_some (value_of (codes "tam") (pairs_view pairs.now)) }
+{
+    value_of(pairs, b"tam").is_some()
+}
+
+/// Checks the tag that a packed record states, where it states one.
+fn check_tag(
+    alloc: Global,
+    keys: &Keys,
+    bytes: &[u8],
+    stated: Option<StatedTag>,
+) -> Result<(), MetaFault>
+    ensures ok { IfOk result (λ _. (archive : ArchiveText)
+        → unless_tag_differs keys.now bytes.now archive stated ≡ Ok archive) }
+    ensures fault { IfErr result (λ fault. fault ≢ MetaFault.Memory → (archive : ArchiveText)
+        → unless_tag_differs keys.now bytes.now archive stated ≡ Err fault) }
     ensures only { IfErr result IsRecordFault }
 {
-    if !has_version_1(pairs.as_slice()) {
+    let Some(stated) = stated else {
+        return Ok(());
+    };
+    if is_right(alloc, ARCHIVE_INFO, keys, bytes, &stated)? {
+        Ok(())
+    } else {
+        Err(MetaFault::Tag)
+    }
+}
+
+/// The fields of a record whose kind and length are prescribed, and the tag that it states.
+#[derive(Drop)]
+struct Fields {
+    name: Bytes,
+    items: Ids,
+    tag: Option<StatedTag>,
+}
+
+/// These fields, where each has its kind and length.
+fn fields_in(alloc: Global, pairs: &[(Vec<u8>, Value)]) -> Result<Fields, MetaFault>
+    ensures whole { IfOk result (λ _. lacks_record_field (pairs_view pairs.now) ≡ false) }
+    ensures version { IfOk result (λ _. has_version_1 (pairs_view pairs.now) ≡ true) }
+    ensures name { IfOk result (λ fields. raw_in (codes "name") (pairs_view pairs.now) ≡ Some fields.name) }
+    ensures items { IfOk result (λ fields. items_at (pairs_view pairs.now) ≡ Some fields.items) }
+    ensures tag { IfOk result (λ fields. tag_in (pairs_view pairs.now) ≡ Some fields.tag) }
+    ensures fault { IfErr result (λ fault. fault ≢ MetaFault.Memory
+        → (fault ≡ MetaFault.Field) × (lacks_record_field (pairs_view pairs.now) ≡ true)) }
+    ensures only { IfErr result IsRecordFault }
+{
+    if !has_version_1(pairs) {
         return Err(MetaFault::Field);
     }
-    let Some(name) = raw_in(pairs.as_slice(), b"name") else {
+    let Some(name) = raw_in(pairs, b"name") else {
         return Err(MetaFault::Field);
     };
     let name = Bytes::new(Vec::from_slice(alloc, name)?);
-    let items = items_in(alloc, pairs.as_slice())?;
+    let items = items_in(alloc, pairs)?;
+    let tag = tag_in(pairs)?;
+    Ok(Fields { name, items, tag })
+}
+
+/// The record of a map, its tag checked.
+fn record_from(
+    alloc: Global,
+    keys: &Keys,
+    bytes: &[u8],
+    pairs: Vec<(Vec<u8>, Value)>,
+) -> Result<Archive, MetaFault>
+    requires { IsWritable (table (pairs_view pairs.items)) }
+    ensures archive { IfOk result (λ archive.
+        record_from keys.now bytes.now (Some (pairs_view pairs.items)) ≡ Ok (archive_view archive)) }
+    ensures fault { IfErr result (λ fault. fault ≢ MetaFault.Memory
+        → record_from keys.now bytes.now (Some (pairs_view pairs.items)) ≡ Err fault) }
+    ensures packable { IfOk result (λ archive. IsPackableArchive (archive_view archive)) }
+    ensures only { IfErr result IsRecordFault }
+{
+    let said = fields_in(alloc, pairs.as_slice())?;
+    check_tag(alloc, keys, bytes, said.tag)?;
     let params = params_in(pairs.as_slice())?;
+    let tagged = is_tagged(pairs.as_slice());
     let fields = Value::Table(other_fields(alloc, pairs)?);
     Ok(Archive {
-        name,
-        items,
+        name: said.name,
+        items: said.items,
         params,
         fields,
+        tagged,
     })
 }
 
 /// Reads the packed bytes of an archive's record, the content of the object that the manifest names
-/// for the archive.
+/// for the archive, under the keys of its repository.
 ///
-/// A fault is the first in the order Pack, Field; `Memory` may come from any bytes, at any point. The
-/// authentication tag `tam` is neither checked nor kept.
+/// A fault is the first in the order Pack, Field, Tag; `Memory` may come from any bytes, at any point. A
+/// record without an authentication tag is read, and isn't `tagged`.
 ///
-/// Source: BorgBackup 1.2, Internals, "Data structures and file formats", Archives.
+/// Source: BorgBackup 1.2, Internals, "Data structures and file formats", Archives; `crypto/key.py`,
+/// `unpack_and_verify_archive`.
 #[tactic(auto, unfolding(crate::specs::Record::Text::archive_of))]
-pub fn read_archive(alloc: Global, bytes: &[u8]) -> Result<Archive, MetaFault>
-    ensures archive { IfOk result (λ archive. archive_of bytes.now ≡ Ok (archive_view archive)) }
+pub fn read_archive(alloc: Global, keys: &Keys, bytes: &[u8]) -> Result<Archive, MetaFault>
+    ensures archive { IfOk result (λ archive. archive_of keys.now bytes.now ≡ Ok (archive_view archive)) }
     ensures fault { IfErr result (λ fault.
-        fault ≢ MetaFault.Memory → archive_of bytes.now ≡ Err fault) }
+        fault ≢ MetaFault.Memory → archive_of keys.now bytes.now ≡ Err fault) }
     // What is read can be written.
     ensures packable { IfOk result (λ archive. IsPackableArchive (archive_view archive)) }
-    // A fault is Pack, Field or Memory.
+    // A fault is Pack, Field, Tag or Memory.
     ensures only { IfErr result IsRecordFault }
 {
     let pairs = map_of(alloc, bytes)?;
-    record_from(alloc, pairs)
+    record_from(alloc, keys, bytes, pairs)
 }

@@ -4,15 +4,18 @@ ghost use Rattle.std.specs.Prelude.{◌≡◌, ◌≢◌, ◌≤◌, ◌<◌, If
 ghost use Rattle.ferry_base.specs.Limits.{content_limit};
 ghost use Rattle.ferry_msgpack.specs.View.{value_view, items_view, pairs_view};
 ghost use Rattle.ferry_manifest.specs.Record.Writing.{AreIds, IsPackableArchive, archive_text, record_pairs, with_params};
-ghost use Rattle.ferry_manifest.specs.Record.Text.{archive_of, archive_view};
+ghost use Rattle.ferry_manifest.specs.Record.Text.{archive_of, archive_view, as_tagged};
 ghost use Rattle.ferry_manifest.specs.Values.{raws};
 
 use crate::fault::MetaFault;
+use crate::packing::tagged_text;
 use crate::record::Archive;
-use crate::values::{pairs_of_table, short_text};
+use crate::tag::ARCHIVE_INFO;
+use crate::values::pairs_of_table;
 use ferry_base::Id;
 use ferry_fields::{put, table_of};
-use ferry_msgpack::{Value, is_writable};
+use ferry_mac::Keys;
+use ferry_msgpack::Value;
 use std::alloc::{AllocError, Global};
 use std::collections::BTreeMap;
 
@@ -47,7 +50,7 @@ fn put_params(
     }
 }
 
-/// The pairs of a record.
+/// The pairs of a record but for its tag.
 #[tactic(auto, unfolding(crate::specs::Record::Writing::record_pairs))]
 fn record_pairs(alloc: Global, archive: &Archive) -> Result<BTreeMap<Vec<u8>, Value>, AllocError>
     requires { IsPackableArchive (archive_view archive.now) }
@@ -62,26 +65,31 @@ fn record_pairs(alloc: Global, archive: &Archive) -> Result<BTreeMap<Vec<u8>, Va
     Ok(pairs)
 }
 
-/// Packs the record of an archive, without an authentication tag.
+/// Packs the record of an archive and makes its authentication tag, under the keys of its repository,
+/// whether the record had one or not. A salt may serve once.
 ///
 /// `TooLarge` comes where the bytes would be more than `CONTENT_LIMIT`, the most that the content of an
 /// object has.
 ///
-/// Source: BorgBackup 1.2, Internals, "Data structures and file formats", Archives.
+/// Source: BorgBackup 1.2, Internals, "Data structures and file formats", Archives; `crypto/key.py`,
+/// `pack_and_authenticate_metadata`.
 #[tactic(auto, unfolding(crate::specs::Record::Writing::archive_text))]
-pub fn write_archive(alloc: Global, archive: &Archive) -> Result<Vec<u8>, MetaFault>
+pub fn write_archive(
+    alloc: Global,
+    keys: &Keys,
+    archive: &Archive,
+    salt: &[u8; 64],
+) -> Result<Vec<u8>, MetaFault>
     requires packable { IsPackableArchive (archive_view archive.now) }
-    ensures text { IfOk result (λ text. text.items ≡ archive_text (archive_view archive.now)) }
-    // What is written is read again and says the same.
-    ensures again { IfOk result (λ text. archive_of text.items ≡ Ok (archive_view archive.now)) }
+    ensures text { IfOk result (λ text.
+        text.items ≡ archive_text keys.now salt.now (archive_view archive.now)) }
+    // What is written is read again under the same keys, is tagged and says the same.
+    ensures again { IfOk result (λ text.
+        archive_of keys.now text.items ≡ Ok (as_tagged (archive_view archive.now))) }
     ensures small { IfOk result (λ text. length text.items ≤ content_limit) }
     ensures large { IfErr result (λ fault. fault ≢ MetaFault.Memory → (fault ≡ MetaFault.TooLarge)
-        × (content_limit < length (archive_text (archive_view archive.now)))) }
+        × (content_limit < length (archive_text keys.now salt.now (archive_view archive.now)))) }
 {
-    let value = table_of(alloc, record_pairs(alloc, archive)?)?;
-    // Its order and depth are right: where it can't be written, a length in it is 2^32 or more.
-    if !is_writable(&value) {
-        return Err(MetaFault::TooLarge);
-    }
-    short_text(alloc, &value)
+    let map = table_of(alloc, record_pairs(alloc, archive)?)?;
+    tagged_text(alloc, ARCHIVE_INFO, keys, &map, salt)
 }

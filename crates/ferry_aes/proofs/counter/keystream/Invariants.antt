@@ -4,4 +4,4 @@ use Rattle.ferry_aes.proofs.counter.keystream.Given as goal
 
 abbrev pub invariant-loop-number : goal.invariant-loop-number
 invariant-loop-number l =
-    take (16 * l.number) l.into ≡ take (length l.initial.into) (output_blocks l.schedule l.counter l.number)
+    take (128 * l.number) l.into ≡ take (length l.initial.into) (output_blocks l.schedule l.counter (8 * l.number))

@@ -17,7 +17,7 @@ loop-number-preserved c =
 
 pub returns : goal.returns
 returns c =
-    let at = 4096 * c.loop-number.number in
+    let at = 16384 * c.loop-number.number in
     let text = c.args.text.now in
     let all : take at text ≡ text = take_all at text (omega arith) in
     let none : drop at text ≡ [] = drop_all at text (omega arith) in

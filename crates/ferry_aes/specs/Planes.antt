@@ -1,0 +1,61 @@
+-- Eight blocks as eight planes of bits. Plane k is a list of 16 bytes: bit i of its byte j is bit k of
+-- byte j of block i. The bytes of a block stand by rows: byte 4r + c is s[r,c] of the state.
+use Rattle.std.specs.Prelude.{ℕ, ◌+◌, ◌*◌, ◌/◌, ◌%◌, ◌<◌, ◌-◌, ◌==◌, ltb, if◌then◌else◌, ◌≡◌, List, [], map, slice_index, slice_index_or, bit_xor}
+use Rattle.std.specs.Int.{bit_at}
+use Rattle.std.specs.List.{range_with_len, flat_map}
+use Rattle.std.specs.Simd.Lanes.{number_l}
+use Rattle.ferry_aes.specs.Field.{multiply}
+use Rattle.ferry_aes.specs.State.{word, state_by}
+
+-- bit i of byte j of a plane
+abbrev pub wire : List ℕ → ℕ → ℕ → ℕ
+wire plane j i = bit_at (slice_index plane j) i
+
+-- the bits i of bytes j of the first planes, as many as told
+abbrev pub wires : ℕ → List (List ℕ) → ℕ → ℕ → List ℕ
+wires count planes j i = map (λ k. wire (slice_index_or planes k []) j i) (range_with_len 0 count)
+
+-- byte j of block i, whose bits are in eight planes
+unfoldable pub byte_at : List (List ℕ) → ℕ → ℕ → ℕ
+byte_at planes j i = number_l 2 (wires 8 planes j i)
+
+-- the state of block i
+unfoldable pub state_at : List (List ℕ) → ℕ → List (List ℕ)
+state_at planes i = state_by (λ r c. byte_at planes (4 * r + c) i)
+
+-- the place by rows of byte m of a block, which stands by columns, and the other way round
+abbrev pub crossed_place : ℕ → ℕ
+crossed_place m = m / 4 + m % 4 * 4
+
+-- planes of round key n: the same key for each of eight blocks
+abbrev pub IsRoundKey : List (List ℕ) → ℕ → List (List ℕ) → Type 0
+IsRoundKey w n planes =
+    (r c i : ℕ) → r < 4 → c < 4 → i < 8 → byte_at planes (4 * r + c) i ≡ slice_index (word w (4 * n + c)) r
+
+-- the planes of the 15 round keys
+abbrev pub AreRoundKeys : List (List ℕ) → List (List (List ℕ)) → Type 0
+AreRoundKeys w keys = (n : ℕ) → n < 15 → IsRoundKey w n (slice_index_or keys n [])
+
+-- byte j after MIXCOLUMNS, from the bytes in its own row and in the three below it
+abbrev pub mixed_byte : (ℕ → ℕ) → ℕ → ℕ
+mixed_byte byte j =
+    bit_xor (bit_xor (multiply 2 (bit_xor (byte j) (byte (j + 4)))) (byte (j + 4))) (bit_xor (byte (j + 8)) (byte (j + 12)))
+
+-- bit i of byte j of a plane whose bits are set s places higher
+abbrev pub raised_wire : ℕ → List ℕ → ℕ → ℕ → ℕ
+raised_wire s plane j i = if ltb i s then 0 else wire plane j (i - s)
+
+-- bit i of byte j of the lower of two planes a and b that exchange bits at distance s, and of the higher, where a mask has the places that stay low
+abbrev pub low_wire : ℕ → ℕ → List ℕ → List ℕ → ℕ → ℕ → ℕ
+low_wire s mask a b j i = if bit_at mask i == 1 then wire a j i else raised_wire s b j i
+
+abbrev pub high_wire : ℕ → ℕ → List ℕ → List ℕ → ℕ → ℕ → ℕ
+high_wire s mask a b j i = if bit_at mask i == 1 then wire a j (s + i) else wire b j i
+
+-- block i of eight that stand by rows, its bytes by columns
+unfoldable pub block_at : List (List ℕ) → ℕ → List ℕ
+block_at rows i = map (λ m. slice_index (slice_index_or rows i []) (crossed_place m) % 256) (range_with_len 0 16)
+
+-- eight blocks joined
+abbrev pub joined_blocks : List (List ℕ) → List ℕ
+joined_blocks rows = flat_map (λ i. block_at rows i) (range_with_len 0 8)
