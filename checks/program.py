@@ -21,7 +21,7 @@ import tempfile
 sys.dont_write_bytecode = True
 import repositories
 import segments
-from repositories import Keys, fields, pack, repository
+from repositories import Archive, Item, Keys, fields, pack, repository
 from segments import COMMIT, COMMIT_SEGMENT, MAGIC, delete, put, sealed, segment
 
 PROGRAM = os.path.abspath(sys.argv[1])
@@ -46,7 +46,6 @@ def plain_words():
 
 
 PLAIN = plain_words()
-NOT_TODAY = "another id, which no command of today asks for"
 met = set()
 
 
@@ -108,19 +107,20 @@ def row_of(words, cwd, status, out):
     """The row of the table of plain words that a run comes under, None where it says nothing there."""
     if status in (0, 7):
         return ("none", "standard output failed, status 7") if status else None
-    line = re.sub(r"\b[0-9a-f]{64}$", "ID", out.decode("utf-8", "replace").rstrip("\n"))
+    told = re.search(r"(source refused: |not found: |usage|memory$|source device failed$|BORG_)[^\n]*\n?$", out.decode("utf-8", "replace"))
+    line = re.sub(r"^not found: .*", "not found: NAME", re.sub(r"\b[0-9a-f]{64}$", "ID", told[0].rstrip("\n") if told else ""))
     line = re.sub(r"segment \d+ at \d+$", "segment S at A", re.sub(r"^usage: word \d+$", "usage: word N", line))
     where, source = "", os.fsdecode(words[0]) if words else ""
     if line == "usage":
         where = "no two places and a command"
     elif line == "usage: word N":
-        where = f"the command {words[2]}" if words[2] in ("keys", "key", "list") else "another word"
+        where = f"the command {words[2]}" if words[2] in ("keys", "key", "list", "extract") else "another word"
     elif line in ("source refused: no commit", "source refused: config 1") and source in ("-", ""):
         where = "`-` or an empty word"
     elif line in ("source refused: no commit", "source refused: config 1") and not os.path.exists(os.path.join(cwd, source)):
         where = "the folder isn't there"
-    elif line in ("source refused: missing ID", "source refused: blob 4 ID"):
-        where = "the zero id" if out.endswith(b"0" * 64 + b"\n") else NOT_TODAY
+    elif line in ("source refused: missing ID", "source refused: blob 4 ID", "source refused: blob 5 ID"):
+        where = "the zero id" if out.endswith(b"0" * 64 + b"\n") else "another id"
     return line, where
 
 
@@ -450,6 +450,74 @@ def listings():
         listing(f"a manifest with {name}", keys.blob(content), refused(b"manifest %d" % number))
 
 
+def archives():
+    """What `list NAME` and `extract` say of archives, good and bad; a plain program of this folder made them."""
+    keys = Keys()
+
+    def showing(name, archive, want, *command, **changed):
+        made = repository(keys, PASSPHRASE, keys.blob(keys.tagged(fields(archive.named(b"a")))), *archive.chunks(**changed))
+        case(f"{' '.join(map(repr, command))}: {name}", made, want, ("source", "-", *command), variables=OPEN)
+
+    files = [Item(b"."), Item(b"empty", []), Item(b"f", [b"hello", b"", b" and more"]), Item(b"l", None, b"f"), Item(b"f", [b"another"]), Item(b"h", [b"x"], b"f")]
+    odd = [Item(b"a\nb\\\x7f", [b"odd"]), Item(b"\xff\xfe", [b"\0" * 70000]), Item(b"", [b"none"])]
+    good = Archive(keys, b"a", files + odd)
+    showing("kinds, sizes and odd paths", good, (0, good.lines()), "list", "a")
+    for length in (1, 40, 100, 1000):
+        showing(f"pieces of {length} bytes", Archive(keys, b"a", files + odd, length), (0, good.lines()), "list", "a")
+    for path in (b"empty", b"f", b"a\nb\\\x7f", b"\xc3\xa9"):
+        there = Archive(keys, b"a", [*files, *odd, Item(b"\xc3\xa9", [b"accent"])])
+        showing("a file", there, (0, there.content(path)), "extract", "a", path)
+    missing = lambda what: (11, b"not found: %s\n" % what)
+    for words, want in {
+        ("list", "b"): missing(b"b"), ("list", "b\n"): missing(b"b\\x0a"), ("list", "--", "--b"): missing(b"--b"), ("extract", "b", "f"): missing(b"b"),
+        ("extract", "a", "x"): missing(b"x"), ("extract", "a", "."): missing(b"."), ("extract", "a", "l"): missing(b"l"), ("extract", "a", "f/"): missing(b"f/"),
+        ("list", "a", "b"): wrong_word(3), ("extract",): wrong_word(2), ("extract", "a"): wrong_word(3), ("extract", "a", "f", "x"): wrong_word(4), ("list", "--x"): wrong_word(2),
+    }.items():
+        showing("words", good, want, *words)
+    none = Archive(keys, b"a", [])
+    showing("no items", none, NOTHING, "list", "a")
+    showing("no items", none, missing(b"x"), "extract", "a", "x")
+    many = Archive(keys, b"a", [Item(b"folder/file %06d" % number, [b"x"] if number % 3 else None) for number in range(20000)], 50000)
+    showing("many items", many, (0, many.lines()), "list", "a")
+    large = Archive(keys, b"a", [Item(b"large", [bytes([number]) * 30000 for number in range(20)])])
+    showing("a file of 20 chunks", large, (0, large.content(b"large")), "extract", "a", "large")
+    record, stream, content = good.id, good.pieces[0][0], keys.id(b" and more")
+    reason = lambda text, id: refused(b"%s %s" % (text, id.hex().encode()))
+    for name, changed, text, id in [
+        ("its record isn't there", {"without": record}, b"missing", record), ("its stream isn't there", {"without": stream}, b"missing", stream),
+        ("its record is compressed", {"compressed": record}, b"blob 4", record), ("its stream has another id", {"other": stream}, b"blob 5", stream),
+    ]:
+        showing(name, good, reason(text, id), "list", "a", **changed)
+        showing(name, good, reason(text, id), "extract", "a", "f", **changed)
+    for name, changed, text in [("a chunk isn't there", {"without": content}, b"missing"), ("a chunk is compressed", {"compressed": content}, b"blob 4"), ("a chunk has another id", {"other": content}, b"blob 5")]:
+        status, line = reason(text, content)
+        showing(name, good, (status, b"hello" + line), "extract", "a", "f", **changed)
+        showing(f"{name}, which isn't looked at", good, (0, good.lines()), "list", "a", **changed)
+        showing(f"{name}, which isn't the file's", good, (0, b"x"), "extract", "a", "h", **changed)
+    sized = Archive(keys, b"a", [Item(b"f", [b"hello"], size=6)])
+    showing("a stated size that is wrong", sized, reason(b"size", keys.id(b"hello")), "extract", "a", "f")
+    showing("a stated size that is wrong", sized, (0, b"f 6 f\n"), "list", "a")
+    zero = Archive(keys, b"a", [Item(b"f", [b"hello"], ids=[repositories.ZERO])])
+    showing("the zero id as a chunk", zero, reason(b"missing", repositories.ZERO), "extract", "a", "f")
+    for name, spelled, number in [
+        ("no value", b"\xc1", 1), ("no map", b"\x90", 1), ("a map in 64 arrays and a map", b"\x81\xa4path" + b"\x91" * 64 + b"\x01", 1), ("no path", b"\x80", 2), ("a path that is a number", b"\x81\xa4path\x01", 2),
+        ("chunks that are true", b"\x82\xa4path\xa1a\xa6chunks\xc3", 3), ("a chunk of two", b"\x82\xa4path\xa1a\xa6chunks\x91\x92\xa0\x01", 3),
+        ("a healed item", b"\x82\xa4path\xa1a\xaechunks_healthy\xc0", 4), ("the front of an item", b"\x81\xa4p", 5), ("a count of 2^32 - 1 and no more", b"\xdf\xff\xff\xff\xff", 5),
+    ]:
+        bad = Archive(keys, b"a", files, behind=spelled)
+        showing(f"a stream with {name}", bad, reason(b"items %d" % number, bad.id), "list", "a")
+        status, line = reason(b"items %d" % number, bad.id)
+        showing(f"a stream with {name}", bad, (status, good.content(b"f") + line), "extract", "a", "f")
+    for name, how, number in [
+        ("bytes behind", {"packed": lambda text: text + b"\0"}, 1), ("no map", {"packed": lambda text: pack([1])}, 1), ("no items", {b"items": None}, 2), ("the version 2", {b"version": 2}, 2), ("a name that is a number", {b"name": 1}, 2),
+        ("an item's id of 31 bytes", {b"items": [K[1:]]}, 2), ("a tag of another info", {"info": b"borg-metadata-authentication-manifest"}, 4), ("a tag that is nil", {"tam": None}, 2),
+        ("a tag of 63 bytes", {"tam": {b"type": b"HKDF_HMAC_SHA512", b"hmac": bytes(63), b"salt": bytes(64)}}, 2), ("a byte that was changed", {"packed": lambda text: text.replace(b"plain", b"place")}, 4),
+    ]:
+        bad = Archive(keys, b"a", files, how=how)
+        showing(f"a record with {name}", bad, reason(b"record %d" % number, bad.id), "list", "a")
+    showing("a record without a tag", Archive(keys, b"a", files, how={"tam": "none"}), (0, Archive(keys, b"a", files).lines()), "list", "a")
+
+
 def variables():
     good = log(segment(put(K, b"abc")), COMMIT_SEGMENT)
     bad, text = b"\xff\xfe", "gr\u00fc\u00df e".encode()
@@ -483,14 +551,13 @@ def outputs():
 
 
 def rows():
-    """Each row of the table of plain words was met, but for those that no command of today comes to."""
+    """Each row of the table of plain words was met."""
     met.add(("none", "standard output failed, status 7"))
     for row in PLAIN:
-        if row[1] != NOT_TODAY:
-            judge(f"plain words: {row}", (row in met, b""), (True, b""))
+        judge(f"plain words: {row}", (row in met, b""), (True, b""))
 
 
-for cases in (folders, logs, damage, memory, names, words, keys_of_configs, listings, variables, outputs, rows):
+for cases in (folders, logs, damage, memory, names, words, keys_of_configs, listings, archives, variables, outputs, rows):
     cases()
 print(f"{passed} passed, {failed} failed")
 sys.exit(1 if failed or not passed else 0)

@@ -140,6 +140,71 @@ def fields(archives=(), **others):
     return {b"version": 1, b"archives": listed, b"timestamp": b"2020-01-01T00:00:00.000000", b"config": {}, b"item_keys": [b"path"], **others}
 
 
+class Item:
+    """An item of an archive: its path, its contents in chunks where it has content, and what it links to where it does."""
+
+    def __init__(self, path, contents=None, source=None, size=None, ids=None):
+        self.path, self.contents, self.source, self.size, self.ids = path, contents, source, size, ids
+
+    def spelled(self, keys):
+        others = {} if self.source is None else {b"source": self.source}
+        if self.contents is not None:
+            ids = self.ids or [keys.id(content) for content in self.contents]
+            others[b"chunks"] = [[id, self.stated(content), 43 + len(content)] for id, content in zip(ids, self.contents)]
+        return pack({b"path": self.path, b"mode": 33188, **others})
+
+    def stated(self, content):
+        return len(content) if self.size is None else self.size
+
+    def line(self):
+        if self.contents is not None:
+            return b"f %d %s\n" % (sum(map(self.stated, self.contents)), escaped(self.path))
+        return b"%s 0 %s\n" % (b"-" if self.source is None else b"l", escaped(self.path))
+
+
+class Archive:
+    """An archive: its record, the pieces of its item stream, which have so many bytes each, and its contents.
+
+    `behind` follows the items in the stream. `how` changes the record's fields by name, its tag (`tam`, none at all where that is
+    the text `none`), the info of its tag (`info`), or what was packed in the end (`packed`).
+    """
+
+    def __init__(self, keys, name, items, length=2**20, behind=b"", how=None):
+        self.keys, self.items = keys, items
+        stream = b"".join(item.spelled(keys) for item in items) + behind
+        pieces = [stream[at : at + length] for at in range(0, len(stream), length)]
+        self.pieces = [(keys.id(piece), piece) for piece in pieces]
+        self.record = self.packed(name, how or {})
+        self.id = keys.id(self.record)
+
+    def packed(self, name, how):
+        others = {key: value for key, value in how.items() if isinstance(key, bytes)}
+        all_of_it = {b"version": 1, b"name": name, b"comment": b"plain", b"items": [id for id, _ in self.pieces], **others}
+        if how.get("tam", "") == "none":
+            return pack(all_of_it)
+        if "tam" in how:
+            return pack({**all_of_it, b"tam": how["tam"]})
+        return how.get("packed", bytes)(self.keys.tagged(all_of_it, how.get("info", b"borg-metadata-authentication-archive")))
+
+    def named(self, name):
+        return [(name, self.id, b"2020-01-01T00:00:00.000000")]
+
+    def chunks(self, without=None, compressed=None, other=None):
+        """The pairs of id and blob, each id once: without one, with one in a compressed content's form, or with one of other bytes."""
+        contents = dict([(self.id, self.record), *self.pieces])
+        contents.update((self.keys.id(content), content) for item in self.items for content in item.contents or [])
+        header = lambda id: b"\1\0" if id == compressed else b"\0\0"
+        return [(id, self.keys.blob(b"other" if id == other else content, header(id))) for id, content in contents.items() if id != without]
+
+    def lines(self):
+        """What `list NAME` has to print."""
+        return b"".join(item.line() for item in self.items)
+
+    def content(self, path):
+        """What `extract` has to write."""
+        return next(b"".join(item.contents) for item in self.items if item.path == path and item.contents is not None)
+
+
 def config(key_text):
     return b"[repository]\nversion = 1\nid = %s\nkey = %s\n" % (b"00" * 32, base64.b64encode(key_text))
 

@@ -1,10 +1,14 @@
 //! What a status means and what to do about it, in plain words: one line for standard error beside the fault line of standard
 //! output. docs/FORMATS.md has the lines as a table.
 
+ghost use Rattle.std.specs.Prelude.{◌≡◌, ◌↔◌, IsNone};
+ghost use Rattle.ferry_top.specs.declared.status.Status.TheVariants as TheStatus;
+
 use crate::folder::Presence;
 use ferry_base::ZERO_ID;
 use ferry_blob::BlobFault;
 use ferry_config::ConfigFault;
+use ferry_item::ItemFault;
 use ferry_keyblob::KeyFault;
 use ferry_manifest::MetaFault;
 use ferry_top::{Refusal, RepoFault, Status};
@@ -25,6 +29,9 @@ pub const MEMORY: &str =
 pub const OUTPUT: &str =
     "standard output can't be written, so lines are missing: see whether its disk is full or the program behind the pipe has ended";
 
+const MISSING: &str =
+    "no archive of SOURCE has this name, or no file in it has this path: list prints the names, and list NAME the paths";
+
 const DEVICE: &str =
     "the files of SOURCE can't be read: see that it is a folder, that you may read all of it and that its disk answers";
 
@@ -32,7 +39,9 @@ const DEVICE: &str =
 ///
 /// `command` is the first word of the command, and `source` says whether the source's folder is there. `None` where the command
 /// is done.
-pub fn advice(status: &Status, command: &str, source: Presence) -> Option<&'static str> {
+pub fn advice(status: &Status, command: &str, source: Presence) -> Option<&'static str>
+    ensures said { IsNone result ↔ (status.now ≡ TheStatus.Done) }
+{
     match status {
         Status::Done => None,
         Status::Usage(_) => Some(form_of(command)),
@@ -40,6 +49,7 @@ pub fn advice(status: &Status, command: &str, source: Presence) -> Option<&'stat
         Status::SourceDevice => Some(DEVICE),
         Status::OutputDevice => Some(OUTPUT),
         Status::SourceRefused(Refusal::Repo(fault)) => Some(of_repo(fault, source)),
+        Status::NotFound(_) => Some(MISSING),
     }
 }
 
@@ -48,9 +58,14 @@ fn form_of(command: &str) -> &'static str {
     match command {
         "keys" => "the form is borgferry SOURCE TARGET keys, with nothing behind it",
         "key" => "the form is borgferry SOURCE TARGET key, with nothing behind it",
-        "list" => "the form is borgferry SOURCE TARGET list, with nothing behind it",
+        "list" => {
+            "the form is borgferry SOURCE TARGET list, or list NAME for the items of an archive; a NAME that begins with -- stands behind --"
+        }
+        "extract" => {
+            "the form is borgferry SOURCE TARGET extract NAME PATH, the path as list NAME has it; a NAME that begins with -- stands behind --"
+        }
         _ => {
-            "the form is borgferry SOURCE TARGET COMMAND, and the commands are keys, key and list; borgferry --help says what they do"
+            "the form is borgferry SOURCE TARGET COMMAND, and the commands are keys, key, list and extract; borgferry --help says what they do"
         }
     }
 }
@@ -77,11 +92,9 @@ fn of_repo(fault: &RepoFault, source: Presence) -> &'static str {
         (RepoFault::Blob(id, fault), _) => of_blob(*fault, *id == ZERO_ID),
         (RepoFault::Manifest(fault), _) => of_manifest(*fault),
         (RepoFault::Archive(_, fault), _) => of_record(*fault),
-        (RepoFault::Item(_, _), _) => {
-            "an item of the archive isn't as Borg 1 writes it, or was repaired with parts lost: see what borg check finds, and look at another copy"
-        }
+        (RepoFault::Item(_, fault), _) => of_item(*fault),
         (RepoFault::Size(_), _) => {
-            "a part of a file isn't as long as its archive says: see what borg check --verify-data finds, and look at another copy"
+            "a file's content isn't as long as its archive says: see what borg check --verify-data finds, and look at another copy"
         }
         (RepoFault::Device, _) => DEVICE,
         (RepoFault::Memory, _) => MEMORY,
@@ -181,12 +194,24 @@ fn of_manifest(fault: MetaFault) -> &'static str {
 
 fn of_record(fault: MetaFault) -> &'static str {
     match fault {
-        MetaFault::Pack | MetaFault::Field | MetaFault::TagMissing | MetaFault::TooLarge => {
-            "the archive's record isn't as Borg 1 writes it: see what borg check finds, and look at another copy of the repository"
-        }
-        MetaFault::Tag => {
+        MetaFault::Tag | MetaFault::TagMissing => {
             "the archive's authentication tag is wrong, so its record was changed without the key: don't trust it, look at another copy"
         }
         MetaFault::Memory => MEMORY,
+        MetaFault::Pack | MetaFault::Field | MetaFault::TooLarge => {
+            "the archive's record isn't as Borg 1 writes it: see what borg check finds, and look at another copy of the repository"
+        }
+    }
+}
+
+fn of_item(fault: ItemFault) -> &'static str {
+    match fault {
+        ItemFault::Healed => {
+            "borg check --repair has put zeros in the place of lost data of a file of this archive: only whole archives are read"
+        }
+        ItemFault::Memory => MEMORY,
+        ItemFault::Pack | ItemFault::Path | ItemFault::Chunks | ItemFault::Rest => {
+            "the list of the archive's items isn't as Borg 1 writes it: see what borg check finds, and look at another copy"
+        }
     }
 }

@@ -17,6 +17,10 @@ commands:
   keys    prints each live key of the source's committed log and the size of its blob
   key     opens the source's key with its passphrase, and prints the repository's id and the iterations
   list    prints the id, the time and the name of each archive of the source
+  list NAME
+          prints the kind, the size and the path of each item of an archive
+  extract NAME PATH
+          writes the content of the first item of an archive that has content and this path
 
 variables:
   BORG_OTHER_PASSPHRASE    the source's passphrase, empty where the variable is absent
@@ -31,4 +35,5 @@ status:
   4    the source can't be read
   7    standard output can't be written
   8    the source is refused
+  11   no archive has the name, or no item with content has the path
 ";

@@ -116,6 +116,11 @@ end_of_files wanted files log keys id reading reads =
     wholes_of_files files log keys (wanted reading.items) reads.ends reading.wholes reading.end reads.contents
     (comes_of_files files log keys id [] reading.archive.items reading.items reads.ends reads.comes)
 
+-- a fault that ends a reading says something of the files
+pub fault_of_files : (wanted : List ItemText → List ItemText) (files : Files) (log : LogState) (keys : Keys) (id : List ℕ) (reading : Reading)
+    (fault : RepoFault) → ReadsArchive wanted files log keys id reading → reading.end ≡ Some fault → IsOfFiles fault
+fault_of_files wanted files log keys id reading fault reads ends = subst OfFiles ends (end_of_files wanted files log keys id reading reads)
+
 -- ---- archives
 
 abbrev SomeReading : (List ItemText → List ItemText) → Files → LogState → Keys → List ℕ → Type 0

@@ -1,3 +1,4 @@
-mod KeysLemmas
-mod ListLemmas
-mod StatusLemmas
+pub mod StatusLemmas
+pub mod KeysLemmas
+pub mod ListLemmas
+pub mod ItemsLemmas

@@ -8,37 +8,71 @@ use Rattle.ferry_top.specs.Devices.{Devices, Written, HasCauses}
 use Rattle.ferry_top.specs.Keys.{IsListing}
 use Rattle.ferry_top.specs.Key.{IsIdLine, RefusesUnlocking}
 use Rattle.ferry_top.specs.List.{IsArchiveListing, RefusesOpening}
+use Rattle.ferry_view.specs.Items.{RefusesItems, RefusesFile}
+use Rattle.ferry_top.specs.Items.{ShowsItems, ShowsItemsFront, ShowsFile, ShowsFileFront, RefusesShowing, LacksArchive, LacksPath}
 use Rattle.ferry_top.specs.Status.{fault_line, RefusesKeys}
-use Rattle.ferry_top.specs.declared.words.Task.{Task}
-use Rattle.ferry_top.specs.declared.words.Task.TheVariants.{Keys, Key, List as ListTask}
+use Rattle.ferry_words.specs.declared.command.Command.{Command}
+use Rattle.ferry_words.specs.declared.command.Command.TheVariants.{Keys, Key, List as ListArchives, ListItems, Extract}
 use Rattle.ferry_top.specs.declared.status.Refusal.{Refusal}
 use Rattle.ferry_top.specs.declared.status.Status.{Status}
-use Rattle.ferry_top.specs.declared.status.Status.TheVariants.{Done, Usage, Memory, SourceDevice, OutputDevice, SourceRefused}
+use Rattle.ferry_top.specs.declared.status.Status.TheVariants.{Done, Usage, Memory, SourceDevice, OutputDevice, SourceRefused, NotFound}
 
--- What a command has written when it ends with a status, where it prints one of these texts and its refusals say this of the
--- source's files: all of the text, nothing, or a front of it where the output or memory failed.
+-- What a command has written that reads and writes by turns and ends before its end: nothing, or a front of such a text.
+abbrev pub HasBegun : (List ℕ → Type 0) → Written → Written → Type 0
+HasBegun IsFront before after = (after ≡ before)
+    ⊎ ((text : List ℕ) × IsFront text × WritesSome before.bytes text after.bytes × (after.faults ≡ before.faults))
+
+-- What a command has written when it ends with a status, where it prints such a text in the end, and such a text as far as the source
+-- reads; its refusals say this of the source's files, and so does what it doesn't find.
+abbrev pub PrintsAsRead : (IsText IsFront : Files → List ℕ → Type 0) → (Files → Refusal → Type 0) → (Files → List ℕ → Type 0)
+    → Option Told → Written → Status → Written → Type 0
+PrintsAsRead IsText IsFront Refuses Lacks source before Done after =
+    (text : List ℕ) × IfSome source (λ t. IsText (told_files t) text) × (after.bytes ≡ option_map (λ w. w ++ text) before.bytes)
+    × (after.faults ≡ before.faults)
+PrintsAsRead IsText IsFront Refuses Lacks source before (Usage word) after = ⊥
+PrintsAsRead IsText IsFront Refuses Lacks source before Memory after =
+    HasBegun (λ text. IfSome source (λ t. IsFront (told_files t) text)) before after
+PrintsAsRead IsText IsFront Refuses Lacks source before SourceDevice after =
+    HasBegun (λ text. IfSome source (λ t. IsFront (told_files t) text)) before after
+PrintsAsRead IsText IsFront Refuses Lacks source before OutputDevice after =
+    (text : List ℕ) × IfSome source (λ t. IsFront (told_files t) text) × WritesSome before.bytes text after.bytes × Rose before.faults after.faults
+PrintsAsRead IsText IsFront Refuses Lacks source before (SourceRefused refusal) after =
+    IfSome source (λ t. Refuses (told_files t) refusal) × HasBegun (λ text. IfSome source (λ t. IsFront (told_files t) text)) before after
+PrintsAsRead IsText IsFront Refuses Lacks source before (NotFound what) after =
+    IfSome source (λ t. Lacks (told_files t) what) × HasBegun (λ text. IfSome source (λ t. IsFront (told_files t) text)) before after
+
+-- The same of a command that has read all that it needs before it writes: nothing is written where the source fails or is refused.
 abbrev pub Prints : (Files → List ℕ → Type 0) → (Files → Refusal → Type 0) → Option Told → Written → Status → Written → Type 0
 Prints IsText Refuses source before Done after =
     (text : List ℕ) × IfSome source (λ t. IsText (told_files t) text) × (after.bytes ≡ option_map (λ w. w ++ text) before.bytes)
     × (after.faults ≡ before.faults)
 Prints IsText Refuses source before (Usage word) after = ⊥
-Prints IsText Refuses source before Memory after =
-    (after ≡ before) ⊎ ((text : List ℕ) × IfSome source (λ t. IsText (told_files t) text) × WritesSome before.bytes text after.bytes
-    × (after.faults ≡ before.faults))
+Prints IsText Refuses source before Memory after = HasBegun (λ text. IfSome source (λ t. IsText (told_files t) text)) before after
 Prints IsText Refuses source before SourceDevice after = after ≡ before
 Prints IsText Refuses source before OutputDevice after =
     (text : List ℕ) × IfSome source (λ t. IsText (told_files t) text) × WritesSome before.bytes text after.bytes × Rose before.faults after.faults
 Prints IsText Refuses source before (SourceRefused refusal) after = IfSome source (λ t. Refuses (told_files t) refusal) × (after ≡ before)
+Prints IsText Refuses source before (NotFound what) after = ⊥
 
--- what each command writes, under the source's passphrase: the live keys, the key, the archives; nothing where the words are no command
-abbrev pub DoesTask : Result Task ℕ → List ℕ → Option Told → Written → Status → Written → Type 0
-DoesTask (Ok Keys) passphrase source before status after = Prints IsListing RefusesKeys source before status after
-DoesTask (Ok Key) passphrase source before status after =
+-- what each command writes, under the source's passphrase: the live keys, the key, the archives, the items of one or the content of a file
+-- of it; nothing where the words are no command
+abbrev pub DoesCommand : Result Command ℕ → List ℕ → Option Told → Written → Status → Written → Type 0
+DoesCommand (Ok Keys) passphrase source before status after = Prints IsListing RefusesKeys source before status after
+DoesCommand (Ok Key) passphrase source before status after =
     Prints (λ files text. IsIdLine passphrase (contents_at files Name.Config) text)
     (λ files refusal. RefusesUnlocking passphrase (contents_at files Name.Config) refusal)
     source before status after
-DoesTask (Ok ListTask) passphrase source before status after = Prints (IsArchiveListing passphrase) (RefusesOpening passphrase) source before status after
-DoesTask (Err word) passphrase source before status after = after ≡ before
+DoesCommand (Ok ListArchives) passphrase source before status after =
+    Prints (IsArchiveListing passphrase) (RefusesOpening passphrase) source before status after
+DoesCommand (Ok (ListItems name)) passphrase source before status after =
+    PrintsAsRead (ShowsItems passphrase name) (ShowsItemsFront passphrase name)
+    (RefusesShowing passphrase (λ files repo. RefusesItems files repo name)) (LacksArchive passphrase name)
+    source before status after
+DoesCommand (Ok (Extract name path)) passphrase source before status after =
+    PrintsAsRead (ShowsFile passphrase name path) (ShowsFileFront passphrase name path)
+    (RefusesShowing passphrase (λ files repo. RefusesFile files repo name path)) (LacksPath passphrase name path)
+    source before status after
+DoesCommand (Err word) passphrase source before status after = after ≡ before
 
 -- A line went to the output in one write, whatever the write answered.
 pub record IsSent (line : List ℕ) (before after : Written) : Type 0 where
@@ -54,8 +88,8 @@ Reports OutputDevice before after = after ≡ before
 Reports status before after = IsSent (fault_line status) before after
 
 -- what a run leaves: the command's lines, then the fault line, and the causes of its status
-pub record Runs (words : Result Task ℕ) (passphrase : List ℕ) (before : Devices) (status : Status) (after : Devices) : Type 0 where
+pub record Runs (words : Result Command ℕ) (passphrase : List ℕ) (before : Devices) (status : Status) (after : Devices) : Type 0 where
   pub between : Written
-  pub command : DoesTask words passphrase before.source.told before.output status between
+  pub command : DoesCommand words passphrase before.source.told before.output status between
   pub report : Reports status between after.output
   pub causes : HasCauses status before after

@@ -5,10 +5,11 @@ use Rattle.ferry_log.specs.Log.{IsUncommitted, IsDamaged}
 use Rattle.ferry_log.specs.declared.fault.LogFault.{LogFault}
 use Rattle.ferry_log.specs.declared.fault.LogFault.TheVariants as Log
 use Rattle.ferry_top.specs.declared.status.Status.{Status}
-use Rattle.ferry_top.specs.declared.status.Status.TheVariants.{Done, Usage, Memory, SourceDevice, OutputDevice, SourceRefused}
+use Rattle.ferry_top.specs.declared.status.Status.TheVariants.{Done, Usage, Memory, SourceDevice, OutputDevice, SourceRefused, NotFound}
 use Rattle.ferry_top.specs.declared.status.Refusal.{Refusal}
 use Rattle.ferry_top.specs.declared.status.Refusal.TheVariants.{Repo}
 use Rattle.ferry_repo.specs.Reason.{reason}
+use Rattle.ferry_text.specs.Text.{escaped}
 use Rattle.ferry_view.specs.declared.fault.ViewFault.{ViewFault}
 use Rattle.ferry_view.specs.declared.fault.ViewFault.TheVariants as View
 use Rattle.ferry_repo.specs.declared.fault.RepoFault.{RepoFault}
@@ -22,6 +23,7 @@ status_number Memory = 3
 status_number SourceDevice = 4
 status_number OutputDevice = 7
 status_number (SourceRefused refusal) = 8
+status_number (NotFound what) = 11
 
 -- the status where the source's log doesn't open
 abbrev pub log_status : LogFault → Status
@@ -36,10 +38,17 @@ repo_status Device = SourceDevice
 repo_status RepoMemory = Memory
 repo_status fault = SourceRefused (Repo fault)
 
--- the status where not all could be shown
-abbrev pub view_status : ViewFault → Status
-view_status View.Output = OutputDevice
-view_status View.Memory = Memory
+-- the status where the output didn't take all that was read
+abbrev pub output_status : ViewFault → Status
+output_status View.Output = OutputDevice
+output_status fault = Memory
+
+-- the status where an archive isn't shown to its end; this isn't there, where that is why
+abbrev pub view_status : ViewFault → List ℕ → Status
+view_status (View.Repo fault) missing = repo_status fault
+view_status View.NotFound missing = NotFound missing
+view_status View.Output missing = OutputDevice
+view_status View.Memory missing = Memory
 
 -- the fault line of the first wrong word
 abbrev pub usage_line : ℕ → List ℕ
@@ -49,6 +58,10 @@ usage_line word = codes "usage: word " ++ (decimal word ++ (10 ∷ []))
 abbrev pub refused_line : RepoFault → List ℕ
 refused_line fault = codes "source refused: " ++ (reason fault ++ (10 ∷ []))
 
+-- the fault line of what isn't there
+abbrev pub missing_line : List ℕ → List ℕ
+missing_line what = codes "not found: " ++ (escaped what ++ (10 ∷ []))
+
 -- the fault line, nothing where a status has none
 abbrev pub fault_line : Status → List ℕ
 fault_line Done = []
@@ -57,6 +70,7 @@ fault_line Memory = codes "memory\n"
 fault_line SourceDevice = codes "source device failed\n"
 fault_line OutputDevice = []
 fault_line (SourceRefused (Repo fault)) = refused_line fault
+fault_line (NotFound what) = missing_line what
 
 -- what a refusal says of the files of a source whose keys are to be listed
 abbrev pub RefusesKeys : Files → Refusal → Type 0

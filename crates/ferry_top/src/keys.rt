@@ -4,13 +4,13 @@ ghost use Rattle.std.specs.FinMap.{entries, empty};
 ghost use Rattle.ferry_disk.specs.Device.{WritesSome, HasCause, KeptWhere, RoseWhere, heard};
 ghost use Rattle.ferry_top.specs.Devices.{written};
 ghost use Rattle.ferry_top.specs.Keys.{key_lines};
-ghost use Rattle.ferry_top.specs.Run.{DoesTask};
+ghost use Rattle.ferry_top.specs.Run.{DoesCommand};
 ghost use Rattle.ferry_top.specs.Status.{source_failed};
-ghost use Rattle.ferry_top.specs.declared.words.Task.TheVariants as TheTask;
+ghost use Rattle.ferry_words.specs.declared.command.Command.TheVariants as TheCommand;
 ghost use Rattle.ferry_view.specs.Output.{view_failed};
 
 use crate::lines::push_line;
-use crate::status::{Status, of_log, of_view};
+use crate::status::{Status, of_log, of_output};
 use ferry_base::Id;
 use ferry_disk::{Shelf, Sink};
 use ferry_log::{Log, open_log};
@@ -25,7 +25,7 @@ pub(crate) fn keys<S: Shelf, K: Sink>(
     source: &mut S,
     out: &mut K,
 ) -> Status
-    ensures out { DoesTask (Ok TheTask.Keys) passphrase.now (S.told source.old)
+    ensures out { DoesCommand (Ok TheCommand.Keys) passphrase.now (S.told source.old)
         (written (K.written out.old) (K.faults out.old)) result (written (K.written out.new) (K.faults out.new)) }
     ensures same { KeptWhere (source_failed result) (heard (S.told source.old)) (S.told source.new) }
     ensures cause { RoseWhere (source_failed result) (S.faults source.old) (S.faults source.new) }
@@ -37,7 +37,7 @@ pub(crate) fn keys<S: Shelf, K: Sink>(
     };
     match write_keys(alloc, &log, out) {
         Ok(()) => Status::Done,
-        Err(fault) => of_view(fault),
+        Err(fault) => of_output(fault),
     }
 }
 

@@ -2,11 +2,11 @@
 ghost use Rattle.std.specs.Prelude.{Ok};
 ghost use Rattle.ferry_disk.specs.Device.{KeptWhere, RoseWhere, heard};
 ghost use Rattle.ferry_top.specs.Devices.{written};
-ghost use Rattle.ferry_top.specs.Run.{DoesTask};
+ghost use Rattle.ferry_top.specs.Run.{DoesCommand};
 ghost use Rattle.ferry_top.specs.Status.{source_failed};
-ghost use Rattle.ferry_top.specs.declared.words.Task.TheVariants as TheTask;
+ghost use Rattle.ferry_words.specs.declared.command.Command.TheVariants as TheCommand;
 
-use crate::status::{Status, of_repo, of_view};
+use crate::status::{Status, of_output, of_repo};
 use ferry_disk::{Shelf, Sink};
 use ferry_repo::Repo;
 use std::alloc::Global;
@@ -19,7 +19,7 @@ pub(crate) fn list<S: Shelf, K: Sink>(
     source: &mut S,
     out: &mut K,
 ) -> Status
-    ensures out { DoesTask (Ok TheTask.List) passphrase.now (S.told source.old)
+    ensures out { DoesCommand (Ok TheCommand.List) passphrase.now (S.told source.old)
         (written (K.written out.old) (K.faults out.old)) result (written (K.written out.new) (K.faults out.new)) }
     ensures same { KeptWhere (source_failed result) (heard (S.told source.old)) (S.told source.new) }
     ensures cause { RoseWhere (source_failed result) (S.faults source.old) (S.faults source.new) }
@@ -30,6 +30,6 @@ pub(crate) fn list<S: Shelf, K: Sink>(
     };
     match ferry_view::list(alloc, &mut repo, out) {
         Ok(()) => Status::Done,
-        Err(fault) => of_view(fault),
+        Err(fault) => of_output(fault),
     }
 }

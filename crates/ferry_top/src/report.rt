@@ -1,7 +1,7 @@
 //! The fault lines.
 ghost use Rattle.std.specs.Prelude.{◌≡◌, ◌++◌, IfOk, OnOk, OnErr, option_map};
 ghost use Rattle.ferry_disk.specs.Device.{WritesSome, HasCause, sink_failed};
-ghost use Rattle.ferry_top.specs.Status.{usage_line, refused_line};
+ghost use Rattle.ferry_top.specs.Status.{usage_line, refused_line, missing_line};
 ghost use Rattle.ferry_repo.specs.Reason.{reason};
 ghost use Rattle.ferry_top.specs.Devices.{written};
 ghost use Rattle.ferry_top.specs.Run.{Reports};
@@ -9,6 +9,7 @@ ghost use Rattle.ferry_top.specs.Run.{Reports};
 use crate::status::{Refusal, Status};
 use ferry_disk::{Sink, SinkFault};
 use ferry_repo::{RepoFault, write_reason};
+use ferry_text::write_text;
 use std::alloc::{AllocError, Global};
 
 /// Writes the fault line of a status that has one. Where the output doesn't take it, the status tells alone.
@@ -21,6 +22,7 @@ pub(crate) fn report<K: Sink>(alloc: Global, status: &Status, out: &mut K)
         Status::Memory => out.write(b"memory\n"),
         Status::SourceDevice => out.write(b"source device failed\n"),
         Status::SourceRefused(Refusal::Repo(fault)) => write_refused(alloc, fault, out),
+        Status::NotFound(what) => write_missing(alloc, what.as_slice(), out),
     };
 }
 
@@ -67,4 +69,26 @@ fn write_usage<K: Sink>(alloc: Global, word: u64, out: &mut K) -> Result<(), Sin
         Ok(line) => out.write(line.as_bytes()),
         Err(_) => Err(SinkFault::Memory),
     }
+}
+
+/// Writes the line of what isn't there.
+fn write_missing<K: Sink>(alloc: Global, what: &[u8], out: &mut K) -> Result<(), SinkFault>
+    ensures ok { OnOk result (K.written out.new ≡ option_map (λ w. w ++ missing_line what.now) (K.written out.old)) }
+    ensures err { OnErr result (WritesSome (K.written out.old) (missing_line what.now) (K.written out.new)) }
+    ensures cause { HasCause sink_failed (K.faults out.old) (K.faults out.new) result }
+{
+    match missing_line(alloc, what) {
+        Ok(line) => out.write(&line),
+        Err(_) => Err(SinkFault::Memory),
+    }
+}
+
+/// The line of what isn't there.
+fn missing_line(alloc: Global, what: &[u8]) -> Result<Vec<u8>, AllocError>
+    ensures line { IfOk result (λ line. line.items ≡ missing_line what.now) }
+{
+    let mut line = Vec::from_slice(alloc, b"not found: ")?;
+    write_text(what, &mut line)?;
+    line.push(b'\n')?;
+    Ok(line)
 }

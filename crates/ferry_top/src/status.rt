@@ -1,6 +1,6 @@
 //! How a run ends.
 ghost use Rattle.std.specs.Prelude.{◌≡◌};
-ghost use Rattle.ferry_top.specs.Status.{status_number, log_status, repo_status, view_status};
+ghost use Rattle.ferry_top.specs.Status.{status_number, log_status, repo_status, output_status, view_status};
 
 use ferry_base::Bytes;
 use ferry_log::LogFault;
@@ -15,7 +15,7 @@ pub struct Secrets {
 }
 
 /// How a run ended. A status other than `Done` and `OutputDevice` has a fault line, which goes to the output.
-#[derive(Clone, Copy, Debug, PartialEq, Eq)]
+#[derive(Drop)]
 pub enum Status {
     /// The command is done, and all its lines are out.
     Done,
@@ -29,6 +29,8 @@ pub enum Status {
     OutputDevice,
     /// The source's files are refused.
     SourceRefused(Refusal),
+    /// No archive has this name, or no item of the archive that has content has this path.
+    NotFound(Bytes),
 }
 
 /// Why a repository's files are refused.
@@ -50,6 +52,7 @@ impl Status {
             Status::SourceDevice => 4,
             Status::OutputDevice => 7,
             Status::SourceRefused(_) => 8,
+            Status::NotFound(_) => 11,
         }
     }
 }
@@ -79,11 +82,23 @@ pub(crate) fn of_repo(fault: RepoFault) -> Status
     }
 }
 
-/// The status where not all could be shown.
-pub(crate) fn of_view(fault: ViewFault) -> Status
-    ensures { result ≡ view_status fault }
+/// The status where the output didn't take all that was read.
+pub(crate) fn of_output(fault: ViewFault) -> Status
+    ensures { result ≡ output_status fault }
 {
     match fault {
+        ViewFault::Output => Status::OutputDevice,
+        _ => Status::Memory,
+    }
+}
+
+/// The status where an archive isn't shown to its end. `missing` is what isn't there, where that is why.
+pub(crate) fn of_view(fault: ViewFault, missing: Bytes) -> Status
+    ensures { result ≡ view_status fault missing }
+{
+    match fault {
+        ViewFault::Repo(fault) => of_repo(fault),
+        ViewFault::NotFound => Status::NotFound(missing),
         ViewFault::Output => Status::OutputDevice,
         ViewFault::Memory => Status::Memory,
     }

@@ -1,4 +1,4 @@
-use crate::{Refusal, RepoFault, Secrets, Status, places_fit, run};
+use crate::{RepoFault, Secrets, Status, places_fit, run};
 use ferry_base::{BLOB_LIMIT, Bytes, Id};
 use ferry_disk::{MemoryDepot, MemoryEntropy, MemoryShelf, MemorySink, Name, Shelf, StoreFault};
 use ferry_repo::Repo;
@@ -104,6 +104,59 @@ const CHUNK: &str =
 
 const CHUNK_ID: &str = "04985b39cf4b04ada01f70e336bbd872152b429321dfb8576f6108e5f9ecf112";
 
+/// The objects of a repository with an archive `a`, each with its id: the manifest, the archive's record, the two pieces of its item
+/// stream, and the contents of its files: `hello` of `f` and `g`, and `!`, which `g` has too.
+static OBJECTS: [(&str, &str); 6] = [
+    (
+        "0000000000000000000000000000000000000000000000000000000000000000",
+        "039b73bb80425a07501412288ab97101f5561277f2a88cc811d3d7aef7b9ed260e00000000000000009ae86c824ffdde9633\
+            2cf8d9add0dbc2c697f2fac4c1c6562562883c5a0a76f4132962fa1f650010957d0377889e9ddec0343a5732c9dbdc487a06\
+            199e753c300d49416a9ec1d7b8f2f34c9b24c6d6039721e49a9d80ede610bc17bd1563f383ccefbe35d29da21591d83e581b\
+            8c646240ad98f258134a6f8202e2ef7b59ac7f50656f804ca9428ebb8a8a6a577e6bf381bf42c95099d60f5e6b1787d1084c\
+            d6041dc891cbd319dc533003821f1f0c6acdb734e64e838f71cfca1cb2c9acd583cf846911f4394b750e6f6f1c77d7a4a49c\
+            2f84a4499bdae82cf99b152b53eb201efdf68970eddf000d437a2fffbb218559de34e58ac7a7b10b39108ec331cf9854e695\
+            60912d0b9ce4bff5a35ef73c927db173c97b380c322f01010854e0e7ed9bc2673fc2cc3bdfad0dbeb462e0ec480f77063a8f\
+            8fb9d1ea00a57babc05d3fe0a1291c6a09193553313221745fbbed1b6611788abfb818d34b868161c80d49f85af92fd0b993\
+            1394b1065588fbe1d0538599d918b212ec2f789fbe453e0b643bb2927e79312675d3c8bc6527aa2b41ec3f4c4d2f1562c42e\
+            2ec63f194b6cdd476b2979af860fe7a7d73393d6",
+    ),
+    (
+        "82ca7e0efff099cc81debccf4abebe037e18c9e0a24f86162883ae4c976cde69",
+        "037caa803a01b8b4b0e23fb11d354ece1684787bc20d6b8d04ed1ddfee7a2aece5000000000000001bd8714340cf05c55bc5\
+            69e32492640327cc429e8a023c6757d7671c5b9b75dc8e920f3789daab04f89bd1fcd2aecafb7be098d6a2b74efd5f94ec58\
+            1afda49c90220e5193a12bb9d8c87ea09d637fcff5a50bf5754c75a14156029451641d4d78a197b795bf99c21e414937fba7\
+            41d733edafd63b62c17cc34af1e728d79d67dc4fc33482181aa36a2406e6efcb4fb39815110caaefc4b291bd9f249541b142\
+            5a7a28e4184ab972ab26098fc0577e3302c30f0fa8c91536fed43aaf4684498261ac0476dc261084a0706e029c5e1b274c5f\
+            a7a1fa36a3d359d1c6da0d07c6aa1d6074e1e7f0b96d6fb59f43753b0902e785211f9c1c0f157dd481dab77a46ef1e8bd6ac\
+            aeb14a45d00c521c2044daeffd7d384bf1f0bee2e833fb16bf7cfab8e8313efa5492762680f822c6db60b52fbf2b1796891c\
+            2962335052ab730be0e0286508eb06aa327f8475f96287e3c15ace093656093b6b300260685f8ae299e02137",
+    ),
+    (
+        "a2eed28aab808298fb21d01525ac7ac381582d5a4fbcf26f92fd06f2b271489c",
+        "0391c5a326c0e05b6cfcdc05f696c486c233220c1eef43c59f9040708720c04b42000000000000003256970d0350451bdace\
+            497246eb1fbcf0afb56e98e0c2273f5025398f97a0860e6b36e7942ef5d6ed86f4c94baf623a0c2ca25278854874994c3cb8\
+            15bf47a621c736836d34038b52a5c0ba7eeed092478738275dab579ea0393c5c94cc749f1cfcbc2c98dc34d106e9fc5caa4b\
+            a58925d5d6fa653ebfc4d0847d27ae70ecc2fc4357298c4db4422953169dc0e5444706162a55246a7a1dfbd815276e116cd8\
+            70baf5e2ba3106c8a557e71467a8b744551a8e256b7512d4a2e3cc4734d0d0ce9933c2e1537ea9dcf477118160912b3d964a\
+            06c3211b58e5a25ec0a48310378980aec28a4c02cebb05669920429c41ad0ec4cb73d7b9dda0d2aec526be8ba6e1c9",
+    ),
+    (
+        "fa304d4c9bedbe12eb5b68356f6ea94fc98a91cd19bdb0e56c15d4cc8485c0d1",
+        "03d37b56b8e113d677e12c230dea3e2c8f729b26eec1b834b31a627e6cb0073c670000000000000042ec2841f4b17dcaf9aa\
+            e55d20b0362fc8a5064be97736a23362254fba675105ba905e6696c0d23c69549524f08695432f5916689a7438245197e501\
+            3f1be86a3b38fca72611c5f779ccd838a8d417a3bea4a38010f2002f910978f7ea2151daee5b62e47306e2cb689f96b94ef0\
+            174f099ac92a5151b9d42eda24bf685d30f398ba",
+    ),
+    (
+        "04985b39cf4b04ada01f70e336bbd872152b429321dfb8576f6108e5f9ecf112",
+        "0335e5f4b651f7f3da0ff94c912e62ed1f569a4c58f9afe9c8d5f301caba7c857a000000000000004b3c35d617616ea6",
+    ),
+    (
+        "a724cb467c45d55c00bc2e7928e74e438cd18006b0e91c749d0a9b9bac82e5a3",
+        "039db573e44cb18980fa94d00cd3483d407fe2b08f1c6977dfd459c4286c119268000000000000004c92c61a",
+    ),
+];
+
 /// What a segment of a case holds behind its magic.
 #[derive(Clone, Copy)]
 enum Part {
@@ -159,7 +212,11 @@ fn config(alloc: Global, texts: &[&str]) -> Result<(Name, Vec<u8>), AllocError> 
 /// A repository with this sealed manifest, or none where the text is empty, and the chunk.
 fn repository(alloc: Global, manifest: &str) -> Result<Vec<(Name, Vec<u8>)>, Fail> {
     let mut bytes = Vec::from_slice(alloc, &MAGIC)?;
-    push_put(&mut bytes, &id(alloc)?, &hex::decode(alloc, CHUNK)?)?;
+    push_put(
+        &mut bytes,
+        &id(alloc, CHUNK_ID)?,
+        &hex::decode(alloc, CHUNK)?,
+    )?;
     let blob = hex::decode(alloc, manifest)?;
     if !blob.is_empty() {
         push_put(&mut bytes, &[0; 32], &blob)?;
@@ -171,14 +228,29 @@ fn repository(alloc: Global, manifest: &str) -> Result<Vec<(Name, Vec<u8>)>, Fai
     Ok(files)
 }
 
-/// The id of the chunk.
-fn id(alloc: Global) -> Result<Id, Fail> {
+/// The id of 64 digits.
+fn id(alloc: Global, digits: &str) -> Result<Id, Fail> {
     let mut id = [0; 32];
-    let bytes = hex::decode(alloc, CHUNK_ID)?;
+    let bytes = hex::decode(alloc, digits)?;
     if bytes.len() == 32 {
         id.copy_from_slice(&bytes);
     }
     Ok(id)
+}
+
+/// The repository of the objects, but for the one of a number.
+fn archived(alloc: Global, without: usize) -> Result<Vec<(Name, Vec<u8>)>, Fail> {
+    let mut bytes = Vec::from_slice(alloc, &MAGIC)?;
+    for (place, (digits, blob)) in OBJECTS.iter().enumerate() {
+        if place != without {
+            push_put(&mut bytes, &id(alloc, digits)?, &hex::decode(alloc, blob)?)?;
+        }
+    }
+    let mut files = Vec::new(alloc);
+    files.push((Name::Segment(0), bytes))?;
+    files.push((Name::Segment(1), Vec::from_slice(alloc, &COMMIT_SEGMENT)?))?;
+    files.push(config(alloc, &[CONFIG, OPEN_KEY])?)?;
+    Ok(files)
 }
 
 fn strings(alloc: Global, words: &[&str]) -> Result<Vec<String>, AllocError> {
@@ -351,6 +423,37 @@ fn archives_are_listed_on_a_line_each(rt: HostRuntime) -> Result<(), Fail> {
     Ok(())
 }
 
+/// Whether each of these commands over the repository of the objects, without the one of a number, ends with its number and prints its
+/// text.
+fn archive_prints(alloc: Global, cases: &[(&[&str], usize, u8, &str)]) -> Result<bool, Fail> {
+    let mut all = true;
+    for (words, without, number, text) in cases {
+        let files = archived(alloc, *without)?;
+        all &= prints(alloc, PASSPHRASE, words, files, &[], *number, text)?;
+    }
+    Ok(all)
+}
+
+#[test]
+fn an_archive_is_shown_as_far_as_it_reads(rt: HostRuntime) -> Result<(), Fail> {
+    let lines = "- 0 .\nf 5 f\nl 0 l\nf 6 g\n";
+    let piece = "source refused: missing \
+        fa304d4c9bedbe12eb5b68356f6ea94fc98a91cd19bdb0e56c15d4cc8485c0d1\n";
+    let content = "hellosource refused: missing \
+        a724cb467c45d55c00bc2e7928e74e438cd18006b0e91c749d0a9b9bac82e5a3\n";
+    let cases: [(&[&str], usize, u8, &str); 7] = [
+        (&["list", "a"], 9, 0, lines),
+        (&["extract", "a", "g"], 9, 0, "hello!"),
+        (&["extract", "a", "f"], 5, 0, "hello"),
+        (&["extract", "a", "l"], 9, 11, "not found: l\n"),
+        (&["extract", "b", "g"], 9, 11, "not found: b\n"),
+        (&["list", "a"], 3, 8, piece),
+        (&["extract", "a", "g"], 5, 8, content),
+    ];
+    assert!(rt; archive_prints(rt.alloc(), &cases)?);
+    Ok(())
+}
+
 /// A shelf in memory that tells nothing, so that its files may change.
 #[derive(Drop)]
 struct Silent {
@@ -380,7 +483,7 @@ impl Shelf for Silent {
 #[test]
 fn a_chunk_opens_under_its_id_where_it_still_lies(rt: HostRuntime) -> Result<(), Fail> {
     let alloc = rt.alloc();
-    let id = id(alloc)?;
+    let id = id(alloc, CHUNK_ID)?;
     let shelf = MemoryShelf::new(alloc, repository(alloc, TWO_ARCHIVES)?, Vec::new(alloc))?;
     let mut source = Silent { shelf };
     let mut repo = Repo::open(alloc, &mut source, PASSPHRASE)?;
@@ -420,12 +523,12 @@ fn the_first_wrong_word_is_told(rt: HostRuntime) -> Result<(), Fail> {
     let alloc = rt.alloc();
     let cases: [(&[&str], &str); 7] = [
         (&[], "usage: word 1\n"),
-        (&["list", "x"], "usage: word 2\n"),
+        (&["list", "a", "b"], "usage: word 3\n"),
         (&["Keys", "x"], "usage: word 1\n"),
         (&["keys", "x"], "usage: word 2\n"),
         (&["keys", "--block", "64"], "usage: word 2\n"),
         (&["keys", "--", "--"], "usage: word 3\n"),
-        (&["key", "x"], "usage: word 2\n"),
+        (&["extract", "a"], "usage: word 3\n"),
     ];
     assert!(rt; words_are_wrong(alloc, &cases)?);
     let files = segments(alloc, &[Part::Commit])?;
@@ -454,17 +557,11 @@ fn a_failing_device_is_told_by_its_status(rt: HostRuntime) -> Result<(), Fail> {
             "{call}"
         );
     }
-    for (parts, want) in [
-        (parts.as_slice(), Status::OutputDevice),
-        (
-            [Part::Put(b"abc")].as_slice(),
-            Status::SourceRefused(Refusal::Repo(RepoFault::NoCommit)),
-        ),
-    ] {
+    for (parts, want) in [(parts.as_slice(), 7), ([Part::Put(b"abc")].as_slice(), 8)] {
         let mut source = MemoryShelf::new(alloc, segments(alloc, parts)?, Vec::new(alloc))?;
         let mut out = MemorySink::new(alloc, Vec::from_slice(alloc, &[1])?)?;
         let status = status_of(alloc, PASSPHRASE, &["keys"], &mut source, &mut out)?;
-        assert_eq!(rt; status, want);
+        assert_eq!(rt; status.number(), want);
         assert!(rt; out.bytes().is_empty());
     }
     Ok(())

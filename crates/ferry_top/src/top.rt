@@ -1,16 +1,19 @@
 //! The top call.
-ghost use Rattle.std.specs.Prelude.{◌≡◌, ℕ, map, string_bytes, IfErr, MatchResult};
+ghost use Rattle.std.specs.Prelude.{◌≡◌, ◌⊎◌, ℕ, map, string_bytes, Ok, IfErr, MatchResult};
+ghost use Rattle.ferry_disk.specs.Device.{KeptWhere, RoseWhere, heard};
 ghost use Rattle.ferry_top.specs.Devices.{devices, store, drawn, written};
-ghost use Rattle.ferry_top.specs.Words.{words_of};
-ghost use Rattle.ferry_top.specs.Run.{Runs};
+ghost use Rattle.ferry_top.specs.Run.{DoesCommand, Runs};
+ghost use Rattle.ferry_top.specs.Status.{source_failed};
+ghost use Rattle.ferry_words.specs.Words.{command_of};
 
+use crate::items::{extract, list_items};
 use crate::key::key;
 use crate::keys::keys;
 use crate::list::list;
 use crate::report::report;
 use crate::status::{Secrets, Status};
-use crate::words::{Task, read_words};
 use ferry_disk::{Depot, Entropy, Shelf, Sink};
+use ferry_words::{Command, Usage, read_words};
 use std::alloc::Global;
 
 /// Does what the words say.
@@ -18,8 +21,9 @@ use std::alloc::Global;
 /// `words` begins with the command. `keys` prints each live key of the source in byte order as 64 hex digits, with a space and
 /// the size of its blob in bytes. `key` opens the repository key in the source's `config` with the source's passphrase and
 /// prints its repository id as 64 hex digits, a space, and its iterations. `list` opens the source with that passphrase and
-/// prints, for each archive in byte order of names, the id of its record, its time and its name. None uses `target` and
-/// `entropy`.
+/// prints, for each archive in byte order of names, the id of its record, its time and its name; with a name it prints, for each item of
+/// that archive in the order of its stream, its kind, its size in bytes and its path. `extract` writes the content of the first item of an
+/// archive that has content and a path. None uses `target` and `entropy`.
 pub fn run<S: Shelf, D: Depot, E: Entropy, K: Sink>(
     alloc: Global,
     words: &[String],
@@ -29,21 +33,44 @@ pub fn run<S: Shelf, D: Depot, E: Entropy, K: Sink>(
     entropy: &mut E,
     out: &mut K,
 ) -> Status
-    ensures usage { MatchResult (words_of (map string_bytes words.now)) (λ _. (n : ℕ) → result ≡ Status.Usage n → ⊥) (λ n. result ≡ Status.Usage n) }
-    ensures idle { IfErr (words_of (map string_bytes words.now)) (λ _. source.new ≡ source.old) }
-    ensures runs { Runs (words_of (map string_bytes words.now)) secrets.now.source
+    ensures usage { MatchResult (command_of (map string_bytes words.now)) (λ _. (n : ℕ) → result ≡ Status.Usage n → ⊥)
+        (λ n. (result ≡ Status.Usage n) ⊎ (result ≡ Status.Memory)) }
+    ensures idle { IfErr (command_of (map string_bytes words.now)) (λ _. source.new ≡ source.old) }
+    ensures runs { Runs (command_of (map string_bytes words.now)) secrets.now.source
         (devices (store (S.told source.old) (S.faults source.old)) (store (D.told target.old) (D.faults target.old))
         (drawn (E.drawn entropy.old) (E.faults entropy.old)) (written (K.written out.old) (K.faults out.old)))
         result
         (devices (store (S.told source.new) (S.faults source.new)) (store (D.told target.new) (D.faults target.new))
         (drawn (E.drawn entropy.new) (E.faults entropy.new)) (written (K.written out.new) (K.faults out.new))) }
 {
-    let status = match read_words(words) {
-        Ok(Task::Keys) => keys(alloc, secrets.source.as_slice(), source, out),
-        Ok(Task::Key) => key(alloc, secrets.source.as_slice(), source, out),
-        Ok(Task::List) => list(alloc, secrets.source.as_slice(), source, out),
-        Err(word) => Status::Usage(word),
+    let status = match read_words(alloc, words) {
+        Ok(command) => carry_out(alloc, command, secrets.source.as_slice(), source, out),
+        Err(Usage::Word(word)) => Status::Usage(word),
+        Err(Usage::Memory) => Status::Memory,
     };
     report(alloc, &status, out);
     status
+}
+
+/// Does a command of the source, under its passphrase.
+fn carry_out<S: Shelf, K: Sink>(
+    alloc: Global,
+    command: Command,
+    passphrase: &[u8],
+    source: &mut S,
+    out: &mut K,
+) -> Status
+    ensures out { DoesCommand (Ok command) passphrase.now (S.told source.old)
+        (written (K.written out.old) (K.faults out.old)) result (written (K.written out.new) (K.faults out.new)) }
+    ensures same { KeptWhere (source_failed result) (heard (S.told source.old)) (S.told source.new) }
+    ensures cause { RoseWhere (source_failed result) (S.faults source.old) (S.faults source.new) }
+    ensures used { (n : ℕ) → result ≡ Status.Usage n → ⊥ }
+{
+    match command {
+        Command::Keys => keys(alloc, passphrase, source, out),
+        Command::Key => key(alloc, passphrase, source, out),
+        Command::List => list(alloc, passphrase, source, out),
+        Command::ListItems { name } => list_items(alloc, passphrase, source, out, name),
+        Command::Extract { name, path } => extract(alloc, passphrase, source, out, name, path),
+    }
 }

@@ -1,2 +1,4 @@
 pub mod Lines
 pub mod Output
+pub mod Items
+pub mod Steps

@@ -1,9 +1,9 @@
 //! The listing of the archives.
-ghost use Rattle.std.specs.Prelude.{◌≡◌, ◌++◌, OnOk, OnErr, option_map};
+ghost use Rattle.std.specs.Prelude.{◌≡◌, ◌++◌, IfErr, OnOk, OnErr, option_map};
 ghost use Rattle.ferry_disk.specs.Device.{WritesSome, HasCause};
 ghost use Rattle.ferry_repo.specs.Opening.{repo_view};
 ghost use Rattle.ferry_view.specs.Lines.{archive_line, archive_lines};
-ghost use Rattle.ferry_view.specs.Output.{view_failed};
+ghost use Rattle.ferry_view.specs.Output.{view_failed, IsOutputFault};
 
 use crate::fault::ViewFault;
 use crate::output::{send, send_full};
@@ -23,6 +23,7 @@ pub fn list<K: Sink>(alloc: Global, repo: &mut Repo, out: &mut K) -> Result<(), 
         WritesSome (K.written out.old) (archive_lines (repo_view repo.old).manifest.archives) (K.written out.new)) }
     ensures kept { repo_view repo.new ≡ repo_view repo.old }
     ensures cause { HasCause view_failed (K.faults out.old) (K.faults out.new) result }
+    ensures only { IfErr result IsOutputFault }
 {
     write_archives(alloc, repo.manifest().archives.as_slice(), out)
 }
@@ -37,6 +38,7 @@ fn write_archives<K: Sink>(
         K.written out.new ≡ option_map (λ w. w ++ archive_lines archives.now) (K.written out.old)) }
     ensures err { OnErr result (WritesSome (K.written out.old) (archive_lines archives.now) (K.written out.new)) }
     ensures cause { HasCause view_failed (K.faults out.old) (K.faults out.new) result }
+    ensures only { IfErr result IsOutputFault }
 {
     let mut text = Vec::new(alloc);
     for place in 0..archives.len() {

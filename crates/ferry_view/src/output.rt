@@ -1,7 +1,7 @@
 //! Text that is gathered, and goes out many lines at a time.
-ghost use Rattle.std.specs.Prelude.{◌≡◌, ◌++◌, OnOk, OnErr, option_map};
+ghost use Rattle.std.specs.Prelude.{◌≡◌, ◌++◌, IfErr, OnOk, OnErr, option_map};
 ghost use Rattle.ferry_disk.specs.Device.{WritesSome, HasCause};
-ghost use Rattle.ferry_view.specs.Output.{view_failed, Sends};
+ghost use Rattle.ferry_view.specs.Output.{view_failed, IsOutputFault, Sends};
 
 use crate::fault::ViewFault;
 use ferry_disk::Sink;
@@ -15,6 +15,7 @@ pub fn send_full<K: Sink>(text: &mut Vec<u8>, out: &mut K) -> Result<(), ViewFau
     ensures ok { OnOk result (Sends (K.written out.old) (K.written out.new) text.new.items text.old.items) }
     ensures err { OnErr result (WritesSome (K.written out.old) text.old.items (K.written out.new)) }
     ensures cause { HasCause view_failed (K.faults out.old) (K.faults out.new) result }
+    ensures only { IfErr result IsOutputFault }
 {
     if text.len() < FULL {
         return Ok(());
@@ -30,6 +31,7 @@ pub fn send<K: Sink>(text: &[u8], out: &mut K) -> Result<(), ViewFault>
     ensures ok { OnOk result (K.written out.new ≡ option_map (λ w. w ++ text.now) (K.written out.old)) }
     ensures err { OnErr result (WritesSome (K.written out.old) text.now (K.written out.new)) }
     ensures cause { HasCause view_failed (K.faults out.old) (K.faults out.new) result }
+    ensures only { IfErr result IsOutputFault }
 {
     Ok(out.write(text)?)
 }

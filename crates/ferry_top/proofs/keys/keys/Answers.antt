@@ -23,6 +23,6 @@ returns-clause-out g c =
     let before = written (g.K.Sink.written c.args.out.now) (g.K.Sink.faults c.args.out.now) in
     let after = written (g.K.Sink.written c.write_keys.new.out) (g.K.Sink.faults c.write_keys.new.out) in
     let fault = c.in-Err-write_keys.fault in
-    subst (λ (s : Status). Prints IsListing RefusesKeys source before s after) (sym c.of_view.ensures)
+    subst (λ (s : Status). Prints IsListing RefusesKeys source before s after) (sym c.of_output.ensures)
     (cut_text IsListing RefusesKeys source before after (key_lines (entries c.in-Ok.log.opened)) fault (listing_of source c.in-Ok.log c.in-Ok.ensures.log)
     c.in-Err-write_keys.ensures.err c.in-Err-write_keys.ensures.cause)

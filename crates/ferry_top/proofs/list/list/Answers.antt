@@ -26,7 +26,7 @@ returns-clause-out g c =
     let after = written (g.K.Sink.written c.list.new.out) (g.K.Sink.faults c.list.new.out) in
     let repo = repo_view c.in-Ok.repo in
     let fault = c.in-Err-list.fault in
-    subst (λ (s : Status). Prints (IsArchiveListing pass) (RefusesOpening pass) source before s after) (sym c.of_view.ensures)
+    subst (λ (s : Status). Prints (IsArchiveListing pass) (RefusesOpening pass) source before s after) (sym c.of_output.ensures)
     (cut_text (IsArchiveListing pass) (RefusesOpening pass) source before after (archive_lines repo.manifest.archives) fault
     (archives_of source pass repo c.in-Ok.ensures.repository)
     c.in-Err-list.ensures.err c.in-Err-list.ensures.cause)

@@ -1,0 +1,121 @@
+-- Lemmas on specs/Items.antt: what a repository shows of an archive is what the source's files say, and so is what it refuses.
+use Rattle.std.proofs.Common.{◌≡◌, ℕ, true, false, List, Option, Some, None, is_some, option_map, IfSome, refl, inr}
+use Rattle.ferry_disk.specs.Files.{Files}
+use Rattle.ferry_manifest.specs.declared.manifest.ArchiveRef.{ArchiveRef}
+use Rattle.ferry_disk.specs.Device.{Told, RoseWhere, told_files, heard}
+use Rattle.ferry_disk.proofs.DeviceLemmas.{told_same, told_then, told_with}
+use Rattle.ferry_repo.proofs.LawLemmas.{opens_fits}
+use Rattle.ferry_repo.specs.Fault.{IsOfFiles}
+use Rattle.ferry_repo.specs.Opening.{RepoState, OpensFilesTo, FitsRepo}
+use Rattle.ferry_repo.specs.declared.fault.RepoFault.{RepoFault}
+use Rattle.ferry_repo.specs.declared.fault.RepoFault.TheVariants as Repo
+use Rattle.ferry_view.specs.Output.{ShowsAll, ShowsSome, view_failed}
+use Rattle.ferry_view.specs.declared.fault.ViewFault.{ViewFault}
+use Rattle.ferry_view.specs.declared.fault.ViewFault.TheVariants as View
+use Rattle.ferry_top.specs.Devices.{Written}
+use Rattle.ferry_top.specs.Items.{OpensWith, RefusesShowing}
+use Rattle.ferry_top.specs.Run.{HasBegun, PrintsAsRead}
+use Rattle.ferry_top.specs.Status.{view_status}
+use Rattle.ferry_top.specs.declared.status.Refusal.{Refusal}
+use Rattle.ferry_top.specs.declared.status.Refusal.TheVariants as TheRefusal
+use Rattle.ferry_top.specs.declared.status.Status.TheVariants as TheStatus
+
+-- what is true of the files and of the repository that they opened to, where a later call told it
+pub opens_with : (source later : Option Told) (passphrase : List ℕ) (repo : RepoState) (Holds : Files → RepoState → Type 0)
+    → heard later ≡ heard source → IfSome source (λ t. OpensFilesTo (told_files t) passphrase repo) → IfSome later (λ t. Holds (told_files t) repo)
+    → IfSome source (λ t. OpensWith passphrase Holds (told_files t))
+opens_with source later passphrase repo Holds same opens holds =
+    told_with source later (λ f. OpensFilesTo f passphrase repo) (λ f. Holds f repo) (OpensWith passphrase Holds) same
+    (λ f o h. record { repo = repo; opens = o; holds = h }) opens holds
+
+-- an opened repository fits what a later call tells
+pub fits_later : (source later : Option Told) (passphrase : List ℕ) (repo : RepoState) → heard later ≡ heard source
+    → IfSome source (λ t. OpensFilesTo (told_files t) passphrase repo) → IfSome later (λ t. FitsRepo (told_files t) repo)
+fits_later source later passphrase repo same opens =
+    told_same source later (λ f. FitsRepo f repo) same
+    (told_then source (λ f. OpensFilesTo f passphrase repo) (λ f. FitsRepo f repo) (λ f o. opens_fits f passphrase repo o) opens)
+
+-- ---- a repository that shows all
+
+-- what a repository has shown, by what the shelf told after opening and by the output before and after
+pub record HasShown (source later : Option Told) (passphrase : List ℕ) (repo : RepoState) : Type 0 where
+  pub same : heard later ≡ heard source
+  pub opens : IfSome source (λ t. OpensFilesTo (told_files t) passphrase repo)
+
+pub all_shown : (IsView : Files → RepoState → List ℕ → Type 0) (IsFront : Files → List ℕ → Type 0) (Refuses : Files → Refusal → Type 0)
+    (Lacks : Files → List ℕ → Type 0) (source later : Option Told) (passphrase : List ℕ) (repo : RepoState) (before after : Written)
+    → HasShown source later passphrase repo → ShowsAll (λ f text. IsView f repo text) later before.bytes after.bytes → after.faults ≡ before.faults
+    → PrintsAsRead (λ f text. OpensWith passphrase (λ g r. IsView g r text) f) IsFront Refuses Lacks source before TheStatus.Done after
+all_shown IsView IsFront Refuses Lacks source later passphrase repo before after shown all faults = (
+  all.text,
+  opens_with source later passphrase repo (λ g r. IsView g r all.text) shown.same shown.opens all.is,
+  all.written,
+  faults,
+)
+
+-- ---- a repository that doesn't show all
+
+refused_later : (Refuses : Files → RepoState → ViewFault → Type 0) (source later : Option Told) (passphrase : List ℕ) (repo : RepoState) (fault : RepoFault)
+    → HasShown source later passphrase repo → IsOfFiles fault → IfSome later (λ t. Refuses (told_files t) repo (View.Repo fault))
+    → IfSome source (λ t. RefusesShowing passphrase Refuses (told_files t) (TheRefusal.Repo fault))
+refused_later Refuses source later passphrase repo fault shown of_files refused =
+    told_then source (OpensWith passphrase (λ g r. Refuses g r (View.Repo fault))) (λ f. RefusesShowing passphrase Refuses f (TheRefusal.Repo fault))
+    (λ f h. (of_files, inr h))
+    (opens_with source later passphrase repo (λ g r. Refuses g r (View.Repo fault)) shown.same shown.opens refused)
+
+begun : (IsView : Files → RepoState → List ℕ → Type 0) (source later : Option Told) (passphrase : List ℕ) (repo : RepoState) (before after : Written)
+    → HasShown source later passphrase repo → ShowsSome (λ f text. IsView f repo text) later before.bytes after.bytes → after.faults ≡ before.faults
+    → HasBegun (λ text. IfSome source (λ t. OpensWith passphrase (λ g r. IsView g r text) (told_files t))) before after
+begun IsView source later passphrase repo before after shown some faults =
+    inr (some.text, opens_with source later passphrase repo (λ g r. IsView g r some.text) shown.same shown.opens some.is, some.written, faults)
+
+-- a front was written of what is shown as far as it reads
+pub not_shown : (Text : Files → List ℕ → Type 0) (Shown : Files → RepoState → List ℕ → Type 0) (Refuses : Files → RepoState → ViewFault → Type 0)
+    (Lacks : Files → List ℕ → Type 0) (source later : Option Told) (pass : List ℕ) (repo : RepoState) (before after : Written) (fault : ViewFault)
+    (missing : List ℕ)
+    → HasShown source later pass repo → ShowsSome (λ f text. Shown f repo text) later before.bytes after.bytes
+    → IfSome later (λ t. Refuses (told_files t) repo fault) → RoseWhere (view_failed fault) before.faults after.faults
+    → (fault ≡ View.NotFound → IfSome source (λ t. Lacks (told_files t) missing))
+    → PrintsAsRead Text (λ f text. OpensWith pass (λ g r. Shown g r text) f) (RefusesShowing pass Refuses) Lacks source before
+    (view_status fault missing) after
+not_shown Text Shown Refuses Lacks source later pass repo before after View.Output missing shown some refused cause lacks =
+    (some.text, opens_with source later pass repo (λ g r. Shown g r some.text) shown.same shown.opens some.is, some.written, cause)
+not_shown Text Shown Refuses Lacks source later pass repo before after View.Memory missing shown some refused cause lacks =
+    begun Shown source later pass repo before after shown some cause
+not_shown Text Shown Refuses Lacks source later pass repo before after View.NotFound missing shown some refused cause lacks =
+    (lacks refl, begun Shown source later pass repo before after shown some cause)
+not_shown Text Shown Refuses Lacks source later pass repo before after (View.Repo Repo.Device) missing shown some refused cause lacks =
+    begun Shown source later pass repo before after shown some cause
+not_shown Text Shown Refuses Lacks source later pass repo before after (View.Repo Repo.Memory) missing shown some refused cause lacks =
+    begun Shown source later pass repo before after shown some cause
+not_shown Text Shown Refuses Lacks source later pass repo before after (View.Repo Repo.NoCommit) missing shown some refused cause lacks =
+    (refused_later Refuses source later pass repo Repo.NoCommit shown tt refused, begun Shown source later pass repo before after shown some cause)
+not_shown Text Shown Refuses Lacks source later pass repo before after (View.Repo (Repo.Damaged segment at)) missing shown some refused cause lacks =
+    (refused_later Refuses source later pass repo (Repo.Damaged segment at) shown tt refused, begun Shown source later pass repo before after shown some cause)
+not_shown Text Shown Refuses Lacks source later pass repo before after (View.Repo (Repo.Config fault)) missing shown some refused cause lacks =
+    (refused_later Refuses source later pass repo (Repo.Config fault) shown tt refused, begun Shown source later pass repo before after shown some cause)
+not_shown Text Shown Refuses Lacks source later pass repo before after (View.Repo (Repo.Key fault)) missing shown some refused cause lacks =
+    (refused_later Refuses source later pass repo (Repo.Key fault) shown tt refused, begun Shown source later pass repo before after shown some cause)
+not_shown Text Shown Refuses Lacks source later pass repo before after (View.Repo (Repo.Missing id)) missing shown some refused cause lacks =
+    (refused_later Refuses source later pass repo (Repo.Missing id) shown tt refused, begun Shown source later pass repo before after shown some cause)
+not_shown Text Shown Refuses Lacks source later pass repo before after (View.Repo (Repo.Blob id fault)) missing shown some refused cause lacks =
+    (refused_later Refuses source later pass repo (Repo.Blob id fault) shown tt refused, begun Shown source later pass repo before after shown some cause)
+not_shown Text Shown Refuses Lacks source later pass repo before after (View.Repo (Repo.Manifest fault)) missing shown some refused cause lacks =
+    (refused_later Refuses source later pass repo (Repo.Manifest fault) shown tt refused, begun Shown source later pass repo before after shown some cause)
+not_shown Text Shown Refuses Lacks source later pass repo before after (View.Repo (Repo.Archive id fault)) missing shown some refused cause lacks =
+    (refused_later Refuses source later pass repo (Repo.Archive id fault) shown tt refused, begun Shown source later pass repo before after shown some cause)
+not_shown Text Shown Refuses Lacks source later pass repo before after (View.Repo (Repo.Item id fault)) missing shown some refused cause lacks =
+    (refused_later Refuses source later pass repo (Repo.Item id fault) shown tt refused, begun Shown source later pass repo before after shown some cause)
+not_shown Text Shown Refuses Lacks source later pass repo before after (View.Repo (Repo.Size id)) missing shown some refused cause lacks =
+    (refused_later Refuses source later pass repo (Repo.Size id) shown tt refused, begun Shown source later pass repo before after shown some cause)
+
+-- ---- a name
+
+-- an archive that has no id isn't there
+pub not_named : (named : Option ArchiveRef) (id : Option (List ℕ)) → id ≡ option_map (λ a. a.id) named → is_some id ≡ false → named ≡ None
+not_named None id e none = refl
+not_named (Some archive) id e none = cc
+
+pub named_there : (named : Option ArchiveRef) (id : Option (List ℕ)) → id ≡ option_map (λ a. a.id) named → is_some id ≡ true → named ≡ None → ⊥
+named_there None id e some none = cc
+named_there (Some archive) id e some none = cc

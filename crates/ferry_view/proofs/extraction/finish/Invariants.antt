@@ -1,0 +1,15 @@
+use Rattle.std.proofs.Common.{◌≡◌}
+use Rattle.ferry_disk.specs.Device.{heard}
+use Rattle.ferry_repo.specs.Opening.{repo_view}
+use Rattle.ferry_repo.specs.Walk.{walk_view}
+use Rattle.ferry_view.specs.Steps.{GoesOn}
+use Rattle.ferry_view.proofs.extraction.finish.Given as goal
+
+-- the walk has gone on
+abbrev pub invariant-loop : goal.invariant-loop
+invariant-loop g l = record {
+  goes : GoesOn (g.S.Shelf.told l.fn.shelf) (repo_view l.fn.repo) (walk_view l.fn.walk) (walk_view l.walk);
+  repo : repo_view l.repo ≡ repo_view l.fn.repo;
+  same : heard (g.S.Shelf.told l.shelf) ≡ heard (g.S.Shelf.told l.fn.shelf);
+  faults : g.S.Shelf.faults l.shelf ≡ g.S.Shelf.faults l.fn.shelf;
+}
