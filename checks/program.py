@@ -107,7 +107,7 @@ def row_of(words, cwd, status, out):
     """The row of the table of plain words that a run comes under, None where it says nothing there."""
     if status in (0, 7):
         return ("none", "standard output failed, status 7") if status else None
-    told = re.search(r"(source refused: |not found: |usage|memory$|source device failed$|BORG_)[^\n]*\n?$", out.decode("utf-8", "replace"))
+    told = re.search(r"(source refused: |not found: |usage|memory$|key file unreadable$|source device failed$|BORG_)[^\n]*\n?$", out.decode("utf-8", "replace"))
     line = re.sub(r"^not found: .*", "not found: NAME", re.sub(r"\b[0-9a-f]{64}$", "ID", told[0].rstrip("\n") if told else ""))
     line = re.sub(r"segment \d+ at \d+$", "segment S at A", re.sub(r"^usage: word \d+$", "usage: word N", line))
     where, source = "", os.fsdecode(words[0]) if words else ""
@@ -359,7 +359,7 @@ def keys_of_configs():
     refused("no folder", None, "config", 1)
     for text in [b"", b"\xff\xfe", b"[repository]", b"[repository]\nid\n", b"[repository]\n" * 2]:
         refused(f"config {text!r}", text, "config", 2 if text == b"[repository]" else 1)
-    for name, changed, number in [("version", "2", 2), ("version", None, 2), ("id", "00", 3), ("id", None, 3), ("key", "", 4), ("key", "***", 4), ("segments_per_dir", "0", 5), ("max_segment_size", "2M", 5), ("max_segment_size", "4294967296", 5)]:
+    for name, changed, number in [("version", "2", 2), ("version", None, 2), ("id", "00", 3), ("id", None, 3), ("key", "***", 4), ("segments_per_dir", "0", 5), ("max_segment_size", "2M", 5), ("max_segment_size", "4294967296", 5)]:
         refused(f"{name} = {changed}", config(good, **{name: changed}), "config", number)
     refused("an id twice", config(good) + "id = " + "00" * 32 + "\n", "config", 6)
     refused("another passphrase", config(good), "key", 5)
@@ -516,6 +516,38 @@ def archives():
         bad = Archive(keys, b"a", files, how=how)
         showing(f"a record with {name}", bad, reason(b"record %d" % number, bad.id), "list", "a")
     showing("a record without a tag", Archive(keys, b"a", files, how={"tam": "none"}), (0, Archive(keys, b"a", files).lines()), "list", "a")
+def key_files():
+    """What `list` and `key` say of a `config` without a key, and of files that the variables name."""
+    keys = Keys()
+    bare = b"[repository]\nversion = 1\nid = %s\n" % ZERO_ID
+    line_of = lambda id: b"BORG_KEY %s\n" % id
+    body = base64.b64encode(keys.text(PASSPHRASE))
+    good = line_of(ZERO_ID) + body
+
+    def under(name, file, want, words=LIST, config=bare, kind=0, **variables):
+        """A run with this text in the file `file`, which the source's variable names unless others are said."""
+        made = {**repository(keys, PASSPHRASE, keys.blob(keys.tagged(fields()), kind=kind)), "config": config}
+        named = variables or {"BORG_OTHER_KEY_FILE": b"file"}
+        case(f"key file: {name}", made, want, words, beside={"file": file}, variables={**OPEN, **{name.encode(): value for name, value in named.items()}})
+
+    unreadable = (16, b"key file unreadable\n")
+    under("one long line", good, NOTHING)
+    under("CR LF, blanks and odd lines", line_of(ZERO_ID)[:-1] + b"\r\n " + body[:5] + b"\r\n\t" + body[5:] + b"\n\n", NOTHING)
+    under("objects of the other mode", good, NOTHING, kind=3)
+    under("an empty key", good, NOTHING, config=bare + b"key =\n")
+    under("a config with a key", b"***", NOTHING, config=repositories.config(keys.text(PASSPHRASE)))
+    under("the key", good, (0, b"%s 1\n" % ZERO_ID), ("source", "-", "key"))
+    under("none", good, refused(b"no key"), BORG_OTHER_KEY_FILE=b"")
+    under("an empty file", b"", refused(b"no key"))
+    under("a short id", b"BORG_KEY 12", refused(b"key file 1"))
+    under("no body", line_of(ZERO_ID), refused(b"key file 2"))
+    under("no base64", line_of(ZERO_ID) + b"***\n", refused(b"key file 2"))
+    under("another id", line_of(b"11" * 32) + body, refused(b"key file of " + b"11" * 32))
+    under("an absent file", good, unreadable, BORG_OTHER_KEY_FILE=b"absent")
+    under("a folder", None, unreadable)
+    under("the target's is absent, whatever the command", good, unreadable, ("source", "-", "nothing"), BORG_KEY_FILE=b"absent")
+    for variable in ("BORG_OTHER_KEY_FILE", "BORG_KEY_FILE"):
+        under(f"{variable} isn't UTF-8", good, (2, b"%s isn't UTF-8\n" % variable.encode()), **{variable: b"\xff"})
 
 
 def variables():
@@ -557,7 +589,7 @@ def rows():
         judge(f"plain words: {row}", (row in met, b""), (True, b""))
 
 
-for cases in (folders, logs, damage, memory, names, words, keys_of_configs, listings, archives, variables, outputs, rows):
+for cases in (folders, logs, damage, memory, names, words, keys_of_configs, listings, archives, key_files, variables, outputs, rows):
     cases()
 print(f"{passed} passed, {failed} failed")
 sys.exit(1 if failed or not passed else 0)

@@ -10,6 +10,7 @@ use ferry_blob::BlobFault;
 use ferry_config::ConfigFault;
 use ferry_item::ItemFault;
 use ferry_keyblob::KeyFault;
+use ferry_keyfile::KeyFileFault;
 use ferry_manifest::MetaFault;
 use ferry_top::{Refusal, RepoFault, Status};
 
@@ -17,9 +18,13 @@ use ferry_top::{Refusal, RepoFault, Status};
 pub const FORM: &str =
     "the form is borgferry SOURCE TARGET COMMAND; the two places are folders that differ, or - for none; borgferry --help says more";
 
-/// Where a passphrase isn't UTF-8.
+/// Where a variable isn't UTF-8.
 pub const NOT_TEXT: &str =
-    "set the variable to the passphrase as UTF-8, or leave it out where the command doesn't need it";
+    "set the variable as UTF-8, or leave it out where the command doesn't need it";
+
+/// Where a key file can't be read.
+pub const UNREADABLE: &str =
+    "BORG_OTHER_KEY_FILE or BORG_KEY_FILE names a file that can't be read: see that it is there, or leave the variable out";
 
 /// Where memory was refused.
 pub const MEMORY: &str =
@@ -96,6 +101,13 @@ fn of_repo(fault: &RepoFault, source: Presence) -> &'static str {
         (RepoFault::Size(_), _) => {
             "a file's content isn't as long as its archive says: see what borg check --verify-data finds, and look at another copy"
         }
+        (RepoFault::KeyFile(fault), _) => of_key_file(*fault),
+        (RepoFault::Other { .. }, _) => {
+            "the key file is that of another repository: set the variable BORG_OTHER_KEY_FILE to that of SOURCE, or use borg key export"
+        }
+        (RepoFault::NoKey, _) => {
+            "SOURCE/config has no key, which lies in a file then: set the variable BORG_OTHER_KEY_FILE to it, often one below ~/.config/borg/keys"
+        }
         (RepoFault::Device, _) => DEVICE,
         (RepoFault::Memory, _) => MEMORY,
     }
@@ -113,7 +125,7 @@ fn of_config(fault: ConfigFault) -> &'static str {
             "id in SOURCE/config isn't 64 hex digits: take config from another copy of the repository"
         }
         ConfigFault::Key => {
-            "SOURCE/config has no key that reads: only repositories made with --encryption=repokey are read, which have theirs there"
+            "the key in SOURCE/config isn't base64: take config from another copy of the repository, or use borg key import"
         }
         ConfigFault::Number => {
             "segments_per_dir or max_segment_size in SOURCE/config isn't plain digits from 1 to 4294967295: write 2097152 for 2M, say"
@@ -128,21 +140,33 @@ fn of_config(fault: ConfigFault) -> &'static str {
 fn of_key(fault: KeyFault) -> &'static str {
     match fault {
         KeyFault::Pack => {
-            "the key in SOURCE/config isn't whole: take config from another copy of the repository, or use borg key import"
+            "the key isn't whole: take config, or the key file, from another copy, or use borg key import"
         }
         KeyFault::Field => {
-            "the key in SOURCE/config lacks a part that Borg 1 writes: take config from another copy, or use borg key import"
+            "the key lacks a part that Borg 1 writes: take config, or the key file, from another copy, or use borg key import"
         }
         KeyFault::Algorithm => {
-            "the key in SOURCE/config is sealed in a way that Borg 1 doesn't use: only keys that Borg 1 has made are opened"
+            "the key is sealed in a way that Borg 1 doesn't use: only keys that Borg 1 has made are opened"
         }
         KeyFault::Iterations => {
-            "the key in SOURCE/config wants no iterations or more than 10000000: borg key change-passphrase seals it with 100000"
+            "the key wants no iterations or more than 10000000: borg key change-passphrase seals it with 100000"
         }
         KeyFault::Passphrase => {
             "the passphrase doesn't open the key: set the variable BORG_OTHER_PASSPHRASE to the passphrase of SOURCE"
         }
         KeyFault::Memory => MEMORY,
+    }
+}
+
+fn of_key_file(fault: KeyFileFault) -> &'static str {
+    match fault {
+        KeyFileFault::Header => {
+            "the key file doesn't begin with BORG_KEY and the repository's id: see which file BORG_OTHER_KEY_FILE names"
+        }
+        KeyFileFault::Body => {
+            "the key file has no key behind its first line: take another copy of it, or use borg key export"
+        }
+        KeyFileFault::Memory => MEMORY,
     }
 }
 
@@ -157,7 +181,7 @@ fn of_missing(is_manifest: bool) -> &'static str {
 fn of_blob(fault: BlobFault, is_manifest: bool) -> &'static str {
     match fault {
         BlobFault::Kind => {
-            "the object isn't of a repository made with --encryption=repokey, and no others are read"
+            "the object isn't of a repository made with --encryption=repokey or keyfile, and no others are read"
         }
         BlobFault::Short => {
             "the object is too short to be an encrypted one: see what borg check --verify-data finds, and look at another copy"

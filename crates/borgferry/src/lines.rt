@@ -25,6 +25,8 @@ commands:
 variables:
   BORG_OTHER_PASSPHRASE    the source's passphrase, empty where the variable is absent
   BORG_PASSPHRASE          the target's passphrase, empty where the variable is absent
+  BORG_OTHER_KEY_FILE      the source's key file, none where the variable is absent or empty
+  BORG_KEY_FILE            the target's key file, none where the variable is absent or empty
 
 A refusal is one line on standard output, and one in plain words on standard error, which says what it means and what to do.
 
@@ -36,4 +38,5 @@ status:
   7    standard output can't be written
   8    the source is refused
   11   no archive has the name, or no item with content has the path
+  16   a key file can't be read
 ";

@@ -1,17 +1,17 @@
-//! What the program does before and after its command: words, passphrases, devices, and the status at the end.
+//! What the program does before and after its command: words, secrets, devices, and the status at the end.
 
-use crate::advice::{FORM, MEMORY, NOT_TEXT, OUTPUT, advice};
+use crate::advice::{FORM, MEMORY, NOT_TEXT, OUTPUT, UNREADABLE, advice};
 use crate::entropy::NoEntropy;
 use crate::lines::{HELP, VERSION};
 use crate::shelf::FolderShelf;
 use crate::stdout::StdSink;
 use ferry_base::Bytes;
-use ferry_top::{Secrets, places_fit, run};
+use ferry_top::{Secret, Secrets, places_fit, run};
 use std::alloc::{AllocError, AllocGlobal, Global};
-use std::env;
 use std::env::VarError;
 use std::io::ErrorKind;
 use std::rt::Runtime;
+use std::{env, fs};
 
 /// The variable with the source's passphrase.
 const SOURCE_PASSPHRASE: &str = "BORG_OTHER_PASSPHRASE";
@@ -19,8 +19,17 @@ const SOURCE_PASSPHRASE: &str = "BORG_OTHER_PASSPHRASE";
 /// The variable with the target's passphrase.
 const TARGET_PASSPHRASE: &str = "BORG_PASSPHRASE";
 
+/// The variable with the path of the source's key file.
+const SOURCE_KEY_FILE: &str = "BORG_OTHER_KEY_FILE";
+
+/// The variable with the path of the target's key file.
+const TARGET_KEY_FILE: &str = "BORG_KEY_FILE";
+
 /// The status where standard output can't be written.
 const OUTPUT_STATUS: u8 = 7;
+
+/// The status where a key file can't be read.
+const UNREADABLE_STATUS: u8 = 16;
 
 /// Why the program ends before its command.
 #[derive(Drop)]
@@ -29,6 +38,8 @@ enum StartFault {
     Usage,
     /// The variable of this name isn't UTF-8.
     NotText(&'static str),
+    /// A variable names a key file that can't be read.
+    Unreadable,
     /// Memory was refused.
     Memory,
 }
@@ -68,10 +79,7 @@ fn run_command<R: Runtime + AllocGlobal>(
     command: &[String],
 ) -> Result<u8, StartFault> {
     let alloc = rt.alloc();
-    let secrets = Secrets {
-        source: passphrase(rt, SOURCE_PASSPHRASE)?,
-        target: passphrase(rt, TARGET_PASSPHRASE)?,
-    };
+    let secrets = secrets(rt)?;
     let mut source = FolderShelf::new(rt.clone()?, alloc, source)?;
     let mut target = FolderShelf::new(rt.clone()?, alloc, target)?;
     let mut out = StdSink::new(rt.clone()?);
@@ -100,11 +108,41 @@ fn words<R: Runtime + AllocGlobal>(rt: &R) -> Result<Vec<String>, StartFault> {
     }
 }
 
-/// The passphrase that a variable has, empty where it is absent.
-fn passphrase<R: Runtime + AllocGlobal>(rt: &R, name: &'static str) -> Result<Bytes, StartFault> {
+/// The secrets of the source and of the target. The variables are looked at before the files that they name.
+fn secrets<R: Runtime + AllocGlobal>(rt: &R) -> Result<Secrets, StartFault> {
+    let source = variable(rt, SOURCE_PASSPHRASE)?;
+    let target = variable(rt, TARGET_PASSPHRASE)?;
+    let source_file = variable(rt, SOURCE_KEY_FILE)?;
+    let target_file = variable(rt, TARGET_KEY_FILE)?;
+    Ok(Secrets {
+        source: Secret {
+            passphrase: Bytes::new(source.into_bytes()),
+            key_file: key_file(rt, source_file.as_str())?,
+        },
+        target: Secret {
+            passphrase: Bytes::new(target.into_bytes()),
+            key_file: key_file(rt, target_file.as_str())?,
+        },
+    })
+}
+
+/// The bytes of the key file at a path, none where the path is empty.
+fn key_file<R: Runtime + AllocGlobal>(rt: &R, path: &str) -> Result<Bytes, StartFault> {
+    if path.is_empty() {
+        return Ok(Bytes::new(Vec::new(rt.alloc())));
+    }
+    match fs::read(rt, path) {
+        Ok(bytes) => Ok(Bytes::new(bytes)),
+        Err(error) if error.kind() == ErrorKind::OutOfMemory => Err(StartFault::Memory),
+        Err(_) => Err(StartFault::Unreadable),
+    }
+}
+
+/// What a variable has, nothing where it is absent.
+fn variable<R: Runtime + AllocGlobal>(rt: &R, name: &'static str) -> Result<String, StartFault> {
     match env::var(rt, name) {
-        Ok(text) => Ok(Bytes::new(text.into_bytes())),
-        Err(VarError::NotPresent) => Ok(Bytes::new(Vec::new(rt.alloc()))),
+        Ok(text) => Ok(text),
+        Err(VarError::NotPresent) => Ok(String::new(rt.alloc())),
         Err(VarError::NotUnicode) => Err(StartFault::NotText(name)),
         Err(VarError::OutOfMemory) => Err(StartFault::Memory),
     }
@@ -126,6 +164,11 @@ fn refuse<R: Runtime>(rt: &R, fault: &StartFault) -> u8 {
     let (said, line, status) = match fault {
         StartFault::Usage => (rt.println("usage"), FORM, 2),
         StartFault::NotText(name) => (println!(rt; "{name} isn't UTF-8"), NOT_TEXT, 2),
+        StartFault::Unreadable => (
+            rt.println("key file unreadable"),
+            UNREADABLE,
+            UNREADABLE_STATUS,
+        ),
         StartFault::Memory => (rt.println("memory"), MEMORY, 3),
     };
     let _ = said;

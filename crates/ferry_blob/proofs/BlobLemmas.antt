@@ -1,10 +1,10 @@
 -- Lemmas on specs/Blob.antt.
-use Rattle.std.proofs.Common.{◌≡◌, ◌≢◌, ◌⊎◌, ◌↔◌, ℕ, ◌+◌, ◌-◌, ◌<◌, ◌≤◌, Bool, true, false, List, [], ◌++◌, length, take, drop, slice_index, Option, Some}
-use Rattle.std.proofs.Common.{None, refl, sym, ap, subst, ◌∙◌, inl, inr, arith, eq-eqb, eqb-true, length-append, rules}
+use Rattle.std.proofs.Common.{◌≡◌, ◌⊎◌, ◌↔◌, ℕ, ◌+◌, ◌-◌, ◌<◌, ◌≤◌, Bool, true, false, List, [], ◌++◌, length, take, drop, slice_index, Option, Some}
+use Rattle.std.proofs.Common.{None, refl, sym, ap, subst, ◌∙◌, inl, inr, arith, eqb-true, length-append, rules}
 use Rattle.std.specs.Prelude.{◌==◌, nat_lt, not, ◌||◌, if◌then◌else◌}
 use Rattle.std.specs.Bool.{Decides}
 use Rattle.std.specs.Str.{bytes_eq}
-use Rattle.std.proofs.lemmas.Bool.{ltb-false, lt-ltb, le-ltb, ne_eqb, or_cases}
+use Rattle.std.proofs.lemmas.Bool.{ltb-false, lt-ltb, le-ltb, or_cases}
 use borrow.Rule.Slice.PartMut.{put_mid}
 use Rattle.std.proofs.lemmas.List.{append-nil, drop_all, take-append-drop, take_at, drop_at, drop-drop, length-take-le, length-drop}
 use Rattle.std.proofs.lemmas.Slice.Eq.{bytes_eq-Decides}
@@ -12,7 +12,8 @@ use Rattle.ferry_mac.specs.Hmac.{hmac256}
 use Rattle.ferry_mac.specs.declared.keys.Keys.{Keys}
 use Rattle.ferry_aes.proofs.CallerLemmas.{length-ctr}
 use Rattle.ferry_base.specs.Limits.{zero_id}
-use Rattle.ferry_blob.specs.Blob.{OpensTo, blob_fault, content_id, decrypted, has_mac, is_named, is_plain, no_compression, nonce_of, plaintext}
+use Rattle.ferry_blob.specs.Blob.{IsType, OpensTo, blob_fault, content_id, decrypted, has_mac, has_type, is_named, is_plain, no_compression}
+use Rattle.ferry_blob.specs.Blob.{nonce_of, plaintext}
 use Rattle.ferry_blob.specs.declared.fault.BlobFault.{BlobFault}
 use Rattle.ferry_blob.specs.declared.fault.BlobFault.TheVariants.{Kind, Short, Mac, Compressed, Id}
 
@@ -60,6 +61,24 @@ length-decrypted keys blob room =
     let joined = length-append (take 41 blob) (plaintext keys blob) in
     omega (arith, length-take-le 41 blob room, length-plaintext keys blob)
 
+-- ---- has_type
+
+typed_by : (kind : ℕ) → has_type kind ≡ true → IsType kind
+unfolding has_type
+typed_by kind e =
+    elim (or_cases (kind == 3) (kind == 0) e) [
+      | inl repokey ↦ inl (eqb-true kind 3 repokey)
+      | inr keyfile ↦ inr (eqb-true kind 0 keyfile)
+    ]
+
+by_type : (kind : ℕ) → IsType kind → has_type kind ≡ true
+unfolding has_type
+by_type kind (inl repokey) = rw repokey refl
+by_type kind (inr keyfile) = rw keyfile refl
+
+pub has_type-Decides : (kind : ℕ) → Decides (has_type kind) (IsType kind)
+has_type-Decides kind = (typed_by kind, by_type kind)
+
 -- ---- blob_fault
 
 -- the first of the five tests that fails
@@ -92,39 +111,40 @@ told_by_chain false true true true true = (refl, refl, refl, refl, refl)
 -- the five tests of a blob
 abbrev pub ToldOf : Keys → List ℕ → List ℕ → Option BlobFault → Type 0
 ToldOf keys id blob r =
-    Told r (nat_lt (length blob) 43) (slice_index blob 0 == 3) (has_mac keys blob) (is_plain keys blob) (is_named keys id (drop 2 (plaintext keys blob)))
+    Told r (nat_lt (length blob) 43) (has_type (slice_index blob 0)) (has_mac keys blob) (is_plain keys blob) (is_named keys id (drop 2 (plaintext keys blob)))
 
 pub told_by : (keys : Keys) (id blob : List ℕ) (r : Option BlobFault) → blob_fault keys id blob ≡ r → ToldOf keys id blob r
 unfolding blob_fault
 told_by keys id blob r e =
     subst (ToldOf keys id blob) e
-    (told_by_chain (nat_lt (length blob) 43) (slice_index blob 0 == 3) (has_mac keys blob) (is_plain keys blob)
+    (told_by_chain (nat_lt (length blob) 43) (has_type (slice_index blob 0)) (has_mac keys blob) (is_plain keys blob)
     (is_named keys id (drop 2 (plaintext keys blob))))
 
 pub fault_short : (keys : Keys) (id blob : List ℕ) → length blob < 43 → blob_fault keys id blob ≡ Some Short
 unfolding blob_fault
 fault_short keys id blob few = rw (lt-ltb (length blob) 43 few) refl
 
-pub fault_kind : (keys : Keys) (id blob : List ℕ) → 43 ≤ length blob → slice_index blob 0 ≢ 3 → blob_fault keys id blob ≡ Some Kind
+pub fault_kind : (keys : Keys) (id blob : List ℕ) → 43 ≤ length blob → has_type (slice_index blob 0) ≡ false → blob_fault keys id blob ≡ Some Kind
 unfolding blob_fault
-fault_kind keys id blob room other = rw (le-ltb (length blob) 43 room, ne_eqb (slice_index blob 0) 3 other) refl
+fault_kind keys id blob room other = rw (le-ltb (length blob) 43 room, other) refl
 
-pub fault_mac : (keys : Keys) (id blob : List ℕ) → 43 ≤ length blob → slice_index blob 0 ≡ 3 → has_mac keys blob ≡ false
+pub fault_mac : (keys : Keys) (id blob : List ℕ) → 43 ≤ length blob → has_type (slice_index blob 0) ≡ true → has_mac keys blob ≡ false
     → blob_fault keys id blob ≡ Some Mac
 unfolding blob_fault
-fault_mac keys id blob room kind mac = rw (le-ltb (length blob) 43 room, eq-eqb (slice_index blob 0) 3 kind, mac) refl
+fault_mac keys id blob room kind mac = rw (le-ltb (length blob) 43 room, kind, mac) refl
 
-pub fault_compressed : (keys : Keys) (id blob : List ℕ) → 43 ≤ length blob → slice_index blob 0 ≡ 3 → has_mac keys blob ≡ true → is_plain keys blob ≡ false
+pub fault_compressed : (keys : Keys) (id blob : List ℕ) → 43 ≤ length blob → has_type (slice_index blob 0) ≡ true → has_mac keys blob ≡ true
+    → is_plain keys blob ≡ false
     → blob_fault keys id blob ≡ Some Compressed
 unfolding blob_fault
-fault_compressed keys id blob room kind mac plain = rw (le-ltb (length blob) 43 room, eq-eqb (slice_index blob 0) 3 kind, mac, plain) refl
+fault_compressed keys id blob room kind mac plain = rw (le-ltb (length blob) 43 room, kind, mac, plain) refl
 
-pub fault_by_name : (keys : Keys) (id blob : List ℕ) (named : Bool) → 43 ≤ length blob → slice_index blob 0 ≡ 3 → has_mac keys blob ≡ true
+pub fault_by_name : (keys : Keys) (id blob : List ℕ) (named : Bool) → 43 ≤ length blob → has_type (slice_index blob 0) ≡ true → has_mac keys blob ≡ true
     → is_plain keys blob ≡ true
     → is_named keys id (drop 2 (plaintext keys blob)) ≡ named → blob_fault keys id blob ≡ (if named then None else Some Id)
 unfolding blob_fault
-fault_by_name keys id blob true room kind mac plain named = rw (le-ltb (length blob) 43 room, eq-eqb (slice_index blob 0) 3 kind, mac, plain, named) refl
-fault_by_name keys id blob false room kind mac plain named = rw (le-ltb (length blob) 43 room, eq-eqb (slice_index blob 0) 3 kind, mac, plain, named) refl
+fault_by_name keys id blob true room kind mac plain named = rw (le-ltb (length blob) 43 room, kind, mac, plain, named) refl
+fault_by_name keys id blob false room kind mac plain named = rw (le-ltb (length blob) 43 room, kind, mac, plain, named) refl
 
 -- what the two bytes behind byte 41 tell once a blob is decrypted
 pub plain_read : (keys : Keys) (blob now : List ℕ) (r : Bool) → 43 ≤ length blob → now ≡ decrypted keys blob
@@ -177,7 +197,7 @@ no_fault_opens keys id blob e =
     let told = told_by keys id blob None e in
     record {
       size = ltb-false (length blob) 43 told.0;
-      kind = eqb-true (slice_index blob 0) 3 told.1;
+      kind = (has_type-Decides (slice_index blob 0)).0 told.1;
       mac = (has_mac-Decides keys blob).0 told.2;
       plain = sym (take-append-drop 2 text) ∙ ap (λ front. front ++ drop 2 text) ((is_plain-Decides keys blob).0 told.3);
       named = (is_named-Decides keys id (drop 2 text)).0 told.4;
@@ -190,7 +210,7 @@ pub opens_no_fault : (keys : Keys) (id blob content : List ℕ) → OpensTo keys
 opens_no_fault keys id blob content h =
     let plain = (is_plain-Decides keys blob).1 (ap (take 2) h.plain ∙ take_at no_compression content 2 refl) in
     let named = ap (is_named keys id) (sym (content_is keys id blob content h)) ∙ (is_named-Decides keys id content).1 h.named in
-    fault_by_name keys id blob true h.size h.kind ((has_mac-Decides keys blob).1 h.mac) plain named
+    fault_by_name keys id blob true h.size ((has_type-Decides (slice_index blob 0)).1 h.kind) ((has_mac-Decides keys blob).1 h.mac) plain named
 
 -- a content that is what stands behind the header, where no rule is broken
 pub opened_at : (keys : Keys) (id blob content : List ℕ) → blob_fault keys id blob ≡ None → content ≡ drop 2 (plaintext keys blob)

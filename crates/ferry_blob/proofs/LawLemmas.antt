@@ -1,20 +1,21 @@
 -- When each fault comes, and which counter blocks a blob takes.
 use Rattle.std.proofs.Common.{◌≡◌, ◌≢◌, ◌⊎◌, ◌↔◌, ℕ, ◌+◌, ◌-◌, ◌/◌, ◌%◌, ◌^◌, ◌<◌, ◌≤◌, Bool, true, false, List, ◌++◌, length, take, drop, replicate}
-use Rattle.std.proofs.Common.{slice_index, Some, None, refl, sym, ◌∙◌, inl, inr, arith, eqb-true}
+use Rattle.std.proofs.Common.{slice_index, Some, None, refl, sym, ◌∙◌, inl, inr, arith}
 use Rattle.std.specs.Bool.{Decides}
 use Rattle.std.specs.Int.{w64, to_be_bytes}
-use Rattle.std.proofs.lemmas.Bool.{eqb-false, le-ltb, lt-ltb, ltb-false, ltb-true}
+use Rattle.std.proofs.lemmas.Bool.{le-ltb, lt-ltb, ltb-false, ltb-true}
 use Rattle.std.proofs.lemmas.List.{length-drop}
 use Rattle.ferry_aes.specs.KeyExpansion.{key_expansion}
 use Rattle.ferry_aes.specs.CounterMode.{counter_block, ctr, key_stream, output_blocks, xor_lists}
 use Rattle.ferry_mac.specs.Hmac.{hmac256}
 use Rattle.ferry_mac.specs.declared.keys.Keys.{Keys}
 use Rattle.ferry_base.specs.Limits.{zero_id}
-use Rattle.ferry_blob.specs.Blob.{IsAuthentic, IsBlockOf, OpensTo, blob_fault, block_count, blocks, content_id, has_mac, is_named, is_plain, no_compression}
-use Rattle.ferry_blob.specs.Blob.{nonce_of, plaintext, sealed}
+use Rattle.ferry_blob.specs.Blob.{IsAuthentic, IsBlockOf, IsType, OpensTo, blob_fault, block_count, blocks, content_id, has_mac, has_type, is_named, is_plain}
+use Rattle.ferry_blob.specs.Blob.{no_compression, nonce_of, plaintext, sealed}
 use Rattle.ferry_blob.specs.declared.fault.BlobFault.TheVariants.{Kind, Short, Mac, Compressed, Id}
-use Rattle.ferry_blob.proofs.BlobLemmas.{content_is, fault_by_name, fault_compressed, fault_mac, has_mac-Decides, opens_no_fault, is_named-Decides}
-use Rattle.ferry_blob.proofs.BlobLemmas.{is_plain-Decides, opened_at, told_by}
+use Rattle.ferry_blob.specs.declared.mode.Mode.{Mode}
+use Rattle.ferry_blob.proofs.BlobLemmas.{content_is, fault_by_name, fault_compressed, fault_kind, fault_mac, has_mac-Decides, has_type-Decides, opens_no_fault}
+use Rattle.ferry_blob.proofs.BlobLemmas.{is_named-Decides, is_plain-Decides, opened_at, told_by}
 use Rattle.ferry_blob.proofs.SealLemmas.{length-sealed, sealed-nonce}
 
 -- ---- a test that fails, and a fact that doesn't hold
@@ -26,6 +27,10 @@ refuted P false told off p = absurd (let e : false ≡ true = told.1 p in cc)
 off_by : (P : Type 0) (b : Bool) → Decides b P → (P → ⊥) → b ≡ false
 off_by P true told other = absurd (other (told.0 refl))
 off_by P false told other = refl
+
+neither : {P Q : Type 0} → (P → ⊥) → (Q → ⊥) → P ⊎ Q → ⊥
+neither p q (inl x) = p x
+neither p q (inr y) = q y
 
 -- ---- OpensTo
 
@@ -40,36 +45,43 @@ opens_zero keys id blob content h = record { size = h.size; kind = h.kind; mac =
 pub short_is : (keys : Keys) (id blob : List ℕ) → blob_fault keys id blob ≡ Some Short → length blob < 43
 short_is keys id blob e = ltb-true (length blob) 43 (told_by keys id blob (Some Short) e)
 
-pub kind_is : (keys : Keys) (id blob : List ℕ) → blob_fault keys id blob ≡ Some Kind → (43 ≤ length blob) × (slice_index blob 0 ≢ 3)
+pub kind_is : (keys : Keys) (id blob : List ℕ) → blob_fault keys id blob ≡ Some Kind → (43 ≤ length blob) × (slice_index blob 0 ≢ 3) × (slice_index blob 0 ≢ 0)
 kind_is keys id blob e =
     let told = told_by keys id blob (Some Kind) e in
-    (ltb-false (length blob) 43 told.0, eqb-false (slice_index blob 0) 3 told.1)
+    let other = refuted _ (has_type (slice_index blob 0)) (has_type-Decides (slice_index blob 0)) told.1 in
+    (ltb-false (length blob) 43 told.0, λ repokey. other (inl repokey), λ keyfile. other (inr keyfile))
+
+pub is_kind : (keys : Keys) (id blob : List ℕ) → 43 ≤ length blob → slice_index blob 0 ≢ 3 → slice_index blob 0 ≢ 0 → blob_fault keys id blob ≡ Some Kind
+is_kind keys id blob room repokey keyfile =
+    fault_kind keys id blob room (off_by _ (has_type (slice_index blob 0)) (has_type-Decides (slice_index blob 0)) (neither repokey keyfile))
 
 pub mac_is : (keys : Keys) (id blob : List ℕ) → blob_fault keys id blob ≡ Some Mac
-    → (43 ≤ length blob) × (slice_index blob 0 ≡ 3) × (take 32 (drop 1 blob) ≢ hmac256 keys.enc_hmac_key (drop 33 blob))
+    → (43 ≤ length blob) × IsType (slice_index blob 0) × (take 32 (drop 1 blob) ≢ hmac256 keys.enc_hmac_key (drop 33 blob))
 mac_is keys id blob e =
     let told = told_by keys id blob (Some Mac) e in
-    (ltb-false (length blob) 43 told.0, eqb-true (slice_index blob 0) 3 told.1, refuted _ (has_mac keys blob) (has_mac-Decides keys blob) told.2)
+    (ltb-false (length blob) 43 told.0, (has_type-Decides (slice_index blob 0)).0 told.1, refuted _ (has_mac keys blob) (has_mac-Decides keys blob) told.2)
 
-pub is_mac : (keys : Keys) (id blob : List ℕ) → 43 ≤ length blob → slice_index blob 0 ≡ 3 → take 32 (drop 1 blob) ≢ hmac256 keys.enc_hmac_key (drop 33 blob)
+pub is_mac : (keys : Keys) (id blob : List ℕ) → 43 ≤ length blob → IsType (slice_index blob 0)
+    → take 32 (drop 1 blob) ≢ hmac256 keys.enc_hmac_key (drop 33 blob)
     → blob_fault keys id blob ≡ Some Mac
-is_mac keys id blob room kind other = fault_mac keys id blob room kind (off_by _ (has_mac keys blob) (has_mac-Decides keys blob) other)
+is_mac keys id blob room kind other =
+    fault_mac keys id blob room ((has_type-Decides (slice_index blob 0)).1 kind) (off_by _ (has_mac keys blob) (has_mac-Decides keys blob) other)
 
-authentic_by : (keys : Keys) (blob : List ℕ) → 43 ≤ length blob → slice_index blob 0 ≡ 3 → has_mac keys blob ≡ true → IsAuthentic keys blob
+authentic_by : (keys : Keys) (blob : List ℕ) → 43 ≤ length blob → IsType (slice_index blob 0) → has_mac keys blob ≡ true → IsAuthentic keys blob
 authentic_by keys blob room kind mac = record { size = room; kind = kind; mac = (has_mac-Decides keys blob).0 mac }
 
 pub compressed_is : (keys : Keys) (id blob : List ℕ) → blob_fault keys id blob ≡ Some Compressed
     → IsAuthentic keys blob × (take 2 (plaintext keys blob) ≢ no_compression)
 compressed_is keys id blob e =
     let told = told_by keys id blob (Some Compressed) e in (
-      authentic_by keys blob (ltb-false (length blob) 43 told.0) (eqb-true (slice_index blob 0) 3 told.1) told.2,
+      authentic_by keys blob (ltb-false (length blob) 43 told.0) ((has_type-Decides (slice_index blob 0)).0 told.1) told.2,
       refuted _ (is_plain keys blob) (is_plain-Decides keys blob) told.3,
     )
 
 pub is_compressed : (keys : Keys) (id blob : List ℕ) → IsAuthentic keys blob → take 2 (plaintext keys blob) ≢ no_compression
     → blob_fault keys id blob ≡ Some Compressed
 is_compressed keys id blob right other =
-    fault_compressed keys id blob right.size right.kind ((has_mac-Decides keys blob).1 right.mac)
+    fault_compressed keys id blob right.size ((has_type-Decides (slice_index blob 0)).1 right.kind) ((has_mac-Decides keys blob).1 right.mac)
     (off_by _ (is_plain keys blob) (is_plain-Decides keys blob) other)
 
 -- the zero id names each content
@@ -88,13 +100,9 @@ id_is keys id blob e =
     let told = told_by keys id blob (Some Id) e in
     let other = refuted _ (is_named keys id content) (is_named-Decides keys id content) told.4 in
     let none =
-    fault_by_name keys zero_id blob true (ltb-false (length blob) 43 told.0) (eqb-true (slice_index blob 0) 3 told.1) told.2 told.3
+    fault_by_name keys zero_id blob true (ltb-false (length blob) 43 told.0) told.1 told.2 told.3
     (zero_named keys content) in
     (opened_at keys zero_id blob content none refl, λ zero. other (inl zero), λ own. other (inr own))
-
-neither : {P Q : Type 0} → (P → ⊥) → (Q → ⊥) → P ⊎ Q → ⊥
-neither p q (inl x) = p x
-neither p q (inr y) = q y
 
 pub is_id : (keys : Keys) (id blob : List ℕ) → OpensTo keys zero_id blob (drop 2 (plaintext keys blob)) → id ≢ zero_id
     → id ≢ content_id keys (drop 2 (plaintext keys blob))
@@ -102,7 +110,7 @@ pub is_id : (keys : Keys) (id blob : List ℕ) → OpensTo keys zero_id blob (dr
 is_id keys id blob h zero own =
     let content = drop 2 (plaintext keys blob) in
     let told = told_by keys zero_id blob None (opens_no_fault keys zero_id blob content h) in
-    fault_by_name keys id blob false h.size h.kind told.2 told.3 (off_by _ (is_named keys id content) (is_named-Decides keys id content) (neither zero own))
+    fault_by_name keys id blob false h.size told.1 told.2 told.3 (off_by _ (is_named keys id content) (is_named-Decides keys id content) (neither zero own))
 
 -- ---- counter blocks
 
@@ -141,12 +149,12 @@ counted blob content long =
     let many = le-ltb (length blob) 43 (omega arith) in
     rw many (omega arith)
 
-pub sealed_count : (keys : Keys) (nonce : ℕ) (content : List ℕ) → block_count (sealed keys nonce content) ≡ blocks (length content)
-sealed_count keys nonce content = counted (sealed keys nonce content) (length content) (length-sealed keys nonce content)
+pub sealed_count : (keys : Keys) (mode : Mode) (nonce : ℕ) (content : List ℕ) → block_count (sealed keys mode nonce content) ≡ blocks (length content)
+sealed_count keys mode nonce content = counted (sealed keys mode nonce content) (length content) (length-sealed keys mode nonce content)
 
-pub block_of_sealed : (keys : Keys) (nonce number : ℕ) (content : List ℕ) → nonce < 2 ^ 64
-    → (IsBlockOf (sealed keys nonce content) number) ↔ ((nonce ≤ number) × (number < nonce + blocks (length content)))
-block_of_sealed keys nonce number content small =
-    let n = sealed-nonce keys nonce content small in
-    let m = sealed_count keys nonce content in
+pub block_of_sealed : (keys : Keys) (mode : Mode) (nonce number : ℕ) (content : List ℕ) → nonce < 2 ^ 64
+    → (IsBlockOf (sealed keys mode nonce content) number) ↔ ((nonce ≤ number) × (number < nonce + blocks (length content)))
+block_of_sealed keys mode nonce number content small =
+    let n = sealed-nonce keys mode nonce content small in
+    let m = sealed_count keys mode nonce content in
     (λ h. (omega (arith, h.first), omega (arith, h.below)), λ h. record { first = omega (arith, h.0); below = omega (arith, h.1) })

@@ -1,6 +1,6 @@
 -- What is sealed opens, and has the nonce that was given.
-use Rattle.std.proofs.Common.{◌≡◌, ◌⊎◌, ℕ, ◌+◌, ◌-◌, ◌^◌, ◌<◌, ◌≤◌, List, ◌∷◌, ◌++◌, length, take, drop, slice_index, refl, sym, ap, ◌∙◌, arith}
-use Rattle.std.proofs.Common.{length-append}
+use Rattle.std.proofs.Common.{◌≡◌, ◌⊎◌, ℕ, ◌+◌, ◌-◌, ◌^◌, ◌<◌, ◌≤◌, List, ◌∷◌, ◌++◌, length, take, drop, slice_index, refl, sym, ap, subst, ◌∙◌}
+use Rattle.std.proofs.Common.{inl, inr, arith, length-append}
 use Rattle.std.specs.Int.{w64, to_be_bytes, from_be_bytes}
 use Rattle.std.proofs.lemmas.List.{take_at, drop_at, drop-drop, length-take-le}
 use Rattle.std.proofs.lemmas.Nat.{from_be_bytes-to_be_bytes_8}
@@ -12,7 +12,9 @@ use Rattle.ferry_mac.specs.declared.keys.Keys.{Keys}
 use borrow.Rule.Slice.PartMut.{put_mid}
 use Rattle.ferry_blob.proofs.BlobLemmas.{put_rest}
 use Rattle.ferry_base.specs.Limits.{zero_id}
-use Rattle.ferry_blob.specs.Blob.{OpensTo, authenticated, blob_type, content_id, no_compression, nonce_of, plaintext, sealed}
+use Rattle.ferry_blob.specs.Blob.{IsType, OpensTo, authenticated, content_id, no_compression, nonce_of, plaintext, sealed, type_of}
+use Rattle.ferry_blob.specs.declared.mode.Mode.{Mode}
+use Rattle.ferry_blob.specs.declared.mode.Mode.TheVariants.{Repokey, Keyfile}
 
 -- ---- authenticated
 
@@ -38,67 +40,72 @@ take-authenticated key nonce content = take_at (to_be_bytes w64 nonce) (ctr key 
 
 -- ---- sealed
 
-pub length-sealed : (keys : Keys) (nonce : ℕ) (content : List ℕ) → length (sealed keys nonce content) ≡ 43 + length content
+pub length-sealed : (keys : Keys) (mode : Mode) (nonce : ℕ) (content : List ℕ) → length (sealed keys mode nonce content) ≡ 43 + length content
 unfolding sealed
-length-sealed keys nonce content =
+length-sealed keys mode nonce content =
     let part = authenticated keys.enc_key nonce content in
     let mac = hmac256 keys.enc_hmac_key part in
     let joined = length-append mac part in
     omega (arith, length-hmac256 keys.enc_hmac_key part, length-authenticated keys.enc_key nonce content)
 
-sealed-part : (keys : Keys) (nonce : ℕ) (content : List ℕ) → drop 33 (sealed keys nonce content) ≡ authenticated keys.enc_key nonce content
+sealed-part : (keys : Keys) (mode : Mode) (nonce : ℕ) (content : List ℕ) → drop 33 (sealed keys mode nonce content) ≡ authenticated keys.enc_key nonce content
 unfolding sealed
-sealed-part keys nonce content =
+sealed-part keys mode nonce content =
     let part = authenticated keys.enc_key nonce content in
     drop_at (hmac256 keys.enc_hmac_key part) part 32 (length-hmac256 keys.enc_hmac_key part)
 
-sealed-mac : (keys : Keys) (nonce : ℕ) (content : List ℕ)
-    → take 32 (drop 1 (sealed keys nonce content)) ≡ hmac256 keys.enc_hmac_key (authenticated keys.enc_key nonce content)
+sealed-mac : (keys : Keys) (mode : Mode) (nonce : ℕ) (content : List ℕ)
+    → take 32 (drop 1 (sealed keys mode nonce content)) ≡ hmac256 keys.enc_hmac_key (authenticated keys.enc_key nonce content)
 unfolding sealed
-sealed-mac keys nonce content =
+sealed-mac keys mode nonce content =
     let part = authenticated keys.enc_key nonce content in
     take_at (hmac256 keys.enc_hmac_key part) part 32 (length-hmac256 keys.enc_hmac_key part)
 
-sealed-kind : (keys : Keys) (nonce : ℕ) (content : List ℕ) → slice_index (sealed keys nonce content) 0 ≡ blob_type
+pub sealed-kind : (keys : Keys) (mode : Mode) (nonce : ℕ) (content : List ℕ) → slice_index (sealed keys mode nonce content) 0 ≡ type_of mode
 unfolding sealed
-sealed-kind keys nonce content = refl
+sealed-kind keys mode nonce content = refl
 
-pub sealed-nonce : (keys : Keys) (nonce : ℕ) (content : List ℕ) → nonce < 2 ^ 64 → nonce_of (sealed keys nonce content) ≡ nonce
+type_of-IsType : (mode : Mode) → IsType (type_of mode)
+type_of-IsType Repokey = inl refl
+type_of-IsType Keyfile = inr refl
+
+pub sealed-nonce : (keys : Keys) (mode : Mode) (nonce : ℕ) (content : List ℕ) → nonce < 2 ^ 64 → nonce_of (sealed keys mode nonce content) ≡ nonce
 unfolding nonce_of
-sealed-nonce keys nonce content small =
-    ap (λ part. from_be_bytes w64 (take 8 part)) (sealed-part keys nonce content) ∙ ap (from_be_bytes w64) (take-authenticated keys.enc_key nonce content)
+sealed-nonce keys mode nonce content small =
+    ap (λ part. from_be_bytes w64 (take 8 part)) (sealed-part keys mode nonce content) ∙ ap (from_be_bytes w64) (take-authenticated keys.enc_key nonce content)
     ∙ from_be_bytes-to_be_bytes_8 nonce small
 
-pub sealed-plaintext : (keys : Keys) (nonce : ℕ) (content : List ℕ) → nonce < 2 ^ 64
-    → plaintext keys (sealed keys nonce content) ≡ no_compression ++ content
+pub sealed-plaintext : (keys : Keys) (mode : Mode) (nonce : ℕ) (content : List ℕ) → nonce < 2 ^ 64
+    → plaintext keys (sealed keys mode nonce content) ≡ no_compression ++ content
 unfolding plaintext
-sealed-plaintext keys nonce content small =
-    let blob = sealed keys nonce content in
+sealed-plaintext keys mode nonce content small =
+    let blob = sealed keys mode nonce content in
     let text : drop 41 blob ≡ ctr keys.enc_key nonce (no_compression ++ content) =
-    sym (drop-drop 8 33 blob) ∙ ap (drop 8) (sealed-part keys nonce content) ∙ drop-authenticated keys.enc_key nonce content in
-    rw (sealed-nonce keys nonce content small, text) (ctr-ctr keys.enc_key nonce (no_compression ++ content))
+    sym (drop-drop 8 33 blob) ∙ ap (drop 8) (sealed-part keys mode nonce content) ∙ drop-authenticated keys.enc_key nonce content in
+    rw (sealed-nonce keys mode nonce content small, text) (ctr-ctr keys.enc_key nonce (no_compression ++ content))
 
 -- what is sealed opens to its content, under the zero id and its own
-pub sealed-opens : (keys : Keys) (nonce : ℕ) (id content : List ℕ) → nonce < 2 ^ 64 → (id ≡ zero_id) ⊎ (id ≡ content_id keys content)
-    → OpensTo keys id (sealed keys nonce content) content
-sealed-opens keys nonce id content small named = record {
-  size = omega (arith, length-sealed keys nonce content);
-  kind = sealed-kind keys nonce content;
-  mac = sealed-mac keys nonce content ∙ ap (hmac256 keys.enc_hmac_key) (sym (sealed-part keys nonce content));
-  plain = sealed-plaintext keys nonce content small;
+pub sealed-opens : (keys : Keys) (mode : Mode) (nonce : ℕ) (id content : List ℕ) → nonce < 2 ^ 64 → (id ≡ zero_id) ⊎ (id ≡ content_id keys content)
+    → OpensTo keys id (sealed keys mode nonce content) content
+sealed-opens keys mode nonce id content small named = record {
+  size = omega (arith, length-sealed keys mode nonce content);
+  kind = subst IsType (sym (sealed-kind keys mode nonce content)) (type_of-IsType mode);
+  mac = sealed-mac keys mode nonce content ∙ ap (hmac256 keys.enc_hmac_key) (sym (sealed-part keys mode nonce content));
+  plain = sealed-plaintext keys mode nonce content small;
   named = named;
 }
 
 -- ---- what the code puts together
 
-pub sealed_by : (keys : Keys) (nonce : ℕ) (buffer part blob : List ℕ) → 43 ≤ length buffer
+pub sealed_by : (keys : Keys) (mode : Mode) (nonce : ℕ) (buffer part blob : List ℕ) → 43 ≤ length buffer
     → part ≡ authenticated keys.enc_key nonce (drop 10 (drop 33 buffer))
     → blob
-    ≡ blob_type ∷ (hmac256 keys.enc_hmac_key (drop 33 (put_mid 33 (length buffer - 33) buffer part)) ++ drop 33 (put_mid 33 (length buffer - 33) buffer part))
-    → blob ≡ sealed keys nonce (drop 43 buffer)
+    ≡ type_of mode
+    ∷ (hmac256 keys.enc_hmac_key (drop 33 (put_mid 33 (length buffer - 33) buffer part)) ++ drop 33 (put_mid 33 (length buffer - 33) buffer part))
+    → blob ≡ sealed keys mode nonce (drop 43 buffer)
 unfolding sealed
-sealed_by keys nonce buffer part blob room is put =
+sealed_by keys mode nonce buffer part blob room is put =
     let behind : drop 33 (put_mid 33 (length buffer - 33) buffer part) ≡ part =
     ap (drop 33) (put_rest 33 buffer part (omega arith)) ∙ drop_at (take 33 buffer) part 33 (length-take-le 33 buffer (omega arith)) in
     let whole : part ≡ authenticated keys.enc_key nonce (drop 43 buffer) = is ∙ ap (authenticated keys.enc_key nonce) (drop-drop 10 33 buffer) in
-    put ∙ ap (λ rest. blob_type ∷ (hmac256 keys.enc_hmac_key rest ++ rest)) (behind ∙ whole)
+    put ∙ ap (λ rest. type_of mode ∷ (hmac256 keys.enc_hmac_key rest ++ rest)) (behind ∙ whole)

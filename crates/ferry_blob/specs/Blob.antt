@@ -1,5 +1,6 @@
 -- Blobs, the encrypted objects of a repository. BorgBackup 1.2 Internals, "Data structures and file
--- formats", Encryption: the type 03 in 1 byte; in 32 bytes the HMAC-SHA-256 of all that follows; in
+-- formats", Encryption: in 1 byte the type, 03 where the repository keeps its key and 00 where a key
+-- file does; in 32 bytes the HMAC-SHA-256 of all that follows; in
 -- 8 bytes the nonce, the highest first; and the plaintext, encrypted by AES-256 in counter mode from
 -- the block of 8 zero bytes and the nonce on. The plaintext is the compression header, 00 00 for
 -- none, and the content. The type isn't under the MAC.
@@ -13,6 +14,8 @@ use Rattle.ferry_mac.specs.Hmac.{hmac256}
 use Rattle.ferry_mac.specs.declared.keys.Keys.{Keys}
 use Rattle.ferry_blob.specs.declared.fault.BlobFault.{BlobFault}
 use Rattle.ferry_blob.specs.declared.fault.BlobFault.TheVariants.{Kind, Short, Mac, Compressed, Id}
+use Rattle.ferry_blob.specs.declared.mode.Mode.{Mode}
+use Rattle.ferry_blob.specs.declared.mode.Mode.TheVariants.{Repokey, Keyfile}
 
 -- ---- ids
 
@@ -22,9 +25,14 @@ content_id keys content = hmac256 keys.id_key content
 
 -- ---- the fields of a blob
 
--- the type of a blob under a key that the repository keeps
-abbrev pub blob_type : ℕ
-blob_type = 3
+-- the type of the blobs of a mode
+abbrev pub type_of : Mode → ℕ
+type_of Repokey = 3
+type_of Keyfile = 0
+
+-- A number is the type of a mode.
+abbrev pub IsType : ℕ → Type 0
+IsType kind = (kind ≡ type_of Repokey) ⊎ (kind ≡ type_of Keyfile)
 
 -- the nonce: the number of the 8 bytes from byte 33 on, the highest first
 unfoldable pub nonce_of : List ℕ → ℕ
@@ -38,23 +46,27 @@ plaintext keys blob = ctr keys.enc_key (nonce_of blob) (drop 41 blob)
 abbrev pub no_compression : List ℕ
 no_compression = 0 ∷ 0 ∷ []
 
--- A blob is authentic: it has room for each field, the type 03, and the MAC of all that follows it.
+-- A blob is authentic: it has room for each field, the type of a mode, and the MAC of all that follows it.
 pub record IsAuthentic (keys : Keys) (blob : List ℕ) : Type 0 where
   pub size : 43 ≤ length blob
-  pub kind : slice_index blob 0 ≡ blob_type
+  pub kind : IsType (slice_index blob 0)
   pub mac : take 32 (drop 1 blob) ≡ hmac256 keys.enc_hmac_key (drop 33 blob)
 
--- A blob opens under an id to a content: it has room for each field, the type 03, and the MAC of all
--- that follows the MAC; the plaintext is the header 00 00 and the content; and the id is the zero id
+-- A blob opens under an id to a content: it has room for each field, the type of a mode, whichever,
+-- and the MAC of all that follows the MAC; the plaintext is the header 00 00 and the content; and the id is the zero id
 -- or that of the content.
 pub record OpensTo (keys : Keys) (id blob content : List ℕ) : Type 0 where
   pub size : 43 ≤ length blob
-  pub kind : slice_index blob 0 ≡ blob_type
+  pub kind : IsType (slice_index blob 0)
   pub mac : take 32 (drop 1 blob) ≡ hmac256 keys.enc_hmac_key (drop 33 blob)
   pub plain : plaintext keys blob ≡ no_compression ++ content
   pub named : (id ≡ zero_id) ⊎ (id ≡ content_id keys content)
 
 -- ---- the first broken rule
+
+-- whether a number is the type of a mode
+unfoldable pub has_type : ℕ → Bool
+has_type kind = (kind == type_of Repokey) || (kind == type_of Keyfile)
 
 -- whether the MAC is that of all that follows it
 unfoldable pub has_mac : Keys → List ℕ → Bool
@@ -72,7 +84,7 @@ is_named keys id content = bytes_eq id zero_id || bytes_eq id (content_id keys c
 unfoldable pub blob_fault : Keys → List ℕ → List ℕ → Option BlobFault
 blob_fault keys id blob =
     if nat_lt (length blob) 43 then Some Short
-    else if not (slice_index blob 0 == blob_type) then Some Kind
+    else if not (has_type (slice_index blob 0)) then Some Kind
     else if not (has_mac keys blob) then Some Mac
     else if not (is_plain keys blob) then Some Compressed
     else if not (is_named keys id (drop 2 (plaintext keys blob))) then Some Id
@@ -98,11 +110,11 @@ is_decrypted Id = true
 unfoldable pub authenticated : List ℕ → ℕ → List ℕ → List ℕ
 authenticated key nonce content = to_be_bytes w64 nonce ++ ctr key nonce (no_compression ++ content)
 
--- the blob of a content
-unfoldable pub sealed : Keys → ℕ → List ℕ → List ℕ
-sealed keys nonce content =
+-- the blob of a content, of a mode's type
+unfoldable pub sealed : Keys → Mode → ℕ → List ℕ → List ℕ
+sealed keys mode nonce content =
     let part = authenticated keys.enc_key nonce content in
-    blob_type ∷ (hmac256 keys.enc_hmac_key part ++ part)
+    type_of mode ∷ (hmac256 keys.enc_hmac_key part ++ part)
 
 -- ---- counter blocks
 

@@ -6,8 +6,8 @@ use thiserror::Error;
 /// `Id`.
 #[derive(Clone, Copy, Debug, PartialEq, Eq, Error)]
 pub enum BlobFault {
-    /// The type isn't 03.
-    #[error("the type of the blob isn't 03")]
+    /// The type is neither 03 nor 00.
+    #[error("the type of the blob is neither 03 nor 00")]
     Kind = 1,
     /// Fewer than 43 bytes.
     #[error("the blob has fewer than 43 bytes")]

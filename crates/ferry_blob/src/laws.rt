@@ -7,9 +7,10 @@ ghost use Rattle.ferry_aes.specs.KeyExpansion.{key_expansion};
 ghost use Rattle.ferry_aes.specs.CounterMode.{counter_block, output_blocks, xor_lists};
 ghost use Rattle.ferry_mac.specs.Hmac.{hmac256};
 ghost use Rattle.ferry_mac.specs.declared.keys.Keys.{Keys};
-ghost use Rattle.ferry_blob.specs.Blob.{IsAuthentic, IsBlockOf, OpensTo, blob_fault, block_count, blocks};
+ghost use Rattle.ferry_blob.specs.Blob.{IsAuthentic, IsBlockOf, IsType, OpensTo, blob_fault, block_count, blocks};
 ghost use Rattle.ferry_blob.specs.Blob.{content_id, no_compression, nonce_of, plaintext, sealed};
 ghost use Rattle.ferry_blob.specs.declared.fault.BlobFault.{BlobFault};
+ghost use Rattle.ferry_blob.specs.declared.mode.Mode.{Mode};
 
 /// Laws with nothing to run: a blob opens under an id to one content, or breaks one rule first.
 ///
@@ -31,10 +32,10 @@ pub fn blob_laws()
         → (blob_fault keys id blob ≡ Some BlobFault.Short) ↔ (length blob < 43) }
     ensures kind { (keys : Keys) (id blob : List ℕ)
         → (blob_fault keys id blob ≡ Some BlobFault.Kind)
-        ↔ ((43 ≤ length blob) × (slice_index blob 0 ≢ 3)) }
+        ↔ ((43 ≤ length blob) × (slice_index blob 0 ≢ 3) × (slice_index blob 0 ≢ 0)) }
     ensures mac { (keys : Keys) (id blob : List ℕ)
         → (blob_fault keys id blob ≡ Some BlobFault.Mac)
-        ↔ ((43 ≤ length blob) × (slice_index blob 0 ≡ 3)
+        ↔ ((43 ≤ length blob) × IsType (slice_index blob 0)
         × (take 32 (drop 1 blob) ≢ hmac256 keys.enc_hmac_key (drop 33 blob))) }
     ensures compressed { (keys : Keys) (id blob : List ℕ)
         → (blob_fault keys id blob ≡ Some BlobFault.Compressed)
@@ -60,7 +61,7 @@ pub fn block_laws()
     ensures none { (blob : List ℕ) (number : ℕ) → length blob < 43 → IsBlockOf blob number → ⊥ }
     ensures count { (blob : List ℕ) (content : ℕ)
         → length blob ≡ 43 + content → block_count blob ≡ blocks content }
-    ensures sealed { (keys : Keys) (nonce number : ℕ) (content : List ℕ) → nonce < 2 ^ 64
-        → IsBlockOf (sealed keys nonce content) number
+    ensures sealed { (keys : Keys) (mode : Mode) (nonce number : ℕ) (content : List ℕ) → nonce < 2 ^ 64
+        → IsBlockOf (sealed keys mode nonce content) number
         ↔ ((nonce ≤ number) × (number < nonce + blocks (length content))) }
 {}

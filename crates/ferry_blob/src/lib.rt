@@ -2,13 +2,14 @@
 //!
 //! The layers above may rely on this: `open_blob` answers `Ok` exactly where the blob opens by
 //! `OpensTo`, and leaves the content behind byte 43; each refusal is the first broken rule by
-//! `blob_fault`. What `seal` makes opens, and has the nonce that was given. The format is that of
-//! BorgBackup 1.2 (Internals, "Data structures and file formats", Encryption). No call takes memory.
+//! `blob_fault`. What `seal` makes opens, whatever the mode, and has its type and the nonce that was
+//! given. The format is that of BorgBackup 1.2 (Internals, "Data structures and file formats", Encryption). No call takes memory.
 #![tactic(auto)]
 
 mod fault;
 mod id;
 mod laws;
+mod mode;
 mod opening;
 mod sealing;
 mod stream;
@@ -18,5 +19,6 @@ mod tests;
 pub use fault::BlobFault;
 pub use id::id_of;
 pub use laws::{blob_laws, block_laws};
+pub use mode::Mode;
 pub use opening::open_blob;
 pub use sealing::{blocks_of, seal};

@@ -5,6 +5,7 @@ ghost use Rattle.ferry_blob.specs.Blob.{OpensTo, blob_fault, decrypted, has_mac,
 
 use crate::fault::BlobFault;
 use crate::id::is_named;
+use crate::mode::has_type;
 use crate::stream::add_key_stream;
 use ferry_base::Id;
 use ferry_lanes::same;
@@ -16,12 +17,9 @@ const BLOB_HEAD: usize = 43;
 /// The compression header of a content that isn't compressed.
 const NO_COMPRESSION: [u8; 2] = [0, 0];
 
-/// The type of a blob under a key that the repository keeps ("repokey").
-const REPOKEY: u8 = 3;
-
 /// Opens a blob in place: checks it, and decrypts it from byte 41 on. The content is `blob[43..]`.
 ///
-/// With the zero id the id isn't looked at. A MAC is compared in full, and nothing is decrypted before
+/// The types of both modes open. With the zero id the id isn't looked at. A MAC is compared in full, and nothing is decrypted before
 /// it is found right, so that what isn't authentic is never read as a plaintext.
 ///
 /// Source: BorgBackup 1.2, Internals, "Data structures and file formats", Encryption.
@@ -41,7 +39,7 @@ pub fn open_blob(keys: &Keys, id: &Id, blob: &mut [u8]) -> Result<(), BlobFault>
     if blob.len() < BLOB_HEAD {
         return Err(BlobFault::Short);
     }
-    if blob[0] != REPOKEY {
+    if !has_type(blob[0]) {
         return Err(BlobFault::Kind);
     }
     if !has_mac(keys, blob) {

@@ -1,10 +1,11 @@
 //! From a content to its blob.
 
-ghost use Rattle.std.specs.Prelude.{◌≡◌, ◌⊎◌, ℕ, ◌+◌, ◌-◌, ◌^◌, ◌≤◌, ◌++◌, ◌∷◌, List, drop, length};
+ghost use Rattle.std.specs.Prelude.{◌≡◌, ◌⊎◌, ℕ, ◌+◌, ◌-◌, ◌^◌, ◌≤◌, ◌++◌, ◌∷◌, List, drop, length, slice_index};
 ghost use Rattle.ferry_base.specs.Limits.{blob_limit, content_limit, zero_id};
 ghost use Rattle.ferry_mac.specs.Hmac.{hmac256};
-ghost use Rattle.ferry_blob.specs.Blob.{OpensTo, authenticated, blob_type, blocks, content_id, nonce_of, sealed};
+ghost use Rattle.ferry_blob.specs.Blob.{OpensTo, authenticated, blocks, content_id, nonce_of, sealed, type_of};
 
+use crate::mode::{Mode, type_of};
 use crate::stream::add_key_stream;
 use ferry_mac::{Keys, hmac256};
 
@@ -20,23 +21,24 @@ pub fn blocks_of(content: u64) -> u64
     (2 + content).div_ceil(16)
 }
 
-/// Seals a content in place: the content stands at `buffer[43..]`, and the buffer becomes its blob.
+/// Seals a content in place: the content stands at `buffer[43..]`, and the buffer becomes its blob, which has the mode's type.
 ///
 /// What stands in the first 43 bytes is not read. The blob takes the counter blocks from the nonce on,
 /// as many as `blocks_of` tells, each of which may serve once under one key.
 ///
 /// Source: BorgBackup 1.2, Internals, "Data structures and file formats", Encryption.
-pub fn seal(keys: &Keys, nonce: u64, buffer: &mut [u8])
+pub fn seal(keys: &Keys, mode: Mode, nonce: u64, buffer: &mut [u8])
     requires head { 43 ≤ length buffer.old }
     requires limit { length buffer.old ≤ blob_limit }
     requires blocks { nonce + blocks (length buffer.old - 43) ≤ 2 ^ 64 - 1 }
-    ensures blob { buffer.new ≡ sealed keys.now nonce (drop 43 buffer.old) }
+    ensures blob { buffer.new ≡ sealed keys.now mode nonce (drop 43 buffer.old) }
     ensures opens { (id : List ℕ) → (id ≡ zero_id) ⊎ (id ≡ content_id keys.now (drop 43 buffer.old))
         → OpensTo keys.now id buffer.new (drop 43 buffer.old) }
+    ensures kind { slice_index buffer.new 0 ≡ type_of mode }
     ensures nonce { nonce_of buffer.new ≡ nonce }
 {
     encrypt(&keys.enc_key, nonce, &mut buffer[33..]);
-    put_head(keys, buffer);
+    put_head(keys, mode, buffer);
 }
 
 /// Puts the nonce and the ciphertext in the place of 10 bytes and a content.
@@ -51,12 +53,12 @@ fn encrypt(key: &[u8; 32], nonce: u64, part: &mut [u8])
 }
 
 /// Puts the type and the MAC in front.
-fn put_head(keys: &Keys, buffer: &mut [u8])
+fn put_head(keys: &Keys, mode: Mode, buffer: &mut [u8])
     requires { 43 ≤ length buffer.old }
     ensures blob { buffer.new
-        ≡ blob_type ∷ (hmac256 keys.now.enc_hmac_key (drop 33 buffer.old) ++ drop 33 buffer.old) }
+        ≡ type_of mode ∷ (hmac256 keys.now.enc_hmac_key (drop 33 buffer.old) ++ drop 33 buffer.old) }
 {
     let mac = hmac256(&keys.enc_hmac_key, &buffer[33..]);
-    buffer[0] = 3;
+    buffer[0] = type_of(mode);
     buffer[1..33].copy_from_slice(&mac);
 }

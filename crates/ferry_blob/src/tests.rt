@@ -33,10 +33,17 @@ struct Case {
     fault: u8,
 }
 
-static CASES: [Case; 7] = [
+static CASES: [Case; 8] = [
     Case {
         about: "whole, under the id of its content",
         blob: b"\x03k\xc63\x92\x92K\x924W\xd6\xb00\xb6\xf0\xeb\x86\xb7\xdbb\x86\xd3~X*C\x1b=N\x0d~\xec\xe3\x01\x02\x03\x04\x05\x06\
+            \x07\x08^\x85\xe2\xf0p8\xa3",
+        id: HELLO_ID,
+        fault: 0,
+    },
+    Case {
+        about: "the same, of the other mode's type",
+        blob: b"\x00k\xc63\x92\x92K\x924W\xd6\xb00\xb6\xf0\xeb\x86\xb7\xdbb\x86\xd3~X*C\x1b=N\x0d~\xec\xe3\x01\x02\x03\x04\x05\x06\
             \x07\x08^\x85\xe2\xf0p8\xa3",
         id: HELLO_ID,
         fault: 0,
@@ -56,7 +63,7 @@ static CASES: [Case; 7] = [
     },
     Case {
         about: "another type and another MAC",
-        blob: b"\x00j\xc63\x92\x92K\x924W\xd6\xb00\xb6\xf0\xeb\x86\xb7\xdbb\x86\xd3~X*C\x1b=N\x0d~\xec\xe3\x01\x02\x03\x04\x05\x06\
+        blob: b"\x02j\xc63\x92\x92K\x924W\xd6\xb00\xb6\xf0\xeb\x86\xb7\xdbb\x86\xd3~X*C\x1b=N\x0d~\xec\xe3\x01\x02\x03\x04\x05\x06\
             \x07\x08^\x85\xe2\xf0p8\xa3",
         id: HELLO_ID,
         fault: 1,
@@ -122,12 +129,14 @@ fn a_content_is_sealed_named_and_opened_as_by_python(rt: HostRuntime) {
     faults_are_told(&rt, &keys, &CASES);
     let mut buffer = [0xa5u8; 86];
     buffer[43..].copy_from_slice(FOX_CONTENT);
-    seal(&keys, 0x0102_0304_0506_0708, &mut buffer);
+    seal(&keys, Mode::Repokey, 0x0102_0304_0506_0708, &mut buffer);
     assert!(rt; buffer.as_slice() == FOX);
     let id = id_of(&keys, FOX_CONTENT);
     assert!(rt; id.as_slice() == FOX_ID);
     assert!(rt; open_blob(&keys, &id, &mut buffer) == Ok(()));
     assert!(rt; &buffer[43..] == FOX_CONTENT.as_slice());
+    seal(&keys, Mode::Keyfile, 0x0102_0304_0506_0708, &mut buffer);
+    assert!(rt; buffer[0] == 0 && buffer[1..] == FOX[1..]);
     assert!(rt; blocks_of(43) == 3);
     blob_laws();
     block_laws();

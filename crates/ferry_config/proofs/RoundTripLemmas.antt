@@ -1,5 +1,5 @@
 -- A text that is printed is read as its config.
-use Rattle.std.proofs.Common.{◌≡◌, ◌≢◌, ℕ, ◌-◌, ◌/◌, ◌<◌, ◌≤◌, true, false, List, [], ◌∷◌, ◌++◌, length, map, codes, Some, Ok, unwrap_or, refl, ap, ◌∙◌}
+use Rattle.std.proofs.Common.{◌≡◌, ◌≢◌, ℕ, ◌-◌, ◌/◌, ◌<◌, ◌≤◌, true, false, List, [], ◌∷◌, ◌++◌, length, map, codes, Some, Ok, unwrap_or, refl, ap, sym, ◌∙◌}
 use Rattle.std.proofs.Common.{arith, append-nil}
 use Rattle.std.specs.Fmt.{decimal}
 use Rattle.std.specs.List.{before_first, concat, flat_map, list_all, list_any}
@@ -22,7 +22,7 @@ use Rattle.ferry_config.specs.Config.{assignments_of, config_in, config_of, faul
 use Rattle.ferry_config.specs.Line.{Line, assigned, continued, header, line_of}
 use Rattle.ferry_config.specs.Section.{Assignment, assignments, continuation, has_forms, is_formless, is_header, only_one, repository_lines}
 use Rattle.ferry_config.specs.Section.{repository_sections, values_to}
-use Rattle.ferry_config.specs.Text.{config_text, ended, further_pieces, head_lines, key_lines, piece}
+use Rattle.ferry_config.specs.Text.{config_text, ended, further_pieces, head_lines, key_lines, piece, wrapped_lines}
 use Rattle.ferry_config.specs.Value.{greatest, id_of, key_of}
 use Rattle.ferry_config.specs.declared.config.Config.{Config}
 
@@ -62,9 +62,9 @@ repository_sections-none (line ∷ rest) none =
 
 -- ---- what is printed
 
--- the lines of the section, with the pieces of the key text
-abbrev section_of : Config → List ℕ → List (List ℕ) → List Line
-section_of config first further =
+-- the lines of the section before those of the key, and these behind them
+abbrev section_of : Config → List Line → List Line
+section_of config behind =
     assigned (codes "version") (codes "1")
     ∷ assigned (codes "segments_per_dir") (decimal config.per_dir)
     ∷ assigned (codes "max_segment_size") (decimal config.limit)
@@ -72,12 +72,15 @@ section_of config first further =
     ∷ assigned (codes "storage_quota") (codes "0")
     ∷ assigned (codes "additional_free_space") (codes "0")
     ∷ assigned (codes "id") (encode_lower config.id)
-    ∷ assigned (codes "key") first
-    ∷ map continued further
+    ∷ behind
 
--- its assignments, with the whole key text
-abbrev assigned_of : Config → List ℕ → List Assignment
-assigned_of config key =
+-- the lines of a key text, by its pieces
+abbrev key_section : List ℕ → List (List ℕ) → List Line
+key_section first further = assigned (codes "key") first ∷ map continued further
+
+-- the assignments of the section before that of the key, and these behind them
+abbrev assigned_of : Config → List Assignment → List Assignment
+assigned_of config behind =
     record { name = codes "version"; value = codes "1" }
     ∷ record { name = codes "segments_per_dir"; value = decimal config.per_dir }
     ∷ record { name = codes "max_segment_size"; value = decimal config.limit }
@@ -85,66 +88,97 @@ assigned_of config key =
     ∷ record { name = codes "storage_quota"; value = codes "0" }
     ∷ record { name = codes "additional_free_space"; value = codes "0" }
     ∷ record { name = codes "id"; value = encode_lower config.id }
-    ∷ record { name = codes "key"; value = key } ∷ []
+    ∷ behind
 
-section_lines : (config : Config) (first : List ℕ) (further : List (List ℕ))
-    → repository_lines (header (codes "repository") ∷ section_of config first further) ≡ Some (section_of config first further)
-section_lines config first further =
-    let all = section_of config first further in
-    let none : list_any is_header all ≡ false = none_header further in
+-- the assignment of a key text, none where it is empty
+abbrev assigned_key : List ℕ → List Assignment
+assigned_key [] = []
+assigned_key (first ∷ rest) = record { name = codes "key"; value = first ∷ rest } ∷ []
+
+section_lines : (config : Config) (behind : List Line) → list_any is_header behind ≡ false
+    → repository_lines (header (codes "repository") ∷ section_of config behind) ≡ Some (section_of config behind)
+section_lines config behind none =
+    let all = section_of config behind in
     ap only_one (repository_sections-named (codes "repository") all refl
     ∙ ap (λ rest. before_first is_header all ∷ rest) (repository_sections-none all none))
     ∙ ap Some (before_first-none all none)
 
-section_forms : (config : Config) (first : List ℕ) (further : List (List ℕ)) → has_forms (section_of config first further) ≡ true
+section_forms : (config : Config) (behind : List Line) → list_any is_formless behind ≡ false → has_forms (section_of config behind) ≡ true
 unfolding has_forms
-section_forms config first further = rw (none_formless further) refl
+section_forms config behind none = rw none refl
 
 section_assignments : (config : Config) (first : List ℕ) (further : List (List ℕ))
-    → assignments (section_of config first further) ≡ assigned_of config (first ++ concat further)
+    → assignments (section_of config (key_section first further))
+    ≡ assigned_of config (record { name = codes "key"; value = first ++ concat further } ∷ [])
 unfolding assignments
 section_assignments config first further = simp (continuation-assigned, append-nil) (rw (continuation-pieces further, no_assignments further) refl)
 
+section_assignments-none : (config : Config) → assignments (section_of config []) ≡ assigned_of config []
+unfolding assignments
+section_assignments-none config = simp (continuation-assigned, continuation-nil, append-nil)
+
 -- ---- the lines of the text
 
--- the forms of all lines
-config_forms : (config : Config) → config.per_dir ≤ greatest → config.limit ≤ greatest → (key : List ℕ) → 0 < length key → is_solid_text key ≡ true
-    → map line_of (head_lines config ++ key_lines key)
-    ≡ header (codes "repository") ∷ section_of config (piece key 0) (further_pieces key ((length key - 1) / 70))
-config_forms config small_dir small_limit key some solid =
+-- the forms of the lines before those of the key
+head_forms : (config : Config) → config.per_dir ≤ greatest → config.limit ≤ greatest → (behind : List (List ℕ))
+    → map line_of (head_lines config ++ behind) ≡ header (codes "repository") ∷ section_of config (map line_of behind)
+head_forms config small_dir small_limit behind =
     let per_dir = line_of-per_dir (decimal config.per_dir) (solid-digits (decimal config.per_dir) (digits-decimal config.per_dir small_dir)) in
     let limit = line_of-limit (decimal config.limit) (solid-digits (decimal config.limit) (digits-decimal config.limit small_limit)) in
     let id = line_of-id (encode_lower config.id) (solid-hex config.id) in
-    let first = line_of-key (piece key 0) (solid-take 70 key solid) in
-    let further = lines-further key ((length key - 1) / 70) solid (omega arith) in
-    rw (line_of-repository, line_of-version, per_dir, limit, line_of-append_only, line_of-storage_quota, line_of-additional_free_space, id, first, further)
+    rw (line_of-repository, line_of-version, per_dir, limit, line_of-append_only, line_of-storage_quota, line_of-additional_free_space, id)
     refl
 
+-- the forms of the lines of a key text
+key_forms : (key : List ℕ) → 0 < length key → is_solid_text key ≡ true
+    → map line_of (wrapped_lines (codes "key = ") (9 ∷ []) key) ≡ key_section (piece key 0) (further_pieces key ((length key - 1) / 70))
+key_forms key some solid =
+    let first = line_of-key (piece key 0) (solid-take 70 key solid) in
+    let further = lines-further key ((length key - 1) / 70) solid (omega arith) in
+    rw (first, further) refl
+
 -- no line has an end in it
-config_inner : (config : Config) → config.per_dir ≤ greatest → config.limit ≤ greatest → (key : List ℕ) → is_solid_text key ≡ true
-    → list_all is_line (head_lines config ++ key_lines key) ≡ true
-config_inner config small_dir small_limit key solid =
+head_inner : (config : Config) → config.per_dir ≤ greatest → config.limit ≤ greatest → (behind : List (List ℕ)) → list_all is_line behind ≡ true
+    → list_all is_line (head_lines config ++ behind) ≡ true
+head_inner config small_dir small_limit behind inner =
     let per_dir = solid-inner (decimal config.per_dir) (solid-digits (decimal config.per_dir) (digits-decimal config.per_dir small_dir)) in
     let limit = solid-inner (decimal config.limit) (solid-digits (decimal config.limit) (digits-decimal config.limit small_limit)) in
     let id = solid-inner (encode_lower config.id) (solid-hex config.id) in
+    rw (per_dir, limit, id, inner) refl
+
+key_inner : (key : List ℕ) → is_solid_text key ≡ true → list_all is_line (wrapped_lines (codes "key = ") (9 ∷ []) key) ≡ true
+key_inner key solid =
     let first = solid-inner (piece key 0) (solid-take 70 key solid) in
     let further = lines_inner-further key ((length key - 1) / 70) solid in
-    rw (per_dir, limit, id, first, further) refl
+    rw (first, further) refl
 
--- the assignments of the text
-config_assignments : (config : Config) → config.per_dir ≤ greatest → config.limit ≤ greatest → (key : List ℕ) → 0 < length key → is_solid_text key ≡ true
-    → assignments_of (flat_map ended (head_lines config ++ key_lines key)) ≡ Some (assigned_of config key)
+-- the assignments of a text whose lines behind the head have these forms
+assignments_behind : (config : Config) → config.per_dir ≤ greatest → config.limit ≤ greatest → (behind : List (List ℕ)) (forms : List Line)
+    → list_all is_line behind ≡ true → map line_of behind ≡ forms → list_any is_header forms ≡ false → list_any is_formless forms ≡ false
+    → assignments_of (flat_map ended (head_lines config ++ behind)) ≡ Some (assignments (section_of config forms))
 unfolding assignments_of
-config_assignments config small_dir small_limit key some solid =
-    let all = section_of config (piece key 0) (further_pieces key ((length key - 1) / 70)) in
-    let split = lines-flat_map (head_lines config ++ key_lines key) (config_inner config small_dir small_limit key solid) in
-    let forms = ap (map line_of) split ∙ config_forms config small_dir small_limit key some solid in
-    let section = ap repository_lines forms ∙ section_lines config (piece key 0) (further_pieces key ((length key - 1) / 70)) in
-    let formed : formed_lines (Some all) ≡ Some all = rw (section_forms config (piece key 0) (further_pieces key ((length key - 1) / 70))) refl in
+assignments_behind config small_dir small_limit behind forms inner here no_header no_formless =
+    let all = section_of config forms in
+    let split = lines-flat_map (head_lines config ++ behind) (head_inner config small_dir small_limit behind inner) in
+    let lines_forms = ap (map line_of) split ∙ head_forms config small_dir small_limit behind
+    ∙ ap (λ tail. header (codes "repository") ∷ section_of config tail) here in
+    let section = ap repository_lines lines_forms ∙ section_lines config forms no_header in
+    let formed : formed_lines (Some all) ≡ Some all = rw (section_forms config forms no_formless) refl in
     ap (λ found. option_map assignments (formed_lines found)) section
     ∙ ap (option_map assignments) formed
-    ∙ ap Some (section_assignments config (piece key 0) (further_pieces key ((length key - 1) / 70)))
-    ∙ ap (λ value. Some (assigned_of config value)) (concat-pieces key some)
+
+-- the assignments of the text
+config_assignments : (config : Config) → config.per_dir ≤ greatest → config.limit ≤ greatest → (key : List ℕ) → is_solid_text key ≡ true
+    → assignments_of (flat_map ended (head_lines config ++ key_lines key)) ≡ Some (assigned_of config (assigned_key key))
+config_assignments config small_dir small_limit [] solid =
+    assignments_behind config small_dir small_limit [] [] refl refl refl refl ∙ ap Some (section_assignments-none config)
+config_assignments config small_dir small_limit (first ∷ rest) solid =
+    let key = first ∷ rest in
+    let further = further_pieces key ((length key - 1) / 70) in
+    assignments_behind config small_dir small_limit (wrapped_lines (codes "key = ") (9 ∷ []) key) (key_section (piece key 0) further)
+    (key_inner key solid) (key_forms key (omega arith) solid) (none_header further) (none_formless further)
+    ∙ ap Some (section_assignments config (piece key 0) further)
+    ∙ ap (λ value. Some (assigned_of config (record { name = codes "key"; value = value } ∷ []))) (concat-pieces key (omega arith))
 
 -- ---- what is read
 
@@ -152,10 +186,17 @@ pub id_of-hex : (id : List ℕ) → length id ≡ 32 → IsBytes id → id_of (e
 unfolding id_of
 id_of-hex id long bytes = ap result_ok (decode_sized-encode_lower id 32 long bytes)
 
-key_of-text : (key text : List ℕ) → 0 < length text → decode_of standard text ≡ Ok key → key_of text ≡ Some key
+key_of-text : (key text : List ℕ) → decode_of standard text ≡ Ok key → key_of text ≡ Some key
 unfolding key_of
-key_of-text key [] some decoded = absurd (omega arith)
-key_of-text key (byte ∷ rest) some decoded = ap result_ok decoded
+key_of-text key text decoded = ap result_ok decoded
+
+-- an encoding of no characters is that of no bytes
+empty_encoding : (bytes : List ℕ) → encode_of standard bytes ≡ [] → bytes ≡ []
+unfolding encode_symbols
+empty_encoding [] e = refl
+empty_encoding (a ∷ []) e = cc
+empty_encoding (a ∷ b ∷ []) e = cc
+empty_encoding (a ∷ b ∷ c ∷ rest) e = cc
 
 -- what a config needs to be printed
 pub record IsPrintable (config : Config) : Type 0 where
@@ -165,32 +206,27 @@ pub record IsPrintable (config : Config) : Type 0 where
   pub limit_most : config.limit ≤ greatest
   pub id : id_of (encode_lower config.id) ≡ Some config.id
 
-read_assigned : (config : Config) (key : List ℕ) → IsPrintable config → 0 < length key → decode_of standard key ≡ Ok config.key
-    → fault_or (fault_in (assigned_of config key)) (config_in (assigned_of config key)) ≡ Ok config
+read_assigned : (config : Config) (key : List ℕ) → IsPrintable config → decode_of standard key ≡ Ok config.key → (key ≡ [] → config.key ≡ [])
+    → fault_or (fault_in (assigned_of config (assigned_key key))) (config_in (assigned_of config (assigned_key key))) ≡ Ok config
 unfolding values_to
-read_assigned config key printable some decoded =
+read_assigned config [] printable decoded empty =
     let per_dir = number_of-decimal config.per_dir printable.dir_least printable.dir_most in
     let limit = number_of-decimal config.limit printable.limit_least printable.limit_most in
     let id = printable.id in
-    let bytes = key_of-text config.key key some decoded in
+    rw (per_dir, limit, id) (ap (λ key. Ok record { id = config.id; key = key; per_dir = config.per_dir; limit = config.limit }) (sym (empty refl)))
+read_assigned config (first ∷ rest) printable decoded empty =
+    let per_dir = number_of-decimal config.per_dir printable.dir_least printable.dir_most in
+    let limit = number_of-decimal config.limit printable.limit_least printable.limit_most in
+    let id = printable.id in
+    let bytes = key_of-text config.key (first ∷ rest) decoded in
     rw (per_dir, limit, id, bytes) refl
 
 -- a printed config is read as itself
-pub config_of-config_text : (config : Config) → IsPrintable config → 0 < length (encode_of standard config.key)
-    → decode_of standard (encode_of standard config.key) ≡ Ok config.key
+pub config_of-config_text : (config : Config) → IsPrintable config → decode_of standard (encode_of standard config.key) ≡ Ok config.key
     → config_of (config_text config) ≡ Ok config
 unfolding config_of config_text first_fault
-config_of-config_text config printable some decoded =
+config_of-config_text config printable decoded =
     let key = encode_of standard config.key in
     ap (λ all. fault_or (fault_of_section all) (config_in (unwrap_or all [])))
-    (config_assignments config printable.dir_most printable.limit_most key some (solid-base64 config.key))
-    ∙ read_assigned config key printable some decoded
-
--- ---- a key text that isn't empty
-
-pub length-encode_of : (bytes : List ℕ) → bytes ≢ [] → 0 < length (encode_of standard bytes)
-unfolding encode_symbols
-length-encode_of [] some = absurd (some refl)
-length-encode_of (a ∷ []) some = omega arith
-length-encode_of (a ∷ b ∷ []) some = omega arith
-length-encode_of (a ∷ b ∷ c ∷ rest) some = omega arith
+    (config_assignments config printable.dir_most printable.limit_most key (solid-base64 config.key))
+    ∙ read_assigned config key printable decoded (empty_encoding config.key)

@@ -1,41 +1,47 @@
 -- Lemmas on the text of a config, for the printer.
-use Rattle.std.proofs.Common.{◌≡◌, ℕ, ◌+◌, List, [], ◌∷◌, ◌++◌, map, codes, refl, ap, sym, ◌∙◌, add-one, append_assoc, append-nil}
+use Rattle.std.proofs.Common.{◌≡◌, ℕ, ◌+◌, ◌<◌, length, arith, List, [], ◌∷◌, ◌++◌, map, codes, refl, ap, sym, ◌∙◌, add-one, append_assoc, append-nil}
 use Rattle.std.specs.List.{flat_map}
 use Rattle.base64.specs.Engines.{standard}
 use Rattle.base64.specs.GeneralPurpose.{encode_of}
 use Rattle.ferry_config.specs.declared.config.Config.{Config}
-use Rattle.ferry_config.specs.Text.{config_text, ended, further_pieces, head_lines, key_lines, piece}
+use Rattle.ferry_config.specs.Text.{config_text, ended, further_pieces, head_lines, key_lines, piece, wrapped_lines}
 
--- the lines of a key with its first n further pieces
-abbrev pub key_lines_to : List ℕ → ℕ → List (List ℕ)
-key_lines_to key n = (codes "key = " ++ piece key 0) ∷ map (λ further. 9 ∷ further) (further_pieces key n)
+-- the lines of a text with its first n further pieces
+abbrev pub wrapped_to : List ℕ → List ℕ → List ℕ → ℕ → List (List ℕ)
+wrapped_to front before text n = (front ++ piece text 0) ∷ map (λ further. before ++ further) (further_pieces text n)
 
-pub key_lines_to-zero : (key : List ℕ) → flat_map ended (key_lines_to key 0) ≡ ended (codes "key = " ++ piece key 0)
+pub wrapped_to-zero : (front before text : List ℕ) → flat_map ended (wrapped_to front before text 0) ≡ ended (front ++ piece text 0)
 unfolding further_pieces
-key_lines_to-zero key = append-nil (ended (codes "key = " ++ piece key 0))
+wrapped_to-zero front before text = append-nil (ended (front ++ piece text 0))
 
 pub flat_map-append : (xs ys : List (List ℕ)) → flat_map ended (xs ++ ys) ≡ flat_map ended xs ++ flat_map ended ys
 flat_map-append [] ys = refl
 flat_map-append (x ∷ xs) ys = ap (λ rest. ended x ++ rest) (flat_map-append xs ys) ∙ sym (append_assoc (ended x) (flat_map ended xs) (flat_map ended ys))
 
-map-append_one : (xs : List (List ℕ)) (y : List ℕ) → map (λ further. 9 ∷ further) (xs ++ y ∷ []) ≡ map (λ further. 9 ∷ further) xs ++ (9 ∷ y) ∷ []
-map-append_one [] y = refl
-map-append_one (x ∷ xs) y = ap (λ rest. (9 ∷ x) ∷ rest) (map-append_one xs y)
+map-append_one : (before : List ℕ) (xs : List (List ℕ)) (y : List ℕ)
+    → map (λ further. before ++ further) (xs ++ y ∷ []) ≡ map (λ further. before ++ further) xs ++ (before ++ y) ∷ []
+map-append_one before [] y = refl
+map-append_one before (x ∷ xs) y = ap (λ rest. (before ++ x) ∷ rest) (map-append_one before xs y)
 
 -- one more piece
-pub key_lines_to-next : (key : List ℕ) (n : ℕ)
-    → flat_map ended (key_lines_to key (n + 1)) ≡ flat_map ended (key_lines_to key n) ++ ended (9 ∷ piece key (n + 1))
+pub wrapped_to-next : (front before text : List ℕ) (n : ℕ)
+    → flat_map ended (wrapped_to front before text (n + 1)) ≡ flat_map ended (wrapped_to front before text n) ++ ended (before ++ piece text (n + 1))
 unfolding further_pieces
-key_lines_to-next key n =
-    let first = ended (codes "key = " ++ piece key 0) in
-    let next = piece key (n + 1) in
-    let before = map (λ (further : List ℕ). 9 ∷ further) (further_pieces key n) in
-    let more : further_pieces key (n + 1) ≡ further_pieces key n ++ next ∷ [] = rw (add-one n) refl in
-    ap (λ pieces. first ++ flat_map ended (map (λ further. 9 ∷ further) pieces)) more
-    ∙ ap (λ lines. first ++ flat_map ended lines) (map-append_one (further_pieces key n) next)
-    ∙ ap (λ rest. first ++ rest) (flat_map-append before ((9 ∷ next) ∷ []))
-    ∙ ap (λ rest. first ++ (flat_map ended before ++ rest)) (append-nil (ended (9 ∷ next)))
-    ∙ sym (append_assoc first (flat_map ended before) (ended (9 ∷ next)))
+wrapped_to-next front before text n =
+    let first = ended (front ++ piece text 0) in
+    let next = piece text (n + 1) in
+    let lines = map (λ (further : List ℕ). before ++ further) (further_pieces text n) in
+    let more : further_pieces text (n + 1) ≡ further_pieces text n ++ next ∷ [] = rw (add-one n) refl in
+    ap (λ pieces. first ++ flat_map ended (map (λ further. before ++ further) pieces)) more
+    ∙ ap (λ all. first ++ flat_map ended all) (map-append_one before (further_pieces text n) next)
+    ∙ ap (λ rest. first ++ rest) (flat_map-append lines ((before ++ next) ∷ []))
+    ∙ ap (λ rest. first ++ (flat_map ended lines ++ rest)) (append-nil (ended (before ++ next)))
+    ∙ sym (append_assoc first (flat_map ended lines) (ended (before ++ next)))
+
+-- a key text that isn't empty
+pub key_lines-some : (key : List ℕ) → 0 < length key → key_lines key ≡ wrapped_lines (codes "key = ") (9 ∷ []) key
+key_lines-some [] some = absurd (omega arith)
+key_lines-some (first ∷ rest) some = refl
 
 -- three lines at the end of a text
 pub three_lines : (text a b c d e f : List ℕ)

@@ -40,9 +40,9 @@ has_version_1 all = option_map_or is_version_1 (value_of (codes "version") all) 
 abbrev pub id_in : List Assignment → Option (List ℕ)
 id_in all = option_and_then id_of (value_of (codes "id") all)
 
--- what `key` says
+-- what `key` says: no bytes where it is absent, as in a repository whose key lies in a file of its own
 abbrev pub key_in : List Assignment → Option (List ℕ)
-key_in all = option_and_then key_of (value_of (codes "key") all)
+key_in all = option_map_or key_of (value_of (codes "key") all) (Some [])
 
 -- what a number's name says: its default where it is absent
 abbrev pub number_in : List ℕ → ℕ → List Assignment → Option ℕ

@@ -20,10 +20,15 @@ unfoldable pub further_pieces : List ℕ → ℕ → List (List ℕ)
 further_pieces text zero = []
 further_pieces text (suc n) = further_pieces text n ++ piece text (suc n) ∷ []
 
--- the lines of a key text: the first piece behind the name, and each further one behind a tab
+-- the lines of a text that isn't empty: its first piece behind some bytes, and each further one behind others
+abbrev pub wrapped_lines : List ℕ → List ℕ → List ℕ → List (List ℕ)
+wrapped_lines front before text = (front ++ piece text 0)
+    ∷ map (λ further. before ++ further) (further_pieces text ((length text - 1) / 70))
+
+-- the lines of a key text: the first piece behind the name, and each further one behind a tab; none where it is empty
 abbrev pub key_lines : List ℕ → List (List ℕ)
-key_lines text = (codes "key = " ++ piece text 0)
-    ∷ map (λ further. 9 ∷ further) (further_pieces text ((length text - 1) / 70))
+key_lines [] = []
+key_lines (first ∷ rest) = wrapped_lines (codes "key = ") (9 ∷ []) (first ∷ rest)
 
 -- the lines before those of the key
 abbrev pub head_lines : Config → List (List ℕ)

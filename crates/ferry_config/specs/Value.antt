@@ -14,11 +14,9 @@ is_version_1 text = bytes_eq text (codes "1")
 unfoldable pub id_of : List ℕ → Option (List ℕ)
 id_of text = result_ok (decode_sized text 32)
 
--- `key`: the bytes of a base64 text with padding, under the standard alphabet, that isn't empty
--- (RFC 4648, section 4)
+-- `key`: the bytes of a base64 text with padding, under the standard alphabet (RFC 4648, section 4); no bytes of an empty text
 unfoldable pub key_of : List ℕ → Option (List ℕ)
-key_of [] = None
-key_of (byte ∷ rest) = result_ok (decode_of standard (byte ∷ rest))
+key_of text = result_ok (decode_of standard text)
 
 -- the number that decimal digits spell, from the one that the digits before them spell
 unfoldable pub number_from : ℕ → List ℕ → ℕ

@@ -7,7 +7,7 @@ use ferry_base::{Bytes, Id};
 pub struct Config {
     /// The repository's id.
     pub id: Id,
-    /// The decoded key text: the msgpack bytes of the sealed repository key.
+    /// The decoded key text: the msgpack bytes of the sealed repository key. Empty where the key lies in a file of its own.
     pub key: Bytes,
     /// How many segments a folder below `data` holds, from 1 to 4294967295.
     pub per_dir: u64,

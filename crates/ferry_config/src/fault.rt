@@ -17,7 +17,7 @@ pub enum ConfigFault {
     /// `id` is absent or isn't 64 hex digits.
     #[error("`id` isn't 64 hex digits")]
     Id = 3,
-    /// `key` is absent, empty or no base64 text.
+    /// `key` is there and is no base64 text.
     #[error("`key` is no base64 text")]
     Key = 4,
     /// A number isn't decimal, or isn't from 1 to 4294967295.

@@ -21,5 +21,5 @@ mod values;
 pub use config::Config;
 pub use fault::ConfigFault;
 pub use meaning::one_meaning;
-pub use printing::print_config;
+pub use printing::{append_wrapped, print_config};
 pub use reading::read_config;

@@ -1,11 +1,11 @@
 //! The printer.
 
-ghost use Rattle.std.specs.Prelude.{◌≡◌, ◌≢◌, ◌+◌, ◌*◌, ◌/◌, ◌-◌, ◌<◌, ◌≤◌, ◌++◌, [], IfOk, OnOk, length};
+ghost use Rattle.std.specs.Prelude.{◌≡◌, ◌+◌, ◌*◌, ◌/◌, ◌-◌, ◌<◌, ◌≤◌, ◌++◌, [], IfOk, OnOk, length};
 ghost use Rattle.std.specs.List.{flat_map};
 ghost use Rattle.std.specs.String.{string_bytes};
 ghost use Rattle.hex.specs.Hex.{encode_lower};
 ghost use Rattle.ferry_config.specs.Config.{config_of};
-ghost use Rattle.ferry_config.specs.Text.{config_text, ended, head_lines, key_lines, piece};
+ghost use Rattle.ferry_config.specs.Text.{config_text, ended, head_lines, key_lines, piece, wrapped_lines};
 ghost use Rattle.ferry_config.specs.Value.{id_of};
 
 use crate::config::Config;
@@ -24,7 +24,6 @@ const REST_OF_HEAD: &[u8] = b"append_only = 0\nstorage_quota = 0\nadditional_fre
 pub fn print_config(alloc: Global, config: &Config) -> Result<Vec<u8>, AllocError>
     requires per_dir { (1 ≤ config.now.per_dir) × (config.now.per_dir ≤ 4294967295) }
     requires limit { (1 ≤ config.now.limit) × (config.now.limit ≤ 4294967295) }
-    requires key { config.now.key ≢ [] }
     ensures text { IfOk result (λ text. text.items ≡ config_text config.now) }
     // The reader takes what is printed for the same config. This has no premise on base64.
     ensures read_again { IfOk result (λ text. config_of text.items ≡ Ok config.now) }
@@ -69,15 +68,32 @@ fn append_head(
     Ok(())
 }
 
-/// Appends the lines of the key text.
+/// Appends the lines of the key text, none where it is empty.
 fn append_key(text: &mut Vec<u8>, key: &[u8]) -> Result<(), AllocError>
-    requires { 0 < length key.now }
     ensures ok { OnOk result (
         text.new.items ≡ text.old.items ++ flat_map ended (key_lines key.now)) }
 {
-    append_line(text, b"key = ", piece(key, 0))?;
-    for number in 0..(key.len() - 1) / WIDTH {
-        append_line(text, b"\t", piece(key, number + 1))?;
+    if key.is_empty() {
+        return Ok(());
+    }
+    append_wrapped(text, b"key = ", b"\t", key)
+}
+
+/// Appends a line that isn't empty in lines of at most 70 bytes, each with its LF: the first behind `front`, and each further one
+/// behind `before`.
+pub fn append_wrapped(
+    text: &mut Vec<u8>,
+    front: &[u8],
+    before: &[u8],
+    line: &[u8],
+) -> Result<(), AllocError>
+    requires { 0 < length line.now }
+    ensures lines { OnOk result (
+        text.new.items ≡ text.old.items ++ flat_map ended (wrapped_lines front.now before.now line.now)) }
+{
+    append_line(text, front, piece(line, 0))?;
+    for number in 0..(line.len() - 1) / WIDTH {
+        append_line(text, before, piece(line, number + 1))?;
     }
     Ok(())
 }

@@ -113,7 +113,7 @@ fn key_in(alloc: Global, section: &[Line<'_>]) -> Result<Option<Bytes>, AllocErr
 {
     match value_of(alloc, section, b"key")? {
         Some(text) => read_key(alloc, text.as_slice()),
-        None => Ok(None),
+        None => Ok(Some(Bytes::new(Vec::new(alloc)))),
     }
 }
 

@@ -4,15 +4,15 @@ use crate::{Config, one_meaning, print_config, read_config};
 use ferry_base::Bytes;
 use std::test::Fail;
 
-/// Texts, each with the number of its fault.
-static REFUSED: [(&[u8], u8); 7] = [
+/// Texts, each with the number of its fault, or 0.
+static CASES: [(&[u8], u8); 7] = [
     (b"[repository]\n\tversion = 1\n", 1),
     (b"[repository]\nversion = 01\n", 2),
     (b"[repository]\nversion = 2\nversion = 2\n", 6),
     (b"[repository]\nversion = 1\nid = 00\n", 3),
     (
-        b"[repository]\nversion = 1\nid = 000102030405060708090a0b0c0d0e0f101112131415161718191a1b1c1d1e1f\n",
-        4,
+        b"[repository]\nversion = 1\nid = 000102030405060708090a0b0c0d0e0f101112131415161718191a1b1c1d1e1f\nkey = \n",
+        0,
     ),
     (
         b"[repository]\nversion = 1\nid = 000102030405060708090a0b0c0d0e0f101112131415161718191a1b1c1d1e1f\nkey = aGVsbG8\n",
@@ -53,7 +53,7 @@ key = AAECAwQFBgcICQoLDA0ODxAREhMUFRYXGBkaGxwdHh8gISIjJCUmJygpKissLS4vMDEyMz
 #[test]
 fn texts_are_read_refused_and_printed(rt: HostRuntime) -> Result<(), Fail> {
     let alloc = rt.alloc();
-    for (text, number) in &REFUSED {
+    for (text, number) in &CASES {
         let found = match read_config(alloc, text) {
             Ok(_) => 0,
             Err(fault) => fault.number(),
@@ -74,7 +74,6 @@ fn texts_are_read_refused_and_printed(rt: HostRuntime) -> Result<(), Fail> {
         per_dir: 1000,
         limit: 524_288_000,
     };
-    assert!(rt; !config.key.as_slice().is_empty());
     let text = print_config(alloc, &config)?;
     assert!(rt; text.as_slice() == PRINTED);
     one_meaning();

@@ -24,14 +24,11 @@ pub(crate) fn read_id(text: &[u8]) -> Option<Id>
     }
 }
 
-/// The bytes of a base64 text that isn't empty.
+/// The bytes of a base64 text.
 #[tactic(auto, unfolding(crate::specs::Value::key_of))]
 pub(crate) fn read_key(alloc: Global, text: &[u8]) -> Result<Option<Bytes>, AllocError>
     ensures key { IfOk result (λ key. key ≡ key_of text.now) }
 {
-    if text.is_empty() {
-        return Ok(None);
-    }
     match STANDARD.decode(alloc, text) {
         Ok(bytes) => Ok(Some(Bytes::new(bytes))),
         Err(DecodeAllocError::DecodeError(_)) => Ok(None),

@@ -32,6 +32,9 @@ record_cases files log keys id (Fault.Blob named f) h = inr h
 record_cases files log keys id (Fault.Manifest f) h = inr h
 record_cases files log keys id (Fault.Item named f) h = inr h
 record_cases files log keys id (Fault.Size named) h = inr h
+record_cases files log keys id (Fault.KeyFile f) h = inr h
+record_cases files log keys id (Fault.Other a b) h = inr h
+record_cases files log keys id Fault.NoKey h = inr h
 record_cases files log keys id Fault.Device h = inr h
 record_cases files log keys id Fault.Memory h = inr h
 
@@ -47,6 +50,9 @@ record_refuses files log keys id (Fault.Blob named f) h = h
 record_refuses files log keys id (Fault.Manifest f) h = h
 record_refuses files log keys id (Fault.Item named f) h = h
 record_refuses files log keys id (Fault.Size named) h = h
+record_refuses files log keys id (Fault.KeyFile f) h = h
+record_refuses files log keys id (Fault.Other a b) h = h
+record_refuses files log keys id Fault.NoKey h = h
 record_refuses files log keys id Fault.Device h = h
 record_refuses files log keys id Fault.Memory h = h
 
@@ -128,6 +134,9 @@ content_cases files log keys chunk (Fault.Blob named f) h = inr h
 content_cases files log keys chunk (Fault.Manifest f) h = inr h
 content_cases files log keys chunk (Fault.Archive named f) h = inr h
 content_cases files log keys chunk (Fault.Item named f) h = inr h
+content_cases files log keys chunk (Fault.KeyFile f) h = inr h
+content_cases files log keys chunk (Fault.Other a b) h = inr h
+content_cases files log keys chunk Fault.NoKey h = inr h
 content_cases files log keys chunk Fault.Device h = inr h
 content_cases files log keys chunk Fault.Memory h = inr h
 
@@ -143,6 +152,9 @@ content_refuses files log keys chunk (Fault.Blob named f) h = h
 content_refuses files log keys chunk (Fault.Manifest f) h = h
 content_refuses files log keys chunk (Fault.Archive named f) h = h
 content_refuses files log keys chunk (Fault.Item named f) h = h
+content_refuses files log keys chunk (Fault.KeyFile f) h = h
+content_refuses files log keys chunk (Fault.Other a b) h = h
+content_refuses files log keys chunk Fault.NoKey h = h
 content_refuses files log keys chunk Fault.Device h = h
 content_refuses files log keys chunk Fault.Memory h = h
 

@@ -10,15 +10,10 @@ use Rattle.ferry_blob.specs.Blob.{OpensTo as OpensBlob}
 use Rattle.ferry_blob.specs.declared.fault.BlobFault.{BlobFault}
 use Rattle.ferry_blob.proofs.BlobLemmas.{opened_at, opens_no_fault}
 use Rattle.ferry_blob.proofs.LawLemmas.{one_content}
-use Rattle.ferry_config.specs.Config.{config_of}
 use Rattle.ferry_config.specs.declared.config.Config.{Config}
-use Rattle.ferry_config.specs.declared.fault.ConfigFault.{ConfigFault}
 use Rattle.ferry_disk.specs.Files.{Files, contents_at, segment_bytes}
 use Rattle.ferry_disk.specs.declared.name.Name.TheVariants as Name
-use Rattle.ferry_keyblob.specs.Envelope.{envelope_of}
-use Rattle.ferry_keyblob.specs.declared.envelope.Envelope.{Envelope}
-use Rattle.ferry_keyblob.specs.Opening.{Opened, key_of}
-use Rattle.ferry_keyblob.specs.declared.fault.KeyFault.{KeyFault}
+use Rattle.ferry_keyblob.specs.Opening.{Opened}
 use Rattle.ferry_log.specs.Log.{IsUncommitted, IsDamaged}
 use Rattle.ferry_log.specs.State.{LogState, IsStateOf, FitsFiles, place_in}
 use Rattle.ferry_log.specs.declared.place.Place.{Place}
@@ -30,12 +25,13 @@ use Rattle.ferry_mac.specs.declared.keys.Keys.{Keys}
 use Rattle.ferry_manifest.specs.Manifest.Text.{ManifestText, manifest_of}
 use Rattle.ferry_manifest.specs.declared.fault.MetaFault.{MetaFault}
 use Rattle.ferry_segment.specs.Entry.{IsBytes}
-use Rattle.ferry_repo.proofs.OpeningLemmas.{key_of-envelope}
+use Rattle.ferry_repo.proofs.OpeningLemmas.{key_refused, kind_of_files, unlocked_kind}
 use Rattle.ferry_repo.specs.declared.fault.RepoFault.{RepoFault}
 use Rattle.ferry_repo.specs.declared.fault.RepoFault.TheVariants as Fault
 use Rattle.ferry_repo.specs.Fault.{IsOfFiles}
 use Rattle.ferry_repo.specs.Objects.{HasBlob, IsMissing, HoldsObject, BreaksObject, HoldsChunk, RefusesChunk}
-use Rattle.ferry_repo.specs.Opening.{RepoState, ReadsLog, UnlocksTo, UnlocksFiles, OpensRepo, OpensFilesTo, FitsRepo, RefusesRoot, RefusesManifest, RefusesRepo}
+use Rattle.ferry_repo.specs.Opening.{RepoState, UnlockedText, unlocked, ReadsLog, UnlocksFiles, OpensRepo, OpensFilesTo, FitsRepo, RefusesRepo}
+use Rattle.ferry_repo.specs.declared.secret.Secret.{Secret}
 
 -- ---- objects
 
@@ -150,6 +146,9 @@ chunk_apart files log keys id content (Fault.Manifest fault) holds of_files refu
 chunk_apart files log keys id content (Fault.Archive named fault) holds of_files refuses = refuses
 chunk_apart files log keys id content (Fault.Item named fault) holds of_files refuses = refuses
 chunk_apart files log keys id content (Fault.Size named) holds of_files refuses = refuses
+chunk_apart files log keys id content (Fault.KeyFile fault) holds of_files refuses = refuses
+chunk_apart files log keys id content (Fault.Other a b) holds of_files refuses = refuses
+chunk_apart files log keys id content Fault.NoKey holds of_files refuses = refuses
 chunk_apart files log keys id content Fault.Device holds of_files refuses = of_files
 chunk_apart files log keys id content Fault.Memory holds of_files refuses = of_files
 
@@ -175,6 +174,9 @@ one_chunk_fault files log keys id (Fault.Manifest fault) g of_f of_g hf hg = abs
 one_chunk_fault files log keys id (Fault.Archive named fault) g of_f of_g hf hg = absurd hf
 one_chunk_fault files log keys id (Fault.Item named fault) g of_f of_g hf hg = absurd hf
 one_chunk_fault files log keys id (Fault.Size named) g of_f of_g hf hg = absurd hf
+one_chunk_fault files log keys id (Fault.KeyFile fault) g of_f of_g hf hg = absurd hf
+one_chunk_fault files log keys id (Fault.Other a b) g of_f of_g hf hg = absurd hf
+one_chunk_fault files log keys id Fault.NoKey g of_f of_g hf hg = absurd hf
 one_chunk_fault files log keys id Fault.Device g of_f of_g hf hg = absurd of_f
 one_chunk_fault files log keys id Fault.Memory g of_f of_g hf hg = absurd of_f
 one_chunk_fault files log keys id f Fault.NoCommit of_f of_g hf hg = absurd hg
@@ -185,119 +187,110 @@ one_chunk_fault files log keys id f (Fault.Manifest fault) of_f of_g hf hg = abs
 one_chunk_fault files log keys id f (Fault.Archive named fault) of_f of_g hf hg = absurd hg
 one_chunk_fault files log keys id f (Fault.Item named fault) of_f of_g hf hg = absurd hg
 one_chunk_fault files log keys id f (Fault.Size named) of_f of_g hf hg = absurd hg
+one_chunk_fault files log keys id f (Fault.KeyFile fault) of_f of_g hf hg = absurd hg
+one_chunk_fault files log keys id f (Fault.Other a b) of_f of_g hf hg = absurd hg
+one_chunk_fault files log keys id f Fault.NoKey of_f of_g hf hg = absurd hg
 one_chunk_fault files log keys id f Fault.Device of_f of_g hf hg = absurd of_g
 one_chunk_fault files log keys id f Fault.Memory of_f of_g hf hg = absurd of_g
 
 -- ---- repositories
 
-reads_of : {files : Files} {passphrase : List ℕ} {log : LogState} {config : Config} {keys : Keys} → UnlocksFiles files passphrase log config keys
-    → ReadsLog files
+reads_of : {files : Files} {secret : Secret} {log : LogState} {config : Config} {keys : Keys} → UnlocksFiles files secret log config keys → ReadsLog files
 reads_of {log = log} unlocks = (log, unlocks.reads)
 
--- what a passphrase unlocks is one
-one_config : (files : Files) (a b : Config) → config_of (contents_at files Name.Config) ≡ Ok a → config_of (contents_at files Name.Config) ≡ Ok b → a ≡ b
-one_config files a b ha hb = let both : Ok a ≡ Ok b = sym ha ∙ hb in cc
+-- what a secret unlocks is one
+one_unlocked : (bytes : List ℕ) (secret : Secret) (a b : UnlockedText) → unlocked bytes secret ≡ Ok a → unlocked bytes secret ≡ Ok b → a ≡ b
+one_unlocked bytes secret a b ha hb = let both : Ok a ≡ Ok b = sym ha ∙ hb in cc
 
-one_key : (files : Files) (passphrase : List ℕ) (l m : LogState) (c d : Config) (k q : Keys) → UnlocksFiles files passphrase l c k
-    → UnlocksFiles files passphrase m d q
-    → (l ≡ m) × (c ≡ d) × (k ≡ q)
-one_key files passphrase l m c d k q hc hd =
-    let same : c ≡ d = one_config files c d hc.unlocks.config_is hd.unlocks.config_is in
-    let keys : Ok hc.key ≡ Ok hd.key = sym hc.unlocks.key_is ∙ ap (λ (e : Config). key_of passphrase e.key) same ∙ hd.unlocks.key_is in
-    let key : hc.key ≡ hd.key = cc in
-    (one_state files l m hc.reads hd.reads, same, hc.keys_are ∙ ap (λ (o : Opened). o.keys) key ∙ sym hd.keys_are)
+not_unlocked : (bytes : List ℕ) (secret : Secret) (a : UnlockedText) (fault : RepoFault) → unlocked bytes secret ≡ Ok a → unlocked bytes secret ≡ Err fault → ⊥
+not_unlocked bytes secret a fault ok err = let both : Ok a ≡ Err fault = sym ok ∙ err in cc
+
+one_unlock_fault : (bytes : List ℕ) (secret : Secret) (f g : RepoFault) → unlocked bytes secret ≡ Err f → unlocked bytes secret ≡ Err g → f ≡ g
+one_unlock_fault bytes secret f g hf hg = let both : Err f ≡ Err g = sym hf ∙ hg in cc
+
+one_key : (files : Files) (secret : Secret) (l m : LogState) (c d : Config) (k q : Keys) → UnlocksFiles files secret l c k
+    → UnlocksFiles files secret m d q → (l ≡ m) × (c ≡ d) × (k ≡ q)
+one_key files secret l m c d k q hc hd =
+    let same = one_unlocked (contents_at files Name.Config) secret _ _ hc.unlocks hd.unlocks in
+    let key : hc.key ≡ hd.key = ap (λ (u : UnlockedText). u.text.key) same in
+    (one_state files l m hc.reads hd.reads, ap (λ (u : UnlockedText). u.config) same, hc.keys_are ∙ ap (λ (o : Opened). o.keys) key ∙ sym hd.keys_are)
 
 -- what is unlocked opens the same object under the zero id
-root_there : (files : Files) (passphrase : List ℕ) (l m : LogState) (c d : Config) (k q : Keys) (content : List ℕ) → UnlocksFiles files passphrase l c k
-    → UnlocksFiles files passphrase m d q → HoldsObject files l k zero_id content → HoldsObject files m q zero_id content
-root_there files passphrase l m c d k q content hc hd holds =
-    let same = one_key files passphrase l m c d k q hc hd in
+root_there : (files : Files) (secret : Secret) (l m : LogState) (c d : Config) (k q : Keys) (content : List ℕ) → UnlocksFiles files secret l c k
+    → UnlocksFiles files secret m d q → HoldsObject files l k zero_id content → HoldsObject files m q zero_id content
+root_there files secret l m c d k q content hc hd holds =
+    let same = one_key files secret l m c d k q hc hd in
     subst (λ (o : LogState). HoldsObject files o q zero_id content) same.0 (subst (λ (o : Keys). HoldsObject files l o zero_id content) same.2 holds)
 
-one_content_of_root : (files : Files) (passphrase : List ℕ) (l m : LogState) (c d : Config) (k q : Keys) (a b : List ℕ) → UnlocksFiles files passphrase l c k
-    → UnlocksFiles files passphrase m d q → HoldsObject files l k zero_id a → HoldsObject files m q zero_id b → a ≡ b
-one_content_of_root files passphrase l m c d k q a b hc hd ha hb = one_object files m q zero_id a b (root_there files passphrase l m c d k q a hc hd ha) hb
+one_content_of_root : (files : Files) (secret : Secret) (l m : LogState) (c d : Config) (k q : Keys) (a b : List ℕ) → UnlocksFiles files secret l c k
+    → UnlocksFiles files secret m d q → HoldsObject files l k zero_id a → HoldsObject files m q zero_id b → a ≡ b
+one_content_of_root files secret l m c d k q a b hc hd ha hb = one_object files m q zero_id a b (root_there files secret l m c d k q a hc hd ha) hb
 
-one_manifest : (files : Files) (passphrase : List ℕ) (l m : LogState) (c d : Config) (k q : Keys) (a b : ManifestText) → OpensRepo files passphrase l c k a
-    → OpensRepo files passphrase m d q b → (l ≡ m) × (c ≡ d) × (k ≡ q) × (a ≡ b)
-one_manifest files passphrase l m c d k q a b ha hb =
-    let keys = one_key files passphrase l m c d k q ha.unlocks hb.unlocks in
-    let content = one_content_of_root files passphrase l m c d k q ha.content hb.content ha.unlocks hb.unlocks ha.object hb.object in
+one_manifest : (files : Files) (secret : Secret) (l m : LogState) (c d : Config) (k q : Keys) (a b : ManifestText) → OpensRepo files secret l c k a
+    → OpensRepo files secret m d q b → (l ≡ m) × (c ≡ d) × (k ≡ q) × (a ≡ b)
+one_manifest files secret l m c d k q a b ha hb =
+    let keys = one_key files secret l m c d k q ha.unlocks hb.unlocks in
+    let content = one_content_of_root files secret l m c d k q ha.content hb.content ha.unlocks hb.unlocks ha.object hb.object in
     let both : Ok a ≡ Ok b = sym ha.manifest_is ∙ ap (λ (o : Keys). manifest_of o ha.content) keys.2 ∙ ap (manifest_of q) content ∙ hb.manifest_is in
     let same : a ≡ b = cc in
     (keys.0, keys.1, keys.2, same)
 
-pub one_repo : (files : Files) (passphrase : List ℕ) (a b : RepoState) → OpensFilesTo files passphrase a → OpensFilesTo files passphrase b → a ≡ b
-one_repo files passphrase a b ha hb =
-    let parts = one_manifest files passphrase a.log b.log a.config b.config a.keys b.keys a.manifest b.manifest ha.opens hb.opens in
+pub one_repo : (files : Files) (secret : Secret) (a b : RepoState) → OpensFilesTo files secret a → OpensFilesTo files secret b → a ≡ b
+one_repo files secret a b ha hb =
+    let parts = one_manifest files secret a.log b.log a.config b.config a.keys b.keys a.manifest b.manifest ha.opens hb.opens in
     let cached = ha.cached ∙ sym hb.cached in
     rw (parts.0, parts.1, parts.2, parts.3, cached) refl
 
 -- files fit what they open to
-pub opens_fits : (files : Files) (passphrase : List ℕ) (repo : RepoState) → OpensFilesTo files passphrase repo → FitsRepo files repo
-opens_fits files passphrase repo opens = record {
+pub opens_fits : (files : Files) (secret : Secret) (repo : RepoState) → OpensFilesTo files secret repo → FitsRepo files repo
+opens_fits files secret repo opens = record {
   log = opened_fits files repo.log opens.opens.unlocks.reads;
   cached = subst (AllByRecursion (λ c. HoldsChunk files repo.log repo.keys c.0 c.1)) (sym opens.cached) tt;
 }
 
 -- the answers on a repository
-abbrev SomeRepo : Files → List ℕ → Type 0
-SomeRepo files passphrase = ((repo : RepoState) × OpensFilesTo files passphrase repo)
-    ⊎ ((fault : RepoFault) × IsOfFiles fault × RefusesRepo files passphrase fault)
+abbrev SomeRepo : Files → Secret → Type 0
+SomeRepo files secret = ((repo : RepoState) × OpensFilesTo files secret repo)
+    ⊎ ((fault : RepoFault) × IsOfFiles fault × RefusesRepo files secret fault)
 
-manifest_answer : (files : Files) (passphrase : List ℕ) (log : LogState) (config : Config) (keys : Keys) (content : List ℕ)
+manifest_answer : (files : Files) (secret : Secret) (log : LogState) (config : Config) (keys : Keys) (content : List ℕ)
     (answer : Result ManifestText MetaFault)
-    → UnlocksFiles files passphrase log config keys → HoldsObject files log keys zero_id content → manifest_of keys content ≡ answer → SomeRepo files passphrase
-manifest_answer files passphrase log config keys content (Ok manifest) unlocks holds is =
+    → UnlocksFiles files secret log config keys → HoldsObject files log keys zero_id content → manifest_of keys content ≡ answer → SomeRepo files secret
+manifest_answer files secret log config keys content (Ok manifest) unlocks holds is =
     inl (
       record { log = log; config = config; keys = keys; manifest = manifest; cached = [] },
       record { opens = record { unlocks = unlocks; content = content; object = holds; manifest_is = is }; cached = refl },
     )
-manifest_answer files passphrase log config keys content (Err fault) unlocks holds is =
+manifest_answer files secret log config keys content (Err fault) unlocks holds is =
     inr (Fault.Manifest fault, tt, record { log = log; config = config; keys = keys; content = content; unlocks = unlocks; object = holds; refused = is })
 
-root_answer : (files : Files) (passphrase : List ℕ) (log : LogState) (config : Config) (keys : Keys) → UnlocksFiles files passphrase log config keys
-    → SomeObject files log keys zero_id → SomeRepo files passphrase
-root_answer files passphrase log config keys unlocks (inl missing) =
+root_answer : (files : Files) (secret : Secret) (log : LogState) (config : Config) (keys : Keys) → UnlocksFiles files secret log config keys
+    → SomeObject files log keys zero_id → SomeRepo files secret
+root_answer files secret log config keys unlocks (inl missing) =
     inr (Fault.Missing zero_id, tt, record { log = log; config = config; keys = keys; unlocks = unlocks; object = (refl, missing) })
-root_answer files passphrase log config keys unlocks (inr (inl holds)) = manifest_answer files passphrase log config keys holds.0
+root_answer files secret log config keys unlocks (inr (inl holds)) = manifest_answer files secret log config keys holds.0
     (manifest_of keys holds.0) unlocks holds.1 refl
-root_answer files passphrase log config keys unlocks (inr (inr breaks)) =
+root_answer files secret log config keys unlocks (inr (inr breaks)) =
     inr (Fault.Blob zero_id breaks.0, tt, record { log = log; config = config; keys = keys; unlocks = unlocks; object = (refl, breaks.1) })
 
-envelope_answer : (files : Files) (passphrase : List ℕ) (log : LogState) (config : Config) (key : Opened) (answer : Result Envelope KeyFault)
-    → IsStateOf files log
-    → config_of (contents_at files Name.Config) ≡ Ok config → key_of passphrase config.key ≡ Ok key → envelope_of config.key ≡ answer
-    → SomeRepo files passphrase
-envelope_answer files passphrase log config key (Ok envelope) read config_is is envelope_is =
-    let opened : UnlocksTo (contents_at files Name.Config) passphrase config envelope.iterations key =
-    record { config_is = config_is; envelope = envelope; envelope_is = envelope_is; iterations_are = refl; key_is = is } in
-    let unlocks : UnlocksFiles files passphrase log config key.keys = record
-    { reads = read; iterations = envelope.iterations; key = key; unlocks = opened; keys_are = refl } in
-    root_answer files passphrase log config key.keys unlocks (some_object files log key.keys zero_id (opened_fits files log read))
-envelope_answer files passphrase log config key (Err fault) read config_is is envelope_is =
-    let none : Err fault ≡ Ok key = sym (key_of-envelope passphrase config.key fault envelope_is) ∙ is in
-    absurd (let no : ⊥ = cc in no)
+unlock_answer : (files : Files) (secret : Secret) (log : LogState) (answer : Result UnlockedText RepoFault) → IsStateOf files log
+    → unlocked (contents_at files Name.Config) secret ≡ answer → SomeRepo files secret
+unlock_answer files secret log (Ok u) read is =
+    let keys = u.text.key.keys in
+    let unlocks : UnlocksFiles files secret log u.config keys = record
+    { reads = read; iterations = u.text.iterations; key = u.text.key; unlocks = is; keys_are = refl } in
+    root_answer files secret log u.config keys unlocks (some_object files log keys zero_id (opened_fits files log read))
+unlock_answer files secret log (Err fault) read is =
+    inr (fault, kind_of_files fault (unlocked_kind (contents_at files Name.Config) secret fault is), key_refused files secret log fault read (λ of_files. is))
 
-key_answer : (files : Files) (passphrase : List ℕ) (log : LogState) (config : Config) (answer : Result Opened KeyFault) → IsStateOf files log
-    → config_of (contents_at files Name.Config) ≡ Ok config → key_of passphrase config.key ≡ answer → SomeRepo files passphrase
-key_answer files passphrase log config (Ok key) read config_is is = envelope_answer files passphrase log config key (envelope_of config.key) read
-    config_is is refl
-key_answer files passphrase log config (Err fault) read config_is is = inr (Fault.Key fault, tt, ((log, read), (config, config_is, is)))
+log_answer : (files : Files) (secret : Secret) → IsUncommitted files ⊎ (ReadsLog files ⊎ ((s : ℕ) × (at : ℕ) × IsDamaged files s at))
+    → SomeRepo files secret
+log_answer files secret (inl none) = inr (Fault.NoCommit, tt, none)
+log_answer files secret (inr (inl read)) = unlock_answer files secret read.0 (unlocked (contents_at files Name.Config) secret) read.1 refl
+log_answer files secret (inr (inr damaged)) = inr (Fault.Damaged damaged.0 damaged.1, tt, damaged.2)
 
-config_answer : (files : Files) (passphrase : List ℕ) (log : LogState) (answer : Result Config ConfigFault) → IsStateOf files log
-    → config_of (contents_at files Name.Config) ≡ answer → SomeRepo files passphrase
-config_answer files passphrase log (Ok config) read is = key_answer files passphrase log config (key_of passphrase config.key) read is refl
-config_answer files passphrase log (Err fault) read is = inr (Fault.Config fault, tt, ((log, read), is))
-
-log_answer : (files : Files) (passphrase : List ℕ) → IsUncommitted files ⊎ (ReadsLog files ⊎ ((s : ℕ) × (at : ℕ) × IsDamaged files s at))
-    → SomeRepo files passphrase
-log_answer files passphrase (inl none) = inr (Fault.NoCommit, tt, none)
-log_answer files passphrase (inr (inl read)) = config_answer files passphrase read.0 (config_of (contents_at files Name.Config)) read.1 refl
-log_answer files passphrase (inr (inr damaged)) = inr (Fault.Damaged damaged.0 damaged.1, tt, damaged.2)
-
-pub some_repo : (files : Files) (passphrase : List ℕ) → ((n : ℕ) → IsBytes (segment_bytes files n)) → SomeRepo files passphrase
-some_repo files passphrase bytes = log_answer files passphrase (some_state files bytes)
+pub some_repo : (files : Files) (secret : Secret) → ((n : ℕ) → IsBytes (segment_bytes files n)) → SomeRepo files secret
+some_repo files secret bytes = log_answer files secret (some_state files bytes)
 
 -- a log that reads is committed and isn't damaged
 read_committed : (files : Files) → ReadsLog files → IsUncommitted files → ⊥
@@ -306,165 +299,126 @@ read_committed files read none = uncommitted_apart files read.0.transaction none
 read_whole : (files : Files) (segment at : ℕ) → ReadsLog files → IsDamaged files segment at → ⊥
 read_whole files segment at read damaged = damaged_apart files segment at read.0.transaction read.1.log damaged read.1.is
 
-config_reads : (files : Files) (config : Config) (fault : ConfigFault) → config_of (contents_at files Name.Config) ≡ Ok config
-    → config_of (contents_at files Name.Config) ≡ Err fault → ⊥
-config_reads files config fault ok err = let none : Ok config ≡ Err fault = sym ok ∙ err in cc
+-- ---- causes
 
-key_opens : {files : Files} {passphrase : List ℕ} {log : LogState} {config : Config} {keys : Keys} (other : Config) (fault : KeyFault)
-    → UnlocksFiles files passphrase log config keys
-    → config_of (contents_at files Name.Config) ≡ Ok other → key_of passphrase other.key ≡ Err fault → ⊥
-key_opens {files} {passphrase} {log} {config} {keys} other fault unlocks is err =
-    let same = one_config files config other unlocks.unlocks.config_is is in
-    let none : Ok unlocks.key ≡ Err fault = sym unlocks.unlocks.key_is ∙ ap (λ (c : Config). key_of passphrase c.key) same ∙ err in
+-- why the log doesn't read
+abbrev RefusesLog : Files → RepoFault → Type 0
+RefusesLog files fault = ((fault ≡ Fault.NoCommit) × IsUncommitted files)
+    ⊎ ((s : ℕ) × ((at : ℕ) × (fault ≡ Fault.Damaged s at) × IsDamaged files s at))
+
+-- why the object under the zero id is no manifest
+abbrev RefusesZero : Files → LogState → Keys → RepoFault → Type 0
+RefusesZero files log keys fault = ((fault ≡ Fault.Missing zero_id) × IsMissing log zero_id)
+    ⊎ (((f : BlobFault) × (fault ≡ Fault.Blob zero_id f) × BreaksObject files log keys zero_id f)
+    ⊎ ((f : MetaFault) × (fault ≡ Fault.Manifest f) × ((content : List ℕ) × HoldsObject files log keys zero_id content
+    × (manifest_of keys content ≡ Err f))))
+
+-- the same, where the key opens
+record RefusesBehind (files : Files) (secret : Secret) (fault : RepoFault) : Type 0 where
+  log : LogState
+  config : Config
+  keys : Keys
+  unlocks : UnlocksFiles files secret log config keys
+  zero : RefusesZero files log keys fault
+
+-- why files are refused, by what is looked at: the log, the key, or the object under the zero id
+abbrev Cause : Files → Secret → RepoFault → Type 0
+Cause files secret fault = RefusesLog files fault
+    ⊎ ((ReadsLog files × (unlocked (contents_at files Name.Config) secret ≡ Err fault)) ⊎ RefusesBehind files secret fault)
+
+cause : (files : Files) (secret : Secret) (fault : RepoFault) → IsOfFiles fault → RefusesRepo files secret fault → Cause files secret fault
+cause files secret Fault.NoCommit of_files h = inl (inl (refl, h))
+cause files secret (Fault.Damaged s at) of_files h = inl (inr (s, (at, refl, h)))
+cause files secret (Fault.Config f) of_files h = inr (inl (h.0, h.1 tt))
+cause files secret (Fault.Key f) of_files h = inr (inl (h.0, h.1 tt))
+cause files secret (Fault.KeyFile f) of_files h = inr (inl (h.0, h.1 tt))
+cause files secret (Fault.Other a b) of_files h = inr (inl (h.0, h.1 tt))
+cause files secret Fault.NoKey of_files h = inr (inl (h.0, h.1 tt))
+cause files secret (Fault.Missing id) of_files h = inr (inr record
+    { log = h.log; config = h.config; keys = h.keys; unlocks = h.unlocks; zero = inl (ap Fault.Missing h.object.0, h.object.1) })
+cause files secret (Fault.Blob id f) of_files h = inr (inr record
+    { log = h.log; config = h.config; keys = h.keys; unlocks = h.unlocks; zero = inr (inl (f, ap (λ (n : List ℕ). Fault.Blob n f) h.object.0, h.object.1)) })
+cause files secret (Fault.Manifest f) of_files h = inr (inr record
+    { log = h.log; config = h.config; keys = h.keys; unlocks = h.unlocks; zero = inr (inr (f, refl, (h.content, h.object, h.refused))) })
+cause files secret (Fault.Archive id f) of_files h = absurd h
+cause files secret (Fault.Item id f) of_files h = absurd h
+cause files secret (Fault.Size id) of_files h = absurd h
+cause files secret Fault.Device of_files h = absurd of_files
+cause files secret Fault.Memory of_files h = absurd of_files
+
+-- a log that is refused doesn't read
+log_apart : (files : Files) (fault : RepoFault) → RefusesLog files fault → ReadsLog files → ⊥
+log_apart files fault (inl none) read = read_committed files read none.1
+log_apart files fault (inr damaged) read = read_whole files damaged.0 damaged.1.0 read damaged.1.2
+
+one_log_fault : (files : Files) (f g : RepoFault) → RefusesLog files f → RefusesLog files g → f ≡ g
+one_log_fault files f g (inl a) (inl b) = a.0 ∙ sym b.0
+one_log_fault files f g (inl a) (inr b) = absurd (uncommitted_apart files b.1.2.transaction a.1 b.1.2.is)
+one_log_fault files f g (inr a) (inl b) = absurd (uncommitted_apart files a.1.2.transaction b.1 a.1.2.is)
+one_log_fault files f g (inr a) (inr b) =
+    let at = one_place files a.0 b.0 a.1.0 b.1.0 a.1.2 b.1.2 in
+    let same : Fault.Damaged a.0 a.1.0 ≡ Fault.Damaged b.0 b.1.0 = rw (at.0, at.1) refl in
+    a.1.1 ∙ same ∙ sym b.1.1
+
+-- two contents under the zero id are one
+one_read : (files : Files) (log : LogState) (keys : Keys) (a b : List ℕ) (answer other : Result ManifestText MetaFault) → HoldsObject files log keys zero_id a
+    → HoldsObject files log keys zero_id b → manifest_of keys a ≡ answer → manifest_of keys b ≡ other → answer ≡ other
+one_read files log keys a b answer other ha hb is his = sym is ∙ ap (manifest_of keys) (one_object files log keys zero_id a b ha hb) ∙ his
+
+zero_apart : (files : Files) (log : LogState) (keys : Keys) (content : List ℕ) (manifest : ManifestText) (fault : RepoFault)
+    → HoldsObject files log keys zero_id content → manifest_of keys content ≡ Ok manifest → RefusesZero files log keys fault → ⊥
+zero_apart files log keys content manifest fault holds is (inl a) = not_missing files log zero_id holds.blob holds.has a.1
+zero_apart files log keys content manifest fault holds is (inr (inl a)) = not_broken files log keys zero_id content a.0 holds a.2
+zero_apart files log keys content manifest fault holds is (inr (inr a)) =
+    let both : Ok manifest ≡ Err a.0 = one_read files log keys content a.2.0 (Ok manifest) (Err a.0) holds a.2.1 is a.2.2 in
     cc
 
--- an object that is there isn't missing under the same passphrase
-missing_there : (files : Files) (passphrase : List ℕ) (l m : LogState) (c d : Config) (k q : Keys) (blob : List ℕ)
-    → UnlocksFiles files passphrase l c k → UnlocksFiles files passphrase m d q
-    → HasBlob files l zero_id blob → IsMissing m zero_id → ⊥
-missing_there files passphrase l m c d k q blob hc hd has missing =
-    not_missing files m zero_id blob (subst (λ (o : LogState). HasBlob files o zero_id blob) (one_key files passphrase l m c d k q hc hd).0 has) missing
+one_zero_fault : (files : Files) (log : LogState) (keys : Keys) (f g : RepoFault) → RefusesZero files log keys f → RefusesZero files log keys g → f ≡ g
+one_zero_fault files log keys f g (inl a) (inl b) = a.0 ∙ sym b.0
+one_zero_fault files log keys f g (inl a) (inr (inl b)) = absurd (not_missing files log zero_id b.2.blob b.2.has a.1)
+one_zero_fault files log keys f g (inl a) (inr (inr b)) = absurd (not_missing files log zero_id b.2.1.blob b.2.1.has a.1)
+one_zero_fault files log keys f g (inr (inl a)) (inl b) = absurd (not_missing files log zero_id a.2.blob a.2.has b.1)
+one_zero_fault files log keys f g (inr (inl a)) (inr (inl b)) =
+    a.1 ∙ ap (Fault.Blob zero_id) (one_break files log keys zero_id a.0 b.0 a.2 b.2) ∙ sym b.1
+one_zero_fault files log keys f g (inr (inl a)) (inr (inr b)) = absurd (not_broken files log keys zero_id b.2.0 a.0 b.2.1 a.2)
+one_zero_fault files log keys f g (inr (inr a)) (inl b) = absurd (not_missing files log zero_id a.2.1.blob a.2.1.has b.1)
+one_zero_fault files log keys f g (inr (inr a)) (inr (inl b)) = absurd (not_broken files log keys zero_id a.2.0 b.0 a.2.1 b.2)
+one_zero_fault files log keys f g (inr (inr a)) (inr (inr b)) =
+    let both : Err a.0 ≡ Err b.0 = one_read files log keys a.2.0 b.2.0 (Err a.0) (Err b.0) a.2.1 b.2.1 a.2.2 b.2.2 in
+    let same : a.0 ≡ b.0 = cc in
+    a.1 ∙ ap Fault.Manifest same ∙ sym b.1
 
-broken_there : (files : Files) (passphrase : List ℕ) (l m : LogState) (c d : Config) (k q : Keys) (content : List ℕ) (fault : BlobFault)
-    → UnlocksFiles files passphrase l c k
-    → UnlocksFiles files passphrase m d q → HoldsObject files l k zero_id content → BreaksObject files m q zero_id fault → ⊥
-broken_there files passphrase l m c d k q content fault hc hd holds breaks =
-    not_broken files m q zero_id content fault (root_there files passphrase l m c d k q content hc hd holds) breaks
+-- what is refused behind the key is refused under each log and keys that the secret unlocks
+behind_at : (files : Files) (secret : Secret) (log : LogState) (config : Config) (keys : Keys) (fault : RepoFault) → UnlocksFiles files secret log config keys
+    → RefusesBehind files secret fault → RefusesZero files log keys fault
+behind_at files secret log config keys fault unlocks h =
+    let same = one_key files secret h.log log h.config config h.keys keys h.unlocks unlocks in
+    subst (λ (o : LogState). RefusesZero files o keys fault) same.0 (subst (λ (o : Keys). RefusesZero files h.log o fault) same.2 h.zero)
 
-manifest_there : (files : Files) (passphrase : List ℕ) (l m : LogState) (c d : Config) (k q : Keys) (a b : List ℕ)
-    (answer other : Result ManifestText MetaFault) → UnlocksFiles files passphrase l c k
-    → UnlocksFiles files passphrase m d q → HoldsObject files l k zero_id a → HoldsObject files m q zero_id b → manifest_of k a ≡ answer
-    → manifest_of q b ≡ other → answer ≡ other
-manifest_there files passphrase l m c d k q a b answer other hc hd ha hb is his =
-    let same = (one_key files passphrase l m c d k q hc hd).2 in
-    let content = one_content_of_root files passphrase l m c d k q a b hc hd ha hb in
-    sym is ∙ (ap (λ (o : Keys). manifest_of o a) same ∙ (ap (manifest_of q) content ∙ his))
+apart_by : (files : Files) (secret : Secret) (repo : RepoState) (fault : RepoFault) → OpensFilesTo files secret repo → Cause files secret fault → ⊥
+apart_by files secret repo fault opens (inl log) = log_apart files fault log (reads_of opens.opens.unlocks)
+apart_by files secret repo fault opens (inr (inl key)) = not_unlocked (contents_at files Name.Config) secret _ fault opens.opens.unlocks.unlocks key.1
+apart_by files secret repo fault opens (inr (inr behind)) =
+    zero_apart files repo.log repo.keys opens.opens.content repo.manifest fault opens.opens.object opens.opens.manifest_is
+    (behind_at files secret repo.log repo.config repo.keys fault opens.opens.unlocks behind)
 
-pub repo_apart : (files : Files) (passphrase : List ℕ) (repo : RepoState) (fault : RepoFault) → OpensFilesTo files passphrase repo → IsOfFiles fault
-    → RefusesRepo files passphrase fault → ⊥
-repo_apart files passphrase repo Fault.NoCommit opens of_files refuses = read_committed files (reads_of opens.opens.unlocks) refuses
-repo_apart files passphrase repo (Fault.Damaged segment at) opens of_files refuses = read_whole files segment at (reads_of opens.opens.unlocks) refuses
-repo_apart files passphrase repo (Fault.Config fault) opens of_files refuses = config_reads files repo.config fault
-    opens.opens.unlocks.unlocks.config_is refuses.1
-repo_apart files passphrase repo (Fault.Key fault) opens of_files refuses = key_opens refuses.1.0 fault opens.opens.unlocks refuses.1.1 refuses.1.2
-repo_apart files passphrase repo (Fault.Missing id) opens of_files refuses =
-    missing_there files passphrase repo.log refuses.log repo.config refuses.config repo.keys refuses.keys opens.opens.object.blob opens.opens.unlocks
-    refuses.unlocks opens.opens.object.has refuses.object.1
-repo_apart files passphrase repo (Fault.Blob id fault) opens of_files refuses =
-    broken_there files passphrase repo.log refuses.log repo.config refuses.config repo.keys refuses.keys opens.opens.content fault opens.opens.unlocks
-    refuses.unlocks opens.opens.object refuses.object.1
-repo_apart files passphrase repo (Fault.Manifest fault) opens of_files refuses =
-    let both : Ok repo.manifest ≡ Err fault =
-    manifest_there files passphrase repo.log refuses.log repo.config refuses.config repo.keys refuses.keys opens.opens.content refuses.content
-    (Ok repo.manifest) (Err fault)
-    opens.opens.unlocks refuses.unlocks opens.opens.object refuses.object opens.opens.manifest_is refuses.refused in
-    cc
-repo_apart files passphrase repo Fault.Device opens of_files refuses = of_files
-repo_apart files passphrase repo (Fault.Archive named fault) opens of_files refuses = refuses
-repo_apart files passphrase repo (Fault.Item named fault) opens of_files refuses = refuses
-repo_apart files passphrase repo (Fault.Size named) opens of_files refuses = refuses
-repo_apart files passphrase repo Fault.Memory opens of_files refuses = of_files
+pub repo_apart : (files : Files) (secret : Secret) (repo : RepoState) (fault : RepoFault) → OpensFilesTo files secret repo → IsOfFiles fault
+    → RefusesRepo files secret fault → ⊥
+repo_apart files secret repo fault opens of_files refuses = apart_by files secret repo fault opens (cause files secret fault of_files refuses)
 
-one_key_fault : (files : Files) (passphrase : List ℕ) (c d : Config) (f g : KeyFault) → config_of (contents_at files Name.Config) ≡ Ok c
-    → config_of (contents_at files Name.Config) ≡ Ok d
-    → key_of passphrase c.key ≡ Err f → key_of passphrase d.key ≡ Err g → f ≡ g
-one_key_fault files passphrase c d f g hc hd hf hg =
-    let same = one_config files c d hc hd in
-    let both : Err f ≡ Err g = sym hf ∙ ap (λ (e : Config). key_of passphrase e.key) same ∙ hg in
-    cc
-
-one_root_fault : (files : Files) (passphrase m n : List ℕ) (f g : BlobFault) → RefusesRoot files passphrase (Fault.Blob m f)
-    → RefusesRoot files passphrase (Fault.Blob n g) → Fault.Blob m f ≡ Fault.Blob n g
-one_root_fault files passphrase m n f g hf hg =
-    let same = one_key files passphrase hf.log hg.log hf.config hg.config hf.keys hg.keys hf.unlocks hg.unlocks in
-    let there = subst (λ (o : LogState). BreaksObject files o hg.keys zero_id f) same.0
-    (subst (λ (o : Keys). BreaksObject files hf.log o zero_id f) same.2 hf.object.1) in
-    let broken = one_break files hg.log hg.keys zero_id f g there hg.object.1 in
-    let named : m ≡ n = hf.object.0 ∙ sym hg.object.0 in
-    rw (named, broken) refl
-
-one_manifest_fault : (files : Files) (passphrase : List ℕ) (f g : MetaFault) → RefusesManifest files passphrase (Fault.Manifest f)
-    → RefusesManifest files passphrase (Fault.Manifest g) → f ≡ g
-one_manifest_fault files passphrase f g hf hg =
-    let both : Err f ≡ Err g = manifest_there files passphrase hf.log hg.log hf.config hg.config hf.keys hg.keys hf.content hg.content (Err f) (Err g)
-    hf.unlocks hg.unlocks hf.object hg.object hf.refused hg.refused in
-    cc
+one_cause : (files : Files) (secret : Secret) (f g : RepoFault) → Cause files secret f → Cause files secret g → f ≡ g
+one_cause files secret f g (inl a) (inl b) = one_log_fault files f g a b
+one_cause files secret f g (inl a) (inr (inl b)) = absurd (log_apart files f a b.0)
+one_cause files secret f g (inl a) (inr (inr b)) = absurd (log_apart files f a (reads_of b.unlocks))
+one_cause files secret f g (inr (inl a)) (inl b) = absurd (log_apart files g b a.0)
+one_cause files secret f g (inr (inl a)) (inr (inl b)) = one_unlock_fault (contents_at files Name.Config) secret f g a.1 b.1
+one_cause files secret f g (inr (inl a)) (inr (inr b)) = absurd (not_unlocked (contents_at files Name.Config) secret _ f b.unlocks.unlocks a.1)
+one_cause files secret f g (inr (inr a)) (inl b) = absurd (log_apart files g b (reads_of a.unlocks))
+one_cause files secret f g (inr (inr a)) (inr (inl b)) = absurd (not_unlocked (contents_at files Name.Config) secret _ g a.unlocks.unlocks b.1)
+one_cause files secret f g (inr (inr a)) (inr (inr b)) =
+    one_zero_fault files b.log b.keys f g (behind_at files secret b.log b.config b.keys f b.unlocks a) b.zero
 
 -- files are refused for one cause
-pub one_repo_fault : (files : Files) (passphrase : List ℕ) (f g : RepoFault) → IsOfFiles f → IsOfFiles g → RefusesRepo files passphrase f
-    → RefusesRepo files passphrase g → f ≡ g
-one_repo_fault files passphrase Fault.NoCommit Fault.NoCommit of_f of_g hf hg = refl
-one_repo_fault files passphrase Fault.NoCommit (Fault.Damaged u b) of_f of_g hf hg = absurd (uncommitted_apart files hg.transaction hf hg.is)
-one_repo_fault files passphrase Fault.NoCommit (Fault.Config g) of_f of_g hf hg = absurd (read_committed files hg.0 hf)
-one_repo_fault files passphrase Fault.NoCommit (Fault.Key g) of_f of_g hf hg = absurd (read_committed files hg.0 hf)
-one_repo_fault files passphrase Fault.NoCommit (Fault.Missing n) of_f of_g hf hg = absurd (read_committed files (reads_of hg.unlocks) hf)
-one_repo_fault files passphrase Fault.NoCommit (Fault.Blob n g) of_f of_g hf hg = absurd (read_committed files (reads_of hg.unlocks) hf)
-one_repo_fault files passphrase Fault.NoCommit (Fault.Manifest g) of_f of_g hf hg = absurd (read_committed files (reads_of hg.unlocks) hf)
-one_repo_fault files passphrase (Fault.Damaged s a) Fault.NoCommit of_f of_g hf hg = absurd (uncommitted_apart files hf.transaction hg hf.is)
-one_repo_fault files passphrase (Fault.Damaged s a) (Fault.Damaged u b) of_f of_g hf hg =
-    let at = one_place files s u a b hf hg in rw (at.0, at.1) refl
-one_repo_fault files passphrase (Fault.Damaged s a) (Fault.Config g) of_f of_g hf hg = absurd (read_whole files s a hg.0 hf)
-one_repo_fault files passphrase (Fault.Damaged s a) (Fault.Key g) of_f of_g hf hg = absurd (read_whole files s a hg.0 hf)
-one_repo_fault files passphrase (Fault.Damaged s a) (Fault.Missing n) of_f of_g hf hg = absurd (read_whole files s a (reads_of hg.unlocks) hf)
-one_repo_fault files passphrase (Fault.Damaged s a) (Fault.Blob n g) of_f of_g hf hg = absurd (read_whole files s a (reads_of hg.unlocks) hf)
-one_repo_fault files passphrase (Fault.Damaged s a) (Fault.Manifest g) of_f of_g hf hg = absurd (read_whole files s a (reads_of hg.unlocks) hf)
-one_repo_fault files passphrase (Fault.Config f) Fault.NoCommit of_f of_g hf hg = absurd (read_committed files hf.0 hg)
-one_repo_fault files passphrase (Fault.Config f) (Fault.Damaged u b) of_f of_g hf hg = absurd (read_whole files u b hf.0 hg)
-one_repo_fault files passphrase (Fault.Config f) (Fault.Config g) of_f of_g hf hg =
-    let both : Err f ≡ Err g = sym hf.1 ∙ hg.1 in ap Fault.Config (let same : f ≡ g = cc in same)
-one_repo_fault files passphrase (Fault.Config f) (Fault.Key g) of_f of_g hf hg = absurd (config_reads files hg.1.0 f hg.1.1 hf.1)
-one_repo_fault files passphrase (Fault.Config f) (Fault.Missing n) of_f of_g hf hg =
-    absurd (config_reads files hg.config f hg.unlocks.unlocks.config_is hf.1)
-one_repo_fault files passphrase (Fault.Config f) (Fault.Blob n g) of_f of_g hf hg =
-    absurd (config_reads files hg.config f hg.unlocks.unlocks.config_is hf.1)
-one_repo_fault files passphrase (Fault.Config f) (Fault.Manifest g) of_f of_g hf hg =
-    absurd (config_reads files hg.config f hg.unlocks.unlocks.config_is hf.1)
-one_repo_fault files passphrase (Fault.Key f) Fault.NoCommit of_f of_g hf hg = absurd (read_committed files hf.0 hg)
-one_repo_fault files passphrase (Fault.Key f) (Fault.Damaged u b) of_f of_g hf hg = absurd (read_whole files u b hf.0 hg)
-one_repo_fault files passphrase (Fault.Key f) (Fault.Config g) of_f of_g hf hg = absurd (config_reads files hf.1.0 g hf.1.1 hg.1)
-one_repo_fault files passphrase (Fault.Key f) (Fault.Key g) of_f of_g hf hg =
-    ap Fault.Key (one_key_fault files passphrase hf.1.0 hg.1.0 f g hf.1.1 hg.1.1 hf.1.2 hg.1.2)
-one_repo_fault files passphrase (Fault.Key f) (Fault.Missing n) of_f of_g hf hg = absurd (key_opens hf.1.0 f hg.unlocks hf.1.1 hf.1.2)
-one_repo_fault files passphrase (Fault.Key f) (Fault.Blob n g) of_f of_g hf hg = absurd (key_opens hf.1.0 f hg.unlocks hf.1.1 hf.1.2)
-one_repo_fault files passphrase (Fault.Key f) (Fault.Manifest g) of_f of_g hf hg = absurd (key_opens hf.1.0 f hg.unlocks hf.1.1 hf.1.2)
-one_repo_fault files passphrase (Fault.Missing m) Fault.NoCommit of_f of_g hf hg = absurd (read_committed files (reads_of hf.unlocks) hg)
-one_repo_fault files passphrase (Fault.Missing m) (Fault.Damaged u b) of_f of_g hf hg = absurd (read_whole files u b (reads_of hf.unlocks) hg)
-one_repo_fault files passphrase (Fault.Missing m) (Fault.Config g) of_f of_g hf hg =
-    absurd (config_reads files hf.config g hf.unlocks.unlocks.config_is hg.1)
-one_repo_fault files passphrase (Fault.Missing m) (Fault.Key g) of_f of_g hf hg = absurd (key_opens hg.1.0 g hf.unlocks hg.1.1 hg.1.2)
-one_repo_fault files passphrase (Fault.Missing m) (Fault.Missing n) of_f of_g hf hg = ap Fault.Missing (hf.object.0 ∙ sym hg.object.0)
-one_repo_fault files passphrase (Fault.Missing m) (Fault.Blob n g) of_f of_g hf hg =
-    absurd (missing_there files passphrase hg.log hf.log hg.config hf.config hg.keys hf.keys hg.object.1.blob hg.unlocks hf.unlocks hg.object.1.has hf.object.1)
-one_repo_fault files passphrase (Fault.Missing m) (Fault.Manifest g) of_f of_g hf hg =
-    absurd (missing_there files passphrase hg.log hf.log hg.config hf.config hg.keys hf.keys hg.object.blob hg.unlocks hf.unlocks hg.object.has hf.object.1)
-one_repo_fault files passphrase (Fault.Blob m f) Fault.NoCommit of_f of_g hf hg = absurd (read_committed files (reads_of hf.unlocks) hg)
-one_repo_fault files passphrase (Fault.Blob m f) (Fault.Damaged u b) of_f of_g hf hg = absurd (read_whole files u b (reads_of hf.unlocks) hg)
-one_repo_fault files passphrase (Fault.Blob m f) (Fault.Config g) of_f of_g hf hg =
-    absurd (config_reads files hf.config g hf.unlocks.unlocks.config_is hg.1)
-one_repo_fault files passphrase (Fault.Blob m f) (Fault.Key g) of_f of_g hf hg = absurd (key_opens hg.1.0 g hf.unlocks hg.1.1 hg.1.2)
-one_repo_fault files passphrase (Fault.Blob m f) (Fault.Missing n) of_f of_g hf hg =
-    absurd (missing_there files passphrase hf.log hg.log hf.config hg.config hf.keys hg.keys hf.object.1.blob hf.unlocks hg.unlocks hf.object.1.has hg.object.1)
-one_repo_fault files passphrase (Fault.Blob m f) (Fault.Blob n g) of_f of_g hf hg = one_root_fault files passphrase m n f g hf hg
-one_repo_fault files passphrase (Fault.Blob m f) (Fault.Manifest g) of_f of_g hf hg =
-    absurd (broken_there files passphrase hg.log hf.log hg.config hf.config hg.keys hf.keys hg.content f hg.unlocks hf.unlocks hg.object hf.object.1)
-one_repo_fault files passphrase (Fault.Manifest f) Fault.NoCommit of_f of_g hf hg = absurd (read_committed files (reads_of hf.unlocks) hg)
-one_repo_fault files passphrase (Fault.Manifest f) (Fault.Damaged u b) of_f of_g hf hg = absurd (read_whole files u b (reads_of hf.unlocks) hg)
-one_repo_fault files passphrase (Fault.Manifest f) (Fault.Config g) of_f of_g hf hg =
-    absurd (config_reads files hf.config g hf.unlocks.unlocks.config_is hg.1)
-one_repo_fault files passphrase (Fault.Manifest f) (Fault.Key g) of_f of_g hf hg = absurd (key_opens hg.1.0 g hf.unlocks hg.1.1 hg.1.2)
-one_repo_fault files passphrase (Fault.Manifest f) (Fault.Missing n) of_f of_g hf hg =
-    absurd (missing_there files passphrase hf.log hg.log hf.config hg.config hf.keys hg.keys hf.object.blob hf.unlocks hg.unlocks hf.object.has hg.object.1)
-one_repo_fault files passphrase (Fault.Manifest f) (Fault.Blob n g) of_f of_g hf hg =
-    absurd (broken_there files passphrase hf.log hg.log hf.config hg.config hf.keys hg.keys hf.content g hf.unlocks hg.unlocks hf.object hg.object.1)
-one_repo_fault files passphrase (Fault.Manifest f) (Fault.Manifest g) of_f of_g hf hg =
-    ap Fault.Manifest (one_manifest_fault files passphrase f g hf hg)
-one_repo_fault files passphrase Fault.Device g of_f of_g hf hg = absurd of_f
-one_repo_fault files passphrase Fault.Memory g of_f of_g hf hg = absurd of_f
-one_repo_fault files passphrase (Fault.Archive named fault) g of_f of_g hf hg = absurd hf
-one_repo_fault files passphrase (Fault.Item named fault) g of_f of_g hf hg = absurd hf
-one_repo_fault files passphrase (Fault.Size named) g of_f of_g hf hg = absurd hf
-one_repo_fault files passphrase f Fault.Device of_f of_g hf hg = absurd of_g
-one_repo_fault files passphrase f Fault.Memory of_f of_g hf hg = absurd of_g
-one_repo_fault files passphrase f (Fault.Archive named fault) of_f of_g hf hg = absurd hg
-one_repo_fault files passphrase f (Fault.Item named fault) of_f of_g hf hg = absurd hg
-one_repo_fault files passphrase f (Fault.Size named) of_f of_g hf hg = absurd hg
+pub one_repo_fault : (files : Files) (secret : Secret) (f g : RepoFault) → IsOfFiles f → IsOfFiles g → RefusesRepo files secret f
+    → RefusesRepo files secret g → f ≡ g
+one_repo_fault files secret f g of_f of_g hf hg = one_cause files secret f g (cause files secret f of_f hf) (cause files secret g of_g hg)

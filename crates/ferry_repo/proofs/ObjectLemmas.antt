@@ -9,7 +9,8 @@ use Rattle.ferry_log.specs.declared.place.Place.{Place}
 use Rattle.ferry_log.proofs.FitsLemmas.{place_holds}
 use Rattle.ferry_mac.specs.declared.keys.Keys.{Keys}
 use Rattle.ferry_repo.specs.declared.fault.RepoFault.{RepoFault}
-use Rattle.ferry_repo.specs.declared.fault.RepoFault.TheVariants.{NoCommit, Damaged, Config, Key, Missing, Blob, Manifest, Archive, Item, Size, Device, Memory}
+use Rattle.ferry_repo.specs.declared.fault.RepoFault.TheVariants.{NoCommit, Damaged, Config, Key, Missing, Blob, Manifest, Archive}
+use Rattle.ferry_repo.specs.declared.fault.RepoFault.TheVariants.{Item, Size, KeyFile, Other, NoKey, Device, Memory}
 use Rattle.ferry_repo.specs.Objects.{HasBlob, RefusesObject, LosesBlob, BreaksBlob}
 
 -- the bytes behind a place, moved to the front
@@ -44,6 +45,9 @@ not_lost files log id place keys (Manifest fault) fits found lost = lost
 not_lost files log id place keys (Archive named fault) fits found lost = lost
 not_lost files log id place keys (Item named fault) fits found lost = lost
 not_lost files log id place keys (Size named) fits found lost = lost
+not_lost files log id place keys (KeyFile fault) fits found lost = lost
+not_lost files log id place keys (Other a b) fits found lost = lost
+not_lost files log id place keys NoKey fits found lost = lost
 
 -- what a blob's refusal says of the object
 pub breaks_object : (files : Files) (log : LogState) (keys : Keys) (id blob : List ℕ) (fault : RepoFault) → HasBlob files log id blob
@@ -59,5 +63,8 @@ breaks_object files log keys id blob (Manifest fault) has broken = broken
 breaks_object files log keys id blob (Archive named fault) has broken = broken
 breaks_object files log keys id blob (Item named fault) has broken = broken
 breaks_object files log keys id blob (Size named) has broken = broken
+breaks_object files log keys id blob (KeyFile fault) has broken = broken
+breaks_object files log keys id blob (Other a b) has broken = broken
+breaks_object files log keys id blob NoKey has broken = broken
 breaks_object files log keys id blob Device has broken = tt
 breaks_object files log keys id blob Memory has broken = tt

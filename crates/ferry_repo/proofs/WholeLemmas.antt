@@ -13,6 +13,7 @@ use Rattle.ferry_repo.specs.Walk.{Comes, item_comes, chunk_comes, chunk_refused,
 use Rattle.ferry_repo.specs.Whole.{HoldsJoined, RefusesJoined, WholeItem, HoldsItem, WholesCome, Reading, ReadsArchive, RefusesArchive, each_item}
 use Rattle.ferry_repo.specs.Whole.{WholeArchive, IsWhole, RefusesWhole, HasWhole}
 use Rattle.ferry_repo.specs.declared.fault.RepoFault.{RepoFault}
+use Rattle.ferry_repo.specs.declared.secret.Secret.{Secret}
 use Rattle.ferry_repo.proofs.ComesLemmas.{whole_comes}
 use Rattle.ferry_repo.proofs.ContentLemmas.{some_record, one_record, record_apart, one_record_fault}
 use Rattle.ferry_repo.proofs.ContentLemmas.{some_joined, one_joined, joined_apart, one_joined_fault, joined_of_files}
@@ -286,9 +287,9 @@ one_whole_fault files log keys archives name f g of_f of_g hf hg =
     (subst (λ (n : ArchiveRef). RefusesArchive each_item files log keys n.id g) named hg.refused)
 
 -- a name has one whole archive in files
-pub one_view : (files : Files) (passphrase name : List ℕ) (a b : WholeArchive) → HasWhole files passphrase name a → HasWhole files passphrase name b
+pub one_view : (files : Files) (secret : Secret) (name : List ℕ) (a b : WholeArchive) → HasWhole files secret name a → HasWhole files secret name b
     → a ≡ b
-one_view files passphrase name a b ha hb =
-    let same = one_repo files passphrase hb.repo ha.repo hb.opens ha.opens in
+one_view files secret name a b ha hb =
+    let same = one_repo files secret hb.repo ha.repo hb.opens ha.opens in
     one_whole files ha.repo.log ha.repo.keys ha.repo.manifest.archives name a b ha.is
     (subst (λ (r : RepoState). IsWhole files r.log r.keys r.manifest.archives name b) same hb.is)

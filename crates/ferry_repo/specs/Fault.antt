@@ -8,12 +8,14 @@ use Rattle.ferry_item.specs.declared.fault.ItemFault.{ItemFault}
 use Rattle.ferry_item.specs.declared.fault.ItemFault.TheVariants as Items
 use Rattle.ferry_keyblob.specs.declared.fault.KeyFault.{KeyFault}
 use Rattle.ferry_keyblob.specs.declared.fault.KeyFault.TheVariants as Key
+use Rattle.ferry_keyfile.specs.declared.fault.KeyFileFault.{KeyFileFault}
+use Rattle.ferry_keyfile.specs.declared.fault.KeyFileFault.TheVariants as KeyFileKinds
 use Rattle.ferry_log.specs.declared.fault.LogFault.{LogFault}
 use Rattle.ferry_log.specs.declared.fault.LogFault.TheVariants as Log
 use Rattle.ferry_manifest.specs.declared.fault.MetaFault.{MetaFault}
 use Rattle.ferry_manifest.specs.declared.fault.MetaFault.TheVariants as Meta
 use Rattle.ferry_repo.specs.declared.fault.RepoFault.{RepoFault}
-use Rattle.ferry_repo.specs.declared.fault.RepoFault.TheVariants.{NoCommit, Damaged, Config, Key, Manifest, Archive, Item, Device, Memory}
+use Rattle.ferry_repo.specs.declared.fault.RepoFault.TheVariants.{NoCommit, Damaged, Config, Key, Manifest, Archive, Item, KeyFile, Device, Memory}
 
 -- the fault of a repository whose log doesn't open
 abbrev pub log_fault : LogFault → RepoFault
@@ -36,6 +38,11 @@ config_fault fault = Config fault
 abbrev pub key_fault : KeyFault → RepoFault
 key_fault Key.Memory = Memory
 key_fault fault = Key fault
+
+-- that of a key file
+abbrev pub key_file_fault : KeyFileFault → RepoFault
+key_file_fault KeyFileKinds.Memory = Memory
+key_file_fault fault = KeyFile fault
 
 -- that of a manifest
 abbrev pub manifest_fault : MetaFault → RepoFault

@@ -9,7 +9,8 @@ use Rattle.ferry_log.specs.State.{LogState, place_in, IsBlobAt}
 use Rattle.ferry_log.specs.declared.place.Place.{Place}
 use Rattle.ferry_mac.specs.declared.keys.Keys.{Keys}
 use Rattle.ferry_repo.specs.declared.fault.RepoFault.{RepoFault}
-use Rattle.ferry_repo.specs.declared.fault.RepoFault.TheVariants.{NoCommit, Damaged, Config, Key, Missing, Blob, Manifest, Archive, Item, Size, Device, Memory}
+use Rattle.ferry_repo.specs.declared.fault.RepoFault.TheVariants.{NoCommit, Damaged, Config, Key, Missing, Blob, Manifest, Archive}
+use Rattle.ferry_repo.specs.declared.fault.RepoFault.TheVariants.{Item, Size, KeyFile, Other, NoKey, Device, Memory}
 
 -- The log has a place for the id, and this blob lies there.
 pub record HasBlob (files : Files) (log : LogState) (id blob : List ℕ) : Type 0 where
@@ -45,6 +46,9 @@ RefusesObject files log keys id (Manifest fault) = ⊥
 RefusesObject files log keys id (Archive named fault) = ⊥
 RefusesObject files log keys id (Item named fault) = ⊥
 RefusesObject files log keys id (Size named) = ⊥
+RefusesObject files log keys id (KeyFile fault) = ⊥
+RefusesObject files log keys id (Other file config) = ⊥
+RefusesObject files log keys id NoKey = ⊥
 RefusesObject files log keys id Device = Unit {0}
 RefusesObject files log keys id Memory = Unit {0}
 

@@ -5,9 +5,11 @@ use Rattle.ferry_blob.specs.Fault.{number_of_fault as blob_number}
 use Rattle.ferry_config.specs.Fault.{number_of_fault as config_number}
 use Rattle.ferry_item.specs.Fault.{number_of_fault as item_number}
 use Rattle.ferry_keyblob.specs.Fault.{number_of_fault as key_number}
+use Rattle.ferry_keyfile.specs.Fault.{number_of_fault as key_file_number}
 use Rattle.ferry_manifest.specs.Fault.{number_of_fault as manifest_number}
 use Rattle.ferry_repo.specs.declared.fault.RepoFault.{RepoFault}
-use Rattle.ferry_repo.specs.declared.fault.RepoFault.TheVariants.{NoCommit, Damaged, Config, Key, Missing, Blob, Manifest, Archive, Item, Size, Device, Memory}
+use Rattle.ferry_repo.specs.declared.fault.RepoFault.TheVariants.{NoCommit, Damaged, Config, Key, Missing, Blob, Manifest, Archive}
+use Rattle.ferry_repo.specs.declared.fault.RepoFault.TheVariants.{Item, Size, KeyFile, Other, NoKey, Device, Memory}
 
 -- why files are refused: what is wrong, with the number of its fault, its place or its id, and nothing where the files aren't
 unfoldable pub reason : RepoFault → List ℕ
@@ -21,5 +23,8 @@ reason (Manifest fault) = codes "manifest " ++ decimal (manifest_number fault)
 reason (Archive id fault) = codes "record " ++ (decimal (manifest_number fault) ++ (32 ∷ encode_lower id))
 reason (Item id fault) = codes "items " ++ (decimal (item_number fault) ++ (32 ∷ encode_lower id))
 reason (Size id) = codes "size " ++ encode_lower id
+reason (KeyFile fault) = codes "key file " ++ decimal (key_file_number fault)
+reason (Other file config) = codes "key file of " ++ encode_lower file
+reason NoKey = codes "no key"
 reason Device = []
 reason Memory = []

@@ -15,6 +15,7 @@ use Rattle.ferry_repo.specs.Fault.{IsOfFiles}
 use Rattle.ferry_repo.specs.Opening.{RepoState, OpensFilesTo}
 use Rattle.ferry_repo.specs.Walk.{Comes, IsStream}
 use Rattle.ferry_repo.specs.declared.fault.RepoFault.{RepoFault}
+use Rattle.ferry_repo.specs.declared.secret.Secret.{Secret}
 
 -- ---- the contents of an item
 
@@ -120,8 +121,8 @@ pub record RefusesWhole (files : Files) (log : LogState) (keys : Keys) (archives
   pub named_is : archive_named name archives ≡ Some named
   pub refused : RefusesArchive each_item files log keys named.id fault
 
--- The view of files that open under a passphrase: a name has this whole archive.
-pub record HasWhole (files : Files) (passphrase : List ℕ) (name : List ℕ) (whole : WholeArchive) : Type 0 where
+-- The view of files that open under a secret: a name has this whole archive.
+pub record HasWhole (files : Files) (secret : Secret) (name : List ℕ) (whole : WholeArchive) : Type 0 where
   pub repo : RepoState
-  pub opens : OpensFilesTo files passphrase repo
+  pub opens : OpensFilesTo files secret repo
   pub is : IsWhole files repo.log repo.keys repo.manifest.archives name whole

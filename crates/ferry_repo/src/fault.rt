@@ -8,6 +8,7 @@ use ferry_config::ConfigFault;
 use ferry_disk::StoreFault;
 use ferry_item::ItemFault;
 use ferry_keyblob::KeyFault;
+use ferry_keyfile::KeyFileFault;
 use ferry_log::LogFault;
 use ferry_manifest::MetaFault;
 use std::alloc::AllocError;
@@ -27,7 +28,7 @@ pub enum RepoFault {
     /// The file `config` doesn't read.
     #[error("the file config doesn't read: {0}")]
     Config(ConfigFault),
-    /// The repository key doesn't read, or doesn't open.
+    /// The key text, of `config` or of the key file, doesn't read, or doesn't open.
     #[error("the repository key doesn't open: {0}")]
     Key(KeyFault),
     /// The id isn't live.
@@ -48,6 +49,15 @@ pub enum RepoFault {
     /// The content of the id has another length than an item states.
     #[error("a content has another length than is stated")]
     Size(Id),
+    /// The key file doesn't read.
+    #[error("the key file doesn't read: {0}")]
+    KeyFile(KeyFileFault),
+    /// The key file is that of another repository: the id that it names, and that of `config`.
+    #[error("the key file is that of another repository")]
+    Other { file: Id, config: Id },
+    /// `config` has no key, and there is no key file.
+    #[error("there is no key")]
+    NoKey,
     /// The device failed.
     #[error("the device failed")]
     Device,
@@ -116,6 +126,19 @@ impl From<KeyFault> for RepoFault {
         match fault {
             KeyFault::Memory => RepoFault::Memory,
             fault => RepoFault::Key(fault),
+        }
+    }
+}
+
+impl From<KeyFileFault> for RepoFault {
+    ghost use Rattle.ferry_repo.specs.Fault.{key_file_fault};
+
+    ghost from_gives = { λ fault gives. gives ≡ key_file_fault fault };
+
+    fn from(fault: KeyFileFault) -> RepoFault {
+        match fault {
+            KeyFileFault::Memory => RepoFault::Memory,
+            fault => RepoFault::KeyFile(fault),
         }
     }
 }

@@ -18,19 +18,20 @@ ghost use Rattle.ferry_repo.specs.Opening.{RepoState, OpensFilesTo, FitsRepo, Re
 ghost use Rattle.ferry_repo.specs.Walk.{IsStream, Comes, WalkState, IsToCome, FitsWalk};
 ghost use Rattle.ferry_repo.specs.Whole.{Reading, ReadsArchive, RefusesArchive, WholeArchive, IsWhole, RefusesWhole, HasWhole};
 ghost use Rattle.ferry_repo.specs.declared.fault.RepoFault.{RepoFault};
+ghost use Rattle.ferry_repo.specs.declared.secret.Secret.{Secret};
 
-/// Files open under a passphrase to one repository, or are refused for one cause, and never both; and they fit what they open to.
+/// Files open under a secret to one repository, or are refused for one cause, and never both; and they fit what they open to.
 pub fn repo_laws()
-    ensures some { (files : Files) (passphrase : List ℕ) → ((n : ℕ) → IsBytes (segment_bytes files n))
-        → ((repo : RepoState) × OpensFilesTo files passphrase repo)
-        ⊎ ((fault : RepoFault) × IsOfFiles fault × RefusesRepo files passphrase fault) }
-    ensures one { (files : Files) (passphrase : List ℕ) (a b : RepoState)
-        → OpensFilesTo files passphrase a → OpensFilesTo files passphrase b → a ≡ b }
-    ensures apart { (files : Files) (passphrase : List ℕ) (repo : RepoState) (fault : RepoFault)
-        → OpensFilesTo files passphrase repo → IsOfFiles fault → RefusesRepo files passphrase fault → ⊥ }
-    ensures one_fault { (files : Files) (passphrase : List ℕ) (f g : RepoFault) → IsOfFiles f → IsOfFiles g
-        → RefusesRepo files passphrase f → RefusesRepo files passphrase g → f ≡ g }
-    ensures fits { (files : Files) (passphrase : List ℕ) (repo : RepoState) → OpensFilesTo files passphrase repo → FitsRepo files repo }
+    ensures some { (files : Files) (secret : Secret) → ((n : ℕ) → IsBytes (segment_bytes files n))
+        → ((repo : RepoState) × OpensFilesTo files secret repo)
+        ⊎ ((fault : RepoFault) × IsOfFiles fault × RefusesRepo files secret fault) }
+    ensures one { (files : Files) (secret : Secret) (a b : RepoState)
+        → OpensFilesTo files secret a → OpensFilesTo files secret b → a ≡ b }
+    ensures apart { (files : Files) (secret : Secret) (repo : RepoState) (fault : RepoFault)
+        → OpensFilesTo files secret repo → IsOfFiles fault → RefusesRepo files secret fault → ⊥ }
+    ensures one_fault { (files : Files) (secret : Secret) (f g : RepoFault) → IsOfFiles f → IsOfFiles g
+        → RefusesRepo files secret f → RefusesRepo files secret g → f ≡ g }
+    ensures fits { (files : Files) (secret : Secret) (repo : RepoState) → OpensFilesTo files secret repo → FitsRepo files repo }
 {}
 
 /// An id has one content over files that fit the log, or is refused for one cause, and never both. Over files as they were opened,
@@ -89,8 +90,8 @@ pub fn whole_laws()
         (fault : RepoFault) → IsWhole files log keys archives name whole → IsOfFiles fault → RefusesWhole files log keys archives name fault → ⊥ }
     ensures one_cause { (files : Files) (log : LogState) (keys : Keys) (archives : List ArchiveRef) (name : List ℕ) (f g : RepoFault)
         → IsOfFiles f → IsOfFiles g → RefusesWhole files log keys archives name f → RefusesWhole files log keys archives name g → f ≡ g }
-    ensures view { (files : Files) (passphrase name : List ℕ) (a b : WholeArchive)
-        → HasWhole files passphrase name a → HasWhole files passphrase name b → a ≡ b }
+    ensures view { (files : Files) (secret : Secret) (name : List ℕ) (a b : WholeArchive)
+        → HasWhole files secret name a → HasWhole files secret name b → a ≡ b }
 {}
 
 /// What fits a repository or a walk stays so where each blob that was there is there still: so over files to which others did something, and

@@ -1,7 +1,7 @@
 //! A repository opened for reading: its log, its settings, its keys, its manifest, and its chunks.
 //!
-//! The layers above may rely on this: `Repo::open` succeeds exactly where the files open under the passphrase, and otherwise
-//! names the first thing that is wrong, in the order log, `config`, key, manifest. `Repo::chunk` answers the content that
+//! The layers above may rely on this: `Repo::open` succeeds exactly where the files open under the secret, and otherwise
+//! names the first thing that is wrong, in the order log, `config`, key file, key, manifest. `Repo::chunk` answers the content that
 //! opens under an id, or why there is none. The formats are those of BorgBackup 1.2 (Internals, "Data structures and file
 //! formats").
 #![tactic(auto)]
@@ -12,6 +12,7 @@ mod object;
 mod opening;
 mod reason;
 mod repo;
+mod secret;
 mod walk;
 
 pub use fault::RepoFault;
@@ -19,4 +20,5 @@ pub use laws::{chunk_laws, kept_laws, repo_laws, walk_laws, whole_laws};
 pub use opening::{Unlocked, unlock};
 pub use reason::write_reason;
 pub use repo::Repo;
+pub use secret::Secret;
 pub use walk::Walk;

@@ -44,6 +44,9 @@ fn append_reason(fault: &RepoFault, into: &mut Vec<u8>) -> Result<(), AllocError
         RepoFault::Archive(id, fault) => append_both(b"record ", fault.number(), id, into),
         RepoFault::Item(id, fault) => append_both(b"items ", fault.number(), id, into),
         RepoFault::Size(id) => append_id(b"size ", id, into),
+        RepoFault::KeyFile(fault) => append_number(b"key file ", fault.number(), into),
+        RepoFault::Other { file, config: _ } => append_id(b"key file of ", file, into),
+        RepoFault::NoKey => into.extend_from_slice(b"no key"),
         RepoFault::Device | RepoFault::Memory => Ok(()),
     }
 }

@@ -7,14 +7,16 @@ ghost use Rattle.ferry_manifest.specs.Record.Text.{archive_of, archive_view};
 ghost use Rattle.ferry_repo.specs.Archives.{archive_named, IsNoRecord, HoldsNamed, RefusesNamed, HoldsContent, RefusesContent};
 ghost use Rattle.ferry_repo.specs.Fault.{repo_failed};
 ghost use Rattle.ferry_repo.specs.Objects.{HoldsChunk, RefusesChunk};
-ghost use Rattle.ferry_repo.specs.Opening.{repo_view, OpensFilesTo, RefusesRepo, FitsRepo};
+ghost use Rattle.ferry_repo.specs.Opening.{repo_view, mode_of, OpensFilesTo, RefusesRepo, FitsRepo};
 ghost use Rattle.ferry_repo.specs.Walk.{walk_view, begin_walk, FitsWalk};
 
 use crate::fault::{RepoFault, of_archive};
 use crate::object::object;
-use crate::opening::{manifest, settings, unlock};
+use crate::opening::{manifest, mode_of, settings, unlock};
+use crate::secret::Secret;
 use crate::walk::Walk;
 use ferry_base::{Id, ZERO_ID};
+use ferry_blob::Mode;
 use ferry_config::Config;
 use ferry_disk::Shelf;
 use ferry_item::ChunkRef;
@@ -37,26 +39,23 @@ pub struct Repo {
 }
 
 impl Repo {
-    /// Opens a repository with a passphrase.
+    /// Opens a repository with a secret.
     ///
-    /// A fault is the first in the order log, `config`, key, and the object under the zero id; `Memory` may come at any point.
+    /// A fault is the first in the order log, `config`, key file where `config` has no key, key, and the object under the zero id;
+    /// `Memory` may come at any point.
     ///
     /// Source: BorgBackup 1.2, Internals, "Data structures and file formats".
     #[tactic(auto, using(crate::proofs::FaultLemmas::conversions))]
-    pub fn open<S: Shelf>(
-        alloc: Global,
-        shelf: &mut S,
-        passphrase: &[u8],
-    ) -> Result<Repo, RepoFault>
+    pub fn open<S: Shelf>(alloc: Global, shelf: &mut S, secret: &Secret) -> Result<Repo, RepoFault>
         ensures repository { IfOk result (λ repo. IfSome (S.told shelf.old) (λ t.
-            OpensFilesTo (told_files t) passphrase.now (repo_view repo))) }
+            OpensFilesTo (told_files t) secret.now (repo_view repo))) }
         ensures refused { IfErr result (λ fault. IfSome (S.told shelf.old) (λ t.
-            RefusesRepo (told_files t) passphrase.now fault)) }
+            RefusesRepo (told_files t) secret.now fault)) }
         ensures same { KeepsTold repo_failed (S.told shelf.old) (S.told shelf.new) result }
         ensures cause { HasCause repo_failed (S.faults shelf.old) (S.faults shelf.new) result }
     {
         let log = open_log(alloc, shelf)?;
-        let unlocked = unlock(alloc, shelf, passphrase)?;
+        let unlocked = unlock(alloc, shelf, secret)?;
         let keys = &unlocked.key.keys;
         let content = object(alloc, shelf, &log, keys, &ZERO_ID)?;
         let manifest = manifest(alloc, keys, &content)?;
@@ -89,6 +88,13 @@ impl Repo {
         ensures config { result.now ≡ (repo_view self.now).config }
     {
         &self.config
+    }
+
+    /// Where the key lies: in a key file exactly where `config` has none.
+    pub fn mode(&self) -> Mode
+        ensures mode { result ≡ mode_of (repo_view self.now).config }
+    {
+        mode_of(&self.config)
     }
 
     /// The secrets.

@@ -9,6 +9,7 @@ use Rattle.ferry_repo.specs.Fault.{IsOfFiles}
 use Rattle.ferry_repo.specs.Opening.{RepoState, OpensFilesTo, FitsRepo}
 use Rattle.ferry_repo.specs.declared.fault.RepoFault.{RepoFault}
 use Rattle.ferry_repo.specs.declared.fault.RepoFault.TheVariants as Repo
+use Rattle.ferry_repo.specs.declared.secret.Secret.{Secret}
 use Rattle.ferry_view.specs.Output.{ShowsAll, ShowsSome, view_failed}
 use Rattle.ferry_view.specs.declared.fault.ViewFault.{ViewFault}
 use Rattle.ferry_view.specs.declared.fault.ViewFault.TheVariants as View
@@ -21,57 +22,57 @@ use Rattle.ferry_top.specs.declared.status.Refusal.TheVariants as TheRefusal
 use Rattle.ferry_top.specs.declared.status.Status.TheVariants as TheStatus
 
 -- what is true of the files and of the repository that they opened to, where a later call told it
-pub opens_with : (source later : Option Told) (passphrase : List ℕ) (repo : RepoState) (Holds : Files → RepoState → Type 0)
-    → heard later ≡ heard source → IfSome source (λ t. OpensFilesTo (told_files t) passphrase repo) → IfSome later (λ t. Holds (told_files t) repo)
-    → IfSome source (λ t. OpensWith passphrase Holds (told_files t))
-opens_with source later passphrase repo Holds same opens holds =
-    told_with source later (λ f. OpensFilesTo f passphrase repo) (λ f. Holds f repo) (OpensWith passphrase Holds) same
+pub opens_with : (source later : Option Told) (secret : Secret) (repo : RepoState) (Holds : Files → RepoState → Type 0)
+    → heard later ≡ heard source → IfSome source (λ t. OpensFilesTo (told_files t) secret repo) → IfSome later (λ t. Holds (told_files t) repo)
+    → IfSome source (λ t. OpensWith secret Holds (told_files t))
+opens_with source later secret repo Holds same opens holds =
+    told_with source later (λ f. OpensFilesTo f secret repo) (λ f. Holds f repo) (OpensWith secret Holds) same
     (λ f o h. record { repo = repo; opens = o; holds = h }) opens holds
 
 -- an opened repository fits what a later call tells
-pub fits_later : (source later : Option Told) (passphrase : List ℕ) (repo : RepoState) → heard later ≡ heard source
-    → IfSome source (λ t. OpensFilesTo (told_files t) passphrase repo) → IfSome later (λ t. FitsRepo (told_files t) repo)
-fits_later source later passphrase repo same opens =
+pub fits_later : (source later : Option Told) (secret : Secret) (repo : RepoState) → heard later ≡ heard source
+    → IfSome source (λ t. OpensFilesTo (told_files t) secret repo) → IfSome later (λ t. FitsRepo (told_files t) repo)
+fits_later source later secret repo same opens =
     told_same source later (λ f. FitsRepo f repo) same
-    (told_then source (λ f. OpensFilesTo f passphrase repo) (λ f. FitsRepo f repo) (λ f o. opens_fits f passphrase repo o) opens)
+    (told_then source (λ f. OpensFilesTo f secret repo) (λ f. FitsRepo f repo) (λ f o. opens_fits f secret repo o) opens)
 
 -- ---- a repository that shows all
 
 -- what a repository has shown, by what the shelf told after opening and by the output before and after
-pub record HasShown (source later : Option Told) (passphrase : List ℕ) (repo : RepoState) : Type 0 where
+pub record HasShown (source later : Option Told) (secret : Secret) (repo : RepoState) : Type 0 where
   pub same : heard later ≡ heard source
-  pub opens : IfSome source (λ t. OpensFilesTo (told_files t) passphrase repo)
+  pub opens : IfSome source (λ t. OpensFilesTo (told_files t) secret repo)
 
 pub all_shown : (IsView : Files → RepoState → List ℕ → Type 0) (IsFront : Files → List ℕ → Type 0) (Refuses : Files → Refusal → Type 0)
-    (Lacks : Files → List ℕ → Type 0) (source later : Option Told) (passphrase : List ℕ) (repo : RepoState) (before after : Written)
-    → HasShown source later passphrase repo → ShowsAll (λ f text. IsView f repo text) later before.bytes after.bytes → after.faults ≡ before.faults
-    → PrintsAsRead (λ f text. OpensWith passphrase (λ g r. IsView g r text) f) IsFront Refuses Lacks source before TheStatus.Done after
-all_shown IsView IsFront Refuses Lacks source later passphrase repo before after shown all faults = (
+    (Lacks : Files → List ℕ → Type 0) (source later : Option Told) (secret : Secret) (repo : RepoState) (before after : Written)
+    → HasShown source later secret repo → ShowsAll (λ f text. IsView f repo text) later before.bytes after.bytes → after.faults ≡ before.faults
+    → PrintsAsRead (λ f text. OpensWith secret (λ g r. IsView g r text) f) IsFront Refuses Lacks source before TheStatus.Done after
+all_shown IsView IsFront Refuses Lacks source later secret repo before after shown all faults = (
   all.text,
-  opens_with source later passphrase repo (λ g r. IsView g r all.text) shown.same shown.opens all.is,
+  opens_with source later secret repo (λ g r. IsView g r all.text) shown.same shown.opens all.is,
   all.written,
   faults,
 )
 
 -- ---- a repository that doesn't show all
 
-refused_later : (Refuses : Files → RepoState → ViewFault → Type 0) (source later : Option Told) (passphrase : List ℕ) (repo : RepoState) (fault : RepoFault)
-    → HasShown source later passphrase repo → IsOfFiles fault → IfSome later (λ t. Refuses (told_files t) repo (View.Repo fault))
-    → IfSome source (λ t. RefusesShowing passphrase Refuses (told_files t) (TheRefusal.Repo fault))
-refused_later Refuses source later passphrase repo fault shown of_files refused =
-    told_then source (OpensWith passphrase (λ g r. Refuses g r (View.Repo fault))) (λ f. RefusesShowing passphrase Refuses f (TheRefusal.Repo fault))
+refused_later : (Refuses : Files → RepoState → ViewFault → Type 0) (source later : Option Told) (secret : Secret) (repo : RepoState) (fault : RepoFault)
+    → HasShown source later secret repo → IsOfFiles fault → IfSome later (λ t. Refuses (told_files t) repo (View.Repo fault))
+    → IfSome source (λ t. RefusesShowing secret Refuses (told_files t) (TheRefusal.Repo fault))
+refused_later Refuses source later secret repo fault shown of_files refused =
+    told_then source (OpensWith secret (λ g r. Refuses g r (View.Repo fault))) (λ f. RefusesShowing secret Refuses f (TheRefusal.Repo fault))
     (λ f h. (of_files, inr h))
-    (opens_with source later passphrase repo (λ g r. Refuses g r (View.Repo fault)) shown.same shown.opens refused)
+    (opens_with source later secret repo (λ g r. Refuses g r (View.Repo fault)) shown.same shown.opens refused)
 
-begun : (IsView : Files → RepoState → List ℕ → Type 0) (source later : Option Told) (passphrase : List ℕ) (repo : RepoState) (before after : Written)
-    → HasShown source later passphrase repo → ShowsSome (λ f text. IsView f repo text) later before.bytes after.bytes → after.faults ≡ before.faults
-    → HasBegun (λ text. IfSome source (λ t. OpensWith passphrase (λ g r. IsView g r text) (told_files t))) before after
-begun IsView source later passphrase repo before after shown some faults =
-    inr (some.text, opens_with source later passphrase repo (λ g r. IsView g r some.text) shown.same shown.opens some.is, some.written, faults)
+begun : (IsView : Files → RepoState → List ℕ → Type 0) (source later : Option Told) (secret : Secret) (repo : RepoState) (before after : Written)
+    → HasShown source later secret repo → ShowsSome (λ f text. IsView f repo text) later before.bytes after.bytes → after.faults ≡ before.faults
+    → HasBegun (λ text. IfSome source (λ t. OpensWith secret (λ g r. IsView g r text) (told_files t))) before after
+begun IsView source later secret repo before after shown some faults =
+    inr (some.text, opens_with source later secret repo (λ g r. IsView g r some.text) shown.same shown.opens some.is, some.written, faults)
 
 -- a front was written of what is shown as far as it reads
 pub not_shown : (Text : Files → List ℕ → Type 0) (Shown : Files → RepoState → List ℕ → Type 0) (Refuses : Files → RepoState → ViewFault → Type 0)
-    (Lacks : Files → List ℕ → Type 0) (source later : Option Told) (pass : List ℕ) (repo : RepoState) (before after : Written) (fault : ViewFault)
+    (Lacks : Files → List ℕ → Type 0) (source later : Option Told) (pass : Secret) (repo : RepoState) (before after : Written) (fault : ViewFault)
     (missing : List ℕ)
     → HasShown source later pass repo → ShowsSome (λ f text. Shown f repo text) later before.bytes after.bytes
     → IfSome later (λ t. Refuses (told_files t) repo fault) → RoseWhere (view_failed fault) before.faults after.faults
@@ -108,6 +109,12 @@ not_shown Text Shown Refuses Lacks source later pass repo before after (View.Rep
     (refused_later Refuses source later pass repo (Repo.Item id fault) shown tt refused, begun Shown source later pass repo before after shown some cause)
 not_shown Text Shown Refuses Lacks source later pass repo before after (View.Repo (Repo.Size id)) missing shown some refused cause lacks =
     (refused_later Refuses source later pass repo (Repo.Size id) shown tt refused, begun Shown source later pass repo before after shown some cause)
+not_shown Text Shown Refuses Lacks source later pass repo before after (View.Repo (Repo.KeyFile fault)) missing shown some refused cause lacks =
+    (refused_later Refuses source later pass repo (Repo.KeyFile fault) shown tt refused, begun Shown source later pass repo before after shown some cause)
+not_shown Text Shown Refuses Lacks source later pass repo before after (View.Repo (Repo.Other file config)) missing shown some refused cause lacks =
+    (refused_later Refuses source later pass repo (Repo.Other file config) shown tt refused, begun Shown source later pass repo before after shown some cause)
+not_shown Text Shown Refuses Lacks source later pass repo before after (View.Repo Repo.NoKey) missing shown some refused cause lacks =
+    (refused_later Refuses source later pass repo Repo.NoKey shown tt refused, begun Shown source later pass repo before after shown some cause)
 
 -- ---- a name
 

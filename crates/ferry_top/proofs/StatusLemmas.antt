@@ -35,6 +35,9 @@ failed_of_repo (Repo.Manifest fault) = refl
 failed_of_repo (Repo.Archive id fault) = refl
 failed_of_repo (Repo.Item id fault) = refl
 failed_of_repo (Repo.Size id) = refl
+failed_of_repo (Repo.KeyFile fault) = refl
+failed_of_repo (Repo.Other file config) = refl
+failed_of_repo Repo.NoKey = refl
 failed_of_repo Repo.Device = refl
 failed_of_repo Repo.Memory = refl
 

@@ -4,45 +4,46 @@ use Rattle.ferry_disk.specs.Files.{Files}
 use Rattle.ferry_repo.specs.Archives.{archive_named}
 use Rattle.ferry_repo.specs.Fault.{IsOfFiles}
 use Rattle.ferry_repo.specs.Opening.{RepoState, OpensFilesTo, RefusesRepo}
+use Rattle.ferry_repo.specs.declared.secret.Secret.{Secret}
 use Rattle.ferry_top.specs.declared.status.Refusal.{Refusal}
 use Rattle.ferry_top.specs.declared.status.Refusal.TheVariants.{Repo}
 use Rattle.ferry_view.specs.Items.{IsItemListing, IsItemText, IsFile, IsFileText, LacksFile}
 use Rattle.ferry_view.specs.declared.fault.ViewFault.{ViewFault}
 use Rattle.ferry_view.specs.declared.fault.ViewFault.TheVariants as View
 
--- The files open under the passphrase, and this holds of them and of the repository that they open to.
-pub record OpensWith (passphrase : List ℕ) (Holds : Files → RepoState → Type 0) (files : Files) : Type 0 where
+-- The files open under the secret, and this holds of them and of the repository that they open to.
+pub record OpensWith (secret : Secret) (Holds : Files → RepoState → Type 0) (files : Files) : Type 0 where
   pub repo : RepoState
-  pub opens : OpensFilesTo files passphrase repo
+  pub opens : OpensFilesTo files secret repo
   pub holds : Holds files repo
 
 -- the text has the line of each item of the archive of a name
-abbrev pub ShowsItems : List ℕ → List ℕ → Files → List ℕ → Type 0
-ShowsItems passphrase name files text = OpensWith passphrase (λ f repo. IsItemListing f repo name text) files
+abbrev pub ShowsItems : Secret → List ℕ → Files → List ℕ → Type 0
+ShowsItems secret name files text = OpensWith secret (λ f repo. IsItemListing f repo name text) files
 
 -- the text has the line of each item that comes, as far as the archive reads
-abbrev pub ShowsItemsFront : List ℕ → List ℕ → Files → List ℕ → Type 0
-ShowsItemsFront passphrase name files text = OpensWith passphrase (λ f repo. IsItemText f repo name text) files
+abbrev pub ShowsItemsFront : Secret → List ℕ → Files → List ℕ → Type 0
+ShowsItemsFront secret name files text = OpensWith secret (λ f repo. IsItemText f repo name text) files
 
 -- the text is the content of the first item of the archive of a name that has content and a path
-abbrev pub ShowsFile : List ℕ → List ℕ → List ℕ → Files → List ℕ → Type 0
-ShowsFile passphrase name path files text = OpensWith passphrase (λ f repo. IsFile f repo name path text) files
+abbrev pub ShowsFile : Secret → List ℕ → List ℕ → Files → List ℕ → Type 0
+ShowsFile secret name path files text = OpensWith secret (λ f repo. IsFile f repo name path text) files
 
 -- the text is that content as far as it is there
-abbrev pub ShowsFileFront : List ℕ → List ℕ → List ℕ → Files → List ℕ → Type 0
-ShowsFileFront passphrase name path files text = OpensWith passphrase (λ f repo. IsFileText f repo name path text) files
+abbrev pub ShowsFileFront : Secret → List ℕ → List ℕ → Files → List ℕ → Type 0
+ShowsFileFront secret name path files text = OpensWith secret (λ f repo. IsFileText f repo name path text) files
 
 -- what a refusal says of the files of a source: they don't open, or the archive is refused so
-abbrev pub RefusesShowing : List ℕ → (Files → RepoState → ViewFault → Type 0) → Files → Refusal → Type 0
-RefusesShowing passphrase RefusesView files (Repo fault) = IsOfFiles fault
-    × (RefusesRepo files passphrase fault ⊎ OpensWith passphrase (λ f repo. RefusesView f repo (View.Repo fault)) files)
+abbrev pub RefusesShowing : Secret → (Files → RepoState → ViewFault → Type 0) → Files → Refusal → Type 0
+RefusesShowing secret RefusesView files (Repo fault) = IsOfFiles fault
+    × (RefusesRepo files secret fault ⊎ OpensWith secret (λ f repo. RefusesView f repo (View.Repo fault)) files)
 
 -- The files open, and no archive has the name, which is told.
-abbrev pub LacksArchive : List ℕ → List ℕ → Files → List ℕ → Type 0
-LacksArchive passphrase name files told =
-    (told ≡ name) × OpensWith passphrase (λ f repo. archive_named name repo.manifest.archives ≡ None) files
+abbrev pub LacksArchive : Secret → List ℕ → Files → List ℕ → Type 0
+LacksArchive secret name files told =
+    (told ≡ name) × OpensWith secret (λ f repo. archive_named name repo.manifest.archives ≡ None) files
 
 -- The files open, and no archive has the name, which is told; or that archive has no such file, and the path is told.
-abbrev pub LacksPath : List ℕ → List ℕ → List ℕ → Files → List ℕ → Type 0
-LacksPath passphrase name path files told = LacksArchive passphrase name files told
-    ⊎ ((told ≡ path) × OpensWith passphrase (λ f repo. LacksFile f repo name path) files)
+abbrev pub LacksPath : Secret → List ℕ → List ℕ → Files → List ℕ → Type 0
+LacksPath secret name path files told = LacksArchive secret name files told
+    ⊎ ((told ≡ path) × OpensWith secret (λ f repo. LacksFile f repo name path) files)

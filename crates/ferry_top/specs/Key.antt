@@ -4,19 +4,20 @@ use Rattle.ferry_config.specs.declared.config.Config.{Config}
 use Rattle.ferry_keyblob.specs.Opening.{Opened}
 use Rattle.ferry_repo.specs.Fault.{IsOfFiles}
 use Rattle.ferry_repo.specs.Opening.{UnlocksTo, RefusesKey}
+use Rattle.ferry_repo.specs.declared.secret.Secret.{Secret}
 use Rattle.ferry_top.specs.Keys.{key_line}
 use Rattle.ferry_top.specs.declared.status.Refusal.{Refusal}
 use Rattle.ferry_top.specs.declared.status.Refusal.TheVariants.{Repo}
 
--- The text is the line of the key in a file `config` that the passphrase opens: its repository id in hex digits, a space, the
+-- The text is the line of the key in a file `config` that the secret opens: its repository id in hex digits, a space, the
 -- iterations of its envelope, and a line feed.
-pub record IsIdLine (passphrase bytes text : List ℕ) : Type 0 where
+pub record IsIdLine (secret : Secret) (bytes text : List ℕ) : Type 0 where
   pub config : Config
   pub iterations : ℕ
   pub key : Opened
-  pub unlocks : UnlocksTo bytes passphrase config iterations key
+  pub unlocks : UnlocksTo bytes secret config iterations key
   pub line : text ≡ key_line key.repository_id iterations
 
--- what a refusal says of a file `config` and a passphrase
-abbrev pub RefusesUnlocking : List ℕ → List ℕ → Refusal → Type 0
-RefusesUnlocking passphrase bytes (Repo fault) = IsOfFiles fault × RefusesKey bytes passphrase fault
+-- what a refusal says of a file `config` and a secret
+abbrev pub RefusesUnlocking : Secret → List ℕ → Refusal → Type 0
+RefusesUnlocking secret bytes (Repo fault) = IsOfFiles fault × RefusesKey bytes secret fault

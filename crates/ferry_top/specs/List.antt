@@ -3,16 +3,17 @@ use Rattle.std.specs.Prelude.{◌≡◌, ℕ, List}
 use Rattle.ferry_disk.specs.Files.{Files}
 use Rattle.ferry_repo.specs.Fault.{IsOfFiles}
 use Rattle.ferry_repo.specs.Opening.{RepoState, OpensFilesTo, RefusesRepo}
+use Rattle.ferry_repo.specs.declared.secret.Secret.{Secret}
 use Rattle.ferry_top.specs.declared.status.Refusal.{Refusal}
 use Rattle.ferry_top.specs.declared.status.Refusal.TheVariants.{Repo}
 use Rattle.ferry_view.specs.Lines.{archive_lines}
 
--- The files open under the passphrase, and the text has the line of each archive of their manifest, in byte order of names.
-pub record IsArchiveListing (passphrase : List ℕ) (files : Files) (text : List ℕ) : Type 0 where
+-- The files open under the secret, and the text has the line of each archive of their manifest, in byte order of names.
+pub record IsArchiveListing (secret : Secret) (files : Files) (text : List ℕ) : Type 0 where
   pub repo : RepoState
-  pub opens : OpensFilesTo files passphrase repo
+  pub opens : OpensFilesTo files secret repo
   pub lines : text ≡ archive_lines repo.manifest.archives
 
 -- what a refusal says of the files of a source that is to be opened
-abbrev pub RefusesOpening : List ℕ → Files → Refusal → Type 0
-RefusesOpening passphrase files (Repo fault) = IsOfFiles fault × RefusesRepo files passphrase fault
+abbrev pub RefusesOpening : Secret → Files → Refusal → Type 0
+RefusesOpening secret files (Repo fault) = IsOfFiles fault × RefusesRepo files secret fault

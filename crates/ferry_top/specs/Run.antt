@@ -4,6 +4,7 @@ use Rattle.ferry_disk.specs.Files.{Files, contents_at}
 use Rattle.ferry_disk.specs.declared.name.Name.TheVariants as Name
 use Rattle.ferry_disk.specs.Device.{Told, told_files, Rose, WritesSome, HasCause, sink_failed}
 use Rattle.ferry_disk.specs.declared.sink.SinkFault.{SinkFault}
+use Rattle.ferry_repo.specs.declared.secret.Secret.{Secret}
 use Rattle.ferry_top.specs.Devices.{Devices, Written, HasCauses}
 use Rattle.ferry_top.specs.Keys.{IsListing}
 use Rattle.ferry_top.specs.Key.{IsIdLine, RefusesUnlocking}
@@ -54,25 +55,25 @@ Prints IsText Refuses source before OutputDevice after =
 Prints IsText Refuses source before (SourceRefused refusal) after = IfSome source (λ t. Refuses (told_files t) refusal) × (after ≡ before)
 Prints IsText Refuses source before (NotFound what) after = ⊥
 
--- what each command writes, under the source's passphrase: the live keys, the key, the archives, the items of one or the content of a file
+-- what each command writes, under the source's secret: the live keys, the key, the archives, the items of one or the content of a file
 -- of it; nothing where the words are no command
-abbrev pub DoesCommand : Result Command ℕ → List ℕ → Option Told → Written → Status → Written → Type 0
-DoesCommand (Ok Keys) passphrase source before status after = Prints IsListing RefusesKeys source before status after
-DoesCommand (Ok Key) passphrase source before status after =
-    Prints (λ files text. IsIdLine passphrase (contents_at files Name.Config) text)
-    (λ files refusal. RefusesUnlocking passphrase (contents_at files Name.Config) refusal)
+abbrev pub DoesCommand : Result Command ℕ → Secret → Option Told → Written → Status → Written → Type 0
+DoesCommand (Ok Keys) secret source before status after = Prints IsListing RefusesKeys source before status after
+DoesCommand (Ok Key) secret source before status after =
+    Prints (λ files text. IsIdLine secret (contents_at files Name.Config) text)
+    (λ files refusal. RefusesUnlocking secret (contents_at files Name.Config) refusal)
     source before status after
-DoesCommand (Ok ListArchives) passphrase source before status after =
-    Prints (IsArchiveListing passphrase) (RefusesOpening passphrase) source before status after
-DoesCommand (Ok (ListItems name)) passphrase source before status after =
-    PrintsAsRead (ShowsItems passphrase name) (ShowsItemsFront passphrase name)
-    (RefusesShowing passphrase (λ files repo. RefusesItems files repo name)) (LacksArchive passphrase name)
+DoesCommand (Ok ListArchives) secret source before status after =
+    Prints (IsArchiveListing secret) (RefusesOpening secret) source before status after
+DoesCommand (Ok (ListItems name)) secret source before status after =
+    PrintsAsRead (ShowsItems secret name) (ShowsItemsFront secret name)
+    (RefusesShowing secret (λ files repo. RefusesItems files repo name)) (LacksArchive secret name)
     source before status after
-DoesCommand (Ok (Extract name path)) passphrase source before status after =
-    PrintsAsRead (ShowsFile passphrase name path) (ShowsFileFront passphrase name path)
-    (RefusesShowing passphrase (λ files repo. RefusesFile files repo name path)) (LacksPath passphrase name path)
+DoesCommand (Ok (Extract name path)) secret source before status after =
+    PrintsAsRead (ShowsFile secret name path) (ShowsFileFront secret name path)
+    (RefusesShowing secret (λ files repo. RefusesFile files repo name path)) (LacksPath secret name path)
     source before status after
-DoesCommand (Err word) passphrase source before status after = after ≡ before
+DoesCommand (Err word) secret source before status after = after ≡ before
 
 -- A line went to the output in one write, whatever the write answered.
 pub record IsSent (line : List ℕ) (before after : Written) : Type 0 where
@@ -88,8 +89,8 @@ Reports OutputDevice before after = after ≡ before
 Reports status before after = IsSent (fault_line status) before after
 
 -- what a run leaves: the command's lines, then the fault line, and the causes of its status
-pub record Runs (words : Result Command ℕ) (passphrase : List ℕ) (before : Devices) (status : Status) (after : Devices) : Type 0 where
+pub record Runs (words : Result Command ℕ) (secret : Secret) (before : Devices) (status : Status) (after : Devices) : Type 0 where
   pub between : Written
-  pub command : DoesCommand words passphrase before.source.told before.output status between
+  pub command : DoesCommand words secret before.source.told before.output status between
   pub report : Reports status between after.output
   pub causes : HasCauses status before after

@@ -9,24 +9,24 @@ ghost use Rattle.ferry_words.specs.declared.command.Command.TheVariants as TheCo
 use crate::status::{Status, of_repo, of_view};
 use ferry_base::Bytes;
 use ferry_disk::{Shelf, Sink};
-use ferry_repo::Repo;
+use ferry_repo::{Repo, Secret};
 use std::alloc::Global;
 
-/// Opens the source with a passphrase and lists the items of the archive of a name.
+/// Opens the source with a secret and lists the items of the archive of a name.
 #[tactic(auto, using(crate::proofs::StatusLemmas::causes))]
 pub(crate) fn list_items<S: Shelf, K: Sink>(
     alloc: Global,
-    passphrase: &[u8],
+    secret: &Secret,
     source: &mut S,
     out: &mut K,
     name: Bytes,
 ) -> Status
-    ensures out { DoesCommand (Ok (TheCommand.ListItems name)) passphrase.now (S.told source.old)
+    ensures out { DoesCommand (Ok (TheCommand.ListItems name)) secret.now (S.told source.old)
         (written (K.written out.old) (K.faults out.old)) result (written (K.written out.new) (K.faults out.new)) }
     ensures same { KeptWhere (source_failed result) (heard (S.told source.old)) (S.told source.new) }
     ensures cause { RoseWhere (source_failed result) (S.faults source.old) (S.faults source.new) }
 {
-    let mut repo = match Repo::open(alloc, source, passphrase) {
+    let mut repo = match Repo::open(alloc, source, secret) {
         Ok(repo) => repo,
         Err(fault) => return of_repo(fault),
     };
@@ -36,22 +36,22 @@ pub(crate) fn list_items<S: Shelf, K: Sink>(
     }
 }
 
-/// Opens the source with a passphrase and writes the content of a path of the archive of a name.
+/// Opens the source with a secret and writes the content of a path of the archive of a name.
 #[tactic(auto, using(crate::proofs::StatusLemmas::causes))]
 pub(crate) fn extract<S: Shelf, K: Sink>(
     alloc: Global,
-    passphrase: &[u8],
+    secret: &Secret,
     source: &mut S,
     out: &mut K,
     name: Bytes,
     path: Bytes,
 ) -> Status
-    ensures out { DoesCommand (Ok (TheCommand.Extract name path)) passphrase.now (S.told source.old)
+    ensures out { DoesCommand (Ok (TheCommand.Extract name path)) secret.now (S.told source.old)
         (written (K.written out.old) (K.faults out.old)) result (written (K.written out.new) (K.faults out.new)) }
     ensures same { KeptWhere (source_failed result) (heard (S.told source.old)) (S.told source.new) }
     ensures cause { RoseWhere (source_failed result) (S.faults source.old) (S.faults source.new) }
 {
-    let mut repo = match Repo::open(alloc, source, passphrase) {
+    let mut repo = match Repo::open(alloc, source, secret) {
         Ok(repo) => repo,
         Err(fault) => return of_repo(fault),
     };

@@ -13,24 +13,24 @@ ghost use Rattle.std.specs.Prelude.{◌≡◌, Ok};
 use crate::lines::push_line;
 use crate::status::{Status, of_output, of_repo};
 use ferry_disk::{Shelf, Sink};
-use ferry_repo::{Unlocked, unlock};
+use ferry_repo::{Secret, Unlocked, unlock};
 use ferry_view::send;
 use std::alloc::{AllocError, Global};
 
-/// Opens the key in the source's `config` with a passphrase, and prints its repository id and iterations.
+/// Opens the source's key, in `config` or in the key file, with a secret, and prints its repository id and iterations.
 #[tactic(auto, using(crate::proofs::StatusLemmas::causes))]
 pub(crate) fn key<S: Shelf, K: Sink>(
     alloc: Global,
-    passphrase: &[u8],
+    secret: &Secret,
     source: &mut S,
     out: &mut K,
 ) -> Status
-    ensures out { DoesCommand (Ok TheCommand.Key) passphrase.now (S.told source.old)
+    ensures out { DoesCommand (Ok TheCommand.Key) secret.now (S.told source.old)
         (written (K.written out.old) (K.faults out.old)) result (written (K.written out.new) (K.faults out.new)) }
     ensures same { KeptWhere (source_failed result) (heard (S.told source.old)) (S.told source.new) }
     ensures cause { RoseWhere (source_failed result) (S.faults source.old) (S.faults source.new) }
 {
-    let unlocked = match unlock(alloc, source, passphrase) {
+    let unlocked = match unlock(alloc, source, secret) {
         Ok(unlocked) => unlocked,
         Err(fault) => return of_repo(fault),
     };

@@ -14,6 +14,7 @@ use crate::status::{Status, of_log, of_output};
 use ferry_base::Id;
 use ferry_disk::{Shelf, Sink};
 use ferry_log::{Log, open_log};
+use ferry_repo::Secret;
 use ferry_view::{ViewFault, send, send_full};
 use std::alloc::Global;
 
@@ -21,16 +22,16 @@ use std::alloc::Global;
 #[tactic(auto, using(crate::proofs::StatusLemmas::causes))]
 pub(crate) fn keys<S: Shelf, K: Sink>(
     alloc: Global,
-    passphrase: &[u8],
+    secret: &Secret,
     source: &mut S,
     out: &mut K,
 ) -> Status
-    ensures out { DoesCommand (Ok TheCommand.Keys) passphrase.now (S.told source.old)
+    ensures out { DoesCommand (Ok TheCommand.Keys) secret.now (S.told source.old)
         (written (K.written out.old) (K.faults out.old)) result (written (K.written out.new) (K.faults out.new)) }
     ensures same { KeptWhere (source_failed result) (heard (S.told source.old)) (S.told source.new) }
     ensures cause { RoseWhere (source_failed result) (S.faults source.old) (S.faults source.new) }
 {
-    let _ = passphrase;
+    let _ = secret;
     let log = match open_log(alloc, source) {
         Ok(log) => log,
         Err(fault) => return of_log(fault),

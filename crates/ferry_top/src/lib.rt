@@ -16,7 +16,7 @@ mod tests;
 mod top;
 mod words;
 
-pub use ferry_repo::RepoFault;
+pub use ferry_repo::{RepoFault, Secret};
 pub use status::{Refusal, Secrets, Status};
 pub use top::run;
 pub use words::places_fit;

@@ -8,23 +8,23 @@ ghost use Rattle.ferry_words.specs.declared.command.Command.TheVariants as TheCo
 
 use crate::status::{Status, of_output, of_repo};
 use ferry_disk::{Shelf, Sink};
-use ferry_repo::Repo;
+use ferry_repo::{Repo, Secret};
 use std::alloc::Global;
 
-/// Opens the source with a passphrase and lists its archives.
+/// Opens the source with a secret and lists its archives.
 #[tactic(auto, using(crate::proofs::StatusLemmas::causes))]
 pub(crate) fn list<S: Shelf, K: Sink>(
     alloc: Global,
-    passphrase: &[u8],
+    secret: &Secret,
     source: &mut S,
     out: &mut K,
 ) -> Status
-    ensures out { DoesCommand (Ok TheCommand.List) passphrase.now (S.told source.old)
+    ensures out { DoesCommand (Ok TheCommand.List) secret.now (S.told source.old)
         (written (K.written out.old) (K.faults out.old)) result (written (K.written out.new) (K.faults out.new)) }
     ensures same { KeptWhere (source_failed result) (heard (S.told source.old)) (S.told source.new) }
     ensures cause { RoseWhere (source_failed result) (S.faults source.old) (S.faults source.new) }
 {
-    let mut repo = match Repo::open(alloc, source, passphrase) {
+    let mut repo = match Repo::open(alloc, source, secret) {
         Ok(repo) => repo,
         Err(fault) => return of_repo(fault),
     };

@@ -4,14 +4,14 @@ ghost use Rattle.ferry_top.specs.Status.{status_number, log_status, repo_status,
 
 use ferry_base::Bytes;
 use ferry_log::LogFault;
-use ferry_repo::RepoFault;
+use ferry_repo::{RepoFault, Secret};
 use ferry_view::ViewFault;
 
-/// The passphrases of the source and of the target, as bytes. The caller owns them.
+/// What opens the keys of the source and of the target. The caller owns it.
 #[derive(Drop)]
 pub struct Secrets {
-    pub source: Bytes,
-    pub target: Bytes,
+    pub source: Secret,
+    pub target: Secret,
 }
 
 /// How a run ended. A status other than `Done` and `OutputDevice` has a fault line, which goes to the output.

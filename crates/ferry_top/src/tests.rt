@@ -1,4 +1,4 @@
-use crate::{RepoFault, Secrets, Status, places_fit, run};
+use crate::{RepoFault, Secret, Secrets, Status, places_fit, run};
 use ferry_base::{BLOB_LIMIT, Bytes, Id};
 use ferry_disk::{MemoryDepot, MemoryEntropy, MemoryShelf, MemorySink, Name, Shelf, StoreFault};
 use ferry_repo::Repo;
@@ -261,18 +261,26 @@ fn strings(alloc: Global, words: &[&str]) -> Result<Vec<String>, AllocError> {
     Ok(strings)
 }
 
-/// Runs the words under a passphrase over a source and an output, and answers the status.
+fn secret(alloc: Global, passphrase: &[u8], key_file: &[u8]) -> Result<Secret, AllocError> {
+    Ok(Secret {
+        passphrase: Bytes::new(Vec::from_slice(alloc, passphrase)?),
+        key_file: Bytes::new(Vec::from_slice(alloc, key_file)?),
+    })
+}
+
+/// Runs the words under a passphrase and a key file over a source and an output, and answers the status.
 fn status_of(
     alloc: Global,
     passphrase: &[u8],
+    key_file: &[u8],
     words: &[&str],
     source: &mut MemoryShelf,
     out: &mut MemorySink,
 ) -> Result<Status, AllocError> {
     let words = strings(alloc, words)?;
     let secrets = Secrets {
-        source: Bytes::new(Vec::from_slice(alloc, passphrase)?),
-        target: Bytes::new(Vec::new(alloc)),
+        source: secret(alloc, passphrase, key_file)?,
+        target: secret(alloc, b"", b"")?,
     };
     let mut target = MemoryDepot::new(alloc, Vec::new(alloc), Vec::new(alloc))?;
     let mut entropy = MemoryEntropy::new(alloc, Vec::new(alloc))?;
@@ -299,7 +307,7 @@ fn prints(
 ) -> Result<bool, AllocError> {
     let mut source = MemoryShelf::new(alloc, files, Vec::from_slice(alloc, failing)?)?;
     let mut out = MemorySink::new(alloc, Vec::new(alloc))?;
-    let status = status_of(alloc, passphrase, words, &mut source, &mut out)?;
+    let status = status_of(alloc, passphrase, b"", words, &mut source, &mut out)?;
     Ok(status.number() == number && out.bytes() == text.as_bytes())
 }
 
@@ -388,6 +396,38 @@ fn a_key_opens_with_its_passphrase_alone(rt: HostRuntime) -> Result<(), Fail> {
         ),
     ];
     assert!(rt; key_prints(rt.alloc(), &cases)?);
+    Ok(())
+}
+
+/// Whether `key` with these key files over a `config` without a key ends with its number and prints its text.
+fn key_files_print(alloc: Global, cases: &[(&[&str], u8, &str)]) -> Result<bool, AllocError> {
+    let mut all = true;
+    for (texts, number, text) in cases {
+        let files = vec![in alloc; config(alloc, &[CONFIG])?]?;
+        let mut source = MemoryShelf::new(alloc, files, Vec::new(alloc))?;
+        let mut out = MemorySink::new(alloc, Vec::new(alloc))?;
+        let (_, file) = config(alloc, texts)?;
+        let status = status_of(alloc, PASSPHRASE, &file, &["key"], &mut source, &mut out)?;
+        all &= status.number() == *number && out.bytes() == text.as_bytes();
+    }
+    Ok(all)
+}
+
+#[test]
+fn a_key_file_of_the_repository_is_opened(rt: HostRuntime) -> Result<(), Fail> {
+    let head = "BORG_KEY 0000000000000000000000000000000000000000000000000000000000000000\n";
+    let other = "BORG_KEY 7777777777777777777777777777777777777777777777777777777777777777\r\n";
+    let line = "2222222222222222222222222222222222222222222222222222222222222222 100000\n";
+    let of = "source refused: key file of \
+        7777777777777777777777777777777777777777777777777777777777777777\n";
+    let cases: [(&[&str], u8, &str); 5] = [
+        (&[head, &SEALED[6..]], 0, line),
+        (&[other, &SEALED[6..]], 8, of),
+        (&[], 8, "source refused: no key\n"),
+        (&["BORG_KEY 12\n"], 8, "source refused: key file 1\n"),
+        (&[head, "***"], 8, "source refused: key file 2\n"),
+    ];
+    assert!(rt; key_files_print(rt.alloc(), &cases)?);
     Ok(())
 }
 
@@ -486,7 +526,7 @@ fn a_chunk_opens_under_its_id_where_it_still_lies(rt: HostRuntime) -> Result<(),
     let id = id(alloc, CHUNK_ID)?;
     let shelf = MemoryShelf::new(alloc, repository(alloc, TWO_ARCHIVES)?, Vec::new(alloc))?;
     let mut source = Silent { shelf };
-    let mut repo = Repo::open(alloc, &mut source, PASSPHRASE)?;
+    let mut repo = Repo::open(alloc, &mut source, &secret(alloc, PASSPHRASE, b"")?)?;
     assert_eq!(rt; repo.log().transaction(), 1);
     assert_eq!(rt; repo.config().per_dir, 1000);
     assert_eq!(rt; repo.manifest().archives.as_slice().len(), 2);
@@ -560,7 +600,7 @@ fn a_failing_device_is_told_by_its_status(rt: HostRuntime) -> Result<(), Fail> {
     for (parts, want) in [(parts.as_slice(), 7), ([Part::Put(b"abc")].as_slice(), 8)] {
         let mut source = MemoryShelf::new(alloc, segments(alloc, parts)?, Vec::new(alloc))?;
         let mut out = MemorySink::new(alloc, Vec::from_slice(alloc, &[1])?)?;
-        let status = status_of(alloc, PASSPHRASE, &["keys"], &mut source, &mut out)?;
+        let status = status_of(alloc, PASSPHRASE, b"", &["keys"], &mut source, &mut out)?;
         assert_eq!(rt; status.number(), want);
         assert!(rt; out.bytes().is_empty());
     }

@@ -13,14 +13,15 @@ use crate::list::list;
 use crate::report::report;
 use crate::status::{Secrets, Status};
 use ferry_disk::{Depot, Entropy, Shelf, Sink};
+use ferry_repo::Secret;
 use ferry_words::{Command, Usage, read_words};
 use std::alloc::Global;
 
 /// Does what the words say.
 ///
 /// `words` begins with the command. `keys` prints each live key of the source in byte order as 64 hex digits, with a space and
-/// the size of its blob in bytes. `key` opens the repository key in the source's `config` with the source's passphrase and
-/// prints its repository id as 64 hex digits, a space, and its iterations. `list` opens the source with that passphrase and
+/// the size of its blob in bytes. `key` opens the repository key, in `config` or the key file, with the source's passphrase and
+/// prints its repository id as 64 hex digits, a space, and its iterations. `list` opens the source with its secret and
 /// prints, for each archive in byte order of names, the id of its record, its time and its name; with a name it prints, for each item of
 /// that archive in the order of its stream, its kind, its size in bytes and its path. `extract` writes the content of the first item of an
 /// archive that has content and a path. None uses `target` and `entropy`.
@@ -44,7 +45,7 @@ pub fn run<S: Shelf, D: Depot, E: Entropy, K: Sink>(
         (drawn (E.drawn entropy.new) (E.faults entropy.new)) (written (K.written out.new) (K.faults out.new))) }
 {
     let status = match read_words(alloc, words) {
-        Ok(command) => carry_out(alloc, command, secrets.source.as_slice(), source, out),
+        Ok(command) => carry_out(alloc, command, &secrets.source, source, out),
         Err(Usage::Word(word)) => Status::Usage(word),
         Err(Usage::Memory) => Status::Memory,
     };
@@ -52,25 +53,25 @@ pub fn run<S: Shelf, D: Depot, E: Entropy, K: Sink>(
     status
 }
 
-/// Does a command of the source, under its passphrase.
+/// Does a command of the source, under its secret.
 fn carry_out<S: Shelf, K: Sink>(
     alloc: Global,
     command: Command,
-    passphrase: &[u8],
+    secret: &Secret,
     source: &mut S,
     out: &mut K,
 ) -> Status
-    ensures out { DoesCommand (Ok command) passphrase.now (S.told source.old)
+    ensures out { DoesCommand (Ok command) secret.now (S.told source.old)
         (written (K.written out.old) (K.faults out.old)) result (written (K.written out.new) (K.faults out.new)) }
     ensures same { KeptWhere (source_failed result) (heard (S.told source.old)) (S.told source.new) }
     ensures cause { RoseWhere (source_failed result) (S.faults source.old) (S.faults source.new) }
     ensures used { (n : ℕ) → result ≡ Status.Usage n → ⊥ }
 {
     match command {
-        Command::Keys => keys(alloc, passphrase, source, out),
-        Command::Key => key(alloc, passphrase, source, out),
-        Command::List => list(alloc, passphrase, source, out),
-        Command::ListItems { name } => list_items(alloc, passphrase, source, out, name),
-        Command::Extract { name, path } => extract(alloc, passphrase, source, out, name, path),
+        Command::Keys => keys(alloc, secret, source, out),
+        Command::Key => key(alloc, secret, source, out),
+        Command::List => list(alloc, secret, source, out),
+        Command::ListItems { name } => list_items(alloc, secret, source, out, name),
+        Command::Extract { name, path } => extract(alloc, secret, source, out, name, path),
     }
 }

@@ -115,6 +115,9 @@ contents_of files repo chunks (Fault.Manifest f) h = h
 contents_of files repo chunks (Fault.Archive id f) h = h
 contents_of files repo chunks (Fault.Item id f) h = h
 contents_of files repo chunks (Fault.Size id) h = h
+contents_of files repo chunks (Fault.KeyFile fault) h = h
+contents_of files repo chunks (Fault.Other file config) h = h
+contents_of files repo chunks Fault.NoKey h = h
 contents_of files repo chunks Fault.Device h = h
 contents_of files repo chunks Fault.Memory h = tt
 

@@ -34,6 +34,9 @@ failed_repo (Fault.Manifest f) = refl
 failed_repo (Fault.Archive id f) = refl
 failed_repo (Fault.Item id f) = refl
 failed_repo (Fault.Size id) = refl
+failed_repo (Fault.KeyFile fault) = refl
+failed_repo (Fault.Other file config) = refl
+failed_repo Fault.NoKey = refl
 failed_repo Fault.Device = refl
 failed_repo Fault.Memory = refl
 
@@ -49,6 +52,9 @@ repo_apart (Fault.Manifest f) = refl
 repo_apart (Fault.Archive id f) = refl
 repo_apart (Fault.Item id f) = refl
 repo_apart (Fault.Size id) = refl
+repo_apart (Fault.KeyFile fault) = refl
+repo_apart (Fault.Other file config) = refl
+repo_apart Fault.NoKey = refl
 repo_apart Fault.Device = refl
 repo_apart Fault.Memory = refl
 

@@ -70,6 +70,9 @@ ends_of files repo walk (Fault.Manifest f) h = h
 ends_of files repo walk (Fault.Archive id f) h = h
 ends_of files repo walk (Fault.Item id f) h = h
 ends_of files repo walk (Fault.Size id) h = h
+ends_of files repo walk (Fault.KeyFile fault) h = h
+ends_of files repo walk (Fault.Other file config) h = h
+ends_of files repo walk Fault.NoKey h = h
 ends_of files repo walk Fault.Device h = h
 ends_of files repo walk Fault.Memory h = tt
 
@@ -85,6 +88,9 @@ before_of files repo walk path (Fault.Manifest f) h = h
 before_of files repo walk path (Fault.Archive id f) h = h
 before_of files repo walk path (Fault.Item id f) h = h
 before_of files repo walk path (Fault.Size id) h = h
+before_of files repo walk path (Fault.KeyFile fault) h = h
+before_of files repo walk path (Fault.Other file config) h = h
+before_of files repo walk path Fault.NoKey h = h
 before_of files repo walk path Fault.Device h = h
 before_of files repo walk path Fault.Memory h = tt
 

@@ -89,6 +89,12 @@ begin_refused files repo name (Fault.Item id f) refuses =
     refused_found files repo name (archive_named name repo.manifest.archives) (Fault.Item id f) refl refuses
 begin_refused files repo name (Fault.Size id) refuses =
     refused_found files repo name (archive_named name repo.manifest.archives) (Fault.Size id) refl refuses
+begin_refused files repo name (Fault.KeyFile fault) refuses =
+    refused_found files repo name (archive_named name repo.manifest.archives) (Fault.KeyFile fault) refl refuses
+begin_refused files repo name (Fault.Other file config) refuses =
+    refused_found files repo name (archive_named name repo.manifest.archives) (Fault.Other file config) refl refuses
+begin_refused files repo name Fault.NoKey refuses =
+    refused_found files repo name (archive_named name repo.manifest.archives) Fault.NoKey refl refuses
 begin_refused files repo name Fault.Device refuses =
     refused_found files repo name (archive_named name repo.manifest.archives) Fault.Device refl refuses
 begin_refused files repo name Fault.Memory refuses = tt
@@ -147,6 +153,9 @@ free_or (Fault.Manifest f) = inl tt
 free_or (Fault.Archive id f) = inl tt
 free_or (Fault.Item id f) = inl tt
 free_or (Fault.Size id) = inl tt
+free_or (Fault.KeyFile fault) = inl tt
+free_or (Fault.Other file config) = inl tt
+free_or Fault.NoKey = inl tt
 free_or Fault.Device = inr (λ files log keys id. tt)
 free_or Fault.Memory = inr (λ files log keys id. tt)
 

@@ -1,5 +1,5 @@
-use Rattle.ferry_blob.proofs.BlobLemmas.{content_is, fault_kind, fault_short, opened_at, opens_no_fault}
-use Rattle.ferry_blob.proofs.LawLemmas.{compressed_is, id_is, is_compressed, is_id, is_mac, kind_is, mac_is, one_content, opens_zero, short_is}
+use Rattle.ferry_blob.proofs.BlobLemmas.{content_is, fault_short, opened_at, opens_no_fault}
+use Rattle.ferry_blob.proofs.LawLemmas.{compressed_is, id_is, is_compressed, is_id, is_kind, is_mac, kind_is, mac_is, one_content, opens_zero, short_is}
 use Rattle.ferry_blob.proofs.LawLemmas.{zero_unrefused}
 use Rattle.ferry_blob.proofs.laws.blob_laws.Goals as goal
 
@@ -22,7 +22,7 @@ pub returns-clause-short : goal.returns-clause-short
 returns-clause-short c keys id blob = (short_is keys id blob, fault_short keys id blob)
 
 pub returns-clause-kind : goal.returns-clause-kind
-returns-clause-kind c keys id blob = (kind_is keys id blob, λ h. fault_kind keys id blob h.0 h.1)
+returns-clause-kind c keys id blob = (kind_is keys id blob, λ h. is_kind keys id blob h.0 h.1 h.2)
 
 pub returns-clause-mac : goal.returns-clause-mac
 returns-clause-mac c keys id blob = (mac_is keys id blob, λ h. is_mac keys id blob h.0 h.1 h.2)

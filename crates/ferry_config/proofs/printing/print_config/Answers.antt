@@ -1,18 +1,12 @@
-use Rattle.std.proofs.Common.{◌≡◌, ◌<◌, ◌++◌, List, ℕ, length, Ok, refl, ap, sym, ◌∙◌}
+use Rattle.std.proofs.Common.{◌≡◌, ◌++◌, List, ℕ, Ok, refl, ap, sym, ◌∙◌}
 use Rattle.std.specs.List.{flat_map}
 use Rattle.base64.specs.Engines.{standard}
 use Rattle.base64.specs.GeneralPurpose.{decode_of, encode_of}
-use Rattle.ferry_config.proofs.RoundTripLemmas.{IsPrintable, length-encode_of, config_of-config_text}
+use Rattle.ferry_config.proofs.RoundTripLemmas.{IsPrintable, config_of-config_text}
 use Rattle.ferry_config.proofs.TextLemmas.{config_text-lines, flat_map-append}
 use Rattle.ferry_config.specs.Config.{config_of}
 use Rattle.ferry_config.specs.Text.{config_text, ended, head_lines, key_lines}
 use Rattle.ferry_config.proofs.printing.print_config.Goals as goal
-
-pub append_key-requires : goal.append_key-requires
-append_key-requires c =
-    let key : c.as_bytes-2.result.now ≡ encode_of standard c.args.config.now.key =
-    c.as_bytes-2.ensures.value ∙ c.in_ok-key.ensures.text ∙ ap (encode_of standard) c.as_slice.ensures in
-    rw key (length-encode_of c.args.config.now.key c.requires.key)
 
 pub returns : goal.returns
 returns c =
@@ -27,7 +21,6 @@ returns c =
     ∙ ap (λ text. flat_map ended (head_lines config) ++ flat_map ended (key_lines text)) key
     ∙ sym (flat_map-append (head_lines config) (key_lines (encode_of standard config.key))) in
     let text : c.append_key.new.text.items ≡ config_text config = whole ∙ sym (config_text-lines config) in
-    let some : 0 < length (encode_of standard config.key) = length-encode_of config.key c.requires.key in
     let decoded : decode_of standard (encode_of standard config.key) ≡ Ok config.key =
     ap (decode_of standard) (sym (c.in_ok-key.ensures.text ∙ ap (encode_of standard) c.as_slice.ensures))
     ∙ c.in_ok-key.ensures.round_trip refl ∙ ap Ok c.as_slice.ensures in
@@ -40,5 +33,5 @@ returns c =
     } in
     record {
       text = text;
-      read_again = ap config_of text ∙ config_of-config_text config printable some decoded;
+      read_again = ap config_of text ∙ config_of-config_text config printable decoded;
     }

@@ -20,14 +20,14 @@ pub extract-requires : goal.extract-requires
 extract-requires g c =
     let told = g.S.Shelf.told in
     record {
-      fits = fits_later (told c.args.source.now) (told c.open.new.shelf) c.args.passphrase.now (repo_view c.in-Ok.repo) c.in-Ok.ensures.same
+      fits = fits_later (told c.args.source.now) (told c.open.new.shelf) c.args.secret.now (repo_view c.in-Ok.repo) c.in-Ok.ensures.same
           c.in-Ok.ensures.repository;
     }
 
 pub returns-in-Ok-extract-clause-out : goal.returns-in-Ok-extract-clause-out
 returns-in-Ok-extract-clause-out g c =
     let told = g.S.Shelf.told in
-    let pass = c.args.passphrase.now in
+    let pass = c.args.secret.now in
     let name = c.args.name in
     let path = c.args.path in
     let repo = repo_view c.in-Ok.repo in
@@ -44,7 +44,7 @@ returns-in-Ok-extract-clause-out g c =
 pub returns-in-Err-extract-clause-out : goal.returns-in-Err-extract-clause-out
 returns-in-Err-extract-clause-out g c =
     let told = g.S.Shelf.told in
-    let pass = c.args.passphrase.now in
+    let pass = c.args.secret.now in
     let name = c.args.name in
     let path = c.args.path in
     let repo = repo_view c.in-Ok.repo in
@@ -80,7 +80,7 @@ returns-in-Err-extract-clause-out g c =
 pub returns-in-Err-2-clause-out : goal.returns-in-Err-2-clause-out
 returns-in-Err-2-clause-out g c =
     let told = g.S.Shelf.told in
-    let pass = c.args.passphrase.now in
+    let pass = c.args.secret.now in
     let name = c.args.name in
     let path = c.args.path in
     let repo = repo_view c.in-Ok.repo in

@@ -18,14 +18,14 @@ pub list_items-requires : goal.list_items-requires
 list_items-requires g c =
     let told = g.S.Shelf.told in
     record {
-      fits = fits_later (told c.args.source.now) (told c.open.new.shelf) c.args.passphrase.now (repo_view c.in-Ok.repo) c.in-Ok.ensures.same
+      fits = fits_later (told c.args.source.now) (told c.open.new.shelf) c.args.secret.now (repo_view c.in-Ok.repo) c.in-Ok.ensures.same
           c.in-Ok.ensures.repository;
     }
 
 pub returns-in-Ok-list_items-clause-out : goal.returns-in-Ok-list_items-clause-out
 returns-in-Ok-list_items-clause-out g c =
     let told = g.S.Shelf.told in
-    let pass = c.args.passphrase.now in
+    let pass = c.args.secret.now in
     let name = c.args.name in
     let repo = repo_view c.in-Ok.repo in
     let later = told c.open.new.shelf in
@@ -40,7 +40,7 @@ returns-in-Ok-list_items-clause-out g c =
 pub returns-in-Err-list_items-clause-out : goal.returns-in-Err-list_items-clause-out
 returns-in-Err-list_items-clause-out g c =
     let told = g.S.Shelf.told in
-    let pass = c.args.passphrase.now in
+    let pass = c.args.secret.now in
     let name = c.args.name in
     let repo = repo_view c.in-Ok.repo in
     let source = told c.args.source.now in

@@ -13,7 +13,7 @@ pub returns-in-Ok-list-clause-out : goal.returns-in-Ok-list-clause-out
 returns-in-Ok-list-clause-out g c =
     let repo = repo_view c.in-Ok.repo in (
       archive_lines repo.manifest.archives,
-      archives_of (g.S.Shelf.told c.args.source.now) c.args.passphrase.now repo c.in-Ok.ensures.repository,
+      archives_of (g.S.Shelf.told c.args.source.now) c.args.secret.now repo c.in-Ok.ensures.repository,
       c.in-Ok-list.ensures.ok,
       c.in-Ok-list.ensures.cause,
     )
@@ -21,7 +21,7 @@ returns-in-Ok-list-clause-out g c =
 pub returns-clause-out : goal.returns-clause-out
 returns-clause-out g c =
     let source = g.S.Shelf.told c.args.source.now in
-    let pass = c.args.passphrase.now in
+    let pass = c.args.secret.now in
     let before = written (g.K.Sink.written c.args.out.now) (g.K.Sink.faults c.args.out.now) in
     let after = written (g.K.Sink.written c.list.new.out) (g.K.Sink.faults c.list.new.out) in
     let repo = repo_view c.in-Ok.repo in

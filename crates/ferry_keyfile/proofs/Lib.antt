@@ -1,0 +1,2 @@
+pub mod KeyFileLemmas
+pub mod TextLemmas
