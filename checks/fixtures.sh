@@ -3,7 +3,7 @@
 # that is built, and compares output and status.
 set -eu
 cd "$(dirname "$0")/.."
-commands="keys key list items extract keyfile"
+commands="keys key list items extract check keyfile"
 fixtures=../shared/fixtures
 if [ ! -e "$fixtures/run.py" ]; then
     echo "skipped: there is no $fixtures"

@@ -107,6 +107,8 @@ def row_of(words, cwd, status, out):
     """The row of the table of plain words that a run comes under, None where it says nothing there."""
     if status in (0, 7):
         return ("none", "standard output failed, status 7") if status else None
+    if status == 1:
+        return "bad REASON", ""
     told = re.search(r"(source refused: |not found: |usage|memory$|key file unreadable$|source device failed$|BORG_)[^\n]*\n?$", out.decode("utf-8", "replace"))
     line = re.sub(r"^not found: .*", "not found: NAME", re.sub(r"\b[0-9a-f]{64}$", "ID", told[0].rstrip("\n") if told else ""))
     line = re.sub(r"segment \d+ at \d+$", "segment S at A", re.sub(r"^usage: word \d+$", "usage: word N", line))
@@ -114,7 +116,7 @@ def row_of(words, cwd, status, out):
     if line == "usage":
         where = "no two places and a command"
     elif line == "usage: word N":
-        where = f"the command {words[2]}" if words[2] in ("keys", "key", "list", "extract") else "another word"
+        where = f"the command {words[2]}" if words[2] in ("keys", "key", "list", "extract", "check") else "another word"
     elif line in ("source refused: no commit", "source refused: config 1") and source in ("-", ""):
         where = "`-` or an empty word"
     elif line in ("source refused: no commit", "source refused: config 1") and not os.path.exists(os.path.join(cwd, source)):
@@ -502,6 +504,7 @@ def archives():
     for name, spelled, number in [
         ("no value", b"\xc1", 1), ("no map", b"\x90", 1), ("a map in 64 arrays and a map", b"\x81\xa4path" + b"\x91" * 64 + b"\x01", 1), ("no path", b"\x80", 2), ("a path that is a number", b"\x81\xa4path\x01", 2),
         ("chunks that are true", b"\x82\xa4path\xa1a\xa6chunks\xc3", 3), ("a chunk of two", b"\x82\xa4path\xa1a\xa6chunks\x91\x92\xa0\x01", 3),
+        ("a chunk of 20971437 bytes", b"\x82\xa4path\xa1a\xa6chunks\x91\x93\xda\x00\x20" + K + b"\xce\x01\x3f\xff\xad\x01", 3),
         ("a healed item", b"\x82\xa4path\xa1a\xaechunks_healthy\xc0", 4), ("the front of an item", b"\x81\xa4p", 5), ("a count of 2^32 - 1 and no more", b"\xdf\xff\xff\xff\xff", 5),
     ]:
         bad = Archive(keys, b"a", files, behind=spelled)
@@ -516,6 +519,98 @@ def archives():
         bad = Archive(keys, b"a", files, how=how)
         showing(f"a record with {name}", bad, reason(b"record %d" % number, bad.id), "list", "a")
     showing("a record without a tag", Archive(keys, b"a", files, how={"tam": "none"}), (0, Archive(keys, b"a", files).lines()), "list", "a")
+
+
+def checked():
+    """What `check` says of whole repositories, and of those in which one thing is wrong."""
+    keys = Keys()
+    files = [Item(b"."), Item(b"empty", []), Item(b"f", [b"hello", b"", b" and more"]), Item(b"l", None, b"f"), Item(b"g", [b"hello", b"x"])]
+    reason = lambda text, id: b"%s %s" % (text, id.hex().encode())
+
+    def checking(name, archives, want, *behind, **changed):
+        """`check` of archives of these names, with chunks behind them that no archive uses."""
+        chunks = [chunk for archive in archives.values() for chunk in archive.chunks(**changed)]
+        named = [entry for name, archive in archives.items() for entry in archive.named(name)]
+        made = repository(keys, PASSPHRASE, keys.blob(keys.tagged(fields(named))), *chunks, *behind)
+        case(f"check: {name}", made, want, ("source", "-", "check"), variables=OPEN)
+
+    good = lambda *counts: (0, b"ok archives %d chunks %d orphans %d untagged %d\n" % counts)
+    bad = lambda reason: (1, b"bad %s\n" % reason)
+    one, plain = Archive(keys, b"a", files), Archive(keys, b"a", files, 40, how={"tam": "none"})
+    pieces = len({id for id, _ in plain.pieces})
+    orphan = [(keys.id(content), keys.blob(content)) for content in (b"1", b"2")]
+    checking("no archives", {}, good(0, 0, 0, 0))
+    checking("one archive", {b"a": one}, good(1, 6, 0, 0))
+    checking("a record without a tag, in pieces", {b"a": plain}, good(1, 5 + pieces, 0, 1))
+    checking("two archives that share contents", {b"a": one, b"b": plain}, good(2, 7 + pieces, 0, 1))
+    checking("two names of one record", {b"a": one, b"b": one}, good(2, 6, 0, 0))
+    checking("chunks that no archive uses", {b"a": one}, good(1, 8, 2, 0), *orphan)
+    checking("a record that is a chunk of another", {b"a": Archive(keys, b"a", [Item(b"f", [one.record])])}, good(1, 3, 0, 0))
+    content, stream = keys.id(b" and more"), one.pieces[0][0]
+    for id in (one.id, stream, content):
+        checking("a chunk isn't there", {b"a": one}, bad(reason(b"missing", id)), without=id)
+        checking("a chunk is compressed", {b"a": one}, bad(reason(b"blob 4", id)), compressed=id)
+        checking("a chunk has another id", {b"a": one}, bad(reason(b"blob 5", id)), other=id)
+    changed = [(id, blob[:-1] + bytes([blob[-1] ^ 1])) for id, blob in orphan]
+    checking("two chunks are changed that no archive uses", {b"a": one}, bad(reason(b"blob 3", min(id for id, _ in changed))), *changed)
+    checking("a changed chunk comes before a missing one", {b"a": one}, bad(reason(b"blob 3", changed[0][0])), changed[0], without=content)
+    checking("a stated size that is wrong", {b"a": Archive(keys, b"a", [Item(b"f", [b"hello"], size=6)])}, bad(reason(b"size", keys.id(b"hello"))))
+    checking("the zero id as a chunk", {b"a": Archive(keys, b"a", [Item(b"f", [b"hello"], ids=[repositories.ZERO])])}, bad(reason(b"missing", repositories.ZERO)))
+    ends = Archive(keys, b"b", files, behind=b"\x80")
+    checking("an item without a path in the second archive", {b"a": one, b"b": ends}, bad(reason(b"items 2", ends.id)))
+    first, last = Archive(keys, b"a", files, how={b"version": 2}), Archive(keys, b"z", files, how={b"version": 3})
+    checking("two records with a wrong field", {b"z": last, b"a": first}, bad(reason(b"record 2", first.id)))
+    tag = Archive(keys, b"a", files, how={"info": b"borg-metadata-authentication-manifest"})
+    checking("a tag of another info", {b"a": tag}, bad(reason(b"record 4", tag.id)))
+    many = Archive(keys, b"a", [Item(b"%d" % number, [b"x%d" % (number % 700)]) for number in range(2000)], 5000)
+    checking("many items", {b"a": many}, good(1, 701 + len(many.pieces), 0, 0))
+    made = repository(keys, PASSPHRASE, keys.blob(keys.tagged(fields())))
+    check = ("source", "-", "check")
+    case("check: another passphrase", made, refused(b"key 5"), check)
+    case("check: no manifest", repository(keys, PASSPHRASE, None), refused(b"missing " + ZERO_ID), check, variables=OPEN)
+    case("check: a compressed manifest", repository(keys, PASSPHRASE, keys.blob(keys.tagged(fields()), b"\1\0")), refused(b"blob 4 " + ZERO_ID), check, variables=OPEN)
+    case("check: no folder", made, NO_COMMIT, ("-", "source", "check"), variables=OPEN)
+    case("check: a word too many", made, wrong_word(2), (*check, "x"), variables=OPEN)
+
+
+def every_byte():
+    """A small repository with each of its bytes changed, each byte of a blob changed or the blob cut there under a right checksum."""
+    keys = Keys()
+    archive = Archive(keys, b"a", [Item(b"f", [b"hello"])])
+    chunks = [(repositories.ZERO, keys.blob(keys.tagged(fields(archive.named(b"a"))))), *archive.chunks()]
+    files = repository(keys, PASSPHRASE, None, *chunks)
+    good = {"list": (0, repositories.listing(archive.named(b"a"))), "list a": (0, archive.lines()), "extract a f": (0, b"hello"), "check": (0, b"ok archives 1 chunks 3 orphans 0 untagged 0\n")}
+    reads = {"list": 1, "list a": 3, "extract a f": 4, "check": 4}
+    commands = list(reads)
+
+    def refusing(place, number):
+        """What each command says where the blob of a chunk breaks this rule."""
+        reason = b"blob %d %s" % (number, chunks[place][0].hex().encode())
+        return lambda command: good[command] if place >= reads[command] else (1, b"bad %s\n" % reason) if place and command == "check" else refused(reason)
+
+    def damages():
+        """The byte, the segment with something changed there, and what each command says of it."""
+        data, at, places = files["data/0/0"], 8, [0] * 8
+        for _, blob in chunks:
+            places += [at] * (41 + len(blob))
+            at += 41 + len(blob)
+        for byte, at in enumerate(places):
+            yield f"byte {byte} of the segment is changed", byte, data[:byte] + bytes([data[byte] ^ 1]) + data[byte + 1 :], lambda command: damaged(0, at)
+        for place, (id, blob) in enumerate(chunks):
+            for byte in range(len(blob)):
+                changed, cut = blob[:byte] + bytes([blob[byte] ^ 1]) + blob[byte + 1 :], blob[:byte]
+                for name, other, number in [("changed", changed, 3 if byte else 1), ("the end", cut, 2 if byte < 43 else 3)]:
+                    entries = [put(*chunk) for chunk in [*chunks[:place], (id, other), *chunks[place + 1 :]]]
+                    yield f"byte {byte} of blob {place} is {name}", byte, segment(*entries), refusing(place, number)
+
+    with tempfile.TemporaryDirectory() as root:
+        make(os.path.join(root, "source"), files)
+        for name, byte, data, want in damages():
+            command = commands[byte % 4]
+            make(root, {"source/data/0/0": data})
+            judge(f"{command}: {name}", run(("source", "-", *command.split()), root, OPEN), want(command))
+
+
 def key_files():
     """What `list` and `key` say of a `config` without a key, and of files that the variables name."""
     keys = Keys()
@@ -589,7 +684,7 @@ def rows():
         judge(f"plain words: {row}", (row in met, b""), (True, b""))
 
 
-for cases in (folders, logs, damage, memory, names, words, keys_of_configs, listings, archives, key_files, variables, outputs, rows):
+for cases in (folders, logs, damage, memory, names, words, keys_of_configs, listings, archives, checked, every_byte, key_files, variables, outputs, rows):
     cases()
 print(f"{passed} passed, {failed} failed")
 sys.exit(1 if failed or not passed else 0)

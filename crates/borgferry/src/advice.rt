@@ -40,6 +40,9 @@ const MISSING: &str =
 const DEVICE: &str =
     "the files of SOURCE can't be read: see that it is a folder, that you may read all of it and that its disk answers";
 
+const BAD: &str =
+    "the repository opens, and what the line names is the first thing in it that isn't whole: see what borg check --verify-data finds, and look at another copy";
+
 /// The line of a status, without its end, where a command ended with one.
 ///
 /// `command` is the first word of the command, and `source` says whether the source's folder is there. `None` where the command
@@ -49,6 +52,7 @@ pub fn advice(status: &Status, command: &str, source: Presence) -> Option<&'stat
 {
     match status {
         Status::Done => None,
+        Status::No => Some(BAD),
         Status::Usage(_) => Some(form_of(command)),
         Status::Memory => Some(MEMORY),
         Status::SourceDevice => Some(DEVICE),
@@ -66,11 +70,12 @@ fn form_of(command: &str) -> &'static str {
         "list" => {
             "the form is borgferry SOURCE TARGET list, or list NAME for the items of an archive; a NAME that begins with -- stands behind --"
         }
+        "check" => "the form is borgferry SOURCE TARGET check, with nothing behind it",
         "extract" => {
             "the form is borgferry SOURCE TARGET extract NAME PATH, the path as list NAME has it; a NAME that begins with -- stands behind --"
         }
         _ => {
-            "the form is borgferry SOURCE TARGET COMMAND, and the commands are keys, key, list and extract; borgferry --help says what they do"
+            "the form is borgferry SOURCE TARGET COMMAND, and the commands are keys, key, list, extract and check; borgferry --help says what they do"
         }
     }
 }

@@ -21,6 +21,7 @@ commands:
           prints the kind, the size and the path of each item of an archive
   extract NAME PATH
           writes the content of the first item of an archive that has content and this path
+  check   opens every live chunk and reads every archive, and prints their numbers or the first fault
 
 variables:
   BORG_OTHER_PASSPHRASE    the source's passphrase, empty where the variable is absent
@@ -32,6 +33,7 @@ A refusal is one line on standard output, and one in plain words on standard err
 
 status:
   0    done
+  1    check: the source opens, and a chunk or an archive in it isn't whole
   2    the words are no command
   3    memory ran out
   4    the source can't be read

@@ -48,4 +48,34 @@ impl<R: Runtime> Shelf for FolderShelf<R> {
     }
 }
 
-impl<R: Runtime> Depot for FolderShelf<R> {}
+/// No command writes a repository yet: each call fails, is counted, and does nothing to the folder.
+impl<R: Runtime> Depot for FolderShelf<R> {
+    fn append(&mut self, segment: u64, bytes: &[u8]) -> Result<(), StoreFault> {
+        let _ = (segment, bytes.len());
+        count_store(&mut self.faults, Err(StoreFault::Failed))
+    }
+
+    fn sync(&mut self, segment: u64) -> Result<(), StoreFault> {
+        let _ = segment;
+        count_store(&mut self.faults, Err(StoreFault::Failed))
+    }
+
+    fn remove(&mut self, segment: u64) -> Result<(), StoreFault> {
+        let _ = segment;
+        count_store(&mut self.faults, Err(StoreFault::Failed))
+    }
+
+    fn replace(&mut self, name: Name, bytes: &[u8]) -> Result<(), StoreFault> {
+        let _ = (name, bytes.len());
+        count_store(&mut self.faults, Err(StoreFault::Failed))
+    }
+
+    fn settle(&mut self) -> Result<(), StoreFault> {
+        count_store(&mut self.faults, Err(StoreFault::Failed))
+    }
+
+    fn tell(&mut self, line: &[u8]) -> Result<(), StoreFault> {
+        let _ = line.len();
+        count_store(&mut self.faults, Err(StoreFault::Failed))
+    }
+}

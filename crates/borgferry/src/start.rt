@@ -82,6 +82,7 @@ fn run_command<R: Runtime + AllocGlobal>(
     let secrets = secrets(rt)?;
     let mut source = FolderShelf::new(rt.clone()?, alloc, source)?;
     let mut target = FolderShelf::new(rt.clone()?, alloc, target)?;
+    let mut entropy = NoEntropy::new();
     let mut out = StdSink::new(rt.clone()?);
     let status = run(
         alloc,
@@ -89,7 +90,7 @@ fn run_command<R: Runtime + AllocGlobal>(
         &secrets,
         &mut source,
         &mut target,
-        &mut NoEntropy,
+        &mut entropy,
         &mut out,
     );
     let word = command.first().map_or("", |word| word.as_str());

@@ -85,7 +85,7 @@ is_compressed keys id blob right other =
     (off_by _ (is_plain keys blob) (is_plain-Decides keys blob) other)
 
 -- the zero id names each content
-zero_named : (keys : Keys) (content : List ℕ) → is_named keys zero_id content ≡ true
+pub zero_named : (keys : Keys) (content : List ℕ) → is_named keys zero_id content ≡ true
 zero_named keys content = (is_named-Decides keys zero_id content).1 (inl refl)
 
 pub zero_unrefused : (keys : Keys) (blob : List ℕ) → blob_fault keys zero_id blob ≡ Some Id → ⊥

@@ -3,3 +3,4 @@ pub mod BlobLemmas
 pub mod SealLemmas
 pub mod LawLemmas
 pub mod CallerLemmas
+pub mod BatchLemmas

@@ -1,17 +1,16 @@
 -- What is sealed opens, and has the nonce that was given.
-use Rattle.std.proofs.Common.{◌≡◌, ◌⊎◌, ℕ, ◌+◌, ◌-◌, ◌^◌, ◌<◌, ◌≤◌, List, ◌∷◌, ◌++◌, length, take, drop, slice_index, refl, sym, ap, subst, ◌∙◌}
+use Rattle.std.proofs.Common.{◌≡◌, ◌⊎◌, ℕ, ◌+◌, ◌^◌, ◌<◌, ◌≤◌, List, ◌∷◌, ◌++◌, length, take, drop, slice_index, refl, sym, ap, subst, ◌∙◌}
 use Rattle.std.proofs.Common.{inl, inr, arith, length-append}
 use Rattle.std.specs.Int.{w64, to_be_bytes, from_be_bytes}
-use Rattle.std.proofs.lemmas.List.{take_at, drop_at, drop-drop, length-take-le}
+use Rattle.std.proofs.lemmas.List.{take_at, drop_at, drop-drop, length-drop}
 use Rattle.std.proofs.lemmas.Nat.{from_be_bytes-to_be_bytes_8}
 use Rattle.ferry_aes.specs.CounterMode.{ctr}
 use Rattle.ferry_aes.proofs.CallerLemmas.{length-ctr, ctr-ctr}
 use Rattle.ferry_mac.specs.Hmac.{hmac256}
 use Rattle.ferry_mac.proofs.CallerLemmas.{length-hmac256}
 use Rattle.ferry_mac.specs.declared.keys.Keys.{Keys}
-use borrow.Rule.Slice.PartMut.{put_mid}
-use Rattle.ferry_blob.proofs.BlobLemmas.{put_rest}
 use Rattle.ferry_base.specs.Limits.{zero_id}
+use Rattle.ferry_blob.specs.Batch.{IsSealed}
 use Rattle.ferry_blob.specs.Blob.{IsType, OpensTo, authenticated, content_id, no_compression, nonce_of, plaintext, sealed, type_of}
 use Rattle.ferry_blob.specs.declared.mode.Mode.{Mode}
 use Rattle.ferry_blob.specs.declared.mode.Mode.TheVariants.{Repokey, Keyfile}
@@ -29,6 +28,12 @@ length-authenticated key nonce content =
     let joined = length-append (to_be_bytes w64 nonce) (ctr key nonce text) in
     let part = length-append no_compression content in
     omega (arith, length-ctr key nonce text)
+
+-- what has such a part behind its first 33 bytes has room for each field
+pub room_behind : (key : List ℕ) (nonce : ℕ) (content blob : List ℕ) → drop 33 blob ≡ authenticated key nonce content → 43 ≤ length blob
+room_behind key nonce content blob is =
+    let same = ap length is in
+    omega (arith, length-authenticated key nonce content, length-drop 33 blob)
 
 drop-authenticated : (key : List ℕ) (nonce : ℕ) (content : List ℕ) → drop 8 (authenticated key nonce content) ≡ ctr key nonce (no_compression ++ content)
 unfolding authenticated
@@ -97,15 +102,19 @@ sealed-opens keys mode nonce id content small named = record {
 
 -- ---- what the code puts together
 
-pub sealed_by : (keys : Keys) (mode : Mode) (nonce : ℕ) (buffer part blob : List ℕ) → 43 ≤ length buffer
-    → part ≡ authenticated keys.enc_key nonce (drop 10 (drop 33 buffer))
-    → blob
-    ≡ type_of mode
-    ∷ (hmac256 keys.enc_hmac_key (drop 33 (put_mid 33 (length buffer - 33) buffer part)) ++ drop 33 (put_mid 33 (length buffer - 33) buffer part))
-    → blob ≡ sealed keys mode nonce (drop 43 buffer)
+-- a content's nonce and ciphertext, with the type and the MAC in front
+pub sealed_whole : (keys : Keys) (mode : Mode) (nonce : ℕ) (before part blob : List ℕ) → nonce < 2 ^ 64
+    → drop 33 part ≡ authenticated keys.enc_key nonce (drop 43 before)
+    → blob ≡ type_of mode ∷ (hmac256 keys.enc_hmac_key (drop 33 part) ++ drop 33 part)
+    → IsSealed keys mode nonce before blob
 unfolding sealed
-sealed_by keys mode nonce buffer part blob room is put =
-    let behind : drop 33 (put_mid 33 (length buffer - 33) buffer part) ≡ part =
-    ap (drop 33) (put_rest 33 buffer part (omega arith)) ∙ drop_at (take 33 buffer) part 33 (length-take-le 33 buffer (omega arith)) in
-    let whole : part ≡ authenticated keys.enc_key nonce (drop 43 buffer) = is ∙ ap (authenticated keys.enc_key nonce) (drop-drop 10 33 buffer) in
-    put ∙ ap (λ rest. type_of mode ∷ (hmac256 keys.enc_hmac_key rest ++ rest)) (behind ∙ whole)
+sealed_whole keys mode nonce before part blob small is put =
+    let content = drop 43 before in
+    let whole : blob ≡ sealed keys mode nonce content =
+    put ∙ ap (λ rest. type_of mode ∷ (hmac256 keys.enc_hmac_key rest ++ rest)) is in
+    record {
+      blob = whole;
+      opens = λ id named. subst (λ (text : List ℕ). OpensTo keys id text content) (sym whole) (sealed-opens keys mode nonce id content small named);
+      kind = ap (λ (text : List ℕ). slice_index text 0) whole ∙ sealed-kind keys mode nonce content;
+      nonce = ap nonce_of whole ∙ sealed-nonce keys mode nonce content small;
+    }

@@ -1,2 +1,3 @@
 pub mod Fault
 pub mod Blob
+pub mod Batch

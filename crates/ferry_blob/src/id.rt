@@ -1,6 +1,7 @@
-ghost use Rattle.std.specs.Prelude.{◌≡◌};
+ghost use Rattle.std.specs.Prelude.{◌≡◌, map};
 ghost use Rattle.ferry_blob.specs.Blob.{content_id, is_named};
 
+use crate::macs::macs_of;
 use ferry_base::{Id, ZERO_ID};
 use ferry_lanes::same;
 use ferry_mac::{Keys, hmac256};
@@ -13,6 +14,16 @@ pub fn id_of(keys: &Keys, content: &[u8]) -> Id
     ensures id { result ≡ content_id keys.now content.now }
 {
     hmac256(&keys.id_key, content)
+}
+
+/// The ids of four contents, side by side. A place that isn't needed has an empty content.
+///
+/// Source: BorgBackup 1.2, Internals, "Data structures and file formats", Encryption.
+#[tactic(auto, unfolding(crate::specs::Blob::content_id))]
+pub fn ids_of(keys: &Keys, contents: [&[u8]; 4]) -> [Id; 4]
+    ensures ids { result ≡ map (λ content. content_id keys.now content.now) contents.entry }
+{
+    macs_of(&keys.id_key, contents)
 }
 
 /// Whether a content may stand under an id: the zero id, or its own.

@@ -1,12 +1,13 @@
 //! Laws on what blobs mean.
 
-ghost use Rattle.std.specs.Prelude.{◌≡◌, ◌≢◌, ◌↔◌, ℕ, ◌+◌, ◌-◌, ◌^◌, ◌<◌, ◌≤◌, ◌++◌, List, None, Some, length, drop, replicate, slice_index, take};
+ghost use Rattle.std.specs.Prelude.{◌≡◌, ◌≢◌, ◌↔◌, ℕ, ◌+◌, ◌-◌, ◌^◌, ◌<◌, ◌≤◌, ◌++◌, List, None, Result, Some, length, drop, replicate, slice_index, take};
 ghost use Rattle.std.specs.Int.{w64, to_be_bytes};
 ghost use Rattle.ferry_base.specs.Limits.{zero_id};
 ghost use Rattle.ferry_aes.specs.KeyExpansion.{key_expansion};
 ghost use Rattle.ferry_aes.specs.CounterMode.{counter_block, output_blocks, xor_lists};
 ghost use Rattle.ferry_mac.specs.Hmac.{hmac256};
 ghost use Rattle.ferry_mac.specs.declared.keys.Keys.{Keys};
+ghost use Rattle.ferry_blob.specs.Batch.{IsOpened};
 ghost use Rattle.ferry_blob.specs.Blob.{IsAuthentic, IsBlockOf, IsType, OpensTo, blob_fault, block_count, blocks};
 ghost use Rattle.ferry_blob.specs.Blob.{content_id, no_compression, nonce_of, plaintext, sealed};
 ghost use Rattle.ferry_blob.specs.declared.fault.BlobFault.{BlobFault};
@@ -21,6 +22,10 @@ pub fn blob_laws()
         ↔ ((blob_fault keys id blob ≡ None) × (content ≡ drop 2 (plaintext keys blob))) }
     ensures one { (keys : Keys) (id blob a b : List ℕ)
         → OpensTo keys id blob a → OpensTo keys id blob b → a ≡ b }
+
+    // What opening answers and leaves is one thing alone.
+    ensures answer { (keys : Keys) (id before x y : List ℕ) (a b : Result (Unit {0}) BlobFault)
+        → IsOpened keys id before a x → IsOpened keys id before b y → (a ≡ b) × (x ≡ y) }
 
     // With the zero id the id isn't looked at: what opens under any id opens under it, and no id is wrong.
     ensures zero { (keys : Keys) (id blob content : List ℕ)

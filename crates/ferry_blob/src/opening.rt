@@ -1,7 +1,10 @@
 //! From a blob to its content.
 
-ghost use Rattle.std.specs.Prelude.{◌≡◌, ◌≤◌, OnOk, IfErr, None, Some, true, false, drop, length};
-ghost use Rattle.ferry_blob.specs.Blob.{OpensTo, blob_fault, decrypted, has_mac, is_decrypted, nonce_of};
+ghost use Rattle.std.specs.Prelude.{◌≡◌, ◌≤◌, OnOk, IfErr, None, Some, true, false, drop, length, slice_index};
+ghost use Rattle.ferry_base.specs.Limits.{zero_id};
+ghost use Rattle.ferry_mac.specs.Hmac.{hmac256};
+ghost use Rattle.ferry_blob.specs.Batch.{IsOpened};
+ghost use Rattle.ferry_blob.specs.Blob.{OpensTo, blob_fault, decrypted, has_type, is_decrypted, nonce_of};
 
 use crate::fault::BlobFault;
 use crate::id::is_named;
@@ -36,32 +39,44 @@ pub fn open_blob(keys: &Keys, id: &Id, blob: &mut [u8]) -> Result<(), BlobFault>
     ensures refused { IfErr result (λ fault.
         is_decrypted fault ≡ true → blob.new ≡ decrypted keys.now blob.old) }
 {
-    if blob.len() < BLOB_HEAD {
-        return Err(BlobFault::Short);
-    }
-    if !has_type(blob[0]) {
-        return Err(BlobFault::Kind);
-    }
-    if !has_mac(keys, blob) {
-        return Err(BlobFault::Mac);
-    }
-    decrypt(keys, blob);
-    if !same(&blob[41..BLOB_HEAD], &NO_COMPRESSION) {
-        return Err(BlobFault::Compressed);
-    }
+    let mac = hmac256(&keys.enc_hmac_key, authenticated_part(blob));
+    open_by_mac(keys, &mac, blob)?;
     if !is_named(keys, id, &blob[BLOB_HEAD..]) {
         return Err(BlobFault::Id);
     }
     Ok(())
 }
 
-/// Whether the MAC of a blob is that of the nonce and the ciphertext.
-#[tactic(auto, unfolding(crate::specs::Blob::has_mac))]
-fn has_mac(keys: &Keys, blob: &[u8]) -> bool
-    requires { 43 ≤ length blob.now }
-    ensures mac { result ≡ has_mac keys.now blob.now }
+/// What the MAC of a blob is of: the nonce and the ciphertext. It is empty where a blob is too short or of no known type, whose MAC isn't looked at.
+pub(crate) fn authenticated_part(blob: &[u8]) -> &[u8]
+    ensures part { 43 ≤ length blob.now → has_type (slice_index blob.now 0) ≡ true → result.now ≡ drop 33 blob.now }
 {
-    same(&blob[1..33], &hmac256(&keys.enc_hmac_key, &blob[33..]))
+    if blob.len() < BLOB_HEAD || !has_type(blob[0]) {
+        return &[];
+    }
+    &blob[33..]
+}
+
+/// Opens a blob under the zero id. `mac` is the MAC of its authenticated part.
+pub(crate) fn open_by_mac(keys: &Keys, mac: &[u8; 32], blob: &mut [u8]) -> Result<(), BlobFault>
+    requires { 43 ≤ length blob.old → has_type (slice_index blob.old 0) ≡ true
+        → mac.now ≡ hmac256 keys.now.enc_hmac_key (drop 33 blob.old) }
+    ensures opened { IsOpened keys.now zero_id blob.old result blob.new }
+{
+    if blob.len() < BLOB_HEAD {
+        return Err(BlobFault::Short);
+    }
+    if !has_type(blob[0]) {
+        return Err(BlobFault::Kind);
+    }
+    if !same(&blob[1..33], mac) {
+        return Err(BlobFault::Mac);
+    }
+    decrypt(keys, blob);
+    if !same(&blob[41..BLOB_HEAD], &NO_COMPRESSION) {
+        return Err(BlobFault::Compressed);
+    }
+    Ok(())
 }
 
 /// The nonce of a blob.

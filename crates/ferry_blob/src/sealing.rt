@@ -2,7 +2,6 @@
 
 ghost use Rattle.std.specs.Prelude.{◌≡◌, ◌⊎◌, ℕ, ◌+◌, ◌-◌, ◌^◌, ◌≤◌, ◌++◌, ◌∷◌, List, drop, length, slice_index};
 ghost use Rattle.ferry_base.specs.Limits.{blob_limit, content_limit, zero_id};
-ghost use Rattle.ferry_mac.specs.Hmac.{hmac256};
 ghost use Rattle.ferry_blob.specs.Blob.{OpensTo, authenticated, blocks, content_id, nonce_of, sealed, type_of};
 
 use crate::mode::{Mode, type_of};
@@ -37,13 +36,22 @@ pub fn seal(keys: &Keys, mode: Mode, nonce: u64, buffer: &mut [u8])
     ensures kind { slice_index buffer.new 0 ≡ type_of mode }
     ensures nonce { nonce_of buffer.new ≡ nonce }
 {
-    encrypt(&keys.enc_key, nonce, &mut buffer[33..]);
-    put_head(keys, mode, buffer);
+    encrypt(&keys.enc_key, nonce, buffer);
+    let mac = hmac256(&keys.enc_hmac_key, &buffer[33..]);
+    put_head(mode, &mac, buffer);
+}
+
+/// Puts the nonce and the ciphertext behind the first 33 bytes, in the place of 10 bytes and a content.
+pub(crate) fn encrypt(key: &[u8; 32], nonce: u64, buffer: &mut [u8])
+    requires { 43 ≤ length buffer.old }
+    ensures part { drop 33 buffer.new ≡ authenticated key.now nonce (drop 43 buffer.old) }
+{
+    encrypt_part(key, nonce, &mut buffer[33..]);
 }
 
 /// Puts the nonce and the ciphertext in the place of 10 bytes and a content.
 #[tactic(auto, unfolding(crate::specs::Blob::authenticated))]
-fn encrypt(key: &[u8; 32], nonce: u64, part: &mut [u8])
+fn encrypt_part(key: &[u8; 32], nonce: u64, part: &mut [u8])
     requires { 10 ≤ length part.old }
     ensures part { part.new ≡ authenticated key.now nonce (drop 10 part.old) }
 {
@@ -53,12 +61,10 @@ fn encrypt(key: &[u8; 32], nonce: u64, part: &mut [u8])
 }
 
 /// Puts the type and the MAC in front.
-fn put_head(keys: &Keys, mode: Mode, buffer: &mut [u8])
+pub(crate) fn put_head(mode: Mode, mac: &[u8; 32], buffer: &mut [u8])
     requires { 43 ≤ length buffer.old }
-    ensures blob { buffer.new
-        ≡ type_of mode ∷ (hmac256 keys.now.enc_hmac_key (drop 33 buffer.old) ++ drop 33 buffer.old) }
+    ensures blob { buffer.new ≡ type_of mode ∷ (mac.now ++ drop 33 buffer.old) }
 {
-    let mac = hmac256(&keys.enc_hmac_key, &buffer[33..]);
     buffer[0] = type_of(mode);
-    buffer[1..33].copy_from_slice(&mac);
+    buffer[1..33].copy_from_slice(mac);
 }

@@ -1,12 +1,14 @@
 //! Blobs and their answers. The blobs, ids and MACs were computed by Python's hmac and hashlib and by OpenSSL's
 //! `aes-256-ctr`, apart from this code. The three keys are the bytes 00 to 1f, 20 to 3f and 40 to 5f.
 
-ghost use Rattle.std.specs.Prelude.{◌≤◌};
+ghost use Rattle.std.specs.Prelude.{◌≡◌, ◌+◌, ◌≤◌, length, IfOk};
 
 use crate::*;
 use ferry_base::{Id, ZERO_ID};
 use ferry_mac::Keys;
+use std::alloc::{AllocError, Global};
 use std::process::Abort;
+use std::test::Fail;
 
 /// The 32 bytes from `first` on.
 fn key_from(first: u8) -> [u8; 32]
@@ -17,6 +19,14 @@ fn key_from(first: u8) -> [u8; 32]
         key[usize::from(i)] = first + i;
     }
     key
+}
+
+fn keys() -> Keys {
+    Keys {
+        enc_key: key_from(0),
+        enc_hmac_key: key_from(32),
+        id_key: key_from(64),
+    }
 }
 
 /// The id of the content `hello`.
@@ -106,6 +116,54 @@ fn faults_are_told(rt: &impl Abort, keys: &Keys, cases: &[Case]) {
     }
 }
 
+/// Four blobs of the table from number `first` on, which begins again behind its last.
+fn four_of(alloc: Global, cases: &[Case; 8], first: usize) -> Result<[Vec<u8>; 4], AllocError>
+    requires { first ≤ 7 }
+{
+    Ok([
+        Vec::from_slice(alloc, cases[first].blob)?,
+        Vec::from_slice(alloc, cases[(first + 1) % 8].blob)?,
+        Vec::from_slice(alloc, cases[(first + 2) % 8].blob)?,
+        Vec::from_slice(alloc, cases[(first + 3) % 8].blob)?,
+    ])
+}
+
+/// Opens four blobs of the table at a time, so that each stands in each place. Each answer and each buffer are those of `open_blob`.
+fn four_are_opened_as_one(
+    rt: &impl Abort,
+    alloc: Global,
+    keys: &Keys,
+    cases: &[Case; 8],
+) -> Result<(), AllocError> {
+    for first in 0..8usize {
+        let ids = [
+            cases[first].id,
+            cases[(first + 1) % 8].id,
+            cases[(first + 2) % 8].id,
+            cases[(first + 3) % 8].id,
+        ];
+        let mut blobs = four_of(alloc, cases, first)?;
+        let mut alone = four_of(alloc, cases, first)?;
+        let answers = open_blobs(keys, &ids, &mut blobs);
+        for place in 0..4usize {
+            let case = &cases[(first + place) % 8];
+            let answer = open_blob(keys, &ids[place], alone[place].as_mut_slice());
+            assert!(rt; answers[place] == answer, "{}", case.about);
+            assert!(rt;
+                answers[place].is_ok() == (case.fault == 0),
+                "{}",
+                case.about
+            );
+            assert!(rt;
+                blobs[place].as_slice() == alone[place].as_slice(),
+                "{}",
+                case.about
+            );
+        }
+    }
+    Ok(())
+}
+
 const FOX_CONTENT: &[u8; 43] = b"The quick brown fox jumps over the lazy dog";
 
 /// That content sealed under the nonce 0102030405060708.
@@ -121,11 +179,7 @@ static FOX_ID: &[u8] =
 #[test]
 #[tactic(auto, unfolding(crate::specs::Blob::blocks))]
 fn a_content_is_sealed_named_and_opened_as_by_python(rt: HostRuntime) {
-    let keys = Keys {
-        enc_key: key_from(0),
-        enc_hmac_key: key_from(32),
-        id_key: key_from(64),
-    };
+    let keys = keys();
     faults_are_told(&rt, &keys, &CASES);
     let mut buffer = [0xa5u8; 86];
     buffer[43..].copy_from_slice(FOX_CONTENT);
@@ -140,4 +194,55 @@ fn a_content_is_sealed_named_and_opened_as_by_python(rt: HostRuntime) {
     assert!(rt; blocks_of(43) == 3);
     blob_laws();
     block_laws();
+}
+
+/// A content behind 43 bytes that are not read.
+fn buffer_of(alloc: Global, content: &[u8]) -> Result<Vec<u8>, AllocError>
+    ensures { IfOk result (λ buffer. length buffer.items ≡ 43 + length content.now) }
+{
+    let mut buffer = Vec::from_slice(alloc, &[0xa5; 43])?;
+    buffer.extend_from_slice(content)?;
+    Ok(buffer)
+}
+
+/// The nonce of the blobs of `hello` and of the fox.
+const NONCE: u64 = 0x0102_0304_0506_0708;
+
+/// The type and the MAC of the blob of 1000 times `a` under that nonce.
+static LONG_HEAD: &[u8; 33] =
+    b"\x03\x84\x82\x06bb1\xf7J\xc1\xe1\xb1w\x5c0\xbdf \x87\xa1\xd5BJ}[\xfa\xb3\x90\xe8\xee\xb3n\x91";
+
+/// The id of 1000 times `a`.
+static LONG_ID: &[u8] =
+    b"\x9f_\x15\xe7\x5c\x0c\xf2\xae>S\xfd\xc3'u<\xa4\xc05Z,4\xd9\x10\xe9\xc1\x13t\xdf=\xb7\x044";
+
+/// The id of no bytes.
+static EMPTY_ID: &[u8] =
+    b"fV\xedD@m\x88\x95I{\x1b\x8d\x85A\x18\xfc\xd7y\x0e\x18\x1c\xe6\xea|\xa4\xee\xd7\x93\xf0\xfc\xd5\x94";
+
+#[test]
+fn up_to_four_are_sealed_named_and_opened_as_by_python(rt: HostRuntime) -> Result<(), Fail> {
+    let keys = keys();
+    let alloc = rt.alloc();
+    four_are_opened_as_one(&rt, alloc, &keys, &CASES)?;
+    let mut even = [
+        buffer_of(alloc, b"hello")?,
+        buffer_of(alloc, FOX_CONTENT)?,
+        buffer_of(alloc, b"hello")?,
+        buffer_of(alloc, FOX_CONTENT)?,
+    ];
+    seal_blobs(&keys, Mode::Repokey, &[NONCE; 4], &mut even);
+    assert!(rt; even[0].as_slice() == CASES[0].blob && even[1].as_slice() == FOX);
+    assert!(rt; even[2].as_slice() == CASES[0].blob && even[3].as_slice() == FOX);
+    let long = [b'a'; 1000];
+    let mut uneven = [buffer_of(alloc, b"hello")?, buffer_of(alloc, &long)?];
+    seal_blobs(&keys, Mode::Repokey, &[NONCE; 2], &mut uneven);
+    assert!(rt; uneven[0].as_slice() == CASES[0].blob && uneven[1].starts_with(LONG_HEAD));
+    let ids = ids_of(&keys, [&long, b"hello", b"", FOX_CONTENT]);
+    assert!(rt; ids[0].as_slice() == LONG_ID && ids[1] == HELLO_ID);
+    assert!(rt; ids[2].as_slice() == EMPTY_ID && ids[3].as_slice() == FOX_ID);
+    let answers = open_blobs(&keys, &[HELLO_ID, ids[0]], &mut uneven);
+    assert!(rt; answers == [Ok(()), Ok(()), Err(BlobFault::Short), Err(BlobFault::Short)]);
+    assert!(rt; uneven[0].ends_with(b"hello") && uneven[1].ends_with(&long));
+    Ok(())
 }

@@ -1,3 +1,12 @@
 pub mod FilesLemmas
 pub mod DeviceLemmas
 pub mod WholeLemmas
+pub mod StreamLemmas
+pub mod ImageLemmas
+pub mod ImageStepLemmas
+pub mod MomentLemmas
+pub mod ReplaceLemmas
+pub mod ChoiceLemmas
+pub mod FaultLemmas
+pub mod SizesLemmas
+pub mod AllowLemmas

@@ -1,7 +1,7 @@
 -- What the contracts of devices say: what a device tells, its count of faults, and what each answer means.
 use Rattle.std.specs.Prelude.{◌≡◌, ℕ, ◌+◌, ◌-◌, ◌^◌, ◌≤◌, min, nat_lt, Bool, true, false, if◌then◌else◌, List, ◌++◌, length, take, drop, Option, Some}
 use Rattle.std.specs.Prelude.{None, Result, MatchResult, option_map}
-use Rattle.ferry_disk.specs.Act.{History, files_now}
+use Rattle.ferry_disk.specs.Act.{Step, History, files_now, with_act}
 use Rattle.ferry_disk.specs.Files.{Files, contents_at}
 use Rattle.ferry_disk.specs.declared.name.Name.{Name}
 use Rattle.ferry_disk.specs.declared.shelf.StoreFault.{StoreFault}
@@ -82,6 +82,29 @@ store_failed Store.Memory = false
 abbrev pub sink_failed : SinkFault → Bool
 sink_failed Sink.Failed = true
 sink_failed Sink.Memory = false
+
+-- ---- what a call that writes leaves
+
+-- what a device tells after one more call that is no act, and that didn't fail
+abbrev pub called : Told → Told
+called told = record told { calls = counted told.calls }
+
+-- what it tells after one more act; the call failed where the act wasn't done
+abbrev pub acted : Step → Bool → Told → Told
+acted step done told = record {
+  history = with_act step done told.history;
+  calls = counted told.calls;
+  failed = if done then told.failed else first_failed told.failed (counted told.calls);
+}
+
+-- A call that isn't `Ok`: a failed device adds the act as one that wasn't done, want of memory adds none.
+abbrev pub NotActs : Step → Option Told → Option Told → StoreFault → Type 0
+NotActs step before now Store.Failed = now ≡ option_map (acted step false) before
+NotActs step before now Store.Memory = now ≡ option_map called before
+
+-- Each call that writes adds one act, done where the answer is `Ok`.
+abbrev pub Acts : {T : Type 0} → Step → Option Told → Option Told → Result T StoreFault → Type 0
+Acts step before now result = MatchResult result (λ _. now ≡ option_map (acted step true) before) (NotActs step before now)
 
 -- ---- what a call gives
 

@@ -13,3 +13,7 @@ calls_of entropy = entropy.calls.calls
 -- how many of them failed
 abbrev pub faults_of : MemoryEntropy → ℕ
 faults_of entropy = entropy.calls.faults
+
+-- how many bytes it has handed out
+abbrev pub place_of : MemoryEntropy → ℕ
+place_of entropy = entropy.place

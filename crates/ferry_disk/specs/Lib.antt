@@ -1,7 +1,16 @@
 pub mod Act
+pub mod Acts
 pub mod Calls
+pub mod Choice
 pub mod Device
+pub mod Disk
 pub mod Entropy
+pub mod Faults
 pub mod Files
+pub mod Image
+pub mod ImageSteps
 pub mod Memory
+pub mod Moments
+pub mod Sizes
+pub mod Stream
 pub mod Whole

@@ -26,6 +26,14 @@ impl Calls {
         }
     }
 
+    /// Counts one more call, which doesn't fail.
+    pub fn count_one(&mut self)
+        ensures counted { self.new.calls ≡ counted self.old.calls }
+        ensures same { (self.new.faults ≡ self.old.faults) × (self.new.failed ≡ self.old.failed) × (self.new.failing.items ≡ self.old.failing.items) }
+    {
+        self.calls = self.calls.saturating_add(1);
+    }
+
     /// Counts one more call, and answers whether it fails.
     pub fn next_fails(&mut self) -> bool
         ensures fails { result ≡ fails self.old.failing.items self.old.calls }
@@ -34,15 +42,27 @@ impl Calls {
         ensures failed { self.new.failed ≡ (if result then first_failed self.old.failed (counted self.old.calls) else self.old.failed) }
         ensures failing { self.new.failing.items ≡ self.old.failing.items }
     {
-        self.calls = self.calls.saturating_add(1);
-        let number = self.calls;
+        let number = self.calls.saturating_add(1);
         let fails = self.failing.iter().any(|failing| *failing == number);
         if fails {
-            self.faults = self.faults.saturating_add(1);
-            if self.failed.is_none() {
-                self.failed = Some(number);
-            }
+            self.fail_one();
+        } else {
+            self.count_one();
         }
         fails
+    }
+
+    /// Counts one more call, which fails.
+    pub fn fail_one(&mut self)
+        ensures counted { self.new.calls ≡ counted self.old.calls }
+        ensures faults { self.new.faults ≡ counted self.old.faults }
+        ensures failed { self.new.failed ≡ first_failed self.old.failed (counted self.old.calls) }
+        ensures failing { self.new.failing.items ≡ self.old.failing.items }
+    {
+        self.count_one();
+        self.faults = self.faults.saturating_add(1);
+        if self.failed.is_none() {
+            self.failed = Some(self.calls);
+        }
     }
 }

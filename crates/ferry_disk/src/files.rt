@@ -3,7 +3,8 @@ ghost use Rattle.std.specs.Prelude.{◌≡◌, ◌+◌, ◌-◌, ◌++◌, ℕ, 
 ghost use Rattle.std.specs.Ordering.{nat_cmp};
 ghost use Rattle.std.specs.List.Sorted.{IsStrictlyIncreasing};
 ghost use Rattle.std.specs.BTreeMap.{keys, IsOrdered};
-ghost use Rattle.ferry_disk.specs.Files.{no_files, file_at, with_file, segment_numbers};
+ghost use Rattle.ferry_disk.specs.Act.{stepped, AppendTo};
+ghost use Rattle.ferry_disk.specs.Files.{no_files, file_at, with_file, without_segment, segment_numbers};
 ghost use Rattle.ferry_disk.specs.Memory.{files_of, files_given};
 
 use crate::name::Name;
@@ -43,9 +44,10 @@ impl MemoryFiles {
         Ok(all)
     }
 
-    /// Puts a file in the place of what had its name.
-    fn put(&mut self, name: Name, bytes: Vec<u8>) -> Result<(), AllocError>
-        ensures { OnOk result (files_of self.new ≡ with_file (files_of self.old) name bytes.items) }
+    /// Puts a file in the place of what had its name. At an error nothing has changed.
+    pub fn put(&mut self, name: Name, bytes: Vec<u8>) -> Result<(), AllocError>
+        ensures ok { OnOk result (files_of self.new ≡ with_file (files_of self.old) name bytes.items) }
+        ensures err { OnErr result (files_of self.new ≡ files_of self.old) }
     {
         match name {
             Name::Config => self.config = Some(bytes),
@@ -56,6 +58,41 @@ impl MemoryFiles {
             }
         }
         Ok(())
+    }
+
+    /// Appends bytes to a segment in its place, which is created where it is absent. At an error nothing has changed.
+    pub fn append(&mut self, alloc: Global, segment: u64, bytes: &[u8]) -> Result<(), AllocError>
+        ensures ok { OnOk result (files_of self.new ≡ stepped (files_of self.old) (AppendTo segment bytes.now)) }
+        ensures err { OnErr result (files_of self.new ≡ files_of self.old) }
+    {
+        if let Some(stored) = self.segments.get_mut(&segment) {
+            return stored.extend_from_slice(bytes);
+        }
+        let copy = Vec::from_slice(alloc, bytes)?;
+        self.put(Name::Segment(segment), copy)
+    }
+
+    /// Takes a segment out.
+    pub fn remove(&mut self, segment: u64)
+        ensures { files_of self.new ≡ without_segment (files_of self.old) segment }
+    {
+        self.segments.remove(&segment);
+    }
+
+    /// The same files in memory of their own.
+    pub fn copy(&self, alloc: Global) -> Result<MemoryFiles, AllocError>
+        ensures { IfOk result (λ files. files_of files ≡ files_of self.now) }
+    {
+        let config = copy_of(alloc, &self.config)?;
+        let nonce = copy_of(alloc, &self.nonce)?;
+        let readme = copy_of(alloc, &self.readme)?;
+        let segments = self.segments.clone()?;
+        Ok(MemoryFiles {
+            config,
+            nonce,
+            readme,
+            segments,
+        })
     }
 
     /// A file's bytes.
@@ -76,6 +113,16 @@ impl MemoryFiles {
         ensures increasing { IfOk result (λ numbers. IsStrictlyIncreasing numbers.items) }
     {
         keys_of(alloc, &self.segments)
+    }
+}
+
+/// A file's bytes in memory of their own.
+fn copy_of(alloc: Global, file: &Option<Vec<u8>>) -> Result<Option<Vec<u8>>, AllocError>
+    ensures { IfOk result (λ copy. option_map (λ v. v.items) copy ≡ option_map (λ v. v.items) file.now) }
+{
+    match file {
+        Some(bytes) => Ok(Some(Vec::from_slice(alloc, bytes)?)),
+        None => Ok(None),
     }
 }
 

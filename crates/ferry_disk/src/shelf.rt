@@ -1,10 +1,11 @@
 //! A repository's files as they are read.
-ghost use Rattle.std.specs.Prelude.{◌≡◌, ◌≤◌, ◌↔◌, ℕ, Option, Some, None, map, length, IsTrue, IfOk, IfSome, IsErrOf, option_map};
+ghost use Rattle.std.specs.Prelude.{◌≡◌, ◌≤◌, ◌↔◌, ℕ, Option, Some, None, map, length, IsTrue, IfOk, IfSome, OnOk, OnErr, IsErrOf, option_map};
 ghost use Rattle.std.specs.List.Sorted.{IsStrictlyIncreasing};
 ghost use Rattle.ferry_disk.specs.Files.{Files, file_at, segment_numbers};
 ghost use Rattle.ferry_disk.specs.Device.{Told, told_files, calls_told, counted, KeepsTold, HasCause, store_failed, ReadsAt};
 ghost use Rattle.ferry_disk.specs.Calls.{Device, told_by, after_call, will_fail};
 
+use crate::act::Kind;
 use crate::calls::Calls;
 use crate::files::{MemoryFiles, copy_from};
 use crate::name::Name;
@@ -98,6 +99,71 @@ impl MemoryShelf {
         let files = MemoryFiles::of(alloc, files)?;
         let calls = Calls::new(failing);
         Ok(MemoryShelf { files, calls })
+    }
+
+    /// How many calls it has had.
+    pub fn count(&self) -> u64
+        ensures { result ≡ self.now.calls }
+    {
+        self.calls.calls
+    }
+}
+
+impl MemoryShelf {
+    ghost use Rattle.ferry_disk.specs.Act.{stepped, IsPlainStep};
+    ghost use Rattle.ferry_disk.specs.Acts.{step_of};
+    ghost use Rattle.ferry_disk.specs.Memory.{files_of};
+
+    /// A shelf of these files that has had no call.
+    pub(crate) fn over(files: MemoryFiles, failing: Vec<u64>) -> MemoryShelf
+        ensures files { result.files ≡ files_of files }
+        ensures failing { result.failing ≡ failing.items }
+        ensures unused { (result.calls ≡ 0) × (result.faults ≡ 0) × (result.failed ≡ None) }
+    {
+        let calls = Calls::new(failing);
+        MemoryShelf { files, calls }
+    }
+
+    /// Its files, in memory of their own.
+    pub(crate) fn copy_files(&self, alloc: Global) -> Result<MemoryFiles, AllocError>
+        ensures { IfOk result (λ files. files_of files ≡ self.now.files) }
+    {
+        self.files.copy(alloc)
+    }
+
+    /// Counts one more call, which does nothing and doesn't fail.
+    pub(crate) fn count_one(&mut self)
+        ensures { self.new ≡ record self.old { calls = counted self.old.calls } }
+    {
+        self.calls.count_one();
+    }
+
+    /// Counts one more call, and answers whether it fails.
+    pub(crate) fn next_fails(&mut self) -> bool
+        ensures fails { result ≡ will_fail self.old }
+        ensures after { self.new ≡ after_call self.old }
+    {
+        self.calls.next_fails()
+    }
+
+    /// Does to the files what an act does where it is done. At an error nothing has changed.
+    pub(crate) fn carry_out(&mut self, alloc: Global, kind: &Kind) -> Result<(), AllocError>
+        requires { IsPlainStep (step_of kind.now) }
+        ensures ok { OnOk result (self.new ≡ record self.old { files = stepped self.old.files (step_of kind.now) }) }
+        ensures err { OnErr result (self.new ≡ self.old) }
+    {
+        match kind {
+            Kind::Append(segment, bytes) => self.files.append(alloc, *segment, bytes),
+            Kind::Replace(name, bytes) => {
+                let copy = Vec::from_slice(alloc, bytes)?;
+                self.files.put(*name, copy)
+            }
+            Kind::Remove(segment) => {
+                self.files.remove(*segment);
+                Ok(())
+            }
+            Kind::Sync(_) | Kind::Settle | Kind::Tell(_) => Ok(()),
+        }
     }
 }
 

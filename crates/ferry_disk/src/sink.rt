@@ -69,6 +69,13 @@ impl MemorySink {
         })
     }
 
+    /// How many calls it has had.
+    pub fn count(&self) -> u64
+        ensures { result ≡ self.now.calls }
+    {
+        self.calls.calls
+    }
+
     /// All that was written.
     pub fn bytes(&self) -> &[u8]
         ensures { result.now ≡ self.now.bytes }

@@ -1,6 +1,6 @@
 use crate::{
-    MemoryDepot, MemoryEntropy, MemoryShelf, MemorySink, Name, Shelf, Sink, SinkFault, StoreFault,
-    read_whole,
+    Act, Choice, Depot, Entropy, EntropyFault, Kind, MemoryDepot, MemoryEntropy, MemoryShelf,
+    MemorySink, Name, Shelf, Sink, SinkFault, StoreFault, read_whole,
 };
 use std::alloc::{AllocError, Global};
 use std::test::Fail;
@@ -53,6 +53,84 @@ fn a_sink_has_what_was_written(rt: HostRuntime) -> Result<(), Fail> {
     assert_eq!(rt; sink.write(b"cd"), Err(SinkFault::Failed));
     sink.write(b"ef")?;
     assert_eq!(rt; sink.bytes(), b"abef".as_slice());
-    assert!(rt; MemoryEntropy::new(alloc, vec![in alloc; 1]?).is_ok());
+    assert_eq!(rt; (shelf_calls(alloc)?, sink.count()), (1, 3));
+    Ok(())
+}
+
+/// How many calls a shelf tells after one.
+fn shelf_calls(alloc: Global) -> Result<u64, Fail> {
+    let mut shelf = MemoryShelf::new(alloc, files(alloc)?, Vec::new(alloc))?;
+    shelf.size(Name::Nonce)?;
+    Ok(shelf.count())
+}
+
+#[test]
+fn each_call_that_writes_makes_its_act_and_the_next_run_begins_with_what_a_read_gives(
+    rt: HostRuntime,
+) -> Result<(), Fail> {
+    let alloc = rt.alloc();
+    let mut depot = MemoryDepot::new(alloc, files(alloc)?, vec![in alloc; 5]?)?;
+    depot.settle()?;
+    depot.append(3, b"gh")?;
+    depot.append(4, b"i")?;
+    depot.sync(3)?;
+    assert_eq!(rt; depot.remove(3), Err(StoreFault::Failed));
+    depot.remove(1)?;
+    depot.replace(Name::Nonce, b"0")?;
+    depot.tell(b"told")?;
+    assert_eq!(rt; depot.count(), 8);
+    let lost = Act {
+        kind: Kind::Remove(3),
+        done: false,
+    };
+    assert_eq!(rt; depot.act(4), Some(&lost));
+    assert!(rt; depot.act(7).is_some_and(|act| act.done));
+    assert!(rt; depot.act(8).is_none());
+    let mut next = depot.again()?;
+    assert!(rt; next.act(0).is_none());
+    assert_eq!(rt; next.segments(alloc)?.as_slice(), [3u64, 4].as_slice());
+    assert_eq!(rt; read(&mut next, 3, 6), Ok((2, *b"gh..")));
+    assert_eq!(rt; read(&mut next, 4, 0), Ok((1, *b"i...")));
+    assert_eq!(rt; next.size(Name::Nonce), Ok(Some(1)));
+    Ok(())
+}
+
+/// The moment of so many acts, the last not done with `cut`, at which segment 4 is absent.
+fn without_four(alloc: Global, acts: u64, cut: bool) -> Result<Choice, AllocError> {
+    let mut tails = Vec::new(alloc);
+    tails.push((4, None))?;
+    Ok(Choice {
+        acts,
+        cut,
+        took: false,
+        tails,
+    })
+}
+
+#[test]
+fn a_new_segment_may_be_absent_until_it_is_synced(rt: HostRuntime) -> Result<(), Fail> {
+    let alloc = rt.alloc();
+    let mut depot = MemoryDepot::new(alloc, files(alloc)?, Vec::new(alloc))?;
+    depot.settle()?;
+    depot.append(4, b"i")?;
+    depot.sync(4)?;
+    assert!(rt; depot.allows(&without_four(alloc, 2, false)?));
+    assert!(rt; !depot.allows(&without_four(alloc, 3, false)?));
+    assert!(rt; depot.allows(&without_four(alloc, 3, true)?));
+    assert!(rt; !depot.allows(&without_four(alloc, 4, true)?));
+    Ok(())
+}
+
+#[test]
+fn the_bytes_of_a_source_in_memory_count_up(rt: HostRuntime) -> Result<(), Fail> {
+    let alloc = rt.alloc();
+    let mut entropy = MemoryEntropy::new(alloc, vec![in alloc; 2]?)?;
+    let mut three = [9u8; 3];
+    assert_eq!(rt; entropy.fill(&mut three), Ok(()));
+    assert_eq!(rt; three, [0u8, 1, 2]);
+    assert_eq!(rt; entropy.fill(&mut three), Err(EntropyFault::Failed));
+    assert_eq!(rt; entropy.fill(&mut three), Ok(()));
+    assert_eq!(rt; three, [3u8, 4, 5]);
+    assert_eq!(rt; entropy.count(), 3);
     Ok(())
 }

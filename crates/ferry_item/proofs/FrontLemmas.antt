@@ -68,6 +68,11 @@ pub rule_front : (bytes : List ℕ) (broken : PackFault) → Breaks bytes broken
 unfolding front_item
 rule_front bytes broken is = ap front_read (value_breaks 64 bytes broken is)
 
+-- the bytes end before a value does
+pub short_front : (bytes : List ℕ) → value_at 64 bytes ≡ Err Short → front_item bytes ≡ nothing_yet
+unfolding front_item
+short_front bytes is = ap front_read is
+
 no_fault : (broken : PackFault) → fault_of_rule broken ≡ None → broken ≢ Memory
 no_fault Short e = λ same. absurd cc
 no_fault Kind e = absurd cc

@@ -5,3 +5,5 @@ pub mod WriteLemmas
 pub mod AgainLemmas
 pub mod BreaksLemmas
 pub mod StreamLemmas
+pub mod LevelLemmas
+pub mod StepLemmas

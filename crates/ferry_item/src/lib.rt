@@ -11,6 +11,8 @@ mod fault;
 mod front;
 mod item;
 mod laws;
+mod opening;
+mod progress;
 mod reader;
 #[cfg(test)]
 mod tests;

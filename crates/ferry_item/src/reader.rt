@@ -1,6 +1,6 @@
 //! The items of a stream that comes in pieces.
 
-ghost use Rattle.std.specs.Prelude.{◌≡◌, ◌≢◌, ◌↔◌, ◌++◌, [], IfOk, IfErr, IfSome, OnOk, OnErr, Ok, Err, None, false};
+ghost use Rattle.std.specs.Prelude.{◌≡◌, ◌≢◌, ◌↔◌, ◌≤◌, ◌++◌, [], IfOk, IfErr, IfSome, OnOk, OnErr, Ok, Err, None, drop, false, length};
 ghost use Rattle.ferry_item.specs.Item.{is_healed, item_view};
 ghost use Rattle.ferry_item.specs.Stream.{an_item, nothing_yet, a_fault, front_item};
 ghost use Rattle.ferry_item.specs.Writing.{IsPackable, field_pairs};
@@ -9,29 +9,35 @@ ghost use Rattle.ferry_item.specs.declared.fault.ItemFault.{ItemFault};
 use crate::fault::ItemFault;
 use crate::front::item_at;
 use crate::item::Item;
+use crate::progress::{Progress, begun, behind, gone_on};
 use std::alloc::Global;
 use std::marker::Model;
 
 /// A reader of the item stream of an archive, which comes in pieces that are cut anywhere.
 ///
-/// Contracts see it as the bytes that were fed and not yet answered. It keeps all bytes that it was fed and a place in
-/// them, so no byte is moved.
+/// Contracts see it as the bytes that were fed and not yet answered. What was answered is given back when a piece
+/// comes, once it is half of what is kept: so at most one byte is moved for each byte that was answered.
 ///
 /// Source: BorgBackup 1.2, Internals, "Data structures and file formats", Archives.
 #[derive(Drop)]
 pub struct ItemReader {
     bytes: Vec<u8>,
+    /// Where the first byte stands that wasn't answered.
     at: usize,
+    /// How far the item there was read, where `next` answered none.
+    progress: Option<Progress>,
 }
 
 impl Model for ItemReader {
-    ghost use Rattle.std.specs.Prelude.{ℕ, ◌≤◌, List, drop, length};
+    ghost use Rattle.std.specs.Prelude.{ℕ, ◌≤◌, List, IfSome, drop, length};
+    ghost use Rattle.ferry_item.specs.Progress.{IsAhead};
 
     ghost Value = { List ℕ };
 
     ghost view = { λ a. drop a.at a.bytes.items };
 
-    ghost invariant = { λ a. a.at ≤ length a.bytes.items };
+    ghost invariant = { λ a. (a.at ≤ length a.bytes.items)
+        × IfSome a.progress (λ progress. IsAhead (drop a.at a.bytes.items) progress.seen progress.levels.items) };
 }
 
 impl ItemReader {
@@ -42,6 +48,7 @@ impl ItemReader {
         ItemReader {
             bytes: Vec::new(alloc),
             at: 0,
+            progress: None,
         }
     }
 
@@ -51,7 +58,18 @@ impl ItemReader {
         ensures err { OnErr result (self.new ≡ self.old) }
         ensures memory { IfErr result (λ fault. fault ≡ ItemFault.Memory) }
     {
+        self.give_back();
         Ok(self.bytes.extend_from_slice(piece)?)
+    }
+
+    /// Gives the answered bytes back where they are half of what is kept.
+    fn give_back(&mut self)
+        ensures { self.new ≡ self.old }
+    {
+        if self.at >= self.bytes.len() - self.at {
+            drop_front(&mut self.bytes, self.at);
+            self.at = 0;
+        }
     }
 
     /// Answers the next item, and none where the bytes end before it does, no bytes included.
@@ -72,7 +90,15 @@ impl ItemReader {
         ensures whole { IfOk result (λ found. IfSome found (λ item. is_healed (field_pairs (item_view item)) ≡ false)) }
     {
         let alloc = *self.bytes.allocator();
+        if let Some(progress) = self.progress.take() {
+            let later = gone_on(alloc, progress, behind(self.bytes.as_slice(), self.at));
+            if let Some(later) = later {
+                self.progress = Some(later);
+                return Ok(None);
+            }
+        }
         let Some((item, stop)) = item_at(alloc, self.bytes.as_slice(), self.at)? else {
+            self.progress = begun(alloc, behind(self.bytes.as_slice(), self.at));
             return Ok(None);
         };
         self.at = stop;
@@ -90,4 +116,14 @@ impl ItemReader {
         }
         Ok(())
     }
+}
+
+/// Gives the first `count` bytes back, by one move of the others within the same memory.
+fn drop_front(bytes: &mut Vec<u8>, count: usize)
+    requires { count ≤ length bytes.old.items }
+    ensures { bytes.new.items ≡ drop count bytes.old.items }
+{
+    let len = bytes.len();
+    bytes.as_mut_slice().copy_within(count..len, 0);
+    bytes.truncate(len - count);
 }

@@ -148,8 +148,46 @@ fn items_come_in_order_however_they_are_cut_and_are_written(rt: HostRuntime) -> 
     assert!(rt; written_again(alloc, PACKED, 77)?.as_slice() == IN_ORDER);
     let stream = with_chunks(alloc, b"\x82\xa4path\xa1a\xa6chunks\xdc\x03\xe8", 1000, b"")?;
     let written = with_chunks(alloc, b"\x82\xa6chunks\xdc\x03\xe8", 1000, b"\xa4path\xa1a")?;
-    assert!(rt; written_again(alloc, &stream, 65536)? == written);
+    assert!(rt; written_again(alloc, &stream, 1000)? == written);
     item_laws();
+    Ok(())
+}
+
+/// The first answer that isn't none, and how many bytes were fed by then, one at a time.
+fn told_at(alloc: Global, stream: &[u8]) -> Result<(u8, usize), Fail> {
+    let mut reader = ItemReader::new(alloc);
+    for (at, byte) in stream.iter().enumerate() {
+        reader.feed(&[*byte])?;
+        let number = answer(&mut reader);
+        if number != 9 {
+            return Ok((number, at + 1));
+        }
+    }
+    Ok((9, stream.len()))
+}
+
+#[test]
+fn a_fault_is_told_at_the_byte_that_shows_it(rt: HostRuntime) -> Result<(), Fail> {
+    let alloc = rt.alloc();
+    let table: &[(u8, usize, &[u8])] = &[
+        (0, 8, b"\x81\xa4path\xa1a\xc1"),
+        (0, 9, b"\x81\xa4path\xc4\x01a\xc1"),
+        (1, 2, b"\x81\x01\x02"),
+        (1, 10, b"\x81\xa4path\x81\xa1k\xc1\x02"),
+        (1, 13, b"\x82\xa4path\xa1a\xa4path\xa1a"),
+        (1, 16, b"\x82\xa4path\xa1a\xa1x\x82\xa1y\x01\xa1y\x01"),
+        (2, 4, b"\x81\xa0\x91\x01"),
+        (3, 16, b"\x82\xa4path\xa1a\xa6chunks\xc2"),
+        (9, 12, b"\x82\xa4path\xa1a\xdb\xff\xff\xff"),
+    ];
+    for (number, at, stream) in table {
+        assert_eq!(rt; told_at(alloc, stream)?, (*number, *at), "at {stream:?}");
+    }
+    // 64 arrays inside the map: the last one has depth 65.
+    let mut deep = Vec::from_slice(alloc, b"\x81\xa0")?;
+    deep.extend_from_slice(&[0x91; 64])?;
+    deep.extend_from_slice(b"\x01")?;
+    assert_eq!(rt; told_at(alloc, &deep)?, (1, 66));
     Ok(())
 }
 

@@ -16,6 +16,7 @@ use Rattle.ferry_log.specs.State.{LogState, FitsFiles, IsBlobAt, place_in}
 use Rattle.ferry_log.specs.declared.place.Place.{Place}
 use Rattle.ferry_log.proofs.FitsLemmas.{place_holds}
 use Rattle.ferry_mac.specs.declared.keys.Keys.{Keys}
+use Rattle.ferry_repo.specs.Cached.{Contents}
 use Rattle.ferry_repo.specs.Objects.{HasBlob, HoldsChunk, KeepsBlobs}
 use Rattle.ferry_repo.specs.Opening.{RepoState, FitsRepo}
 use Rattle.ferry_repo.specs.Walk.{HoldChunks, WalkState, FitsWalk}
@@ -49,14 +50,14 @@ walk_kept f g a b keys walk keeps fits = record {
   met = fits.met;
 }
 
-cached_kept : (f g : Files) (a b : LogState) (keys : Keys) (cached : List (List ℕ × List ℕ)) → KeepsBlobs f a g b
+cached_kept : (f g : Files) (a b : LogState) (keys : Keys) (cached : Contents) → KeepsBlobs f a g b
     → AllByRecursion (λ c. HoldsChunk f a keys c.0 c.1) cached → AllByRecursion (λ c. HoldsChunk g b keys c.0 c.1) cached
 cached_kept f g a b keys [] keeps all = tt
 cached_kept f g a b keys (c ∷ cs) keeps all = (chunk_kept f g a b keys c.0 c.1 keeps all.0, cached_kept f g a b keys cs keeps all.1)
 
-pub repo_kept : (f g : Files) (repo : RepoState) (log : LogState) → FitsFiles g log → KeepsBlobs f repo.log g log → FitsRepo f repo
-    → FitsRepo g (record repo { log = log })
-repo_kept f g repo log log_fits keeps fits = record { log = log_fits; cached = cached_kept f g repo.log log repo.keys repo.cached keeps fits.cached }
+pub repo_kept : (f g : Files) (repo : RepoState) (cached : Contents) (log : LogState) → FitsFiles g log → KeepsBlobs f repo.log g log
+    → FitsRepo f repo cached → FitsRepo g (record repo { log = log }) cached
+repo_kept f g repo cached log log_fits keeps fits = record { log = log_fits; cached = cached_kept f g repo.log log repo.keys cached keeps fits.cached }
 
 -- ---- what keeps it
 

@@ -2,7 +2,6 @@
 use Rattle.std.proofs.Common.{◌≡◌, ◌≢◌, ℕ, ◌⊎◌, Bool, true, false, List, [], take, drop, Option, Some, None, Result, Ok, Err, refl, sym, ◌∙◌, ap}
 use Rattle.std.proofs.Common.{subst, inl, inr}
 use Rattle.std.proofs.lemmas.Slice.Eq.{bytes_eq-Decides}
-use Rattle.std.specs.List.{AllByRecursion}
 use Rattle.std.specs.Str.{bytes_eq}
 use Rattle.ferry_base.specs.Limits.{zero_id}
 use Rattle.ferry_blob.specs.Blob.{blob_fault}
@@ -238,14 +237,13 @@ one_manifest files secret l m c d k q a b ha hb =
 pub one_repo : (files : Files) (secret : Secret) (a b : RepoState) → OpensFilesTo files secret a → OpensFilesTo files secret b → a ≡ b
 one_repo files secret a b ha hb =
     let parts = one_manifest files secret a.log b.log a.config b.config a.keys b.keys a.manifest b.manifest ha.opens hb.opens in
-    let cached = ha.cached ∙ sym hb.cached in
-    rw (parts.0, parts.1, parts.2, parts.3, cached) refl
+    rw (parts.0, parts.1, parts.2, parts.3) refl
 
 -- files fit what they open to
-pub opens_fits : (files : Files) (secret : Secret) (repo : RepoState) → OpensFilesTo files secret repo → FitsRepo files repo
+pub opens_fits : (files : Files) (secret : Secret) (repo : RepoState) → OpensFilesTo files secret repo → FitsRepo files repo []
 opens_fits files secret repo opens = record {
   log = opened_fits files repo.log opens.opens.unlocks.reads;
-  cached = subst (AllByRecursion (λ c. HoldsChunk files repo.log repo.keys c.0 c.1)) (sym opens.cached) tt;
+  cached = tt;
 }
 
 -- the answers on a repository
@@ -258,8 +256,8 @@ manifest_answer : (files : Files) (secret : Secret) (log : LogState) (config : C
     → UnlocksFiles files secret log config keys → HoldsObject files log keys zero_id content → manifest_of keys content ≡ answer → SomeRepo files secret
 manifest_answer files secret log config keys content (Ok manifest) unlocks holds is =
     inl (
-      record { log = log; config = config; keys = keys; manifest = manifest; cached = [] },
-      record { opens = record { unlocks = unlocks; content = content; object = holds; manifest_is = is }; cached = refl },
+      record { log = log; config = config; keys = keys; manifest = manifest },
+      record { opens = record { unlocks = unlocks; content = content; object = holds; manifest_is = is } },
     )
 manifest_answer files secret log config keys content (Err fault) unlocks holds is =
     inr (Fault.Manifest fault, tt, record { log = log; config = config; keys = keys; content = content; unlocks = unlocks; object = holds; refused = is })

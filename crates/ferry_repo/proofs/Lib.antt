@@ -2,6 +2,7 @@ pub mod FaultLemmas
 pub mod ObjectLemmas
 pub mod OpeningLemmas
 pub mod LawLemmas
+pub mod CacheLemmas
 pub mod ArchiveLemmas
 pub mod WalkLemmas
 pub mod ComesLemmas

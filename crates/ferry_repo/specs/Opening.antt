@@ -1,6 +1,6 @@
 -- How a repository opens under a secret: its log reads, its `config` reads, its key opens, and the object under the zero id is
 -- a manifest, in this order (BorgBackup 1.2, Internals, "Data structures and file formats").
-use Rattle.std.specs.Prelude.{◌≡◌, ℕ, ◌==◌, if◌then◌else◌, List, [], length, Result, Ok, Err}
+use Rattle.std.specs.Prelude.{◌≡◌, ℕ, ◌==◌, if◌then◌else◌, List, length, Result, Ok, Err}
 use Rattle.std.specs.List.{AllByRecursion}
 use Rattle.std.specs.Str.{bytes_eq}
 use Rattle.ferry_base.specs.Limits.{zero_id}
@@ -22,6 +22,7 @@ use Rattle.ferry_log.specs.Log.{IsUncommitted, IsDamaged}
 use Rattle.ferry_log.specs.State.{LogState, IsStateOf, FitsFiles}
 use Rattle.ferry_mac.specs.declared.keys.Keys.{Keys}
 use Rattle.ferry_manifest.specs.Manifest.Text.{ManifestText, manifest_of, manifest_view}
+use Rattle.ferry_repo.specs.Cached.{Contents}
 use Rattle.ferry_repo.specs.Fault.{IsOfFiles}
 use Rattle.ferry_repo.specs.Objects.{HoldsObject, RefusesObject, HoldsChunk}
 use Rattle.ferry_repo.specs.declared.fault.RepoFault.{RepoFault}
@@ -115,14 +116,12 @@ RefusesKey bytes secret fault = IsRefusal (unlocked bytes secret) fault
 
 -- ---- the repository
 
--- what an opened repository says, apart from where its parts lie in memory
+-- what an opened repository says, apart from where its parts lie in memory and from the contents that it keeps
 pub record RepoState : Type 0 where
   pub log : LogState
   pub config : Config
   pub keys : Keys
   pub manifest : ManifestText
-  -- the ids whose contents it keeps, with the contents, the latest first
-  pub cached : List (List ℕ × List ℕ)
 
 abbrev pub repo_view : Repo → RepoState
 repo_view repo = record {
@@ -130,8 +129,11 @@ repo_view repo = record {
   config = repo.config;
   keys = repo.keys;
   manifest = manifest_view repo.manifest;
-  cached = [];
 }
+
+-- the contents that a repository keeps
+abbrev pub cached_in : Repo → Contents
+cached_in repo = repo.cache
 
 -- The log of the files reads, and this is its state.
 abbrev pub ReadsLog : Files → Type 0
@@ -155,7 +157,6 @@ pub record OpensRepo (files : Files) (secret : Secret) (log : LogState) (config 
 -- What an opened repository says is what the files say: the log's state, the config, the secrets and the manifest.
 pub record OpensFilesTo (files : Files) (secret : Secret) (repo : RepoState) : Type 0 where
   pub opens : OpensRepo files secret repo.log repo.config repo.keys repo.manifest
-  pub cached : repo.cached ≡ []
 
 -- The object under the zero id is refused.
 pub record RefusesRoot (files : Files) (secret : Secret) (fault : RepoFault) : Type 0 where
@@ -202,6 +203,6 @@ RefusesRepo files secret Fault.Memory = Unit {0}
 -- ---- what fits
 
 -- A repository fits files: its log does, and each content that it keeps is what opens under its id there.
-pub record FitsRepo (files : Files) (repo : RepoState) : Type 0 where
+pub record FitsRepo (files : Files) (repo : RepoState) (contents : Contents) : Type 0 where
   pub log : FitsFiles files repo.log
-  pub cached : AllByRecursion (λ c. HoldsChunk files repo.log repo.keys c.0 c.1) repo.cached
+  pub cached : AllByRecursion (λ c. HoldsChunk files repo.log repo.keys c.0 c.1) contents

@@ -12,6 +12,7 @@ ghost use Rattle.ferry_mac.specs.declared.keys.Keys.{Keys};
 ghost use Rattle.ferry_manifest.specs.declared.manifest.ArchiveRef.{ArchiveRef};
 ghost use Rattle.ferry_segment.specs.Entry.{IsBytes};
 ghost use Rattle.ferry_repo.specs.Archives.{archive_named, RefusesRecord};
+ghost use Rattle.ferry_repo.specs.Cached.{Contents};
 ghost use Rattle.ferry_repo.specs.Fault.{IsOfFiles};
 ghost use Rattle.ferry_repo.specs.Objects.{HasBlob, HoldsChunk, RefusesChunk, KeepsBlobs};
 ghost use Rattle.ferry_repo.specs.Opening.{RepoState, OpensFilesTo, FitsRepo, RefusesRepo};
@@ -31,7 +32,7 @@ pub fn repo_laws()
         → OpensFilesTo files secret repo → IsOfFiles fault → RefusesRepo files secret fault → ⊥ }
     ensures one_fault { (files : Files) (secret : Secret) (f g : RepoFault) → IsOfFiles f → IsOfFiles g
         → RefusesRepo files secret f → RefusesRepo files secret g → f ≡ g }
-    ensures fits { (files : Files) (secret : Secret) (repo : RepoState) → OpensFilesTo files secret repo → FitsRepo files repo }
+    ensures fits { (files : Files) (secret : Secret) (repo : RepoState) → OpensFilesTo files secret repo → FitsRepo files repo [] }
 {}
 
 /// An id has one content over files that fit the log, or is refused for one cause, and never both. Over files as they were opened,
@@ -97,8 +98,8 @@ pub fn whole_laws()
 /// What fits a repository or a walk stays so where each blob that was there is there still: so over files to which others did something, and
 /// by a log that has learnt more. What fits the log then is said by `fits_laws` of ferry_log.
 pub fn kept_laws()
-    ensures repo { (files others : Files) (repo : RepoState) (log : LogState) → FitsFiles others log → KeepsBlobs files repo.log others log
-        → FitsRepo files repo → FitsRepo others (record repo { log = log }) }
+    ensures repo { (files others : Files) (repo : RepoState) (cached : Contents) (log : LogState) → FitsFiles others log
+        → KeepsBlobs files repo.log others log → FitsRepo files repo cached → FitsRepo others (record repo { log = log }) cached }
     ensures walk { (files others : Files) (log after : LogState) (keys : Keys) (walk : WalkState) → KeepsBlobs files log others after
         → FitsWalk files log keys walk → FitsWalk others after keys walk }
     ensures replaced { (files : Files) (log : LogState) (name : Name) (bytes : List ℕ) → KeepsBlobs files log (replaced files name bytes) log }

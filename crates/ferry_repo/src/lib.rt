@@ -6,6 +6,7 @@
 //! formats").
 #![tactic(auto)]
 
+mod cache;
 mod fault;
 mod laws;
 mod object;

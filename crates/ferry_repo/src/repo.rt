@@ -1,15 +1,17 @@
 //! An opened repository.
-ghost use Rattle.std.specs.Prelude.{◌≡◌, IfOk, IfErr, IfSome, option_map, Ok, false};
+ghost use Rattle.std.specs.Prelude.{◌≡◌, ◌⊎◌, [], IfOk, IfErr, IfSome, OnOk, OnErr, MatchResult, option_map, Ok, false};
 ghost use Rattle.ferry_disk.specs.Files.{Files};
 ghost use Rattle.ferry_disk.specs.Device.{KeepsTold, HasCause, told_files};
 ghost use Rattle.ferry_manifest.specs.Manifest.Text.{manifest_view};
 ghost use Rattle.ferry_manifest.specs.Record.Text.{archive_of, archive_view};
 ghost use Rattle.ferry_repo.specs.Archives.{archive_named, IsNoRecord, HoldsNamed, RefusesNamed, HoldsContent, RefusesContent};
+ghost use Rattle.ferry_repo.specs.Cached.{IsCached, content_in, used};
 ghost use Rattle.ferry_repo.specs.Fault.{repo_failed};
 ghost use Rattle.ferry_repo.specs.Objects.{HoldsChunk, RefusesChunk};
-ghost use Rattle.ferry_repo.specs.Opening.{repo_view, mode_of, OpensFilesTo, RefusesRepo, FitsRepo};
+ghost use Rattle.ferry_repo.specs.Opening.{repo_view, cached_in, mode_of, OpensFilesTo, RefusesRepo, FitsRepo};
 ghost use Rattle.ferry_repo.specs.Walk.{walk_view, begin_walk, FitsWalk};
 
+use crate::cache::Cache;
 use crate::fault::{RepoFault, of_archive};
 use crate::object::object;
 use crate::opening::{manifest, mode_of, settings, unlock};
@@ -25,8 +27,8 @@ use ferry_mac::Keys;
 use ferry_manifest::{Archive, ArchiveRef, Ids, Manifest, read_archive};
 use std::alloc::Global;
 
-/// A repository opened for reading: it owns what it read of its log, its settings, its keys and its manifest. It is used with the
-/// shelf on which it was opened.
+/// A repository opened for reading: it owns what it read of its log, its settings, its keys and its manifest, and copies of the contents
+/// that it answered last, sixteen at most. It is used with the shelf on which it was opened.
 ///
 /// There is no `Debug`, so that no message can show a key.
 #[derive(Drop)]
@@ -36,6 +38,7 @@ pub struct Repo {
     config: Config,
     keys: Keys,
     manifest: Manifest,
+    cache: Cache,
 }
 
 impl Repo {
@@ -49,6 +52,7 @@ impl Repo {
     pub fn open<S: Shelf>(alloc: Global, shelf: &mut S, secret: &Secret) -> Result<Repo, RepoFault>
         ensures repository { IfOk result (λ repo. IfSome (S.told shelf.old) (λ t.
             OpensFilesTo (told_files t) secret.now (repo_view repo))) }
+        ensures cached { IfOk result (λ repo. cached_in repo ≡ []) }
         ensures refused { IfErr result (λ fault. IfSome (S.told shelf.old) (λ t.
             RefusesRepo (told_files t) secret.now fault)) }
         ensures same { KeepsTold repo_failed (S.told shelf.old) (S.told shelf.new) result }
@@ -59,6 +63,7 @@ impl Repo {
         let keys = &unlocked.key.keys;
         let content = object(alloc, shelf, &log, keys, &ZERO_ID)?;
         let manifest = manifest(alloc, keys, &content)?;
+        let cache = Cache::new(alloc)?;
         let (config, keys) = settings(unlocked);
         Ok(Repo {
             alloc,
@@ -66,6 +71,7 @@ impl Repo {
             config,
             keys,
             manifest,
+            cache,
         })
     }
 
@@ -104,43 +110,57 @@ impl Repo {
         &self.keys
     }
 
-    /// The content of a chunk, decrypted and checked. The zero id is no chunk's.
+    /// The content of a chunk, decrypted and checked, and a copy of it is kept. The zero id is no chunk's.
+    #[tactic(auto, using(crate::proofs::FaultLemmas::conversions))]
     pub fn chunk<S: Shelf>(&mut self, shelf: &mut S, id: &Id) -> Result<Vec<u8>, RepoFault>
-        requires fits { IfSome (S.told shelf.old) (λ t. FitsRepo (told_files t) (repo_view self.old)) }
+        requires fits { IfSome (S.told shelf.old) (λ t. FitsRepo (told_files t) (repo_view self.old) (cached_in self.old)) }
         ensures content { IfOk result (λ content. IfSome (S.told shelf.old) (λ t.
             HoldsChunk (told_files t) (repo_view self.old).log (repo_view self.old).keys id.now content.items)) }
         ensures refused { IfErr result (λ fault. IfSome (S.told shelf.old) (λ t.
             RefusesChunk (told_files t) (repo_view self.old).log (repo_view self.old).keys id.now fault)) }
+        ensures cached { IfOk result (λ content. cached_in self.new ≡ used id.now content.items (cached_in self.old)) }
+        ensures uncached { OnErr result (cached_in self.new ≡ cached_in self.old) }
+        // A content that is kept is answered without a call on the shelf.
+        ensures hit { IfSome (content_in id.now (cached_in self.old)) (λ kept.
+            MatchResult result (λ content. content.items ≡ kept) (λ fault. fault ≡ RepoFault.Memory)) }
+        ensures unread { IsCached id.now (cached_in self.old) → shelf.new ≡ shelf.old }
+        ensures fits { IfSome (S.told shelf.new) (λ t. FitsRepo (told_files t) (repo_view self.new) (cached_in self.new)) }
         ensures kept { repo_view self.new ≡ repo_view self.old }
         ensures same { KeepsTold repo_failed (S.told shelf.old) (S.told shelf.new) result }
         ensures cause { HasCause repo_failed (S.faults shelf.old) (S.faults shelf.new) result }
     {
-        if *id == ZERO_ID {
-            return Err(RepoFault::Missing(*id));
-        }
-        object(self.alloc, shelf, &self.log, &self.keys, id)
+        let content = self.fetch(shelf, id)?;
+        self.cache.keep(id, &content)?;
+        Ok(content)
     }
 
-    /// The content of an item's chunk, which has the size that the item states.
+    /// The content of an item's chunk, which has the size that the item states. A content of another size is not kept.
     #[tactic(auto, using(crate::proofs::FaultLemmas::conversions))]
     pub fn content<S: Shelf>(
         &mut self,
         shelf: &mut S,
         chunk: &ChunkRef,
     ) -> Result<Vec<u8>, RepoFault>
-        requires fits { IfSome (S.told shelf.old) (λ t. FitsRepo (told_files t) (repo_view self.old)) }
+        requires fits { IfSome (S.told shelf.old) (λ t. FitsRepo (told_files t) (repo_view self.old) (cached_in self.old)) }
         ensures content { IfOk result (λ content. IfSome (S.told shelf.old) (λ t.
             HoldsContent (told_files t) (repo_view self.old).log (repo_view self.old).keys chunk.now content.items)) }
         ensures refused { IfErr result (λ fault. IfSome (S.told shelf.old) (λ t.
             RefusesContent (told_files t) (repo_view self.old).log (repo_view self.old).keys chunk.now fault)) }
+        ensures cached { IfOk result (λ content. cached_in self.new ≡ used chunk.now.id content.items (cached_in self.old)) }
+        ensures uncached { OnErr result (cached_in self.new ≡ cached_in self.old) }
+        ensures hit { IfSome (content_in chunk.now.id (cached_in self.old)) (λ kept.
+            MatchResult result (λ content. content.items ≡ kept) (λ fault. (fault ≡ RepoFault.Memory) ⊎ (fault ≡ RepoFault.Size chunk.now.id))) }
+        ensures unread { IsCached chunk.now.id (cached_in self.old) → shelf.new ≡ shelf.old }
+        ensures fits { IfSome (S.told shelf.new) (λ t. FitsRepo (told_files t) (repo_view self.new) (cached_in self.new)) }
         ensures kept { repo_view self.new ≡ repo_view self.old }
         ensures same { KeepsTold repo_failed (S.told shelf.old) (S.told shelf.new) result }
         ensures cause { HasCause repo_failed (S.faults shelf.old) (S.faults shelf.new) result }
     {
-        let content = self.chunk(shelf, &chunk.id)?;
+        let content = self.fetch(shelf, &chunk.id)?;
         if content.len() as u64 != chunk.size {
             return Err(RepoFault::Size(chunk.id));
         }
+        self.cache.keep(&chunk.id, &content)?;
         Ok(content)
     }
 
@@ -158,13 +178,14 @@ impl Repo {
         shelf: &mut S,
         name: &[u8],
     ) -> Result<Option<Archive>, RepoFault>
-        requires fits { IfSome (S.told shelf.old) (λ t. FitsRepo (told_files t) (repo_view self.old)) }
+        requires fits { IfSome (S.told shelf.old) (λ t. FitsRepo (told_files t) (repo_view self.old) (cached_in self.old)) }
         ensures archive { IfOk result (λ found. IfSome (S.told shelf.old) (λ t.
             HoldsNamed (told_files t) (repo_view self.old).log (repo_view self.old).keys
             (archive_named name.now (repo_view self.old).manifest.archives) (option_map archive_view found))) }
         ensures refused { IfErr result (λ fault. IfSome (S.told shelf.old) (λ t.
             RefusesNamed (told_files t) (repo_view self.old).log (repo_view self.old).keys
             (archive_named name.now (repo_view self.old).manifest.archives) fault)) }
+        ensures fits { IfSome (S.told shelf.new) (λ t. FitsRepo (told_files t) (repo_view self.new) (cached_in self.new)) }
         ensures kept { repo_view self.new ≡ repo_view self.old }
         ensures same { KeepsTold repo_failed (S.told shelf.old) (S.told shelf.new) result }
         ensures cause { HasCause repo_failed (S.faults shelf.old) (S.faults shelf.new) result }
@@ -186,6 +207,31 @@ impl Repo {
     {
         let ids = Vec::from_slice(self.alloc, archive.items.as_slice())?;
         Ok(Walk::new(self.alloc, *id, Ids::new(ids)))
+    }
+}
+
+impl Repo {
+    /// The content of a chunk, copied where it is kept, and else read.
+    #[tactic(auto, using(crate::proofs::FaultLemmas::conversions))]
+    fn fetch<S: Shelf>(&self, shelf: &mut S, id: &Id) -> Result<Vec<u8>, RepoFault>
+        requires fits { IfSome (S.told shelf.old) (λ t. FitsRepo (told_files t) (repo_view self.now) (cached_in self.now)) }
+        ensures content { IfOk result (λ content. IfSome (S.told shelf.old) (λ t.
+            HoldsChunk (told_files t) (repo_view self.now).log (repo_view self.now).keys id.now content.items)) }
+        ensures refused { IfErr result (λ fault. IfSome (S.told shelf.old) (λ t.
+            RefusesChunk (told_files t) (repo_view self.now).log (repo_view self.now).keys id.now fault)) }
+        ensures hit { IfSome (content_in id.now (cached_in self.now)) (λ kept.
+            MatchResult result (λ content. content.items ≡ kept) (λ fault. fault ≡ RepoFault.Memory)) }
+        ensures unread { IsCached id.now (cached_in self.now) → shelf.new ≡ shelf.old }
+        ensures same { KeepsTold repo_failed (S.told shelf.old) (S.told shelf.new) result }
+        ensures cause { HasCause repo_failed (S.faults shelf.old) (S.faults shelf.new) result }
+    {
+        if let Some(content) = self.cache.get(id) {
+            return Ok(Vec::from_slice(self.alloc, content)?);
+        }
+        if *id == ZERO_ID {
+            return Err(RepoFault::Missing(*id));
+        }
+        object(self.alloc, shelf, &self.log, &self.keys, id)
     }
 }
 

@@ -6,7 +6,7 @@ ghost use Rattle.ferry_item.specs.Stream.{front_item, nothing_yet};
 ghost use Rattle.ferry_item.specs.Writing.{IsPackable};
 ghost use Rattle.ferry_repo.specs.Fault.{repo_failed, IsOfFiles};
 ghost use Rattle.ferry_repo.specs.Objects.{RefusesChunk};
-ghost use Rattle.ferry_repo.specs.Opening.{repo_view, FitsRepo};
+ghost use Rattle.ferry_repo.specs.Opening.{repo_view, cached_in, FitsRepo};
 ghost use Rattle.ferry_repo.specs.Walk.{walk_view, begin_walk, IsToCome, LeadsOn, FitsWalk, ReadsOn, Ends};
 
 use crate::fault::{RepoFault, of_item};
@@ -68,7 +68,7 @@ impl Walk {
         repo: &mut Repo,
         shelf: &mut S,
     ) -> Result<Option<Item>, RepoFault>
-        requires fits { IfSome (S.told shelf.old) (λ t. FitsRepo (told_files t) (repo_view repo.old)) }
+        requires fits { IfSome (S.told shelf.old) (λ t. FitsRepo (told_files t) (repo_view repo.old) (cached_in repo.old)) }
         requires walk_fits { IfSome (S.told shelf.old) (λ t.
             FitsWalk (told_files t) (repo_view repo.old).log (repo_view repo.old).keys (walk_view self.old)) }
         ensures item { IfOk result (λ found. IfSome found (λ item. IfSome (S.told shelf.old) (λ t.
@@ -87,6 +87,7 @@ impl Walk {
         ensures packable { IfOk result (λ found. IfSome found (λ item. IsPackable (item_view item))) }
         ensures walk_fits { IfSome (S.told shelf.old) (λ t.
             FitsWalk (told_files t) (repo_view repo.old).log (repo_view repo.old).keys (walk_view self.new)) }
+        ensures fits { IfSome (S.told shelf.new) (λ t. FitsRepo (told_files t) (repo_view repo.new) (cached_in repo.new)) }
         ensures kept { repo_view repo.new ≡ repo_view repo.old }
         ensures same { KeepsTold repo_failed (S.told shelf.old) (S.told shelf.new) result }
         ensures cause { HasCause repo_failed (S.faults shelf.old) (S.faults shelf.new) result }
@@ -119,7 +120,7 @@ impl Walk {
     #[tactic(auto, using(crate::proofs::FaultLemmas::conversions))]
     fn read_on<S: Shelf>(&mut self, repo: &mut Repo, shelf: &mut S) -> Result<(), RepoFault>
         requires more { self.old.read < length self.old.ids }
-        requires fits { IfSome (S.told shelf.old) (λ t. FitsRepo (told_files t) (repo_view repo.old)) }
+        requires fits { IfSome (S.told shelf.old) (λ t. FitsRepo (told_files t) (repo_view repo.old) (cached_in repo.old)) }
         ensures read { OnOk result (IfSome (S.told shelf.old) (λ t.
             ReadsOn (told_files t) (repo_view repo.old).log (repo_view repo.old).keys (walk_view self.old) (walk_view self.new))) }
         ensures next { OnOk result (self.new.read ≡ self.old.read + 1) }
@@ -128,6 +129,7 @@ impl Walk {
             RefusesChunk (told_files t) (repo_view repo.old).log (repo_view repo.old).keys
             (slice_index_or self.old.ids self.old.read []) fault)) }
         ensures err { OnErr result (self.new ≡ self.old) }
+        ensures fits { IfSome (S.told shelf.new) (λ t. FitsRepo (told_files t) (repo_view repo.new) (cached_in repo.new)) }
         ensures kept { repo_view repo.new ≡ repo_view repo.old }
         ensures same { KeepsTold repo_failed (S.told shelf.old) (S.told shelf.new) result }
         ensures cause { HasCause repo_failed (S.faults shelf.old) (S.faults shelf.new) result }

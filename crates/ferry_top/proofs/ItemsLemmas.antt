@@ -1,11 +1,12 @@
 -- Lemmas on specs/Items.antt: what a repository shows of an archive is what the source's files say, and so is what it refuses.
-use Rattle.std.proofs.Common.{◌≡◌, ℕ, true, false, List, Option, Some, None, is_some, option_map, IfSome, refl, inr}
+use Rattle.std.proofs.Common.{◌≡◌, ℕ, true, false, List, [], Option, Some, None, is_some, option_map, IfSome, refl, sym, subst, inr}
 use Rattle.ferry_disk.specs.Files.{Files}
 use Rattle.ferry_manifest.specs.declared.manifest.ArchiveRef.{ArchiveRef}
 use Rattle.ferry_disk.specs.Device.{Told, RoseWhere, told_files, heard}
 use Rattle.ferry_disk.proofs.DeviceLemmas.{told_same, told_then, told_with}
 use Rattle.ferry_repo.proofs.LawLemmas.{opens_fits}
 use Rattle.ferry_repo.specs.Fault.{IsOfFiles}
+use Rattle.ferry_repo.specs.Cached.{Contents}
 use Rattle.ferry_repo.specs.Opening.{RepoState, OpensFilesTo, FitsRepo}
 use Rattle.ferry_repo.specs.declared.fault.RepoFault.{RepoFault}
 use Rattle.ferry_repo.specs.declared.fault.RepoFault.TheVariants as Repo
@@ -30,11 +31,12 @@ opens_with source later secret repo Holds same opens holds =
     (λ f o h. record { repo = repo; opens = o; holds = h }) opens holds
 
 -- an opened repository fits what a later call tells
-pub fits_later : (source later : Option Told) (secret : Secret) (repo : RepoState) → heard later ≡ heard source
-    → IfSome source (λ t. OpensFilesTo (told_files t) secret repo) → IfSome later (λ t. FitsRepo (told_files t) repo)
-fits_later source later secret repo same opens =
-    told_same source later (λ f. FitsRepo f repo) same
-    (told_then source (λ f. OpensFilesTo f secret repo) (λ f. FitsRepo f repo) (λ f o. opens_fits f secret repo o) opens)
+pub fits_later : (source later : Option Told) (secret : Secret) (repo : RepoState) (cached : Contents) → heard later ≡ heard source → cached ≡ []
+    → IfSome source (λ t. OpensFilesTo (told_files t) secret repo) → IfSome later (λ t. FitsRepo (told_files t) repo cached)
+fits_later source later secret repo cached same none opens =
+    told_same source later (λ f. FitsRepo f repo cached) same
+    (told_then source (λ f. OpensFilesTo f secret repo) (λ f. FitsRepo f repo cached)
+    (λ f o. subst (λ (cs : Contents). FitsRepo f repo cs) (sym none) (opens_fits f secret repo o)) opens)
 
 -- ---- a repository that shows all
 

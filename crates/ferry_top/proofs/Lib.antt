@@ -2,3 +2,4 @@ pub mod StatusLemmas
 pub mod KeysLemmas
 pub mod ListLemmas
 pub mod ItemsLemmas
+pub mod CheckLemmas

@@ -1,3 +1,4 @@
+pub mod Check
 pub mod Devices
 pub mod Key
 pub mod Keys

@@ -6,6 +6,7 @@ use Rattle.ferry_disk.specs.Device.{Told, told_files, Rose, WritesSome, HasCause
 use Rattle.ferry_disk.specs.declared.sink.SinkFault.{SinkFault}
 use Rattle.ferry_repo.specs.declared.secret.Secret.{Secret}
 use Rattle.ferry_top.specs.Devices.{Devices, Written, HasCauses}
+use Rattle.ferry_top.specs.Check.{Checks}
 use Rattle.ferry_top.specs.Keys.{IsListing}
 use Rattle.ferry_top.specs.Key.{IsIdLine, RefusesUnlocking}
 use Rattle.ferry_top.specs.List.{IsArchiveListing, RefusesOpening}
@@ -13,10 +14,10 @@ use Rattle.ferry_view.specs.Items.{RefusesItems, RefusesFile}
 use Rattle.ferry_top.specs.Items.{ShowsItems, ShowsItemsFront, ShowsFile, ShowsFileFront, RefusesShowing, LacksArchive, LacksPath}
 use Rattle.ferry_top.specs.Status.{fault_line, RefusesKeys}
 use Rattle.ferry_words.specs.declared.command.Command.{Command}
-use Rattle.ferry_words.specs.declared.command.Command.TheVariants.{Keys, Key, List as ListArchives, ListItems, Extract}
+use Rattle.ferry_words.specs.declared.command.Command.TheVariants.{Keys, Key, List as ListArchives, ListItems, Extract, Check}
 use Rattle.ferry_top.specs.declared.status.Refusal.{Refusal}
 use Rattle.ferry_top.specs.declared.status.Status.{Status}
-use Rattle.ferry_top.specs.declared.status.Status.TheVariants.{Done, Usage, Memory, SourceDevice, OutputDevice, SourceRefused, NotFound}
+use Rattle.ferry_top.specs.declared.status.Status.TheVariants.{Done, No, Usage, Memory, SourceDevice, OutputDevice, SourceRefused, NotFound}
 
 -- What a command has written that reads and writes by turns and ends before its end: nothing, or a front of such a text.
 abbrev pub HasBegun : (List ℕ → Type 0) → Written → Written → Type 0
@@ -30,6 +31,7 @@ abbrev pub PrintsAsRead : (IsText IsFront : Files → List ℕ → Type 0) → (
 PrintsAsRead IsText IsFront Refuses Lacks source before Done after =
     (text : List ℕ) × IfSome source (λ t. IsText (told_files t) text) × (after.bytes ≡ option_map (λ w. w ++ text) before.bytes)
     × (after.faults ≡ before.faults)
+PrintsAsRead IsText IsFront Refuses Lacks source before No after = ⊥
 PrintsAsRead IsText IsFront Refuses Lacks source before (Usage word) after = ⊥
 PrintsAsRead IsText IsFront Refuses Lacks source before Memory after =
     HasBegun (λ text. IfSome source (λ t. IsFront (told_files t) text)) before after
@@ -47,6 +49,7 @@ abbrev pub Prints : (Files → List ℕ → Type 0) → (Files → Refusal → T
 Prints IsText Refuses source before Done after =
     (text : List ℕ) × IfSome source (λ t. IsText (told_files t) text) × (after.bytes ≡ option_map (λ w. w ++ text) before.bytes)
     × (after.faults ≡ before.faults)
+Prints IsText Refuses source before No after = ⊥
 Prints IsText Refuses source before (Usage word) after = ⊥
 Prints IsText Refuses source before Memory after = HasBegun (λ text. IfSome source (λ t. IsText (told_files t) text)) before after
 Prints IsText Refuses source before SourceDevice after = after ≡ before
@@ -55,8 +58,8 @@ Prints IsText Refuses source before OutputDevice after =
 Prints IsText Refuses source before (SourceRefused refusal) after = IfSome source (λ t. Refuses (told_files t) refusal) × (after ≡ before)
 Prints IsText Refuses source before (NotFound what) after = ⊥
 
--- what each command writes, under the source's secret: the live keys, the key, the archives, the items of one or the content of a file
--- of it; nothing where the words are no command
+-- what each command writes, under the source's secret: the live keys, the key, the archives, the items of one, the content of a file of
+-- it, or the report of a check; nothing where the words are no command
 abbrev pub DoesCommand : Result Command ℕ → Secret → Option Told → Written → Status → Written → Type 0
 DoesCommand (Ok Keys) secret source before status after = Prints IsListing RefusesKeys source before status after
 DoesCommand (Ok Key) secret source before status after =
@@ -73,6 +76,7 @@ DoesCommand (Ok (Extract name path)) secret source before status after =
     PrintsAsRead (ShowsFile secret name path) (ShowsFileFront secret name path)
     (RefusesShowing secret (λ files repo. RefusesFile files repo name path)) (LacksPath secret name path)
     source before status after
+DoesCommand (Ok Check) secret source before status after = Checks secret source before status after
 DoesCommand (Err word) secret source before status after = after ≡ before
 
 -- A line went to the output in one write, whatever the write answered.
@@ -85,6 +89,7 @@ pub record IsSent (line : List ℕ) (before after : Written) : Type 0 where
 -- what the fault line has written: nothing where a status has none
 abbrev pub Reports : Status → Written → Written → Type 0
 Reports Done before after = after ≡ before
+Reports No before after = after ≡ before
 Reports OutputDevice before after = after ≡ before
 Reports status before after = IsSent (fault_line status) before after
 

@@ -5,7 +5,7 @@ use Rattle.ferry_log.specs.Log.{IsUncommitted, IsDamaged}
 use Rattle.ferry_log.specs.declared.fault.LogFault.{LogFault}
 use Rattle.ferry_log.specs.declared.fault.LogFault.TheVariants as Log
 use Rattle.ferry_top.specs.declared.status.Status.{Status}
-use Rattle.ferry_top.specs.declared.status.Status.TheVariants.{Done, Usage, Memory, SourceDevice, OutputDevice, SourceRefused, NotFound}
+use Rattle.ferry_top.specs.declared.status.Status.TheVariants.{Done, No, Usage, Memory, SourceDevice, OutputDevice, SourceRefused, NotFound}
 use Rattle.ferry_top.specs.declared.status.Refusal.{Refusal}
 use Rattle.ferry_top.specs.declared.status.Refusal.TheVariants.{Repo}
 use Rattle.ferry_repo.specs.Reason.{reason}
@@ -18,6 +18,7 @@ use Rattle.ferry_repo.specs.declared.fault.RepoFault.TheVariants.{NoCommit, Dama
 -- the number that the program ends with
 abbrev pub status_number : Status → ℕ
 status_number Done = 0
+status_number No = 1
 status_number (Usage word) = 2
 status_number Memory = 3
 status_number SourceDevice = 4
@@ -65,6 +66,7 @@ missing_line what = codes "not found: " ++ (escaped what ++ (10 ∷ []))
 -- the fault line, nothing where a status has none
 abbrev pub fault_line : Status → List ℕ
 fault_line Done = []
+fault_line No = []
 fault_line (Usage word) = usage_line word
 fault_line Memory = codes "memory\n"
 fault_line SourceDevice = codes "source device failed\n"

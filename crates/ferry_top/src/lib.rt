@@ -4,6 +4,7 @@
 //! status means and what goes to the output.
 #![tactic(auto)]
 
+mod check;
 mod items;
 mod key;
 mod keys;

@@ -17,7 +17,7 @@ pub(crate) fn report<K: Sink>(alloc: Global, status: &Status, out: &mut K)
     ensures { Reports status.now (written (K.written out.old) (K.faults out.old)) (written (K.written out.new) (K.faults out.new)) }
 {
     let _ = match status {
-        Status::Done | Status::OutputDevice => return,
+        Status::Done | Status::No | Status::OutputDevice => return,
         Status::Usage(word) => write_usage(alloc, *word, out),
         Status::Memory => out.write(b"memory\n"),
         Status::SourceDevice => out.write(b"source device failed\n"),
@@ -50,7 +50,7 @@ fn refused_line(alloc: Global, fault: &RepoFault) -> Result<Vec<u8>, AllocError>
 
 /// Appends the reason of a refusal. A fault of the device, or want of memory, has none.
 #[tactic(auto, unfolding(ferry_repo::specs::Reason::reason))]
-fn append_reason(fault: &RepoFault, line: &mut Vec<u8>) -> Result<(), AllocError>
+pub(crate) fn append_reason(fault: &RepoFault, line: &mut Vec<u8>) -> Result<(), AllocError>
     ensures reason { OnOk result (line.new.items ≡ line.old.items ++ reason fault.now) }
 {
     match fault {

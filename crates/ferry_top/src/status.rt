@@ -14,11 +14,13 @@ pub struct Secrets {
     pub target: Secret,
 }
 
-/// How a run ended. A status other than `Done` and `OutputDevice` has a fault line, which goes to the output.
+/// How a run ended. A status other than `Done`, `No` and `OutputDevice` has a fault line, which goes to the output.
 #[derive(Drop)]
 pub enum Status {
     /// The command is done, and all its lines are out.
     Done,
+    /// The repository opens and doesn't verify. The line of its first fault is out.
+    No,
     /// The words are no command. The number, from 1, is that of the first wrong word, or one more than there are words.
     Usage(u64),
     /// Memory was refused.
@@ -47,6 +49,7 @@ impl Status {
     {
         match self {
             Status::Done => 0,
+            Status::No => 1,
             Status::Usage(_) => 2,
             Status::Memory => 3,
             Status::SourceDevice => 4,

@@ -1,6 +1,7 @@
 use crate::{RepoFault, Secret, Secrets, Status, places_fit, run};
 use ferry_base::{BLOB_LIMIT, Bytes, Id};
 use ferry_disk::{MemoryDepot, MemoryEntropy, MemoryShelf, MemorySink, Name, Shelf, StoreFault};
+use ferry_item::ChunkRef;
 use ferry_repo::Repo;
 use ferry_segment::{COMMIT, COMMIT_SEGMENT, MAGIC, delete_entry, put_head};
 use std::alloc::{AllocError, Global};
@@ -157,6 +158,78 @@ static OBJECTS: [(&str, &str); 6] = [
     ),
 ];
 
+/// Chunks of one byte each, 0 to 16, under the same key, each with its id.
+static SMALL: [(&str, &str); 17] = [
+    (
+        "f814045e89671a827b47e8eb9d919b0baf5f5a9a21870ba844a263f50f7e60c1",
+        "03a719f043a1fa1eaf02f994d2a03c41dab728f8960d4e0ff9ab9cef4964284df800000000000003e84ec1a7",
+    ),
+    (
+        "c7a42d771608b737837d975293c9a8f181149490533e03d7804c865569cef47c",
+        "03de39659f2c6964f7ef8730f41383f702efee6d03e45b453131adda3c880f5eea00000000000003e982fd4d",
+    ),
+    (
+        "b96976ac21141a155557387d9a840c8be105bbd598c49cf2401ae0fe5e0efb54",
+        "03ba2677c9ed3611e7e3deb879574b179f92ff1ec54ef9a2a5314170eba6c00aed00000000000003ea2d9076",
+    ),
+    (
+        "d27e7db71fa0272c945d0b2bb765d910230d290a2775dece7dfd9abde8d657c5",
+        "0367818e2dd4fcf77e637ada0c231a13d89f668308dc95495d83d629a0d0f0375f00000000000003ebefde9c",
+    ),
+    (
+        "1d54996f7544f55f6d0f09b225a1359c39d74f9be09035335352a225d526da32",
+        "03f0103d7216138b1be3141134eafbc7164b70ab10c6c144dfc40bf74178d4ac1700000000000003ec85365d",
+    ),
+    (
+        "1516c20e1cdb60ccb0d51a644538090573f3358ba414566ede06775c8d3a100b",
+        "032b0d2979f95ae7ff9116006b242c9be5155897a22360030f8df3b7d1c989365e00000000000003eda5b73c",
+    ),
+    (
+        "a2fe22ef4d6621aba909d7c44c637469898cc889acd84eb637d9ebe7fe0deb47",
+        "031d8003d67d8f06cdf9fd3662da134cf651e3f492ec10f2e2c6fc0e1a58edb6aa00000000000003ee7c6bb8",
+    ),
+    (
+        "e226ff935427608398fd0e6a9cf2e58bddb862130fc401ac9501a69936bf0e62",
+        "0323ed5b56b423223fe423fae32affa9d7ef760b0b2ef94b5565e0803fe2c3e20100000000000003ef0394a5",
+    ),
+    (
+        "874f03d690839a4a8de0b941640e3b014dd3266ffedf06c3d63315f6353add40",
+        "03314afa2623589c090d050fb5a2b168b63dde1e1603a8230aac9274b164b52f2900000000000003f054bfe0",
+    ),
+    (
+        "69b7291d6c0989a6bc89653ab0feb6f596451d34d17e33362e0a8cf3d3e41ccf",
+        "030733b0e955ecd25b536d6d72260b630a84cd149673c1445944b3f71b250aa20600000000000003f1ea99ca",
+    ),
+    (
+        "e633033813ed6498415f8e8a4bc8ec0a140fb5ef2e05a9eae41ee18cd8a0593b",
+        "0381cc701ade3d4bc4fe75fcebb893457efcc984f5f703d84a1cd644388414f54000000000000003f2204467",
+    ),
+    (
+        "ee0eb1be5bc2ea58119bfa8addd2e71991458ce218736aee67e181ed9a1b7592",
+        "03dbb9207b72afe1b3220cfbfec3ae4beb10b935d51d36ae2e90a272570235c52900000000000003f3298584",
+    ),
+    (
+        "6480bad7e764c8bdec9c306848ecaf9b444975936908ca820398ede751d7b803",
+        "0362b494bc5bed88c9b0838ad40dcfcf308a37af59f07c103d838f7c8a935cb22e00000000000003f4cada4b",
+    ),
+    (
+        "fac168f5c94eead9116500a93c28430df36e14cf3fb76e14b95a262bcbaf38b6",
+        "03ddc9306e86b8dd8cff993f1dea32beaf5be928d0befb885bb655a6ece02ef7f800000000000003f52c8960",
+    ),
+    (
+        "f3d9f28d8c4d8468f8ea659a660637c0640879c47b42d82bc279e2c30f158dd6",
+        "03b69a0e188217ae5887eb8c042d05843f6c386f8cb74c51ff694486d3754d938100000000000003f6b63c6c",
+    ),
+    (
+        "83449ed039e71c8bce294272942ef1d5d503dff6919139dcd50984e0cebc9432",
+        "0323cb113d19d9c7f8b930f0bc7811b13ac9778be82e074c3246400e8997d188cc00000000000003f7fbbf51",
+    ),
+    (
+        "6295b11a047726ee0d713298a0d7f1a18ff1c8dbc4c0e41ed7901a5590469676",
+        "03a4fbba4ba30d5ae769df839f1f3807101b3418d970ef92676736d6065b2100b600000000000003f839cf54",
+    ),
+];
+
 /// What a segment of a case holds behind its magic.
 #[derive(Clone, Copy)]
 enum Part {
@@ -221,6 +294,11 @@ fn repository(alloc: Global, manifest: &str) -> Result<Vec<(Name, Vec<u8>)>, Fai
     if !blob.is_empty() {
         push_put(&mut bytes, &[0; 32], &blob)?;
     }
+    committed(alloc, bytes)
+}
+
+/// A repository with these bytes of its first segment.
+fn committed(alloc: Global, bytes: Vec<u8>) -> Result<Vec<(Name, Vec<u8>)>, Fail> {
     let mut files = Vec::new(alloc);
     files.push((Name::Segment(0), bytes))?;
     files.push((Name::Segment(1), Vec::from_slice(alloc, &COMMIT_SEGMENT)?))?;
@@ -246,11 +324,17 @@ fn archived(alloc: Global, without: usize) -> Result<Vec<(Name, Vec<u8>)>, Fail>
             push_put(&mut bytes, &id(alloc, digits)?, &hex::decode(alloc, blob)?)?;
         }
     }
-    let mut files = Vec::new(alloc);
-    files.push((Name::Segment(0), bytes))?;
-    files.push((Name::Segment(1), Vec::from_slice(alloc, &COMMIT_SEGMENT)?))?;
-    files.push(config(alloc, &[CONFIG, OPEN_KEY])?)?;
-    Ok(files)
+    committed(alloc, bytes)
+}
+
+/// A repository without archives, with the chunks of one byte.
+fn small(alloc: Global) -> Result<Vec<(Name, Vec<u8>)>, Fail> {
+    let mut bytes = Vec::from_slice(alloc, &MAGIC)?;
+    for (digits, blob) in &SMALL {
+        push_put(&mut bytes, &id(alloc, digits)?, &hex::decode(alloc, blob)?)?;
+    }
+    push_put(&mut bytes, &[0; 32], &hex::decode(alloc, NO_ARCHIVES)?)?;
+    committed(alloc, bytes)
 }
 
 fn strings(alloc: Global, words: &[&str]) -> Result<Vec<String>, AllocError> {
@@ -481,7 +565,9 @@ fn an_archive_is_shown_as_far_as_it_reads(rt: HostRuntime) -> Result<(), Fail> {
         fa304d4c9bedbe12eb5b68356f6ea94fc98a91cd19bdb0e56c15d4cc8485c0d1\n";
     let content = "hellosource refused: missing \
         a724cb467c45d55c00bc2e7928e74e438cd18006b0e91c749d0a9b9bac82e5a3\n";
-    let cases: [(&[&str], usize, u8, &str); 7] = [
+    let bad = "bad missing a724cb467c45d55c00bc2e7928e74e438cd18006b0e91c749d0a9b9bac82e5a3\n";
+    let good = "ok archives 1 chunks 5 orphans 0 untagged 0\n";
+    let cases: [(&[&str], usize, u8, &str); 9] = [
         (&["list", "a"], 9, 0, lines),
         (&["extract", "a", "g"], 9, 0, "hello!"),
         (&["extract", "a", "f"], 5, 0, "hello"),
@@ -489,6 +575,8 @@ fn an_archive_is_shown_as_far_as_it_reads(rt: HostRuntime) -> Result<(), Fail> {
         (&["extract", "b", "g"], 9, 11, "not found: b\n"),
         (&["list", "a"], 3, 8, piece),
         (&["extract", "a", "g"], 5, 8, content),
+        (&["check"], 9, 0, good),
+        (&["check"], 5, 1, bad),
     ];
     assert!(rt; archive_prints(rt.alloc(), &cases)?);
     Ok(())
@@ -521,7 +609,7 @@ impl Shelf for Silent {
 }
 
 #[test]
-fn a_chunk_opens_under_its_id_where_it_still_lies(rt: HostRuntime) -> Result<(), Fail> {
+fn a_chunk_opens_under_its_id(rt: HostRuntime) -> Result<(), Fail> {
     let alloc = rt.alloc();
     let id = id(alloc, CHUNK_ID)?;
     let shelf = MemoryShelf::new(alloc, repository(alloc, TWO_ARCHIVES)?, Vec::new(alloc))?;
@@ -538,13 +626,39 @@ fn a_chunk_opens_under_its_id_where_it_still_lies(rt: HostRuntime) -> Result<(),
         let missing = repo.chunk(&mut source, &other);
         assert!(rt; missing.is_err_and(|fault| fault == RepoFault::Missing(other)));
     }
+    Ok(())
+}
+
+#[test]
+fn sixteen_contents_are_answered_without_the_shelf(rt: HostRuntime) -> Result<(), Fail> {
+    let alloc = rt.alloc();
+    let shelf = MemoryShelf::new(alloc, small(alloc)?, Vec::new(alloc))?;
+    let mut source = Silent { shelf };
+    let mut repo = Repo::open(alloc, &mut source, &secret(alloc, PASSPHRASE, b"")?)?;
+    for (digits, _) in &SMALL {
+        repo.chunk(&mut source, &id(alloc, digits)?)?;
+    }
+    // A content of another size is read, and neither kept nor answered.
+    let first = id(alloc, SMALL[0].0)?;
+    let wrong = ChunkRef {
+        id: first,
+        size: 2,
+        csize: 44,
+    };
+    let refused = repo.content(&mut source, &wrong);
+    assert!(rt; refused.is_err_and(|fault| fault == RepoFault::Size(first)));
+    // On the shelf no blob is at its place any more.
     let cut = vec![in alloc; (Name::Segment(0), Vec::from_slice(alloc, &MAGIC)?)]?;
     source.shelf = MemoryShelf::new(alloc, cut, Vec::new(alloc))?;
     let damaged = RepoFault::Damaged { segment: 0, at: 49 };
-    assert!(rt;
-        repo.chunk(&mut source, &id)
-            .is_err_and(|fault| fault == damaged)
-    );
+    let read = repo.chunk(&mut source, &first);
+    assert!(rt; read.is_err_and(|fault| fault == damaged));
+    let mut byte = 0u8;
+    for (digits, _) in SMALL.iter().skip(1) {
+        byte = byte.wrapping_add(1);
+        let content = repo.chunk(&mut source, &id(alloc, digits)?)?;
+        assert_eq!(rt; content.as_slice(), [byte].as_slice());
+    }
     Ok(())
 }
 

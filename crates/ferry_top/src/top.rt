@@ -6,6 +6,7 @@ ghost use Rattle.ferry_top.specs.Run.{DoesCommand, Runs};
 ghost use Rattle.ferry_top.specs.Status.{source_failed};
 ghost use Rattle.ferry_words.specs.Words.{command_of};
 
+use crate::check::check;
 use crate::items::{extract, list_items};
 use crate::key::key;
 use crate::keys::keys;
@@ -24,7 +25,8 @@ use std::alloc::Global;
 /// prints its repository id as 64 hex digits, a space, and its iterations. `list` opens the source with its secret and
 /// prints, for each archive in byte order of names, the id of its record, its time and its name; with a name it prints, for each item of
 /// that archive in the order of its stream, its kind, its size in bytes and its path. `extract` writes the content of the first item of an
-/// archive that has content and a path. None uses `target` and `entropy`.
+/// archive that has content and a path. `check` opens every live chunk and reads every archive, and prints how many there are, or the first
+/// fault, with which it answers `No`. None uses `target` and `entropy`.
 pub fn run<S: Shelf, D: Depot, E: Entropy, K: Sink>(
     alloc: Global,
     words: &[String],
@@ -73,5 +75,6 @@ fn carry_out<S: Shelf, K: Sink>(
         Command::List => list(alloc, secret, source, out),
         Command::ListItems { name } => list_items(alloc, secret, source, out, name),
         Command::Extract { name, path } => extract(alloc, secret, source, out, name, path),
+        Command::Check => check(alloc, secret, source, out),
     }
 }

@@ -6,9 +6,10 @@ use Rattle.ferry_disk.specs.Files.{Files}
 use Rattle.ferry_disk.proofs.DeviceLemmas.{told_any, told_then, told_with}
 use Rattle.ferry_item.specs.Stream.{joined}
 use Rattle.ferry_item.specs.declared.item.ChunkRef.{ChunkRef}
+use Rattle.ferry_log.specs.State.{FitsFiles}
 use Rattle.ferry_repo.specs.Archives.{HoldsContent, RefusesContent}
 use Rattle.ferry_repo.specs.Fault.{IsOfFiles}
-use Rattle.ferry_repo.specs.Opening.{RepoState, FitsRepo}
+use Rattle.ferry_repo.specs.Opening.{RepoState}
 use Rattle.ferry_repo.specs.Walk.{WalkState}
 use Rattle.ferry_repo.specs.Whole.{ContentsCome}
 use Rattle.ferry_repo.specs.declared.fault.RepoFault.{RepoFault}
@@ -59,19 +60,19 @@ writes_next told later repo after_repo chunks place d old out after content same
 }
 
 some_of : (told : Option Told) (repo : RepoState) (chunks : List ChunkRef) (place : ℕ) (old after : Option (List ℕ)) (contents : List (List ℕ))
-    → IfSome told (λ t. FitsRepo (told_files t) repo)
+    → IfSome told (λ t. FitsFiles (told_files t) repo.log)
     → IfSome told (λ t. ContentsCome (told_files t) repo.log repo.keys (take place chunks) contents None) → WritesSome old (joined contents) after
     → ShowsSome (λ f text. SomeContents f repo chunks text) told old after
 some_of told repo chunks place old after contents fits come some =
-    shows_more told (λ f. FitsRepo f repo × ContentsCome f repo.log repo.keys (take place chunks) contents None)
+    shows_more told (λ f. FitsFiles f repo.log × ContentsCome f repo.log repo.keys (take place chunks) contents None)
     (λ f text. SomeContents f repo chunks text) old after (joined contents)
     (λ f both. contents_more f repo chunks place contents both.0 both.1)
-    (told_both told (λ f. FitsRepo f repo) (λ f. ContentsCome f repo.log repo.keys (take place chunks) contents None) fits come)
+    (told_both told (λ f. FitsFiles f repo.log) (λ f. ContentsCome f repo.log repo.keys (take place chunks) contents None) fits come)
     some
 
 -- no more content is out
 pub writes_some : (told : Option Told) (repo : RepoState) (chunks : List ChunkRef) (place : ℕ) (old out : Option (List ℕ))
-    → IfSome told (λ t. FitsRepo (told_files t) repo) → WritesSoFar told repo (take place chunks) old out
+    → IfSome told (λ t. FitsFiles (told_files t) repo.log) → WritesSoFar told repo (take place chunks) old out
     → ShowsSome (λ f text. SomeContents f repo chunks text) told old out
 writes_some told repo chunks place old out fits writes =
     some_of told repo chunks place old out writes.contents fits writes.come (writes_all old out (joined writes.contents) writes.written)
@@ -79,7 +80,7 @@ writes_some told repo chunks place old out fits writes =
 -- a front of the next content is out
 pub writes_cut : (told later : Option Told) (repo after_repo : RepoState) (chunks : List ChunkRef) (place : ℕ) (d : ChunkRef)
     (old out after : Option (List ℕ)) (content : List ℕ) → heard later ≡ heard told → after_repo ≡ repo → place < length chunks
-    → IfSome told (λ t. FitsRepo (told_files t) repo) → WritesSoFar told repo (take place chunks) old out
+    → IfSome told (λ t. FitsFiles (told_files t) repo.log) → WritesSoFar told repo (take place chunks) old out
     → IfSome later (λ t. HoldsContent (told_files t) after_repo.log after_repo.keys (get_or chunks place d) content)
     → WritesSome out content after → ShowsSome (λ f text. SomeContents f repo chunks text) told old after
 writes_cut told later repo after_repo chunks place d old out after content same same_repo lt fits writes holds some =

@@ -6,9 +6,10 @@ use Rattle.ferry_disk.specs.Files.{Files}
 use Rattle.ferry_item.specs.Item.{ItemText}
 use Rattle.ferry_item.specs.Stream.{joined}
 use Rattle.ferry_item.specs.declared.item.ChunkRef.{ChunkRef}
+use Rattle.ferry_log.specs.State.{FitsFiles}
 use Rattle.ferry_repo.specs.Archives.{HoldsContent, RefusesContent}
 use Rattle.ferry_repo.specs.Fault.{IsOfFiles}
-use Rattle.ferry_repo.specs.Opening.{RepoState, FitsRepo}
+use Rattle.ferry_repo.specs.Opening.{RepoState}
 use Rattle.ferry_repo.specs.Walk.{WalkState, IsToCome}
 use Rattle.ferry_repo.specs.Whole.{ContentsCome, WholeItem, HoldsItem, WholesCome, Reading, ReadsArchive}
 use Rattle.ferry_repo.specs.declared.fault.RepoFault.{RepoFault}
@@ -100,11 +101,11 @@ contents_next files repo chunks place d contents content lt come holds =
     (contents_then files repo.log repo.keys (take place chunks) (get_or chunks place d ∷ []) contents (content ∷ []) None come (holds, tt))
 
 -- behind the contents that are there more come, up to some end
-pub contents_more : (files : Files) (repo : RepoState) (chunks : List ChunkRef) (place : ℕ) (contents : List (List ℕ)) → FitsRepo files repo
+pub contents_more : (files : Files) (repo : RepoState) (chunks : List ChunkRef) (place : ℕ) (contents : List (List ℕ)) → FitsFiles files repo.log
     → ContentsCome files repo.log repo.keys (take place chunks) contents None
     → (more : List ℕ) × SomeContents files repo chunks (joined contents ++ more)
 contents_more files repo chunks place contents fits come =
-    let m = some_contents files repo.log repo.keys fits.log (drop place chunks) in (
+    let m = some_contents files repo.log repo.keys fits (drop place chunks) in (
       joined m.contents,
       (
         m.end,
@@ -161,12 +162,12 @@ chunks_of files repo path walk now chunks f = ap (λ (c : Option (List ChunkRef)
 
 -- a text with contents of the file, up to some end
 pub file_text : (files : Files) (repo : RepoState) (name path : List ℕ) (walk now : WalkState) (chunks : List ChunkRef) (text : List ℕ)
-    → FitsRepo files repo → Begins files repo name walk → FindsFile files repo walk path chunks now → SomeContents files repo chunks text
+    → FitsFiles files repo.log → Begins files repo name walk → FindsFile files repo walk path chunks now → SomeContents files repo chunks text
     → IsFileText files repo name path text
 file_text files repo name path walk now chunks text fits b f shown =
-    let m = some_to_come files repo.log repo.keys now fits.log in
+    let m = some_to_come files repo.log repo.keys now fits in
     let items = (f.done ++ (f.item ∷ [])) ++ m.0 in
-    let w = some_wholes files repo.log repo.keys fits.log (f.item ∷ []) m.1.0 in
+    let w = some_wholes files repo.log repo.keys fits (f.item ∷ []) m.1.0 in
     let reading : Reading = record { archive = b.archive; items = items; wholes = w.wholes; end = w.end } in
     items_shown reading text
     (record {
@@ -253,11 +254,11 @@ before_refuses files repo name path walk View.Output b ends = absurd ends
 before_refuses files repo name path walk View.Memory b ends = tt
 
 contents_end : (files : Files) (repo : RepoState) (name path : List ℕ) (walk now : WalkState) (chunks : List ChunkRef) (fault : RepoFault)
-    → FitsRepo files repo → (b : Begins files repo name walk) → FindsFile files repo walk path chunks now
+    → FitsFiles files repo.log → (b : Begins files repo name walk) → FindsFile files repo walk path chunks now
     → ((text : List ℕ) × ContentsShown files repo chunks (Some fault) text) ⊎ EndsBehind files repo now chunks fault
     → (reading : Reading) × ReadsArchive (file_at path) files repo.log repo.keys b.named.id reading × (reading.end ≡ Some fault)
 contents_end files repo name path walk now chunks fault fits b f (inl shown) =
-    let m = some_to_come files repo.log repo.keys now fits.log in
+    let m = some_to_come files repo.log repo.keys now fits in
     let reading : Reading = record { archive = b.archive; items = (f.done ++ (f.item ∷ [])) ++ m.0; wholes = []; end = Some fault } in (
       reading,
       file_reading files repo name path walk now chunks b f m.0 m.1.0 reading m.1.1 refl refl (rw f.chunks_are (shown.1.contents, shown.1.come)),
@@ -274,7 +275,7 @@ contents_end files repo name path walk now chunks fault fits b f (inr behind) =
     )
 
 pub file_refused : (files : Files) (repo : RepoState) (name path : List ℕ) (walk now : WalkState) (chunks : List ChunkRef) (fault : ViewFault)
-    → FitsRepo files repo → Begins files repo name walk → FindsFile files repo walk path chunks now → EndsFile files repo now chunks fault
+    → FitsFiles files repo.log → Begins files repo name walk → FindsFile files repo walk path chunks now → EndsFile files repo now chunks fault
     → RefusesFile files repo name path fault
 file_refused files repo name path walk now chunks (View.Repo fault) fits b f ends =
     free_refuses (file_at path) files repo name fault b.named b.named_is
@@ -285,13 +286,13 @@ file_refused files repo name path walk now chunks View.Memory fits b f ends = tt
 
 -- ---- some text is shown
 
-shown_of : (files : Files) (repo : RepoState) → FitsRepo files repo → (items : List ItemText) → (text : List ℕ) × IsContentOf files repo items text
+shown_of : (files : Files) (repo : RepoState) → FitsFiles files repo.log → (items : List ItemText) → (text : List ℕ) × IsContentOf files repo items text
 shown_of files repo fits [] = ([], refl)
 shown_of files repo fits (item ∷ items) =
-    let m = some_contents files repo.log repo.keys fits.log (unwrap_or item.chunks []) in
+    let m = some_contents files repo.log repo.keys fits (unwrap_or item.chunks []) in
     (joined m.contents, (m.contents, (m.end, m.come, refl)))
 
-pub some_file_text : (files : Files) (repo : RepoState) (name path : List ℕ) → FitsRepo files repo
+pub some_file_text : (files : Files) (repo : RepoState) (name path : List ℕ) → FitsFiles files repo.log
     → (text : List ℕ) × IsFileText files repo name path text
 some_file_text files repo name path fits =
     some_text (file_at path) (λ items shown. IsContentOf files repo (file_at path items) shown) files repo name

@@ -4,10 +4,11 @@ use Rattle.ferry_disk.specs.Files.{Files}
 use Rattle.ferry_item.specs.Item.{ItemText}
 use Rattle.ferry_item.specs.Stream.{joined}
 use Rattle.ferry_item.specs.declared.item.ChunkRef.{ChunkRef}
+use Rattle.ferry_log.specs.State.{FitsFiles}
 use Rattle.ferry_manifest.specs.declared.manifest.ArchiveRef.{ArchiveRef}
 use Rattle.ferry_repo.specs.Archives.{archive_named, RefusesRecord}
 use Rattle.ferry_repo.specs.Fault.{IsOfFiles}
-use Rattle.ferry_repo.specs.Opening.{RepoState, FitsRepo}
+use Rattle.ferry_repo.specs.Opening.{RepoState}
 use Rattle.ferry_repo.specs.Whole.{ContentsCome, HoldsJoined, WholeItem, WholesCome, Reading, ReadsArchive, RefusesArchive, no_item}
 use Rattle.ferry_repo.specs.declared.fault.RepoFault.{RepoFault}
 use Rattle.ferry_repo.proofs.ContentLemmas.{one_contents}
@@ -112,12 +113,12 @@ listing_by files repo name named is (inl read) = listing_read files repo name na
 listing_by files repo name named is (inr refuses) = inr (View.Repo refuses.0, refuses.1, (named, is, inl refuses.2))
 
 listing_found : (files : Files) (repo : RepoState) (name : List ℕ) (found : Option ArchiveRef) → archive_named name repo.manifest.archives ≡ found
-    → FitsRepo files repo → SomeListing files repo name
+    → FitsFiles files repo.log → SomeListing files repo name
 listing_found files repo name None is fits = inr (View.NotFound, tt, is)
 listing_found files repo name (Some named) is fits =
-    listing_by files repo name named is (some_archive no_item files repo.log repo.keys named.id fits.log)
+    listing_by files repo name named is (some_archive no_item files repo.log repo.keys named.id fits)
 
-pub some_listing : (files : Files) (repo : RepoState) (name : List ℕ) → FitsRepo files repo
+pub some_listing : (files : Files) (repo : RepoState) (name : List ℕ) → FitsFiles files repo.log
     → ((text : List ℕ) × IsItemListing files repo name text) ⊎ ((fault : ViewFault) × IsOfArchive fault × RefusesItems files repo name fault)
 some_listing files repo name fits = listing_found files repo name (archive_named name repo.manifest.archives) refl fits
 
@@ -200,12 +201,12 @@ file_by files repo name path named is (inl read) = file_read files repo name pat
 file_by files repo name path named is (inr refuses) = inr (View.Repo refuses.0, refuses.1, (named, is, inl refuses.2))
 
 file_found_or : (files : Files) (repo : RepoState) (name path : List ℕ) (found : Option ArchiveRef) → archive_named name repo.manifest.archives ≡ found
-    → FitsRepo files repo → SomeFile files repo name path
+    → FitsFiles files repo.log → SomeFile files repo name path
 file_found_or files repo name path None is fits = inr (View.NotFound, tt, inl is)
 file_found_or files repo name path (Some named) is fits =
-    file_by files repo name path named is (some_archive (file_at path) files repo.log repo.keys named.id fits.log)
+    file_by files repo name path named is (some_archive (file_at path) files repo.log repo.keys named.id fits)
 
-pub some_file : (files : Files) (repo : RepoState) (name path : List ℕ) → FitsRepo files repo
+pub some_file : (files : Files) (repo : RepoState) (name path : List ℕ) → FitsFiles files repo.log
     → ((text : List ℕ) × IsFile files repo name path text) ⊎ ((fault : ViewFault) × IsOfArchive fault × RefusesFile files repo name path fault)
 some_file files repo name path fits = file_found_or files repo name path (archive_named name repo.manifest.archives) refl fits
 

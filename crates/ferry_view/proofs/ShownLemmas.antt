@@ -4,6 +4,8 @@ use Rattle.ferry_disk.specs.Device.{Told, told_files, heard}
 use Rattle.ferry_disk.specs.Files.{Files}
 use Rattle.ferry_disk.proofs.DeviceLemmas.{told_same, told_then, told_with}
 use Rattle.ferry_item.specs.declared.item.ChunkRef.{ChunkRef}
+use Rattle.ferry_log.specs.State.{FitsFiles}
+use Rattle.ferry_repo.specs.Cached.{Contents}
 use Rattle.ferry_repo.specs.Opening.{RepoState, FitsRepo}
 use Rattle.ferry_repo.specs.Walk.{WalkState, FitsWalk}
 use Rattle.ferry_view.specs.Items.{IsItemListing, IsItemText, RefusesItems, IsFile, IsFileText, RefusesFile}
@@ -30,12 +32,10 @@ begun_fits told later repo after_repo name walk same same_repo begins =
     (λ f b. subst (λ (r : RepoState). FitsWalk f r.log r.keys walk) (sym same_repo) (begin_fits f repo name walk b))
     begins)
 
--- the repository fits what a later call is told
-pub repo_fits : (told later : Option Told) (repo after_repo : RepoState) → heard later ≡ heard told → after_repo ≡ repo
-    → IfSome told (λ t. FitsRepo (told_files t) repo) → IfSome later (λ t. FitsRepo (told_files t) after_repo)
-repo_fits told later repo after_repo same same_repo fits =
-    told_same told later (λ f. FitsRepo f after_repo) same
-    (told_then told (λ f. FitsRepo f repo) (λ f. FitsRepo f after_repo) (λ f h. subst (λ (r : RepoState). FitsRepo f r) (sym same_repo) h) fits)
+-- the files fit the log of a repository that they fit
+pub log_fits : (told : Option Told) (repo : RepoState) (cached : Contents) → IfSome told (λ t. FitsRepo (told_files t) repo cached)
+    → IfSome told (λ t. FitsFiles (told_files t) repo.log)
+log_fits told repo cached fits = told_then told (λ f. FitsRepo f repo cached) (λ f. FitsFiles f repo.log) (λ f h. h.log) fits
 
 -- ---- the listing of items
 
@@ -66,9 +66,9 @@ items_unbegun told repo name fault refuses =
     told_then told (λ f. RefusesBegin f repo name fault) (λ f. RefusesItems f repo name fault) (λ f. begin_refuses_items f repo name fault) refuses
 
 pub no_lines : (told : Option Told) (repo : RepoState) (name : List ℕ) (before after : Option (List ℕ))
-    → IfSome told (λ t. FitsRepo (told_files t) repo) → after ≡ before → ShowsSome (λ f text. IsItemText f repo name text) told before after
+    → IfSome told (λ t. FitsFiles (told_files t) repo.log) → after ≡ before → ShowsSome (λ f text. IsItemText f repo name text) told before after
 no_lines told repo name before after fits same =
-    shows_none told (λ f. FitsRepo f repo) (λ f text. IsItemText f repo name text) before after (λ f. some_item_text f repo name) fits same
+    shows_none told (λ f. FitsFiles f repo.log) (λ f text. IsItemText f repo name text) before after (λ f. some_item_text f repo name) fits same
 
 -- ---- a file
 
@@ -109,9 +109,9 @@ behind_end_at told later repo after_repo walk chunks fault before after same sam
 -- ---- extraction
 
 pub no_content : (told : Option Told) (repo : RepoState) (name path : List ℕ) (before after : Option (List ℕ))
-    → IfSome told (λ t. FitsRepo (told_files t) repo) → after ≡ before → ShowsSome (λ f text. IsFileText f repo name path text) told before after
+    → IfSome told (λ t. FitsFiles (told_files t) repo.log) → after ≡ before → ShowsSome (λ f text. IsFileText f repo name path text) told before after
 no_content told repo name path before after fits same =
-    shows_none told (λ f. FitsRepo f repo) (λ f text. IsFileText f repo name path text) before after (λ f. some_file_text f repo name path) fits same
+    shows_none told (λ f. FitsFiles f repo.log) (λ f text. IsFileText f repo name path text) before after (λ f. some_file_text f repo name path) fits same
 
 pub file_unbegun : (told : Option Told) (repo : RepoState) (name path : List ℕ) (fault : ViewFault)
     → IfSome told (λ t. RefusesBegin (told_files t) repo name fault) → IfSome told (λ t. RefusesFile (told_files t) repo name path fault)
@@ -137,17 +137,17 @@ file_missing told later repo after_repo name path walk same same_repo begins non
 -- what is known where the file is found
 abbrev pub FoundAt : Files → RepoState → List ℕ → List ℕ → WalkState → WalkState → List ChunkRef → Type 0
 FoundAt files repo name path walk now chunks =
-    FitsRepo files repo × Begins files repo name walk × FindsFile files repo walk path chunks now
+    FitsFiles files repo.log × Begins files repo name walk × FindsFile files repo walk path chunks now
 
 pub found_at : (told later : Option Told) (repo after_repo : RepoState) (name path : List ℕ) (walk now : WalkState) (chunks : List ChunkRef)
-    → heard later ≡ heard told → after_repo ≡ repo → IfSome told (λ t. FitsRepo (told_files t) repo)
+    → heard later ≡ heard told → after_repo ≡ repo → IfSome told (λ t. FitsFiles (told_files t) repo.log)
     → IfSome told (λ t. Begins (told_files t) repo name walk) → IfSome later (λ t. FindsFile (told_files t) after_repo walk path chunks now)
     → IfSome told (λ t. FoundAt (told_files t) repo name path walk now chunks)
 found_at told later repo after_repo name path walk now chunks same same_repo fits begins finds =
-    told_with told later (λ f. FitsRepo f repo × Begins f repo name walk) (λ f. FindsFile f after_repo walk path chunks now)
+    told_with told later (λ f. FitsFiles f repo.log × Begins f repo name walk) (λ f. FindsFile f after_repo walk path chunks now)
     (λ f. FoundAt f repo name path walk now chunks) same
     (λ f both x. (both.0, both.1, subst (λ (r : RepoState). FindsFile f r walk path chunks now) same_repo x))
-    (told_both told (λ f. FitsRepo f repo) (λ f. Begins f repo name walk) fits begins) finds
+    (told_both told (λ f. FitsFiles f repo.log) (λ f. Begins f repo name walk) fits begins) finds
 
 -- the walk that found the file fits what a later call is told
 pub found_fits : (told later : Option Told) (repo after_repo : RepoState) (name path : List ℕ) (walk now : WalkState) (chunks : List ChunkRef)

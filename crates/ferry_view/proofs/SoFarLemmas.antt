@@ -6,8 +6,9 @@ use Rattle.ferry_disk.specs.Files.{Files}
 use Rattle.ferry_disk.proofs.DeviceLemmas.{told_same, told_then, told_with}
 use Rattle.ferry_item.specs.Item.{ItemText}
 use Rattle.ferry_item.specs.declared.item.ChunkRef.{ChunkRef}
+use Rattle.ferry_log.specs.State.{FitsFiles}
 use Rattle.ferry_repo.specs.Fault.{IsOfFiles}
-use Rattle.ferry_repo.specs.Opening.{RepoState, FitsRepo}
+use Rattle.ferry_repo.specs.Opening.{RepoState}
 use Rattle.ferry_repo.specs.Walk.{WalkState, IsToCome, LeadsOn, FitsWalk}
 use Rattle.ferry_repo.specs.declared.fault.RepoFault.{RepoFault}
 use Rattle.ferry_repo.specs.declared.fault.RepoFault.TheVariants as Fault
@@ -173,17 +174,17 @@ sent_front old out after gathered text sends some =
 
 -- a front of the lines is out, and of what is gathered
 pub lists_cut : (told : Option Told) (repo : RepoState) (from now : WalkState) (old out after : Option (List ℕ)) (gathered : List ℕ)
-    → IfSome told (λ t. FitsRepo (told_files t) repo) → ListsSoFar told repo from now old out gathered → WritesSome out gathered after
+    → IfSome told (λ t. FitsFiles (told_files t) repo.log) → ListsSoFar told repo from now old out gathered → WritesSome out gathered after
     → ShowsSome (λ f text. SomeLines f repo from text) told old after
 lists_cut told repo from now old out after gathered fits lists some =
-    shows_more told (λ f. FitsRepo f repo × Answers f repo from lists.done now) (λ f text. SomeLines f repo from text) old after (item_lines lists.done)
+    shows_more told (λ f. FitsFiles f repo.log × Answers f repo from lists.done now) (λ f text. SomeLines f repo from text) old after (item_lines lists.done)
     (λ f both. lines_more f repo from now lists.done both.0 both.1)
-    (told_both told (λ f. FitsRepo f repo) (λ f. Answers f repo from lists.done now) fits lists.answers)
+    (told_both told (λ f. FitsFiles f repo.log) (λ f. Answers f repo from lists.done now) fits lists.answers)
     (sent_front old out after gathered (item_lines lists.done) lists.sends some)
 
 -- nothing more is out
 pub lists_some : (told : Option Told) (repo : RepoState) (from now : WalkState) (old out : Option (List ℕ)) (gathered : List ℕ)
-    → IfSome told (λ t. FitsRepo (told_files t) repo) → ListsSoFar told repo from now old out gathered
+    → IfSome told (λ t. FitsFiles (told_files t) repo.log) → ListsSoFar told repo from now old out gathered
     → ShowsSome (λ f text. SomeLines f repo from text) told old out
 lists_some told repo from now old out gathered fits lists =
     lists_cut told repo from now old out out gathered fits lists (writes_none out gathered)

@@ -3,13 +3,13 @@ use Rattle.std.proofs.Common.{◌≡◌, ◌⊎◌, inl, inr, ℕ, List, [], ◌
 use Rattle.std.proofs.lemmas.List.{append_assoc}
 use Rattle.ferry_disk.specs.Files.{Files}
 use Rattle.ferry_item.specs.Item.{ItemText}
-use Rattle.ferry_log.specs.State.{LogState}
+use Rattle.ferry_log.specs.State.{LogState, FitsFiles}
 use Rattle.ferry_mac.specs.declared.keys.Keys.{Keys}
 use Rattle.ferry_manifest.specs.Record.Text.{ArchiveText}
 use Rattle.ferry_manifest.specs.declared.manifest.ArchiveRef.{ArchiveRef}
 use Rattle.ferry_repo.specs.Archives.{archive_named, RefusesRecord, HoldsNamed, RefusesNamed}
 use Rattle.ferry_repo.specs.Fault.{IsOfFiles}
-use Rattle.ferry_repo.specs.Opening.{RepoState, FitsRepo}
+use Rattle.ferry_repo.specs.Opening.{RepoState}
 use Rattle.ferry_repo.specs.Walk.{WalkState, begin_walk, IsToCome, LeadsOn, FitsWalk, Comes}
 use Rattle.ferry_repo.specs.Whole.{Reading, ReadsArchive, no_item}
 use Rattle.ferry_repo.specs.declared.fault.RepoFault.{RepoFault}
@@ -131,10 +131,10 @@ answers_more files repo from now after done more answers leads fits = record {
 }
 
 -- more is to come behind what was answered
-pub lines_more : (files : Files) (repo : RepoState) (from now : WalkState) (done : List ItemText) → FitsRepo files repo
+pub lines_more : (files : Files) (repo : RepoState) (from now : WalkState) (done : List ItemText) → FitsFiles files repo.log
     → Answers files repo from done now → (more : List ℕ) × SomeLines files repo from (item_lines done ++ more)
 lines_more files repo from now done fits answers =
-    let m = some_to_come files repo.log repo.keys now fits.log in (
+    let m = some_to_come files repo.log repo.keys now fits in (
       item_lines m.0,
       (m.1.0, record { items = done ++ m.0; come = answers.leads m.0 m.1.0 m.1.1; lines = sym (item_lines-append done m.0) }),
     )
@@ -239,18 +239,18 @@ text_by wanted IsShown files repo name named is shown (inr refuses) = ([], no_re
 
 text_found : (wanted : List ItemText → List ItemText) (IsShown : List ItemText → List ℕ → Type 0) (files : Files) (repo : RepoState) (name : List ℕ)
     (found : Option ArchiveRef) → archive_named name repo.manifest.archives ≡ found → ((items : List ItemText) → (text : List ℕ) × IsShown items text)
-    → FitsRepo files repo → (text : List ℕ) × ReadsUpTo wanted IsShown files repo name text
+    → FitsFiles files repo.log → (text : List ℕ) × ReadsUpTo wanted IsShown files repo name text
 text_found wanted IsShown files repo name None is shown fits = ([], no_archive is)
 text_found wanted IsShown files repo name (Some named) is shown fits =
-    text_by wanted IsShown files repo name named is shown (some_archive wanted files repo.log repo.keys named.id fits.log)
+    text_by wanted IsShown files repo name named is shown (some_archive wanted files repo.log repo.keys named.id fits)
 
 -- something is shown of the archive of a name, nothing maybe
 pub some_text : (wanted : List ItemText → List ItemText) (IsShown : List ItemText → List ℕ → Type 0) (files : Files) (repo : RepoState) (name : List ℕ)
-    → ((items : List ItemText) → (text : List ℕ) × IsShown items text) → FitsRepo files repo
+    → ((items : List ItemText) → (text : List ℕ) × IsShown items text) → FitsFiles files repo.log
     → (text : List ℕ) × ReadsUpTo wanted IsShown files repo name text
 some_text wanted IsShown files repo name shown fits =
     text_found wanted IsShown files repo name (archive_named name repo.manifest.archives) refl shown fits
 
-pub some_item_text : (files : Files) (repo : RepoState) (name : List ℕ) → FitsRepo files repo → (text : List ℕ) × IsItemText files repo name text
+pub some_item_text : (files : Files) (repo : RepoState) (name : List ℕ) → FitsFiles files repo.log → (text : List ℕ) × IsItemText files repo name text
 some_item_text files repo name fits =
     some_text no_item (λ items shown. shown ≡ item_lines items) files repo name (λ items. (item_lines items, refl)) fits

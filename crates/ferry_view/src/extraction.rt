@@ -3,7 +3,7 @@ ghost use Rattle.std.specs.Prelude.{◌≡◌, if◌then◌else◌, Ok, None, fa
 ghost use Rattle.std.specs.Str.{bytes_eq};
 ghost use Rattle.ferry_disk.specs.Device.{KeepsTold, HasCause, told_files};
 ghost use Rattle.ferry_item.specs.Item.{item_view};
-ghost use Rattle.ferry_repo.specs.Opening.{repo_view, FitsRepo};
+ghost use Rattle.ferry_repo.specs.Opening.{repo_view, cached_in, FitsRepo};
 ghost use Rattle.ferry_repo.specs.Walk.{walk_view, FitsWalk};
 ghost use Rattle.ferry_view.specs.Lines.{path_of};
 ghost use Rattle.ferry_view.specs.Items.{IsFile, IsFileText, RefusesFile};
@@ -31,13 +31,14 @@ pub fn extract<S: Shelf, K: Sink>(
     name: &[u8],
     path: &[u8],
 ) -> Result<(), ViewFault>
-    requires fits { IfSome (S.told shelf.old) (λ t. FitsRepo (told_files t) (repo_view repo.old)) }
+    requires fits { IfSome (S.told shelf.old) (λ t. FitsRepo (told_files t) (repo_view repo.old) (cached_in repo.old)) }
     ensures ok { OnOk result (ShowsAll (λ f text. IsFile f (repo_view repo.old) name.now path.now text)
         (S.told shelf.old) (K.written out.old) (K.written out.new)) }
     ensures err { OnErr result (ShowsSome (λ f text. IsFileText f (repo_view repo.old) name.now path.now text)
         (S.told shelf.old) (K.written out.old) (K.written out.new)) }
     ensures refused { IfErr result (λ fault. IfSome (S.told shelf.old) (λ t.
         RefusesFile (told_files t) (repo_view repo.old) name.now path.now fault)) }
+    ensures fits { IfSome (S.told shelf.new) (λ t. FitsRepo (told_files t) (repo_view repo.new) (cached_in repo.new)) }
     ensures kept { repo_view repo.new ≡ repo_view repo.old }
     ensures same { KeepsTold shelf_failed (S.told shelf.old) (S.told shelf.new) result }
     ensures source { HasCause shelf_failed (S.faults shelf.old) (S.faults shelf.new) result }
@@ -62,7 +63,7 @@ fn write_file<S: Shelf, K: Sink>(
     walk: &mut Walk,
     chunks: &ChunkRefs,
 ) -> Result<(), ViewFault>
-    requires fits { IfSome (S.told shelf.old) (λ t. FitsRepo (told_files t) (repo_view repo.old)) }
+    requires fits { IfSome (S.told shelf.old) (λ t. FitsRepo (told_files t) (repo_view repo.old) (cached_in repo.old)) }
     requires walk_fits { IfSome (S.told shelf.old) (λ t.
         FitsWalk (told_files t) (repo_view repo.old).log (repo_view repo.old).keys (walk_view walk.old)) }
     ensures ok { OnOk result (ShowsAll (λ f text. WritesFile f (repo_view repo.old) (walk_view walk.old) chunks.now text)
@@ -71,6 +72,7 @@ fn write_file<S: Shelf, K: Sink>(
         (S.told shelf.old) (K.written out.old) (K.written out.new)) }
     ensures refused { IfErr result (λ fault. IfSome (S.told shelf.old) (λ t.
         EndsFile (told_files t) (repo_view repo.old) (walk_view walk.old) chunks.now fault)) }
+    ensures fits { IfSome (S.told shelf.new) (λ t. FitsRepo (told_files t) (repo_view repo.new) (cached_in repo.new)) }
     ensures kept { repo_view repo.new ≡ repo_view repo.old }
     ensures same { KeepsTold shelf_failed (S.told shelf.old) (S.told shelf.new) result }
     ensures source { HasCause shelf_failed (S.faults shelf.old) (S.faults shelf.new) result }
@@ -88,7 +90,7 @@ fn find_file<S: Shelf>(
     walk: &mut Walk,
     path: &[u8],
 ) -> Result<Option<ChunkRefs>, ViewFault>
-    requires fits { IfSome (S.told shelf.old) (λ t. FitsRepo (told_files t) (repo_view repo.old)) }
+    requires fits { IfSome (S.told shelf.old) (λ t. FitsRepo (told_files t) (repo_view repo.old) (cached_in repo.old)) }
     requires walk_fits { IfSome (S.told shelf.old) (λ t.
         FitsWalk (told_files t) (repo_view repo.old).log (repo_view repo.old).keys (walk_view walk.old)) }
     ensures found { IfOk result (λ found. IfSome found (λ chunks. IfSome (S.told shelf.old) (λ t.
@@ -97,6 +99,7 @@ fn find_file<S: Shelf>(
         FindsNone (told_files t) (repo_view repo.old) (walk_view walk.old) path.now None) }
     ensures refused { IfErr result (λ fault. IfSome (S.told shelf.old) (λ t.
         EndsBefore (told_files t) (repo_view repo.old) (walk_view walk.old) path.now fault)) }
+    ensures fits { IfSome (S.told shelf.new) (λ t. FitsRepo (told_files t) (repo_view repo.new) (cached_in repo.new)) }
     ensures kept { repo_view repo.new ≡ repo_view repo.old }
     ensures same { KeepsTold shelf_failed (S.told shelf.old) (S.told shelf.new) result }
     ensures source { HasCause shelf_failed (S.faults shelf.old) (S.faults shelf.new) result }
@@ -132,13 +135,14 @@ fn write_contents<S: Shelf, K: Sink>(
     out: &mut K,
     chunks: &[ChunkRef],
 ) -> Result<(), ViewFault>
-    requires fits { IfSome (S.told shelf.old) (λ t. FitsRepo (told_files t) (repo_view repo.old)) }
+    requires fits { IfSome (S.told shelf.old) (λ t. FitsRepo (told_files t) (repo_view repo.old) (cached_in repo.old)) }
     ensures ok { OnOk result (ShowsAll (λ f text. AllContents f (repo_view repo.old) chunks.now text)
         (S.told shelf.old) (K.written out.old) (K.written out.new)) }
     ensures err { OnErr result (ShowsSome (λ f text. SomeContents f (repo_view repo.old) chunks.now text)
         (S.told shelf.old) (K.written out.old) (K.written out.new)) }
     ensures refused { IfErr result (λ fault. IfSome (S.told shelf.old) (λ t.
         EndsContents (told_files t) (repo_view repo.old) chunks.now fault)) }
+    ensures fits { IfSome (S.told shelf.new) (λ t. FitsRepo (told_files t) (repo_view repo.new) (cached_in repo.new)) }
     ensures kept { repo_view repo.new ≡ repo_view repo.old }
     ensures same { KeepsTold shelf_failed (S.told shelf.old) (S.told shelf.new) result }
     ensures source { HasCause shelf_failed (S.faults shelf.old) (S.faults shelf.new) result }
@@ -154,13 +158,14 @@ fn write_contents<S: Shelf, K: Sink>(
 /// Reads the items that are to come, to the end of the stream.
 #[tactic(auto, using(crate::proofs::OutputLemmas::conversions))]
 fn finish<S: Shelf>(repo: &mut Repo, shelf: &mut S, walk: &mut Walk) -> Result<(), ViewFault>
-    requires fits { IfSome (S.told shelf.old) (λ t. FitsRepo (told_files t) (repo_view repo.old)) }
+    requires fits { IfSome (S.told shelf.old) (λ t. FitsRepo (told_files t) (repo_view repo.old) (cached_in repo.old)) }
     requires walk_fits { IfSome (S.told shelf.old) (λ t.
         FitsWalk (told_files t) (repo_view repo.old).log (repo_view repo.old).keys (walk_view walk.old)) }
     ensures end { OnOk result (IfSome (S.told shelf.old) (λ t.
         ReachesEnd (told_files t) (repo_view repo.old) (walk_view walk.old))) }
     ensures refused { IfErr result (λ fault. IfSome (S.told shelf.old) (λ t.
         EndsWalk (told_files t) (repo_view repo.old) (walk_view walk.old) fault)) }
+    ensures fits { IfSome (S.told shelf.new) (λ t. FitsRepo (told_files t) (repo_view repo.new) (cached_in repo.new)) }
     ensures kept { repo_view repo.new ≡ repo_view repo.old }
     ensures same { KeepsTold shelf_failed (S.told shelf.old) (S.told shelf.new) result }
     ensures source { HasCause shelf_failed (S.faults shelf.old) (S.faults shelf.new) result }

@@ -1,8 +1,8 @@
 //! The listing of an archive's items.
-ghost use Rattle.std.specs.Prelude.{◌≡◌, ◌++◌, IfErr, IfSome, OnOk, OnErr};
+ghost use Rattle.std.specs.Prelude.{◌≡◌, ◌<◌, ◌++◌, IfErr, IfSome, OnOk, OnErr, length};
 ghost use Rattle.ferry_disk.specs.Device.{KeepsTold, HasCause, WritesSome, told_files};
 ghost use Rattle.ferry_item.specs.Item.{item_view};
-ghost use Rattle.ferry_repo.specs.Opening.{repo_view, FitsRepo};
+ghost use Rattle.ferry_repo.specs.Opening.{repo_view, cached_in, FitsRepo};
 ghost use Rattle.ferry_repo.specs.Walk.{walk_view, FitsWalk};
 ghost use Rattle.ferry_view.specs.Items.{IsItemListing, IsItemText, RefusesItems};
 ghost use Rattle.ferry_view.specs.Lines.{item_line};
@@ -32,13 +32,14 @@ pub fn list_items<S: Shelf, K: Sink>(
     out: &mut K,
     name: &[u8],
 ) -> Result<(), ViewFault>
-    requires fits { IfSome (S.told shelf.old) (λ t. FitsRepo (told_files t) (repo_view repo.old)) }
+    requires fits { IfSome (S.told shelf.old) (λ t. FitsRepo (told_files t) (repo_view repo.old) (cached_in repo.old)) }
     ensures ok { OnOk result (ShowsAll (λ f text. IsItemListing f (repo_view repo.old) name.now text)
         (S.told shelf.old) (K.written out.old) (K.written out.new)) }
     ensures err { OnErr result (ShowsSome (λ f text. IsItemText f (repo_view repo.old) name.now text)
         (S.told shelf.old) (K.written out.old) (K.written out.new)) }
     ensures refused { IfErr result (λ fault. IfSome (S.told shelf.old) (λ t.
         RefusesItems (told_files t) (repo_view repo.old) name.now fault)) }
+    ensures fits { IfSome (S.told shelf.new) (λ t. FitsRepo (told_files t) (repo_view repo.new) (cached_in repo.new)) }
     ensures kept { repo_view repo.new ≡ repo_view repo.old }
     ensures same { KeepsTold shelf_failed (S.told shelf.old) (S.told shelf.new) result }
     ensures source { HasCause shelf_failed (S.faults shelf.old) (S.faults shelf.new) result }
@@ -59,7 +60,7 @@ fn write_items<S: Shelf, K: Sink>(
     out: &mut K,
     walk: &mut Walk,
 ) -> Result<(), ViewFault>
-    requires fits { IfSome (S.told shelf.old) (λ t. FitsRepo (told_files t) (repo_view repo.old)) }
+    requires fits { IfSome (S.told shelf.old) (λ t. FitsRepo (told_files t) (repo_view repo.old) (cached_in repo.old)) }
     requires walk_fits { IfSome (S.told shelf.old) (λ t.
         FitsWalk (told_files t) (repo_view repo.old).log (repo_view repo.old).keys (walk_view walk.old)) }
     ensures ok { OnOk result (ShowsAll (λ f text. AllLines f (repo_view repo.old) (walk_view walk.old) text)
@@ -68,6 +69,7 @@ fn write_items<S: Shelf, K: Sink>(
         (S.told shelf.old) (K.written out.old) (K.written out.new)) }
     ensures refused { IfErr result (λ fault. IfSome (S.told shelf.old) (λ t.
         EndsWalk (told_files t) (repo_view repo.old) (walk_view walk.old) fault)) }
+    ensures fits { IfSome (S.told shelf.new) (λ t. FitsRepo (told_files t) (repo_view repo.new) (cached_in repo.new)) }
     ensures kept { repo_view repo.new ≡ repo_view repo.old }
     ensures same { KeepsTold shelf_failed (S.told shelf.old) (S.told shelf.new) result }
     ensures source { HasCause shelf_failed (S.faults shelf.old) (S.faults shelf.new) result }
@@ -87,6 +89,7 @@ fn write_items<S: Shelf, K: Sink>(
 fn add_item<K: Sink>(item: &Item, text: &mut Vec<u8>, out: &mut K) -> Result<(), ViewFault>
     ensures ok { OnOk result (Sends (K.written out.old) (K.written out.new) text.new.items
         (text.old.items ++ item_line (item_view item.now))) }
+    ensures gathered { OnOk result (length text.new.items < 65536) }
     ensures err { OnErr result (WritesSome (K.written out.old) (text.old.items ++ item_line (item_view item.now)) (K.written out.new)) }
     ensures cause { HasCause view_failed (K.faults out.old) (K.faults out.new) result }
     ensures only { IfErr result IsOutputFault }

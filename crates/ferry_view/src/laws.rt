@@ -1,14 +1,15 @@
 //! Laws on what is shown of an archive, each the contract of a function with nothing to do.
 ghost use Rattle.std.specs.Prelude.{◌≡◌, ◌⊎◌, ℕ, List};
 ghost use Rattle.ferry_disk.specs.Files.{Files};
-ghost use Rattle.ferry_repo.specs.Opening.{RepoState, FitsRepo};
+ghost use Rattle.ferry_log.specs.State.{FitsFiles};
+ghost use Rattle.ferry_repo.specs.Opening.{RepoState};
 ghost use Rattle.ferry_view.specs.Items.{IsItemListing, IsItemText, RefusesItems, IsFile, IsFileText, RefusesFile};
 ghost use Rattle.ferry_view.specs.Output.{IsOfArchive};
 ghost use Rattle.ferry_view.specs.declared.fault.ViewFault.{ViewFault};
 
 /// The items of a name have a listing, or are refused for a cause, and never both; and one text is listed as far as the archive reads.
 pub fn item_laws()
-    ensures some { (files : Files) (repo : RepoState) (name : List ℕ) → FitsRepo files repo
+    ensures some { (files : Files) (repo : RepoState) (name : List ℕ) → FitsFiles files repo.log
         → ((text : List ℕ) × IsItemListing files repo name text)
         ⊎ ((fault : ViewFault) × IsOfArchive fault × RefusesItems files repo name fault) }
     ensures apart { (files : Files) (repo : RepoState) (name text : List ℕ) (fault : ViewFault)
@@ -21,7 +22,7 @@ pub fn item_laws()
 
 /// A path of a name has a content, or is refused for a cause, and never both; and one text is written as far as it reads.
 pub fn file_laws()
-    ensures some { (files : Files) (repo : RepoState) (name path : List ℕ) → FitsRepo files repo
+    ensures some { (files : Files) (repo : RepoState) (name path : List ℕ) → FitsFiles files repo.log
         → ((text : List ℕ) × IsFile files repo name path text)
         ⊎ ((fault : ViewFault) × IsOfArchive fault × RefusesFile files repo name path fault) }
     ensures apart { (files : Files) (repo : RepoState) (name path text : List ℕ) (fault : ViewFault)

@@ -1,5 +1,5 @@
 //! Text that is gathered, and goes out many lines at a time.
-ghost use Rattle.std.specs.Prelude.{◌≡◌, ◌++◌, IfErr, OnOk, OnErr, option_map};
+ghost use Rattle.std.specs.Prelude.{◌≡◌, ◌++◌, ◌<◌, length, IfErr, OnOk, OnErr, option_map};
 ghost use Rattle.ferry_disk.specs.Device.{WritesSome, HasCause};
 ghost use Rattle.ferry_view.specs.Output.{view_failed, IsOutputFault, Sends};
 
@@ -13,6 +13,7 @@ const FULL: usize = 65_536;
 #[tactic(auto, using(crate::proofs::OutputLemmas::failed_sink))]
 pub fn send_full<K: Sink>(text: &mut Vec<u8>, out: &mut K) -> Result<(), ViewFault>
     ensures ok { OnOk result (Sends (K.written out.old) (K.written out.new) text.new.items text.old.items) }
+    ensures gathered { OnOk result (length text.new.items < 65536) }
     ensures err { OnErr result (WritesSome (K.written out.old) text.old.items (K.written out.new)) }
     ensures cause { HasCause view_failed (K.faults out.old) (K.faults out.new) result }
     ensures only { IfErr result IsOutputFault }

@@ -18,7 +18,8 @@ found_at zero row within e = subst IsFound e record { found = refl; ordered = om
 found_at (suc zero) row within e = subst IsFound e record { found = refl; ordered = omega arith }
 found_at (suc (suc zero)) row within e = subst IsFound e record { found = refl; ordered = omega arith }
 found_at (suc (suc (suc zero))) row within e = subst IsFound e record { found = refl; ordered = omega arith }
-found_at (suc (suc (suc (suc k)))) row within e = absurd (omega arith)
+found_at (suc (suc (suc (suc zero)))) row within e = subst IsFound e record { found = refl; ordered = omega arith }
+found_at (suc (suc (suc (suc (suc k))))) row within e = absurd (omega arith)
 
 pub listed_found : (row : Row) → Contains rows row → IsFound row
 listed_found row h = found_at h.0 row h.1 h.2

@@ -7,7 +7,7 @@ use Rattle.std.specs.Prelude.{ℕ, ◌+◌, nat_eq, nat_lt, Bool, if◌then◌el
 use Rattle.std.specs.Str.{bytes_eq}
 use Rattle.std.specs.List.{starts_with}
 use Rattle.ferry_words.specs.declared.command.Command.{Command}
-use Rattle.ferry_words.specs.declared.command.Command.TheVariants.{Keys, Key, List as ListArchives, ListItems, Extract}
+use Rattle.ferry_words.specs.declared.command.Command.TheVariants.{Keys, Key, List as ListArchives, ListItems, Extract, Check}
 
 -- the form of a command behind its word: how many operands it has at least and at most, and the command that so many make
 pub record Form : Type 0 where
@@ -37,13 +37,14 @@ form least most make = record { least = least; most = most; make = make }
 abbrev pub row : List ℕ → Form → Row
 row word form = record { word = word; form = form }
 
--- the table of the commands: `keys`, `key`, `list`, `list NAME`, `extract NAME PATH`
+-- the table of the commands: `keys`, `key`, `list`, `list NAME`, `extract NAME PATH`, `check`
 abbrev pub rows : List Row
 rows =
     row (codes "keys") (form 0 0 (λ operands. Keys))
     ∷ row (codes "key") (form 0 0 (λ operands. Key))
     ∷ row (codes "list") (form 0 1 listed)
     ∷ row (codes "extract") (form 2 2 extracted)
+    ∷ row (codes "check") (form 0 0 (λ operands. Check))
     ∷ []
 
 -- the row of this word

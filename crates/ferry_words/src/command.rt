@@ -23,4 +23,6 @@ pub enum Command {
         /// The item's path.
         path: Bytes,
     },
+    /// `check`: verifies the source.
+    Check,
 }

@@ -38,6 +38,7 @@ pub fn read_words(alloc: Global, words: &[String]) -> Result<Command, Usage>
         "key" => alone(behind, Command::Key),
         "list" => list(alloc, behind),
         "extract" => extract(alloc, behind),
+        "check" => alone(behind, Command::Check),
         _ => Err(Usage::Word(1)),
     }
 }

@@ -1,3 +1,4 @@
+use Rattle.ferry_blob.proofs.BatchLemmas.{one_answer}
 use Rattle.ferry_blob.proofs.BlobLemmas.{content_is, fault_short, opened_at, opens_no_fault}
 use Rattle.ferry_blob.proofs.LawLemmas.{compressed_is, id_is, is_compressed, is_id, is_kind, is_mac, kind_is, mac_is, one_content, opens_zero, short_is}
 use Rattle.ferry_blob.proofs.LawLemmas.{zero_unrefused}
@@ -11,6 +12,9 @@ returns-clause-opens c keys id blob content = (
 
 pub returns-clause-one : goal.returns-clause-one
 returns-clause-one c = one_content
+
+pub returns-clause-answer : goal.returns-clause-answer
+returns-clause-answer c = one_answer
 
 pub returns-clause-zero : goal.returns-clause-zero
 returns-clause-zero c = opens_zero

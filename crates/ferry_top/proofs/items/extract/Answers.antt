@@ -4,7 +4,7 @@ use Rattle.ferry_disk.specs.Files.{Files}
 use Rattle.ferry_disk.proofs.DeviceLemmas.{told_then, told_with}
 use Rattle.ferry_manifest.specs.declared.manifest.ArchiveRef.{ArchiveRef}
 use Rattle.ferry_repo.specs.Archives.{archive_named}
-use Rattle.ferry_repo.specs.Opening.{RepoState, OpensFilesTo, repo_view}
+use Rattle.ferry_repo.specs.Opening.{RepoState, OpensFilesTo, repo_view, cached_in}
 use Rattle.ferry_view.specs.Items.{IsFile, IsFileText, LacksFile, RefusesFile}
 use Rattle.ferry_view.specs.Output.{ShowsAll, ShowsSome}
 use Rattle.ferry_view.specs.declared.fault.ViewFault.{ViewFault}
@@ -20,8 +20,8 @@ pub extract-requires : goal.extract-requires
 extract-requires g c =
     let told = g.S.Shelf.told in
     record {
-      fits = fits_later (told c.args.source.now) (told c.open.new.shelf) c.args.secret.now (repo_view c.in-Ok.repo) c.in-Ok.ensures.same
-          c.in-Ok.ensures.repository;
+      fits = fits_later (told c.args.source.now) (told c.open.new.shelf) c.args.secret.now (repo_view c.in-Ok.repo) (cached_in c.in-Ok.repo)
+          c.in-Ok.ensures.same c.in-Ok.ensures.cached c.in-Ok.ensures.repository;
     }
 
 pub returns-in-Ok-extract-clause-out : goal.returns-in-Ok-extract-clause-out

@@ -3,7 +3,7 @@ use Rattle.ferry_disk.specs.Device.{told_files}
 use Rattle.ferry_disk.specs.Files.{Files}
 use Rattle.ferry_disk.proofs.DeviceLemmas.{told_then}
 use Rattle.ferry_repo.specs.Archives.{archive_named}
-use Rattle.ferry_repo.specs.Opening.{RepoState, repo_view}
+use Rattle.ferry_repo.specs.Opening.{RepoState, repo_view, cached_in}
 use Rattle.ferry_view.specs.Items.{IsItemListing, IsItemText, RefusesItems}
 use Rattle.ferry_view.specs.Output.{ShowsAll, ShowsSome}
 use Rattle.ferry_view.specs.declared.fault.ViewFault.{ViewFault}
@@ -18,8 +18,8 @@ pub list_items-requires : goal.list_items-requires
 list_items-requires g c =
     let told = g.S.Shelf.told in
     record {
-      fits = fits_later (told c.args.source.now) (told c.open.new.shelf) c.args.secret.now (repo_view c.in-Ok.repo) c.in-Ok.ensures.same
-          c.in-Ok.ensures.repository;
+      fits = fits_later (told c.args.source.now) (told c.open.new.shelf) c.args.secret.now (repo_view c.in-Ok.repo) (cached_in c.in-Ok.repo)
+          c.in-Ok.ensures.same c.in-Ok.ensures.cached c.in-Ok.ensures.repository;
     }
 
 pub returns-in-Ok-list_items-clause-out : goal.returns-in-Ok-list_items-clause-out

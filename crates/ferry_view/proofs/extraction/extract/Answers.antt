@@ -5,14 +5,14 @@ use Rattle.ferry_repo.specs.Opening.{repo_view}
 use Rattle.ferry_repo.specs.Walk.{walk_view}
 use Rattle.ferry_view.specs.Steps.{FindsFile}
 use Rattle.ferry_view.proofs.OutputLemmas.{on_ok, on_err}
-use Rattle.ferry_view.proofs.ShownLemmas.{begun_fits, no_content, file_unbegun, file_before, file_missing, found_at, found_fits}
+use Rattle.ferry_view.proofs.ShownLemmas.{log_fits, begun_fits, no_content, file_unbegun, file_before, file_missing, found_at, found_fits}
 use Rattle.ferry_view.proofs.ShownLemmas.{file_at_end, file_some, file_refused_at}
 use Rattle.ferry_view.proofs.extraction.extract.Goals as goal
 
 pub returns-in-Err-clause-err : goal.returns-in-Err-clause-err
 returns-in-Err-clause-err g c =
     no_content (g.S.Shelf.told c.args.shelf.now) (repo_view c.args.repo.now) c.args.name.now c.args.path.now (g.K.Sink.written c.args.out.now)
-    (g.K.Sink.written c.args.out.now) c.requires.fits refl
+    (g.K.Sink.written c.args.out.now) (log_fits _ _ _ c.requires.fits) refl
 
 pub returns-in-Err-clause-refused : goal.returns-in-Err-clause-refused
 returns-in-Err-clause-refused g c =
@@ -37,8 +37,8 @@ write_file-requires-clause-walk_fits g c =
     let path = c.args.path.now in
     let finds = subst (λ o. IfSome o (λ cs. IfSome mid (λ t. FindsFile (told_files t) mid_repo walk path cs now))) c.in-Ok-Some.field-0-is
     c.in-Ok-Some.ensures.found in
-    let found = found_at told mid repo mid_repo name path walk now chunks c.in-Ok.ensures.same c.in-Ok.ensures.kept c.requires.fits c.in-Ok.ensures.begins
-    finds in
+    let found = found_at told mid repo mid_repo name path walk now chunks c.in-Ok.ensures.same c.in-Ok.ensures.kept (log_fits _ _ _ c.requires.fits)
+    c.in-Ok.ensures.begins finds in
     found_fits told later repo (repo_view c.find_file.new.repo) name path walk now chunks (c.in-Ok-Some.ensures.same ∙ c.in-Ok.ensures.same)
     (c.in-Ok-Some.ensures.kept ∙ c.in-Ok.ensures.kept) found
 
@@ -56,8 +56,8 @@ returns-in-Ok-Some-clause-ok g c =
     let path = c.args.path.now in
     let finds = subst (λ o. IfSome o (λ cs. IfSome mid (λ t. FindsFile (told_files t) mid_repo walk path cs now))) c.in-Ok-Some.field-0-is
     c.in-Ok-Some.ensures.found in
-    let found = found_at told mid repo mid_repo name path walk now chunks c.in-Ok.ensures.same c.in-Ok.ensures.kept c.requires.fits c.in-Ok.ensures.begins
-    finds in
+    let found = found_at told mid repo mid_repo name path walk now chunks c.in-Ok.ensures.same c.in-Ok.ensures.kept (log_fits _ _ _ c.requires.fits)
+    c.in-Ok.ensures.begins finds in
     let same = c.in-Ok-Some.ensures.same ∙ c.in-Ok.ensures.same in
     let kept = c.in-Ok-Some.ensures.kept ∙ c.in-Ok.ensures.kept in
     on_ok c.write_file.result _ _ (λ all.
@@ -78,8 +78,8 @@ returns-in-Ok-Some-clause-err g c =
     let path = c.args.path.now in
     let finds = subst (λ o. IfSome o (λ cs. IfSome mid (λ t. FindsFile (told_files t) mid_repo walk path cs now))) c.in-Ok-Some.field-0-is
     c.in-Ok-Some.ensures.found in
-    let found = found_at told mid repo mid_repo name path walk now chunks c.in-Ok.ensures.same c.in-Ok.ensures.kept c.requires.fits c.in-Ok.ensures.begins
-    finds in
+    let found = found_at told mid repo mid_repo name path walk now chunks c.in-Ok.ensures.same c.in-Ok.ensures.kept (log_fits _ _ _ c.requires.fits)
+    c.in-Ok.ensures.begins finds in
     let same = c.in-Ok-Some.ensures.same ∙ c.in-Ok.ensures.same in
     let kept = c.in-Ok-Some.ensures.kept ∙ c.in-Ok.ensures.kept in
     on_err c.write_file.result _ _ (λ some.
@@ -100,8 +100,8 @@ returns-in-Ok-Some-clause-refused g c =
     let path = c.args.path.now in
     let finds = subst (λ o. IfSome o (λ cs. IfSome mid (λ t. FindsFile (told_files t) mid_repo walk path cs now))) c.in-Ok-Some.field-0-is
     c.in-Ok-Some.ensures.found in
-    let found = found_at told mid repo mid_repo name path walk now chunks c.in-Ok.ensures.same c.in-Ok.ensures.kept c.requires.fits c.in-Ok.ensures.begins
-    finds in
+    let found = found_at told mid repo mid_repo name path walk now chunks c.in-Ok.ensures.same c.in-Ok.ensures.kept (log_fits _ _ _ c.requires.fits)
+    c.in-Ok.ensures.begins finds in
     let same = c.in-Ok-Some.ensures.same ∙ c.in-Ok.ensures.same in
     let kept = c.in-Ok-Some.ensures.kept ∙ c.in-Ok.ensures.kept in
     IfErr-weaker c.write_file.result _ _ (λ fault ends.
@@ -110,7 +110,7 @@ returns-in-Ok-Some-clause-refused g c =
 pub returns-in-Ok-None-clause-err : goal.returns-in-Ok-None-clause-err
 returns-in-Ok-None-clause-err g c =
     no_content (g.S.Shelf.told c.args.shelf.now) (repo_view c.args.repo.now) c.args.name.now c.args.path.now (g.K.Sink.written c.args.out.now)
-    (g.K.Sink.written c.args.out.now) c.requires.fits refl
+    (g.K.Sink.written c.args.out.now) (log_fits _ _ _ c.requires.fits) refl
 
 pub returns-in-Ok-None-clause-refused : goal.returns-in-Ok-None-clause-refused
 returns-in-Ok-None-clause-refused g c =
@@ -121,7 +121,7 @@ returns-in-Ok-None-clause-refused g c =
 pub returns-clause-err : goal.returns-clause-err
 returns-clause-err g c =
     no_content (g.S.Shelf.told c.args.shelf.now) (repo_view c.args.repo.now) c.args.name.now c.args.path.now (g.K.Sink.written c.args.out.now)
-    (g.K.Sink.written c.args.out.now) c.requires.fits refl
+    (g.K.Sink.written c.args.out.now) (log_fits _ _ _ c.requires.fits) refl
 
 pub returns-clause-refused : goal.returns-clause-refused
 returns-clause-refused g c =

@@ -12,6 +12,7 @@ use Rattle.ferry_view.proofs.extraction.find_file.Goals as goal
 pub loop-init : goal.loop-init
 loop-init g c = record {
   seeks = seeks_begin (g.S.Shelf.told c.args.shelf.now) (repo_view c.args.repo.now) (walk_view c.args.walk.now) c.args.path.now c.requires.walk_fits;
+  fits = c.requires.fits;
   repo = refl;
   same = refl;
   faults = refl;
@@ -50,6 +51,7 @@ loop-preserved g c =
     record {
       seeks = seeks_next told later repo now_repo from now after c.args.path.now item c.loop.invariant.same c.loop.invariant.repo
           c.loop.invariant.seeks other leads c.in_ok-item.ensures.walk_fits;
+      fits = c.in_ok-item.ensures.fits;
       repo = c.in_ok-item.ensures.kept ∙ c.loop.invariant.repo;
       same = c.in_ok-item.ensures.same ∙ c.loop.invariant.same;
       faults = c.in_ok-item.ensures.cause ∙ c.loop.invariant.faults;

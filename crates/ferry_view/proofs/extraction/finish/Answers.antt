@@ -20,6 +20,7 @@ loop-preserved g c =
     record {
       goes = goes_next told later repo now_repo from now after (item_view c.in-Some._item) c.loop.invariant.same c.loop.invariant.repo
           c.loop.invariant.goes leads c.in_ok-_item.ensures.walk_fits;
+      fits = c.in_ok-_item.ensures.fits;
       repo = c.in_ok-_item.ensures.kept ∙ c.loop.invariant.repo;
       same = c.in_ok-_item.ensures.same ∙ c.loop.invariant.same;
       faults = c.in_ok-_item.ensures.cause ∙ c.loop.invariant.faults;

@@ -7,12 +7,13 @@ use Rattle.ferry_view.specs.Steps.{EndsContents}
 use Rattle.ferry_view.specs.declared.fault.ViewFault.{ViewFault}
 use Rattle.ferry_view.proofs.ContentLemmas.{writes_next, writes_some, writes_cut, writes_end, writes_refused}
 use Rattle.ferry_view.proofs.OutputLemmas.{err_holds}
+use Rattle.ferry_view.proofs.ShownLemmas.{log_fits}
 use Rattle.ferry_view.proofs.extraction.write_contents.Goals as goal
 
 pub returns-in_err-content-clause-err : goal.returns-in_err-content-clause-err
 returns-in_err-content-clause-err g c =
     err_holds _ _ (writes_some (g.S.Shelf.told c.args.shelf.now) (repo_view c.args.repo.now) c.args.chunks.now c.loop-place.place
-    (g.K.Sink.written c.args.out.now) (g.K.Sink.written c.loop-place.out) c.requires.fits c.loop-place.invariant.writes)
+    (g.K.Sink.written c.args.out.now) (g.K.Sink.written c.loop-place.out) (log_fits _ _ _ c.requires.fits) c.loop-place.invariant.writes)
 
 pub returns-in_err-content-clause-refused : goal.returns-in_err-content-clause-refused
 returns-in_err-content-clause-refused g c =
@@ -40,7 +41,7 @@ returns-in_err-write-clause-err g c =
     let after = g.K.Sink.written c.write.new.self in
     let lt : c.loop-place.place < length chunks = omega arith in
     err_holds _ _ (writes_cut told later repo now_repo chunks c.loop-place.place _ (g.K.Sink.written c.args.out.now) out after content
-    c.loop-place.invariant.same c.loop-place.invariant.repo lt c.requires.fits c.loop-place.invariant.writes c.in_ok-content.ensures.content
+    c.loop-place.invariant.same c.loop-place.invariant.repo lt (log_fits _ _ _ c.requires.fits) c.loop-place.invariant.writes c.in_ok-content.ensures.content
     (subst (λ s. WritesSome out s after) c.deref.ensures.value c.in_err-write.ensures.err))
 
 pub loop-place-preserved : goal.loop-place-preserved
@@ -57,6 +58,7 @@ loop-place-preserved g c =
       writes = writes_next told later repo now_repo chunks c.loop-place.place _ (g.K.Sink.written c.args.out.now) out (g.K.Sink.written c.write.new.self)
           content c.loop-place.invariant.same c.loop-place.invariant.repo lt c.loop-place.invariant.writes c.in_ok-content.ensures.content
           (c.in_ok-write.ensures.ok ∙ ap (λ s. option_map (λ w. w ++ s) out) c.deref.ensures.value);
+      fits = c.in_ok-content.ensures.fits;
       repo = c.in_ok-content.ensures.kept ∙ c.loop-place.invariant.repo;
       same = c.in_ok-content.ensures.same ∙ c.loop-place.invariant.same;
       faults = c.in_ok-content.ensures.cause ∙ c.loop-place.invariant.faults;

@@ -3,7 +3,7 @@ use Rattle.std.proofs.lemmas.Result.{IfErr-weaker}
 use Rattle.ferry_repo.specs.Opening.{repo_view}
 use Rattle.ferry_repo.specs.Walk.{walk_view}
 use Rattle.ferry_view.proofs.OutputLemmas.{on_ok, on_err}
-use Rattle.ferry_view.proofs.ShownLemmas.{begun_fits, listing_at, text_at, items_refused_at, no_lines}
+use Rattle.ferry_view.proofs.ShownLemmas.{log_fits, begun_fits, listing_at, text_at, items_refused_at, no_lines}
 use Rattle.ferry_view.proofs.items.list_items.Goals as goal
 
 pub write_items-requires-clause-walk_fits : goal.write_items-requires-clause-walk_fits
@@ -34,4 +34,4 @@ returns-in-Ok-clause-refused g c =
 pub returns-in-Err-clause-err : goal.returns-in-Err-clause-err
 returns-in-Err-clause-err g c =
     no_lines (g.S.Shelf.told c.args.shelf.now) (repo_view c.args.repo.now) c.args.name.now (g.K.Sink.written c.args.out.now)
-    (g.K.Sink.written c.args.out.now) c.requires.fits refl
+    (g.K.Sink.written c.args.out.now) (log_fits _ _ _ c.requires.fits) refl

@@ -9,12 +9,14 @@ use Rattle.ferry_view.specs.Steps.{EndsWalk}
 use Rattle.ferry_view.specs.declared.fault.ViewFault.{ViewFault}
 use Rattle.ferry_view.proofs.OutputLemmas.{on_ok, on_err, err_holds}
 use Rattle.ferry_view.proofs.SoFarLemmas.{ends_at, lists_begin, lists_next, lists_sent, lists_all, lists_cut, lists_some}
+use Rattle.ferry_view.proofs.ShownLemmas.{log_fits}
 use Rattle.ferry_view.proofs.items.write_items.Goals as goal
 
 pub loop-init : goal.loop-init
 loop-init g c = record {
   lists = lists_begin (g.S.Shelf.told c.args.shelf.now) (repo_view c.args.repo.now) (walk_view c.args.walk.now) (g.K.Sink.written c.args.out.now)
       c.new-text.result.items c.new-text.ensures.items c.requires.walk_fits;
+  fits = c.requires.fits;
   repo = refl;
   same = refl;
   faults = refl;
@@ -24,7 +26,7 @@ loop-init g c = record {
 pub returns-in_err-item-clause-err : goal.returns-in_err-item-clause-err
 returns-in_err-item-clause-err g c =
     err_holds _ _ (lists_some (g.S.Shelf.told c.args.shelf.now) (repo_view c.args.repo.now) (walk_view c.args.walk.now) (walk_view c.loop.walk)
-    (g.K.Sink.written c.args.out.now) (g.K.Sink.written c.loop.out) c.loop.text.items c.requires.fits c.loop.invariant.lists)
+    (g.K.Sink.written c.args.out.now) (g.K.Sink.written c.loop.out) c.loop.text.items (log_fits _ _ _ c.requires.fits) c.loop.invariant.lists)
 
 pub returns-in_err-item-clause-refused : goal.returns-in_err-item-clause-refused
 returns-in_err-item-clause-refused g c =
@@ -53,8 +55,8 @@ returns-in_err-add_item-in-Some-clause-err g c =
     c.in-Some.is c.in_ok-item.ensures.item in
     let next = lists_next told later repo now_repo from now after old out c.loop.text.items item c.loop.invariant.same c.loop.invariant.repo
     c.loop.invariant.lists leads c.in_ok-item.ensures.walk_fits in
-    err_holds _ _ (lists_cut told repo from after old out (g.K.Sink.written c.add_item.new.out) (c.loop.text.items ++ item_line item) c.requires.fits next
-    c.in_err-add_item-in-Some.ensures.err)
+    err_holds _ _ (lists_cut told repo from after old out (g.K.Sink.written c.add_item.new.out) (c.loop.text.items ++ item_line item)
+    (log_fits _ _ _ c.requires.fits) next c.in_err-add_item-in-Some.ensures.err)
 
 pub returns-in-None-clause-ok : goal.returns-in-None-clause-ok
 returns-in-None-clause-ok g c =
@@ -71,7 +73,7 @@ returns-in-None-clause-err g c =
     let after = g.K.Sink.written c.send.new.out in
     on_err c.send.result _ _ (λ front.
     lists_cut (g.S.Shelf.told c.args.shelf.now) (repo_view c.args.repo.now) (walk_view c.args.walk.now) (walk_view c.loop.walk)
-    (g.K.Sink.written c.args.out.now) out after c.loop.text.items c.requires.fits c.loop.invariant.lists
+    (g.K.Sink.written c.args.out.now) out after c.loop.text.items (log_fits _ _ _ c.requires.fits) c.loop.invariant.lists
     (subst (λ s. WritesSome out s after) c.deref.ensures.value front)) c.send.ensures.err
 
 pub loop-preserved : goal.loop-preserved
@@ -93,6 +95,7 @@ loop-preserved g c =
     record {
       lists = lists_sent told repo from after old out (g.K.Sink.written c.add_item.new.out) (c.loop.text.items ++ item_line item)
           c.add_item.new.text.items next c.in_ok-add_item-in-Some.ensures.ok;
+      fits = c.in_ok-item.ensures.fits;
       repo = c.in_ok-item.ensures.kept ∙ c.loop.invariant.repo;
       same = c.in_ok-item.ensures.same ∙ c.loop.invariant.same;
       faults = c.in_ok-item.ensures.cause ∙ c.loop.invariant.faults;
@@ -102,4 +105,4 @@ loop-preserved g c =
 pub returns-clause-err : goal.returns-clause-err
 returns-clause-err g c =
     lists_some (g.S.Shelf.told c.args.shelf.now) (repo_view c.args.repo.now) (walk_view c.args.walk.now) (walk_view c.loop.walk)
-    (g.K.Sink.written c.args.out.now) (g.K.Sink.written c.loop.out) c.loop.text.items c.requires.fits c.loop.invariant.lists
+    (g.K.Sink.written c.args.out.now) (g.K.Sink.written c.loop.out) c.loop.text.items (log_fits _ _ _ c.requires.fits) c.loop.invariant.lists

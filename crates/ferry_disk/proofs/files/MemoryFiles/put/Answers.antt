@@ -4,8 +4,8 @@ use Rattle.ferry_disk.specs.Memory.{files_of}
 use Rattle.ferry_disk.proofs.FilesLemmas.{insert-seen}
 use Rattle.ferry_disk.proofs.files.MemoryFiles.put.Goals as goal
 
-pub returns-in_ok-insert-in-Segment : goal.returns-in_ok-insert-in-Segment
-returns-in_ok-insert-in-Segment c =
+pub returns-in_ok-insert-in-Segment-clause-ok : goal.returns-in_ok-insert-in-Segment-clause-ok
+returns-in_ok-insert-in-Segment-clause-ok c =
     let old = c.args.self.now in
     let files = files_of old in
     ap (λ s. record files { segments = s })

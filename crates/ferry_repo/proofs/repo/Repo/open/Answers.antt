@@ -1,4 +1,4 @@
-use Rattle.std.proofs.Common.{◌≡◌, Ok, [], IfSome, refl, sym, ◌∙◌, subst}
+use Rattle.std.proofs.Common.{◌≡◌, Ok, IfSome, sym, ◌∙◌, subst}
 use Rattle.ferry_base.specs.Limits.{zero_id}
 use Rattle.ferry_config.specs.declared.config.Config.{Config}
 use Rattle.ferry_disk.specs.Device.{told_files}
@@ -94,14 +94,14 @@ returns-clause-repository g c =
     (λ f i r. unlocks_files f secret log u.config u.iterations (key_view u.key) i r) c.in_ok-log.ensures.log c.in_ok-unlocked.ensures.unlocked in
     let opens = told_with (told c.args.shelf.now) (told c.unlock.new.shelf) (λ f. UnlocksFiles f secret log u.config keys)
     (λ f. HoldsObject f log keys zero_id content)
-    (λ f. OpensFilesTo f secret (record { log = log; config = u.config; keys = keys; manifest = text; cached = [] }))
+    (λ f. OpensFilesTo f secret (record { log = log; config = u.config; keys = keys; manifest = text }))
     (c.in_ok-unlocked.ensures.same ∙ c.in_ok-log.ensures.same)
-    (λ f i holds. record { opens = record { unlocks = i; content = content; object = holds; manifest_is = read }; cached = refl }) unlocks
+    (λ f i holds. record { opens = record { unlocks = i; content = content; object = holds; manifest_is = read } }) unlocks
     c.in_ok-content.ensures.content in
     let made = c.settings-config.ensures in
     subst (λ (k : Config). IfSome (told c.args.shelf.now)
-    (λ t. OpensFilesTo (told_files t) secret (record { log = log; config = k; keys = c.settings-config.result.1; manifest = text; cached = [] })))
+    (λ t. OpensFilesTo (told_files t) secret (record { log = log; config = k; keys = c.settings-config.result.1; manifest = text })))
     (sym made.config)
     (subst (λ (k : Keys). IfSome (told c.args.shelf.now)
-    (λ t. OpensFilesTo (told_files t) secret (record { log = log; config = u.config; keys = k; manifest = text; cached = [] })))
+    (λ t. OpensFilesTo (told_files t) secret (record { log = log; config = u.config; keys = k; manifest = text })))
     (sym made.keys) opens)

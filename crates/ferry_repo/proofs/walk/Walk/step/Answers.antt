@@ -117,6 +117,7 @@ loop-self-preserved-in-Ok g c =
           (subst (λ (b : List ℕ). FitsWalk f log keys (at self.id ids self.read b self.ending)) (sym kept) fits))
           c.loop-self.invariant.fits c.in-Ok.ensures.read;
       archive = (more.0 ∙ c.loop-self.invariant.archive.0, more.1 ∙ c.loop-self.invariant.archive.1);
+      repo_fits = c.in-Ok.ensures.fits;
       repo = c.in-Ok.ensures.kept ∙ c.loop-self.invariant.repo;
       same = c.in-Ok.ensures.same ∙ c.loop-self.invariant.same;
       faults = c.in-Ok.ensures.cause ∙ c.loop-self.invariant.faults;
@@ -175,6 +176,7 @@ loop-self-preserved g c =
           (subst (λ (b : List ℕ). FitsWalk f log keys (at self.id ids self.read b self.ending)) (sym kept) fits))
           c.loop-self.invariant.fits;
       archive = (more.0 ∙ c.loop-self.invariant.archive.0, more.1 ∙ c.loop-self.invariant.archive.1);
+      repo_fits = c.loop-self.invariant.repo_fits;
       repo = c.loop-self.invariant.repo;
       same = c.loop-self.invariant.same;
       faults = c.loop-self.invariant.faults;

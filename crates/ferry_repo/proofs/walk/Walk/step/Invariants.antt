@@ -1,6 +1,6 @@
 use Rattle.std.proofs.Common.{◌≡◌, ◌+◌, ◌-◌, [], length, IfSome}
 use Rattle.ferry_disk.specs.Device.{told_files, heard}
-use Rattle.ferry_repo.specs.Opening.{repo_view}
+use Rattle.ferry_repo.specs.Opening.{repo_view, cached_in, FitsRepo}
 use Rattle.ferry_repo.specs.Walk.{LeadsOn, FitsWalk, walk_view, open_steps}
 use Rattle.ferry_repo.proofs.walk.Walk.step.Given as goal
 
@@ -12,6 +12,7 @@ invariant-loop-self g l = record {
   fits : IfSome (g.S.Shelf.told l.fn.shelf) (λ t.
       FitsWalk (told_files t) (repo_view l.fn.repo).log (repo_view l.fn.repo).keys (walk_view l.self));
   archive : (l.self.id ≡ l.fn.self.id) × (l.self.ids ≡ l.fn.self.ids);
+  repo_fits : IfSome (g.S.Shelf.told l.shelf) (λ t. FitsRepo (told_files t) (repo_view l.repo) (cached_in l.repo));
   repo : repo_view l.repo ≡ repo_view l.fn.repo;
   same : heard (g.S.Shelf.told l.shelf) ≡ heard (g.S.Shelf.told l.fn.shelf);
   faults : g.S.Shelf.faults l.shelf ≡ g.S.Shelf.faults l.fn.shelf;

@@ -1,0 +1,9 @@
+pub mod MarkLemmas
+pub mod ItemLemmas
+pub mod ArchiveLemmas
+pub mod ArchivesLemmas
+pub mod ChunkLemmas
+pub mod ReportLemmas
+pub mod LawLemmas
+pub mod ExistLemmas
+pub mod NamesLemmas

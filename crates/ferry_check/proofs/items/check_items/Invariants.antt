@@ -1,0 +1,19 @@
+use Rattle.std.proofs.Common.{◌≡◌, IfSome}
+use Rattle.std.specs.BTreeMap.{get}
+use Rattle.ferry_disk.specs.Device.{heard, told_files}
+use Rattle.ferry_log.specs.Live.{key_cmp}
+use Rattle.ferry_repo.specs.Opening.{repo_view, cached_in, FitsRepo}
+use Rattle.ferry_repo.specs.Walk.{walk_view}
+use Rattle.ferry_check.specs.Steps.{GoesOn}
+use Rattle.ferry_check.proofs.items.check_items.Given as goal
+
+-- the chunks of the items so far are right and are marked
+abbrev pub invariant-loop : goal.invariant-loop
+invariant-loop g l = record {
+  goes : GoesOn (g.S.Shelf.told l.fn.shelf) (repo_view l.fn.repo) (walk_view l.fn.walk) (walk_view l.walk) (get key_cmp l.fn.chunks)
+      (get key_cmp l.chunks);
+  fits : IfSome (g.S.Shelf.told l.shelf) (λ t. FitsRepo (told_files t) (repo_view l.repo) (cached_in l.repo));
+  repo : repo_view l.repo ≡ repo_view l.fn.repo;
+  same : heard (g.S.Shelf.told l.shelf) ≡ heard (g.S.Shelf.told l.fn.shelf);
+  faults : g.S.Shelf.faults l.shelf ≡ g.S.Shelf.faults l.fn.shelf;
+}

@@ -1,0 +1,3 @@
+pub mod Verify
+pub mod Report
+pub mod Steps

@@ -1,0 +1,265 @@
+-- Lemmas on specs/Counter.antt: what a replaced file `nonce` leaves of a counter and of the blobs that were put, whatever a stop leaves.
+use Rattle.std.proofs.Common.{◌≡◌, ◌⊎◌, inl, inr, ℕ, ◌^◌, ◌<◌, ◌≤◌, Bool, true}
+use Rattle.std.proofs.Common.{false, ◌&&◌, ◌||◌, List, [], ◌∷◌, ◌++◌, Option, Some, None, option_map}
+use Rattle.std.proofs.Common.{IfSome, Result, Ok, Err, refl, sym, ◌∙◌, ap, subst, append_assoc, arith}
+use Rattle.std.specs.FinMap.{get}
+use Rattle.ferry_disk.specs.Act.{Step, AppendTo, SyncOf, RemoveOf, ReplaceBy, SettleAll, TellOf, Act, History, with_act}
+use Rattle.ferry_disk.specs.Device.{Told, called, acted, Acts}
+use Rattle.ferry_disk.specs.Files.{Files, file_at}
+use Rattle.ferry_disk.specs.Image.{PlainFate, MayStand, plain_of, plain_in, plain_after, plain_stepped, settled, is_settle}
+use Rattle.ferry_disk.specs.Moments.{Between}
+use Rattle.ferry_disk.specs.declared.name.Name.TheVariants.{Config, Nonce, Readme, Segment}
+use Rattle.ferry_disk.specs.declared.shelf.StoreFault.{StoreFault}
+use Rattle.ferry_disk.specs.declared.shelf.StoreFault.TheVariants as Store
+use Rattle.ferry_disk.proofs.ImageLemmas.{plain_of-push, settled-push}
+use Rattle.ferry_disk.proofs.ImageStepLemmas.{stands_only}
+use Rattle.ferry_disk.proofs.MomentLemmas.{between_map}
+use Rattle.ferry_stops.specs.Blobs.{FileHasBlob, HasBlob, IsRow, BlobOf, row_after}
+use Rattle.ferry_stops.specs.Counters.{IsNonce, IsAbove, Counts, TakenBelow}
+use Rattle.ferry_nonce.specs.Counter.{CounterFits, IsSafeBelow, KeepsAbove, LeavesNonce, reserves}
+use Rattle.ferry_nonce.specs.declared.counter.Counter.{Counter}
+use Rattle.ferry_nonce.specs.Text.{number_text}
+use Rattle.ferry_nonce.proofs.TextLemmas.{text_spells}
+
+-- ---- the blobs of one more act that is a Replace
+
+row_more : (segment : ℕ) (acts : List Act) (row : List ℕ) (number : ℕ) (done : Bool) (found : List ℕ)
+    → IsRow segment row (acts ++ record { step = reserves number; done = done } ∷ []) found → IsRow segment row acts found
+row_more segment [] row number done found (inl e) = e
+row_more segment [] row number done found (inr e) = e
+row_more segment (act ∷ acts) row number done found (inl e) = inl e
+row_more segment (act ∷ acts) row number done found (inr is) =
+    inr (row_more segment acts (row_after segment row act.step) number done found is)
+
+blob_by : (history : History) (number : ℕ) (done : Bool) (blob : List ℕ) (segment : ℕ)
+    → FileHasBlob (get history.start.segments segment) blob
+    ⊎ ((row : List ℕ) × IsRow segment [] (history.past ++ (with_act (reserves number) done history).acts) row × HasBlob row blob)
+    → BlobOf history blob
+blob_by history number done blob segment (inl has) = (segment, inl has)
+blob_by history number done blob segment (inr r) = (
+  segment,
+  inr (
+    r.0,
+    row_more segment (history.past ++ history.acts) [] number done r.0
+        (subst (λ (acts : List Act). IsRow segment [] acts r.0)
+        (sym (append_assoc history.past history.acts (record { step = reserves number; done = done } ∷ []))) r.1),
+    r.2,
+  ),
+)
+
+taken_more : (history : History) (number : ℕ) (done : Bool) (free : ℕ) → TakenBelow free history → TakenBelow free (with_act (reserves number) done history)
+taken_more history number done free taken blob block is = taken blob block (blob_by history number done blob is.0 is.1)
+
+-- ---- the file
+
+-- the file has a number that isn't below this one
+pub record HasAtLeast (free : ℕ) (file : Option (List ℕ)) : Type 0 where
+  pub value : ℕ
+  pub nonce : IsNonce file value
+  pub within : free ≤ value
+
+above_by : (free : ℕ) (history : History) (image : Files) → HasAtLeast free image.nonce → TakenBelow free history → IsAbove history image
+above_by free history image has taken = record {
+  value = has.value;
+  nonce = has.nonce;
+  above = λ blob number is block. let below : number < free = taken blob number is block in omega (arith, below, has.within);
+}
+
+counted_file : (free : ℕ) (history : History) → Counts free history → (left : Option (List ℕ)) → MayStand (plain_in history Nonce) left → HasAtLeast free left
+counted_file free history counts left may =
+    let same : left ≡ counts.file = stands_only counts.file left (subst (λ (f : PlainFate). MayStand f left) counts.at_rest may) in
+    record { value = counts.value; nonce = subst (λ (o : Option (List ℕ)). IsNonce o counts.value) (sym same) counts.nonce; within = counts.within }
+
+-- the images of a history whose file may stand so
+safe_by : (free : ℕ) (history : History) → settled history.acts ≡ true → TakenBelow free history
+    → ((left : Option (List ℕ)) → MayStand (plain_in history Nonce) left → HasAtLeast free left) → IsSafeBelow free history
+safe_by free history is_settled taken file = record {
+  taken = taken;
+  above = λ image is. above_by free history image (file image.nonce (is.after is_settled).nonce) taken;
+}
+
+or_true : (b : Bool) → (b || true) ≡ true
+or_true true = refl
+or_true false = refl
+
+settled_more : (acts : List Act) (act : Act) → settled acts ≡ true → settled (acts ++ act ∷ []) ≡ true
+settled_more acts act s = settled-push acts act ∙ ap (λ b. b || (act.done && is_settle act.step)) s
+
+-- what may be left of the file of one more Replace
+plain_more : (history : History) (number : ℕ) (done : Bool)
+    → plain_in (with_act (reserves number) done history) Nonce ≡ plain_after Nonce (plain_in history Nonce) (record { step = reserves number; done = done })
+plain_more history number done = plain_of-push (file_at history.start Nonce) history.acts (record { step = reserves number; done = done }) Nonce
+
+written : (number : ℕ) → number < 2 ^ 64 → (free : ℕ) → free ≤ number → HasAtLeast free (Some (number_text number))
+written number fits free within = record { value = number; nonce = text_spells number fits; within = within }
+
+undone_file : (free number : ℕ) (read left : Option (List ℕ)) → number < 2 ^ 64 → free ≤ number → HasAtLeast free read
+    → MayStand (record { read = read; perhaps = Some (number_text number) }) left → HasAtLeast free left
+undone_file free number read left fits within old (inl e) = subst (HasAtLeast free) (sym e) old
+undone_file free number read left fits within old (inr p) =
+    let same : number_text number ≡ p.0 = (let e = p.1 in cc) in
+    subst (HasAtLeast free) (ap (λ (b : List ℕ). Some b) same ∙ sym p.2) (written number fits free within)
+
+counts_done : (number : ℕ) (history : History) → number < 2 ^ 64 → Counts number (with_act (reserves number) true history)
+counts_done number history fits = record {
+  file = Some (number_text number);
+  at_rest = plain_more history number true;
+  value = number;
+  nonce = text_spells number fits;
+  within = omega arith;
+}
+
+module _ (free number : ℕ) (history : History) (fits : number < 2 ^ 64) (within : free ≤ number) (is_settled : settled history.acts ≡ true) where
+  pub safe_now : Counts free history → TakenBelow free history → IsSafeBelow free history
+  safe_now counts taken = safe_by free history is_settled taken (counted_file free history counts)
+
+  safe_undone : Counts free history → TakenBelow free history → IsSafeBelow free (with_act (reserves number) false history)
+  safe_undone counts taken =
+      safe_by free (with_act (reserves number) false history) (settled_more history.acts _ is_settled) (taken_more history number false free taken)
+      (λ left may. undone_file free number (plain_in history Nonce).read left fits within
+      (counted_file free history counts (plain_in history Nonce).read (inl refl))
+      (subst (λ (f : PlainFate). MayStand f left) (plain_more history number false) may))
+
+  safe_done : Counts free history → TakenBelow free history → IsSafeBelow free (with_act (reserves number) true history)
+  safe_done counts taken =
+      safe_by free (with_act (reserves number) true history) (settled_more history.acts _ is_settled) (taken_more history number true free taken)
+      (λ left may.
+      let e : left ≡ Some (number_text number) = stands_only (Some (number_text number)) left
+      (subst (λ (f : PlainFate). MayStand f left) (plain_more history number true) may) in
+      subst (HasAtLeast free) (sym e) (written number fits free within))
+
+  pub done_keeps : KeepsAbove free history (with_act (reserves number) true history)
+  done_keeps counts taken = record {
+    steps = reserves number ∷ [];
+    each = (safe_now counts taken, safe_undone counts taken, safe_done counts taken);
+    now_is = inl refl;
+    last = safe_done counts taken;
+  }
+
+  pub undone_keeps : KeepsAbove free history (with_act (reserves number) false history)
+  undone_keeps counts taken = record {
+    steps = [];
+    each = safe_now counts taken;
+    now_is = inr (reserves number, refl);
+    last = safe_undone counts taken;
+  }
+
+pub same_keeps : (free : ℕ) (history : History) → settled history.acts ≡ true → KeepsAbove free history history
+same_keeps free history is_settled counts taken =
+    let safe = safe_by free history is_settled taken (counted_file free history counts) in
+    record { steps = []; each = safe; now_is = inl refl; last = safe }
+
+pub counts_less : (more less : ℕ) (history : History) → less ≤ more → Counts more history → Counts less history
+counts_less more less history below counts = record {
+  file = counts.file;
+  at_rest = counts.at_rest;
+  value = counts.value;
+  nonce = counts.nonce;
+  within = omega (arith, below, counts.within);
+}
+
+-- ---- acts that leave the file as it is
+
+fate_left : (step : Step) (done : Bool) (fate : PlainFate) → LeavesNonce step → fate.perhaps ≡ None → plain_stepped Nonce step done fate ≡ fate
+fate_left (ReplaceBy Nonce bytes) done fate leaves rest = absurd leaves
+fate_left (ReplaceBy Config bytes) done fate leaves rest = refl
+fate_left (ReplaceBy Readme bytes) done fate leaves rest = refl
+fate_left (ReplaceBy (Segment number) bytes) done fate leaves rest = refl
+fate_left SettleAll true fate leaves rest = ap (λ (p : Option (List ℕ)). record { read = fate.read; perhaps = p }) (sym rest)
+fate_left SettleAll false fate leaves rest = refl
+fate_left (AppendTo number bytes) done fate leaves rest = refl
+fate_left (SyncOf number) done fate leaves rest = refl
+fate_left (RemoveOf number) done fate leaves rest = refl
+fate_left (TellOf line) done fate leaves rest = refl
+
+pub file_left : (history : History) (step : Step) (done : Bool) → LeavesNonce step → (plain_in history Nonce).perhaps ≡ None
+    → plain_in (with_act step done history) Nonce ≡ plain_in history Nonce
+file_left history step done leaves rest =
+    plain_of-push (file_at history.start Nonce) history.acts (record { step = step; done = done }) Nonce
+    ∙ fate_left step done (plain_in history Nonce) leaves rest
+
+counts_left : (free : ℕ) (history : History) (step : Step) (done : Bool) → LeavesNonce step → Counts free history → Counts free (with_act step done history)
+counts_left free history step done leaves counts = record {
+  file = counts.file;
+  at_rest = file_left history step done leaves (ap (λ (f : PlainFate). f.perhaps) counts.at_rest) ∙ counts.at_rest;
+  value = counts.value;
+  nonce = counts.nonce;
+  within = counts.within;
+}
+
+pub fits_left : (counter : Counter) (history : History) (step : Step) (done : Bool) → LeavesNonce step → CounterFits counter history
+    → CounterFits counter (with_act step done history)
+fits_left counter history step done leaves fits = record {
+  reserved = counts_left counter.reserved history step done leaves fits.reserved;
+  free = counts_left counter.free history step done leaves fits.free;
+}
+
+pub begins_at_rest : (start : Files) (past : List Act) → (plain_in (record { start = start; past = past; acts = [] }) Nonce).perhaps ≡ None
+unfolding plain_of
+begins_at_rest start past = refl
+
+pub settles_at_rest : (history : History) → (plain_in (with_act SettleAll true history) Nonce).perhaps ≡ None
+settles_at_rest history =
+    ap (λ (f : PlainFate). f.perhaps) (plain_of-push (file_at history.start Nonce) history.acts (record { step = SettleAll; done = true }) Nonce)
+
+-- ---- over what devices tell
+
+abbrev pub IsSettled : Option Told → Type 0
+IsSettled before = IfSome before (λ t. settled t.history.acts ≡ true)
+
+pub same_told : (free : ℕ) (before now : Option Told) → IsSettled before → now ≡ before → Between before now (KeepsAbove free)
+same_told free None now s e = tt
+same_told free (Some t) now s e = (t, e, same_keeps free t.history s)
+
+replace_by : {T : Type 0} (free number : ℕ) (before now : Option Told) (result : Result T StoreFault) → number < 2 ^ 64 → free ≤ number → IsSettled before
+    → Acts (reserves number) before now result → Between before now (KeepsAbove free)
+replace_by free number None now result fits within s e = tt
+replace_by free number (Some t) now (Ok x) fits within s e = (acted (reserves number) true t, e, done_keeps free number t.history fits within s)
+replace_by free number (Some t) now (Err Store.Failed) fits within s e =
+    (acted (reserves number) false t, e, undone_keeps free number t.history fits within s)
+replace_by free number (Some t) now (Err Store.Memory) fits within s e = (called t, e, same_keeps free t.history s)
+
+pub replace_told : {T : Type 0} (free number : ℕ) (text : List ℕ) (before now : Option Told) (result : Result T StoreFault) → text ≡ number_text number
+    → number < 2 ^ 64 → free ≤ number → IsSettled before → Acts (ReplaceBy Nonce text) before now result → Between before now (KeepsAbove free)
+replace_told free number text before now result is fits within s e =
+    replace_by free number before now result fits within s (subst (λ (b : List ℕ). Acts (ReplaceBy Nonce b) before now result) is e)
+
+counts_by : (number : ℕ) (before now : Option Told) → number < 2 ^ 64 → now ≡ option_map (acted (reserves number) true) before
+    → Between before now (λ b n. Counts number n)
+counts_by number None now fits e = tt
+counts_by number (Some t) now fits e = (acted (reserves number) true t, e, counts_done number t.history fits)
+
+pub counts_told : (number : ℕ) (text : List ℕ) (before now : Option Told) → text ≡ number_text number → number < 2 ^ 64
+    → now ≡ option_map (acted (ReplaceBy Nonce text) true) before → Between before now (λ b n. Counts number n)
+counts_told number text before now is fits e =
+    counts_by number before now fits (subst (λ (b : List ℕ). now ≡ option_map (acted (ReplaceBy Nonce b) true) before) is e)
+
+-- ---- a counter after a draw
+
+pub fits_more : (old : Counter) (free reserved more : ℕ) (spent : Bool) (before now : Option Told) → reserved ≡ more → free ≤ more
+    → Between before now (λ b n. Counts more n)
+    → Between before now (λ b n. CounterFits old b → CounterFits (record { free = free; reserved = reserved; spent = spent }) n)
+fits_more old free reserved more spent before now is within counts =
+    between_map before now (λ b n. Counts more n)
+    (λ b n. CounterFits old b → CounterFits (record { free = free; reserved = reserved; spent = spent }) n)
+    (λ b n counts fits. record { reserved = subst (λ (k : ℕ). Counts k n) (sym is) counts; free = counts_less more free n within counts }) counts
+
+pub fits_same : (old : Counter) (free : ℕ) (before : Option Told) → free ≤ old.reserved
+    → Between before before (λ b n. CounterFits old b → CounterFits (record old { free = free }) n)
+fits_same old free None within = tt
+fits_same old free (Some t) within =
+    (t, refl, λ fits. record { reserved = fits.reserved; free = counts_less old.reserved free t.history within fits.reserved })
+
+-- ---- a Settle stays done
+
+pub settles : (before now : List Act) → now ≡ before ++ record { step = SettleAll; done = true } ∷ [] → settled now ≡ true
+settles before now e = ap settled e ∙ (settled-push before (record { step = SettleAll; done = true }) ∙ or_true (settled before))
+
+pub stays_settled : {T : Type 0} (step : Step) (before now : Option Told) (result : Result T StoreFault) → IsSettled before → Acts step before now result
+    → IsSettled now
+stays_settled step None now (Ok x) s e = subst IsSettled (sym e) tt
+stays_settled step None now (Err Store.Failed) s e = subst IsSettled (sym e) tt
+stays_settled step None now (Err Store.Memory) s e = subst IsSettled (sym e) tt
+stays_settled step (Some t) now (Ok x) s e = subst IsSettled (sym e) (settled_more t.history.acts (record { step = step; done = true }) s)
+stays_settled step (Some t) now (Err Store.Failed) s e = subst IsSettled (sym e) (settled_more t.history.acts (record { step = step; done = false }) s)
+stays_settled step (Some t) now (Err Store.Memory) s e = subst IsSettled (sym e) s

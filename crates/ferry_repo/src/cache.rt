@@ -1,0 +1,64 @@
+//! The contents that a repository keeps.
+ghost use Rattle.std.specs.Prelude.{◌≡◌, [], IfOk, IfSome, OnOk, OnErr, option_copied};
+ghost use Rattle.ferry_repo.specs.Cached.{content_in, used};
+
+use ferry_base::{Bytes, Id};
+use lru::LruCache;
+use std::alloc::{AllocError, Global};
+use std::marker::Model;
+use std::num::NonZeroUsize;
+
+/// How many contents are kept at most. A content may have 20 MiB.
+const LIMIT: usize = 16;
+
+/// The contents that were used last, with their ids. Contracts see them as a list, the latest first.
+#[derive(Drop)]
+pub(crate) struct Cache {
+    alloc: Global,
+    entries: LruCache<Id, Bytes>,
+}
+
+impl Model for Cache {
+    ghost use Rattle.std.specs.Prelude.{◌≡◌};
+    ghost use Rattle.ferry_repo.specs.Cached.{Contents};
+
+    ghost Value = { Contents };
+
+    ghost view = { λ c. c.entries.entries };
+
+    ghost invariant = { λ c. c.entries.cap ≡ 16 };
+}
+
+impl Cache {
+    /// No contents.
+    pub(crate) fn new(alloc: Global) -> Result<Cache, AllocError>
+        ensures empty { IfOk result (λ cache. cache ≡ []) }
+    {
+        let entries = LruCache::new(alloc, NonZeroUsize::new(LIMIT).unwrap())?;
+        Ok(Cache { alloc, entries })
+    }
+
+    /// The content of an id, where it is kept.
+    pub(crate) fn get(&self, id: &Id) -> Option<&[u8]>
+        ensures content { option_copied result ≡ content_in id.now self.now }
+    {
+        let content = self.entries.peek(id)?;
+        Some(content.as_slice())
+    }
+
+    /// Keeps the content of an id, or finds it kept, and sets it in front of the others. At the limit the last one goes.
+    pub(crate) fn keep(&mut self, id: &Id, content: &[u8]) -> Result<(), AllocError>
+        requires same { IfSome (content_in id.now self.old) (λ kept. kept ≡ content.now) }
+        ensures ok { OnOk result (self.new ≡ used id.now content.now self.old) }
+        ensures err { OnErr result (self.new ≡ self.old) }
+    {
+        // The contract of `len` says that the ids are distinct.
+        let _count = self.entries.len();
+        if self.entries.promote(id) {
+            return Ok(());
+        }
+        let copy = Vec::from_slice(self.alloc, content)?;
+        self.entries.put(*id, Bytes::new(copy))?;
+        Ok(())
+    }
+}

@@ -1,0 +1,5 @@
+pub mod Entries
+pub mod Chance
+pub mod Ground
+pub mod Blobs
+pub mod Counters

@@ -1,0 +1,9 @@
+pub mod ScriptLemmas
+pub mod StandLemmas
+pub mod SessionLemmas
+pub mod CommitLemmas
+pub mod BeginLemmas
+pub mod RoomLemmas
+pub mod CallLemmas
+pub mod RowLemmas
+pub mod GainLemmas

@@ -1,0 +1,19 @@
+use Rattle.std.proofs.Common.{◌≡◌, Option, Some, None, Ok, Err, refl, ap}
+use Rattle.ferry_write.proofs.CallLemmas.{commit_keeps, commit_fits}
+use Rattle.ferry_write.proofs.session.Session.commit.Goals as goal
+
+pub returns-in-Ok-clause-moments : goal.returns-in-Ok-clause-moments
+returns-in-Ok-clause-moments g c =
+    commit_keeps c.args.self.now (g.D.Shelf.told c.args.depot.now) (g.D.Shelf.told c.write_commit.new.depot) (g.D.Shelf.faults c.args.depot.now)
+    (g.D.Shelf.faults c.write_commit.new.depot) (Ok c.in-Ok.number) c.in-Ok.ensures.ran
+
+pub returns-in-Ok-clause-committed : goal.returns-in-Ok-clause-committed
+returns-in-Ok-clause-committed g c =
+    commit_fits c.args.self.now (record c.args.self.now { after = Some c.in-Ok.number; last = Some c.in-Ok.number; size = None })
+    (g.D.Shelf.told c.args.depot.now) (g.D.Shelf.told c.write_commit.new.depot) (g.D.Shelf.faults c.args.depot.now)
+    (g.D.Shelf.faults c.write_commit.new.depot) c.in-Ok.number (ap Some c.in-Ok.ensures.number) (ap Some c.in-Ok.ensures.number) refl c.in-Ok.ensures.ran
+
+pub returns-in-Err-clause-moments : goal.returns-in-Err-clause-moments
+returns-in-Err-clause-moments g c =
+    commit_keeps c.args.self.now (g.D.Shelf.told c.args.depot.now) (g.D.Shelf.told c.write_commit.new.depot) (g.D.Shelf.faults c.args.depot.now)
+    (g.D.Shelf.faults c.write_commit.new.depot) (Err c.in-Err.fault) c.in-Err.ensures.ran

@@ -1,0 +1,49 @@
+use Rattle.std.proofs.Common.{Ok, Err, ◌≡◌, length, refl, arith}
+use Rattle.ferry_write.proofs.CallLemmas.{delete_fit, delete_keeps, delete_takes}
+use Rattle.ferry_write.proofs.CallLemmas.{delete_size}
+use Rattle.ferry_write.proofs.GainLemmas.{delete_brings, delete_takes_rows}
+use Rattle.ferry_write.proofs.session.Session.delete.Goals as goal
+
+pub returns-in-Ok-clause-moments : goal.returns-in-Ok-clause-moments
+returns-in-Ok-clause-moments g c =
+    let entry = c.delete_entry-entry.result in
+    delete_keeps c.args.self.now entry c.args.key.now (g.D.Shelf.told c.args.depot.now) (g.D.Shelf.told c.write_delete.new.depot)
+    (g.D.Shelf.faults c.args.depot.now) (g.D.Shelf.faults c.write_delete.new.depot) (Ok c.in-Ok.room) c.delete_entry-entry.ensures
+    (delete_fit c.args.key.now entry c.delete_entry-entry.ensures (omega arith)) c.in-Ok.ensures.ran
+
+pub returns-in-Ok-clause-put : goal.returns-in-Ok-clause-put
+returns-in-Ok-clause-put g c =
+    delete_takes c.args.self.now c.take_entry.new.self c.delete_entry-entry.result c.args.key.now c.in-Ok.room _
+    (g.D.Shelf.told c.args.depot.now) (g.D.Shelf.told c.write_delete.new.depot)
+    (g.D.Shelf.faults c.args.depot.now) (g.D.Shelf.faults c.write_delete.new.depot) c.in-Ok.room c.delete_entry-entry.ensures (omega arith)
+    c.take_entry.ensures (omega arith) c.in-Ok.ensures.room c.in-Ok.ensures.ran
+
+pub returns-in-Err-clause-moments : goal.returns-in-Err-clause-moments
+returns-in-Err-clause-moments g c =
+    let entry = c.delete_entry-entry.result in
+    delete_keeps c.args.self.now entry c.args.key.now (g.D.Shelf.told c.args.depot.now) (g.D.Shelf.told c.write_delete.new.depot)
+    (g.D.Shelf.faults c.args.depot.now) (g.D.Shelf.faults c.write_delete.new.depot) (Err c.in-Err.fault) c.delete_entry-entry.ensures
+    (delete_fit c.args.key.now entry c.delete_entry-entry.ensures (omega arith)) c.in-Err.ensures.ran
+
+pub returns-in-Ok-clause-gains : goal.returns-in-Ok-clause-gains
+returns-in-Ok-clause-gains g c =
+    let entry = c.delete_entry-entry.result in
+    delete_brings c.args.self.now entry c.args.key.now (g.D.Shelf.told c.args.depot.now) (g.D.Shelf.told c.write_delete.new.depot)
+    (g.D.Shelf.faults c.args.depot.now) (g.D.Shelf.faults c.write_delete.new.depot) (Ok c.in-Ok.room) c.delete_entry-entry.ensures
+    (delete_fit c.args.key.now entry c.delete_entry-entry.ensures (omega arith)) c.in-Ok.ensures.ran
+
+pub returns-in-Err-clause-gains : goal.returns-in-Err-clause-gains
+returns-in-Err-clause-gains g c =
+    let entry = c.delete_entry-entry.result in
+    delete_brings c.args.self.now entry c.args.key.now (g.D.Shelf.told c.args.depot.now) (g.D.Shelf.told c.write_delete.new.depot)
+    (g.D.Shelf.faults c.args.depot.now) (g.D.Shelf.faults c.write_delete.new.depot) (Err c.in-Err.fault) c.delete_entry-entry.ensures
+    (delete_fit c.args.key.now entry c.delete_entry-entry.ensures (omega arith)) c.in-Err.ensures.ran
+
+pub returns-in-Ok-clause-rows : goal.returns-in-Ok-clause-rows
+returns-in-Ok-clause-rows g c =
+    let entry = c.delete_entry-entry.result in
+    delete_takes_rows c.args.self.now c.take_entry.new.self entry c.args.key.now c.in-Ok.room _
+    (g.D.Shelf.told c.args.depot.now) (g.D.Shelf.told c.write_delete.new.depot)
+    (g.D.Shelf.faults c.args.depot.now) (g.D.Shelf.faults c.write_delete.new.depot) c.in-Ok.room c.delete_entry-entry.ensures
+    (delete_fit c.args.key.now entry c.delete_entry-entry.ensures (omega arith))
+    c.take_entry.ensures (delete_size c.args.key.now entry c.delete_entry-entry.ensures (omega arith)) c.in-Ok.ensures.room c.in-Ok.ensures.ran

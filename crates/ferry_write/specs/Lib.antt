@@ -1,0 +1,5 @@
+pub mod Fault
+pub mod Script
+pub mod Room
+pub mod Session
+pub mod Rows
