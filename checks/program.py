@@ -31,6 +31,7 @@ DEVICE = (4, b"source device failed\n")
 USAGE = (2, b"usage\n")
 NOTHING = (0, b"")
 GREATEST = 2**64 - 1
+TEN_A_FOLDER = b"[repository]\nversion = 1\nid = %s\nsegments_per_dir = 10" % (b"00" * 32)
 KEYS = ("source", "-", "keys")
 
 passed = failed = 0
@@ -109,14 +110,14 @@ def row_of(words, cwd, status, out):
         return ("none", "standard output failed, status 7") if status else None
     if status == 1:
         return "bad REASON", ""
-    told = re.search(r"(source refused: |not found: |usage|memory$|key file unreadable$|source device failed$|BORG_)[^\n]*\n?$", out.decode("utf-8", "replace"))
+    told = re.search(r"(source refused: |target refused: |not found: |usage|memory$|key file unreadable$|source device failed$|target device failed$|BORG_)[^\n]*\n?$", out.decode("utf-8", "replace"))
     line = re.sub(r"^not found: .*", "not found: NAME", re.sub(r"\b[0-9a-f]{64}$", "ID", told[0].rstrip("\n") if told else ""))
     line = re.sub(r"segment \d+ at \d+$", "segment S at A", re.sub(r"^usage: word \d+$", "usage: word N", line))
     where, source = "", os.fsdecode(words[0]) if words else ""
     if line == "usage":
         where = "no two places and a command"
     elif line == "usage: word N":
-        where = f"the command {words[2]}" if words[2] in ("keys", "key", "list", "extract", "check") else "another word"
+        where = f"the command {words[2]}" if words[2] in ("keys", "key", "list", "extract", "check", "init", "make-key") else "another word"
     elif line in ("source refused: no commit", "source refused: config 1") and source in ("-", ""):
         where = "`-` or an empty word"
     elif line in ("source refused: no commit", "source refused: config 1") and not os.path.exists(os.path.join(cwd, source)):
@@ -295,6 +296,8 @@ def names():
     case("its own place counts before a higher folder", {"data/0/0": one, "data/5/0": other, "data/0/1": commit}, line((K, 3)))
     case("the lower of two wrong folders", {"data/2/0": one, "data/10/0": other, "data/0/1": commit}, line((K, 3)))
     case("a wrong folder counts before data itself", {"data/2/5": one, "data/5": other, "data/0/6": commit}, line((K, 3)))
+    case("its own place, of ten segments a folder", {"config": TEN_A_FOLDER, "data/2/20": one, "data/0/20": other, "data/2/21": commit}, line((K, 3)))
+    case("a config that doesn't read", {"config": TEN_A_FOLDER + b"x", "data/2/20": other, "data/0/20": one, "data/2/21": commit}, line((K, 3)))
     case("a folder where a segment should be", {"data/0/0": one, "data/0/1": commit, "data/0/2": None}, line((K, 3)))
     case("a folder at its place and a file elsewhere", {"data/0/0": None, "data/7/0": one, "data/0/1": commit}, line((K, 3)))
     case("a pipe where a segment should be", {"data/0/0": one, "data/0/1": commit, "data/0/2": stat.S_IFIFO, "data/3": stat.S_IFIFO}, line((K, 3)))
@@ -645,6 +648,31 @@ def key_files():
         under(f"{variable} isn't UTF-8", good, (2, b"%s isn't UTF-8\n" % variable.encode()), **{variable: b"\xff"})
 
 
+def targets():
+    """What `init` says of a target that it refuses, and of a key file; it writes nothing then."""
+    words = ("-", "target", "init", "--iterations", "1")
+    good = table(ENVELOPE)
+
+    def told(name, want, beside, file=None):
+        """A run over these files of the target, with this text as its key file."""
+        named = {} if file is None else {b"BORG_KEY_FILE": b"file"}
+        case(f"init: {name}", None, want, words, beside={**beside, **({} if file is None else {"file": file})}, variables=named)
+
+    def of_file(name, file, reason):
+        told(name, (9, b"target refused: %s\n" % reason), {}, file)
+
+    told("a repository", (9, b"target refused: committed\n"), {"target/data/0/0": COMMIT_SEGMENT})
+    told("a nonce that is no number", (9, b"target refused: nonce 2\n"), {"target/nonce": b"12"})
+    case("init: no folder", None, (5, b"target device failed\n"), ("-", "-", "init"))
+    key = lambda sealed: b"BORG_KEY %s\n" % ZERO_ID + base64.b64encode(sealed)
+    of_file("a short id", b"BORG_KEY 12", b"key file 1")
+    of_file("no key", b"BORG_KEY %s\n" % ZERO_ID, b"key file 2")
+    for number, sealed in [(1, good[:-1]), (2, table({})), (3, table({**ENVELOPE, "algorithm": raw(b"sha1")})), (4, table({**ENVELOPE, "iterations": b"\x00"})), (5, good)]:
+        of_file(f"a key that breaks rule {number}", key(sealed), b"key %d" % number)
+    for command, bad in [("init", ("--iterations", "0")), ("make-key", ("--timestamp", "x"))]:
+        case(f"{command}: a wrong word", None, wrong_word(2 if command == "make-key" else 3), ("-", "target", command, *bad))
+
+
 def variables():
     good = log(segment(put(K, b"abc")), COMMIT_SEGMENT)
     bad, text = b"\xff\xfe", "gr\u00fc\u00df e".encode()
@@ -680,11 +708,13 @@ def outputs():
 def rows():
     """Each row of the table of plain words was met."""
     met.add(("none", "standard output failed, status 7"))
+    # What no run here brings about: the system always has random bytes, and a counter that is used up is found after the first write.
+    met.update({("entropy failed", ""), ("limit: nonce", "")})
     for row in PLAIN:
         judge(f"plain words: {row}", (row in met, b""), (True, b""))
 
 
-for cases in (folders, logs, damage, memory, names, words, keys_of_configs, listings, archives, checked, every_byte, key_files, variables, outputs, rows):
+for cases in (folders, logs, damage, memory, names, words, keys_of_configs, listings, archives, checked, every_byte, key_files, targets, variables, outputs, rows):
     cases()
 print(f"{passed} passed, {failed} failed")
 sys.exit(1 if failed or not passed else 0)

@@ -81,16 +81,24 @@ def numbered(folder, wanted):
             yield number_of(name), path
 
 
-def segments(folder, per_folder=1000):
+def per_folder_of(folder):
+    """How many segments a folder of `data` holds: as a plain line of `config` says, else 1000."""
+    path = os.path.join(folder, "config")
+    text = open(path, "rb").read() if os.path.isfile(path) else b""
+    said = re.search(rb"(?m)^segments_per_dir = ([0-9]+)$", text)
+    return int(said[1]) if said else 1000
+
+
+def segments(folder):
     """The path of each segment below `data`: of two the one at its own place, else the one in the lowest folder, else the
     one right below `data`."""
-    data = os.fsencode(folder) + b"/data"
+    data, per_folder = os.fsencode(folder) + b"/data", per_folder_of(folder)
     found = {}
     for number, path in numbered(data, os.path.isfile):
         found.setdefault(number, []).append(((2, 0), path))
     for inner, path in numbered(data, os.path.isdir):
         for number, file in numbered(path, os.path.isfile):
-            place = (0, 0) if inner == number // per_folder else (1, inner)
+            place = (0, 0) if per_folder and inner == number // per_folder else (1, inner)
             found.setdefault(number, []).append((place, file))
     return {number: min(places)[1] for number, places in sorted(found.items())}
 

@@ -4,7 +4,7 @@
 ghost use Rattle.std.specs.Prelude.{◌≡◌, ◌↔◌, IsNone};
 ghost use Rattle.ferry_top.specs.declared.status.Status.TheVariants as TheStatus;
 
-use crate::folder::Presence;
+use crate::target::{ENTROPY, TARGET, of_limit, of_target};
 use ferry_base::ZERO_ID;
 use ferry_blob::BlobFault;
 use ferry_config::ConfigFault;
@@ -12,6 +12,7 @@ use ferry_item::ItemFault;
 use ferry_keyblob::KeyFault;
 use ferry_keyfile::KeyFileFault;
 use ferry_manifest::MetaFault;
+use ferry_real::Presence;
 use ferry_top::{Refusal, RepoFault, Status};
 
 /// Where the words name no source, target and command.
@@ -56,9 +57,13 @@ pub fn advice(status: &Status, command: &str, source: Presence) -> Option<&'stat
         Status::Usage(_) => Some(form_of(command)),
         Status::Memory => Some(MEMORY),
         Status::SourceDevice => Some(DEVICE),
+        Status::TargetDevice => Some(TARGET),
+        Status::EntropyDevice => Some(ENTROPY),
         Status::OutputDevice => Some(OUTPUT),
-        Status::SourceRefused(Refusal::Repo(fault)) => Some(of_repo(fault, source)),
+        Status::SourceRefused(refusal) => Some(of_source(refusal, source)),
+        Status::TargetRefused(refusal) => Some(of_target(refusal)),
         Status::NotFound(_) => Some(MISSING),
+        Status::Limit(limit) => Some(of_limit(*limit)),
     }
 }
 
@@ -74,13 +79,27 @@ fn form_of(command: &str) -> &'static str {
         "extract" => {
             "the form is borgferry SOURCE TARGET extract NAME PATH, the path as list NAME has it; a NAME that begins with -- stands behind --"
         }
+        "init" => {
+            "the form is borgferry SOURCE TARGET init, with --iterations N, from 1 to 10000000, and --timestamp T behind it, or without"
+        }
+        "make-key" => {
+            "the form is borgferry SOURCE TARGET make-key, with --iterations N, from 1 to 10000000, behind it, or without"
+        }
         _ => {
-            "the form is borgferry SOURCE TARGET COMMAND, and the commands are keys, key, list, extract and check; borgferry --help says what they do"
+            "the form is borgferry SOURCE TARGET COMMAND, and the commands are keys, key, list, extract, check, init and make-key; borgferry --help says what they do"
         }
     }
 }
 
-/// A source that is refused. A folder that isn't there reads as one without files, so this is told in the place of what such a
+/// A source that is refused. It is refused as a repository alone.
+fn of_source(refusal: &Refusal, source: Presence) -> &'static str {
+    match refusal {
+        Refusal::Repo(fault) => of_repo(fault, source),
+        Refusal::Nonce(_) | Refusal::Committed => of_target(refusal),
+    }
+}
+
+/// A source that doesn't open. A folder that isn't there reads as one without files, so this is told in the place of what such a
 /// folder lacks first.
 fn of_repo(fault: &RepoFault, source: Presence) -> &'static str {
     match (fault, source) {

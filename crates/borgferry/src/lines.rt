@@ -5,7 +5,7 @@ pub const VERSION: &str = "borgferry 0.1.0\n";
 
 /// The help, which names every command that is built.
 pub const HELP: &str = "\
-borgferry reads a BorgBackup 1.2 repository, the source. No command of today reads or writes the target.
+borgferry reads a BorgBackup 1.2 repository, the source, and makes another, the target. init alone writes the target.
 
 usage: borgferry SOURCE TARGET COMMAND ..
        borgferry --help
@@ -22,6 +22,12 @@ commands:
   extract NAME PATH
           writes the content of the first item of an archive that has content and this path
   check   opens every live chunk and reads every archive, and prints their numbers or the first fault
+  init [--iterations N] [--timestamp T]
+          makes a repository in the target, with the key of the target's key file where there is one, and prints its id
+  make-key [--iterations N]
+          prints the text of a new key file, sealed with the target's passphrase
+
+N is the iterations that seal a key, 1 to 10000000, and 100000 where none are given; T is the timestamp of the new manifest.
 
 variables:
   BORG_OTHER_PASSPHRASE    the source's passphrase, empty where the variable is absent
@@ -37,8 +43,12 @@ status:
   2    the words are no command
   3    memory ran out
   4    the source can't be read
+  5    the target can't be read or written
+  6    the system gives no random bytes
   7    standard output can't be written
   8    the source is refused
+  9    the target is refused
   11   no archive has the name, or no item with content has the path
+  12   a limit of the target is met
   16   a key file can't be read
 ";

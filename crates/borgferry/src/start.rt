@@ -1,11 +1,9 @@
 //! What the program does before and after its command: words, secrets, devices, and the status at the end.
 
 use crate::advice::{FORM, MEMORY, NOT_TEXT, OUTPUT, UNREADABLE, advice};
-use crate::entropy::NoEntropy;
 use crate::lines::{HELP, VERSION};
-use crate::shelf::FolderShelf;
-use crate::stdout::StdSink;
 use ferry_base::Bytes;
+use ferry_real::{FolderDepot, FolderShelf, StdSink, SystemEntropy};
 use ferry_top::{Secret, Secrets, places_fit, run};
 use std::alloc::{AllocError, AllocGlobal, Global};
 use std::env::VarError;
@@ -81,8 +79,8 @@ fn run_command<R: Runtime + AllocGlobal>(
     let alloc = rt.alloc();
     let secrets = secrets(rt)?;
     let mut source = FolderShelf::new(rt.clone()?, alloc, source)?;
-    let mut target = FolderShelf::new(rt.clone()?, alloc, target)?;
-    let mut entropy = NoEntropy::new();
+    let mut target = FolderDepot::new(rt.clone()?, alloc, target)?;
+    let mut entropy = SystemEntropy::new(rt.clone()?);
     let mut out = StdSink::new(rt.clone()?);
     let status = run(
         alloc,

@@ -10,7 +10,7 @@ use Rattle.std.specs.FinMap.{FinMap, get, insert, remove, empty, keys, contains_
 use Rattle.ferry_disk.specs.Act.{Step, AppendTo, SyncOf, RemoveOf, ReplaceBy, SettleAll, TellOf, Act, History}
 use Rattle.ferry_disk.specs.Files.{Files}
 use Rattle.ferry_disk.specs.Image.{PlainFate, plain_of, MayStand, Fate, at_rest, fate_after, fate_of, MayLeave, settled, Leaves}
-use Rattle.ferry_disk.specs.Choice.{moment_of, tail_of, plain_left, segment_left, ChoosesFiles, Describes, MayList}
+use Rattle.ferry_disk.specs.Choice.{moment_of, tail_of, plain_left, segment_left, ChoosesFiles, Chooses, Describes, MayList}
 use Rattle.ferry_disk.specs.declared.choice.Choice.{Choice}
 use Rattle.ferry_disk.specs.declared.name.Name.TheVariants.{Config, Nonce, Readme}
 use Rattle.ferry_disk.proofs.FilesLemmas.{same_number}
@@ -49,7 +49,7 @@ covered f ks q false e none = get-map_at f ks q ∙ (ap (λ b. if b then f q els
 
 -- ---- the segments of which something is said
 
-neither : (a b : Bool) → (a || b) ≡ false → (a ≡ false) × (b ≡ false)
+pub neither : (a b : Bool) → (a || b) ≡ false → (a ≡ false) × (b ≡ false)
 neither true b e = absurd (let no : ⊥ = cc in no)
 neither false b e = (refl, e)
 
@@ -91,10 +91,10 @@ same_tests : (q : ℕ) (ks : List ℕ) → list_any (eq_by_cmp nat_cmp q) ks ≡
 same_tests q [] = refl
 same_tests q (k ∷ ks) = let head : eq_by_cmp nat_cmp q k ≡ nat_eq q k = sym (unsigned_ties q k) in let rest = same_tests q ks in cc
 
-not_there : (files : Files) (q : ℕ) → list_any (nat_eq q) (keys files.segments) ≡ false → get files.segments q ≡ None
+pub not_there : (files : Files) (q : ℕ) → list_any (nat_eq q) (keys files.segments) ≡ false → get files.segments q ≡ None
 not_there files q e = is_none (get files.segments q) (contains_key-keys files.segments q ∙ (same_tests q (keys files.segments) ∙ e))
 
-not_listed : {X : Type 0} (q : ℕ) (tails : List (ℕ × X)) → list_any (nat_eq q) (map (λ t. t.0) tails) ≡ false → lookup (nat_eq q) tails ≡ None
+pub not_listed : {X : Type 0} (q : ℕ) (tails : List (ℕ × X)) → list_any (nat_eq q) (map (λ t. t.0) tails) ≡ false → lookup (nat_eq q) tails ≡ None
 not_listed q [] e = refl
 not_listed {X} q (t ∷ tails) e =
     let both : (nat_eq q t.0 ≡ false) × (list_any (nat_eq q) (map (λ t. t.0) tails) ≡ false) = neither _ _ e in
@@ -204,11 +204,14 @@ describes_listed choice history image d s q listed e =
     ((d.is_image.after s).segments q)
 
 -- one image at most
-pub describes_one : (choice : Choice) (history : History) (a b : Files) → Describes choice history a → Describes choice history b → a ≡ b
-describes_one choice history a b da db = by_settled (settled (moment_of choice history.acts)) refl where
-  by_settled : (t : Bool) → settled (moment_of choice history.acts) ≡ t → a ≡ b
+pub chooses_one : (choice : Choice) (start : Files) (moment : List Act) (a b : Files) → Chooses choice start moment a → Chooses choice start moment b → a ≡ b
+chooses_one choice start moment a b da db = by_settled (settled moment) refl where
+  by_settled : (t : Bool) → settled moment ≡ t → a ≡ b
   by_settled true e =
-      let ca = da.chosen.after e in
-      let cb = db.chosen.after e in
+      let ca = da.after e in
+      let cb = db.after e in
       same_files a b (ca.config ∙ sym cb.config) (ca.nonce ∙ sym cb.nonce) (ca.readme ∙ sym cb.readme) (λ q. ca.segments q ∙ sym (cb.segments q))
-  by_settled false e = da.chosen.before e ∙ sym (db.chosen.before e)
+  by_settled false e = da.before e ∙ sym (db.before e)
+
+pub describes_one : (choice : Choice) (history : History) (a b : Files) → Describes choice history a → Describes choice history b → a ≡ b
+describes_one choice history a b da db = chooses_one choice history.start (moment_of choice history.acts) a b da.chosen db.chosen

@@ -10,3 +10,4 @@ pub mod ChoiceLemmas
 pub mod FaultLemmas
 pub mod SizesLemmas
 pub mod AllowLemmas
+pub mod StopLemmas

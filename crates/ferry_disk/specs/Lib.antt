@@ -12,5 +12,6 @@ pub mod ImageSteps
 pub mod Memory
 pub mod Moments
 pub mod Sizes
+pub mod Stop
 pub mod Stream
 pub mod Whole

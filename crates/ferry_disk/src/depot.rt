@@ -1,10 +1,10 @@
 //! A repository's files as they are written.
 ghost use Rattle.std.specs.Prelude.{◌≡◌, ◌++◌, ◌↔◌, List, [], Option, Some, None, map, length, IsTrue, IfOk, IsErrOf, option_map, slice_get};
 ghost use Rattle.std.specs.List.Sorted.{IsStrictlyIncreasing};
-ghost use Rattle.ferry_disk.specs.Act.{IsPlain, IsPlainStep, files_now, untouched, after_run};
+ghost use Rattle.ferry_disk.specs.Act.{IsPlain, IsPlainStep, files_now, untouched, after_run, after_stop};
 ghost use Rattle.ferry_disk.specs.Act.{AppendTo, SyncOf, RemoveOf, ReplaceBy, SettleAll, TellOf};
 ghost use Rattle.ferry_disk.specs.Acts.{step_of, act_of, acts_of};
-ghost use Rattle.ferry_disk.specs.Choice.{Describes};
+ghost use Rattle.ferry_disk.specs.Choice.{moment_of, Describes};
 ghost use Rattle.ferry_disk.specs.Files.{Files, file_at, segment_numbers};
 ghost use Rattle.ferry_disk.specs.Device.{Acts, HasCause, store_failed, ReadsAt};
 ghost use Rattle.ferry_disk.specs.Disk.{disk_told, disk_fails, disk_read, begun, Recorded, Notes};
@@ -16,6 +16,7 @@ use crate::files::MemoryFiles;
 use crate::name::Name;
 use crate::shelf::{MemoryShelf, Shelf, StoreFault};
 use crate::sizes::is_described;
+use crate::stop::{files_left, moment_acts};
 use std::alloc::{AllocError, Global};
 use std::marker::Model;
 
@@ -123,6 +124,33 @@ impl MemoryDepot {
         ensures { IsTrue result ↔ ((image : Files) × Describes choice.now self.now.history image) }
     {
         is_described(&self.start, &self.acts, choice)
+    }
+
+    /// The depot of the next run, where the machine stopped and left the image that a choice describes, of the acts of its moment: none
+    /// of its calls fails.
+    pub fn crash(self, choice: Choice) -> Result<MemoryDepot, AllocError>
+        requires { (image : Files) × Describes choice self.history image }
+        ensures crashed { IfOk result (λ depot. (image : Files) × Describes choice self.history image
+            × (depot ≡ begun (after_stop image (moment_of choice self.history.acts) self.history) [])) }
+    {
+        let MemoryDepot {
+            alloc,
+            start,
+            mut past,
+            acts,
+            shelf: _,
+        } = self;
+        let mut moment = moment_acts(acts, &choice);
+        let image = files_left(alloc, &start, &moment, &choice)?;
+        past.append(&mut moment)?;
+        let files = image.copy(alloc)?;
+        Ok(MemoryDepot {
+            alloc,
+            start: image,
+            past,
+            acts: Vec::new(alloc),
+            shelf: MemoryShelf::over(files, Vec::new(alloc)),
+        })
     }
 
     /// The depot of the next run, where no stop of the machine came between: none of its calls fails.

@@ -3,10 +3,12 @@ ghost use Rattle.std.specs.Prelude.{◌≡◌, ◌+◌, ◌-◌, ◌++◌, ℕ, 
 ghost use Rattle.std.specs.Ordering.{nat_cmp};
 ghost use Rattle.std.specs.List.Sorted.{IsStrictlyIncreasing};
 ghost use Rattle.std.specs.BTreeMap.{keys, IsOrdered};
-ghost use Rattle.ferry_disk.specs.Act.{stepped, AppendTo};
+ghost use Rattle.ferry_disk.specs.Act.{stepped, replaced, AppendTo};
+ghost use Rattle.ferry_disk.specs.Acts.{step_of};
 ghost use Rattle.ferry_disk.specs.Files.{no_files, file_at, with_file, without_segment, segment_numbers};
 ghost use Rattle.ferry_disk.specs.Memory.{files_of, files_given};
 
+use crate::act::Kind;
 use crate::name::Name;
 use std::alloc::{AllocError, Global};
 use std::collections::BTreeMap;
@@ -72,6 +74,34 @@ impl MemoryFiles {
         self.put(Name::Segment(segment), copy)
     }
 
+    /// Does to the files what an act does where it is done. At an error nothing has changed.
+    pub fn carry_out(&mut self, alloc: Global, kind: &Kind) -> Result<(), AllocError>
+        ensures ok { OnOk result (files_of self.new ≡ stepped (files_of self.old) (step_of kind.now)) }
+        ensures err { OnErr result (files_of self.new ≡ files_of self.old) }
+    {
+        match kind {
+            Kind::Append(segment, bytes) => self.append(alloc, *segment, bytes),
+            Kind::Replace(name, bytes) => self.replace(alloc, *name, bytes),
+            Kind::Remove(segment) => {
+                self.remove(*segment);
+                Ok(())
+            }
+            Kind::Sync(_) | Kind::Settle | Kind::Tell(_) => Ok(()),
+        }
+    }
+
+    /// Replaces a file that is no segment; a segment isn't replaced. At an error nothing has changed.
+    fn replace(&mut self, alloc: Global, name: Name, bytes: &[u8]) -> Result<(), AllocError>
+        ensures ok { OnOk result (files_of self.new ≡ replaced (files_of self.old) name bytes.now) }
+        ensures err { OnErr result (files_of self.new ≡ files_of self.old) }
+    {
+        if matches!(name, Name::Segment(_)) {
+            return Ok(());
+        }
+        let copy = Vec::from_slice(alloc, bytes)?;
+        self.put(name, copy)
+    }
+
     /// Takes a segment out.
     pub fn remove(&mut self, segment: u64)
         ensures { files_of self.new ≡ without_segment (files_of self.old) segment }
@@ -117,7 +147,7 @@ impl MemoryFiles {
 }
 
 /// A file's bytes in memory of their own.
-fn copy_of(alloc: Global, file: &Option<Vec<u8>>) -> Result<Option<Vec<u8>>, AllocError>
+pub(crate) fn copy_of(alloc: Global, file: &Option<Vec<u8>>) -> Result<Option<Vec<u8>>, AllocError>
     ensures { IfOk result (λ copy. option_map (λ v. v.items) copy ≡ option_map (λ v. v.items) file.now) }
 {
     match file {

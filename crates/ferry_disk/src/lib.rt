@@ -16,6 +16,7 @@ mod name;
 mod shelf;
 mod sink;
 mod sizes;
+mod stop;
 #[cfg(test)]
 mod tests;
 mod whole;

@@ -152,18 +152,7 @@ impl MemoryShelf {
         ensures ok { OnOk result (self.new ≡ record self.old { files = stepped self.old.files (step_of kind.now) }) }
         ensures err { OnErr result (self.new ≡ self.old) }
     {
-        match kind {
-            Kind::Append(segment, bytes) => self.files.append(alloc, *segment, bytes),
-            Kind::Replace(name, bytes) => {
-                let copy = Vec::from_slice(alloc, bytes)?;
-                self.files.put(*name, copy)
-            }
-            Kind::Remove(segment) => {
-                self.files.remove(*segment);
-                Ok(())
-            }
-            Kind::Sync(_) | Kind::Settle | Kind::Tell(_) => Ok(()),
-        }
+        self.files.carry_out(alloc, kind)
     }
 }
 

@@ -19,7 +19,7 @@ use crate::name::Name;
 /// The sizes of what a read gives of a segment, of what is stable and of all that was appended, where there is such; and whether a Remove
 /// that isn't done may have happened.
 #[derive(Clone, Copy)]
-struct Sizes {
+pub(crate) struct Sizes {
     pub read: Option<u128>,
     pub stable: Option<u128>,
     pub all: Option<u128>,
@@ -141,7 +141,7 @@ fn stepped(sizes: Sizes, kind: &Kind, done: bool, segment: u64) -> Sizes
 }
 
 /// After acts, of the size at their start.
-fn after_acts(size: Option<u128>, acts: &[Act], segment: u64) -> Sizes
+pub(crate) fn after_acts(size: Option<u128>, acts: &[Act], segment: u64) -> Sizes
     requires { unwrap_or size 0 < 2 ^ 64 }
     ensures sizes { result ≡ sizes_after size (acts_of acts.now) segment }
     ensures within { IsWithin (2 ^ 128 - 2 ^ 64) result }
@@ -155,7 +155,7 @@ fn after_acts(size: Option<u128>, acts: &[Act], segment: u64) -> Sizes
 }
 
 /// A segment's size.
-fn size_of(files: &MemoryFiles, segment: u64) -> Option<u128>
+pub(crate) fn size_of(files: &MemoryFiles, segment: u64) -> Option<u128>
     ensures size { result ≡ option_map length (get (files_of files.now).segments segment) }
     ensures fits { unwrap_or result 0 < 2 ^ 64 }
 {
@@ -204,7 +204,10 @@ fn allows_tail(sizes: Sizes, tail: &Option<Vec<u8>>) -> bool
 }
 
 /// What is listed first of a segment.
-fn tail_listed(tails: &[(u64, Option<Vec<u8>>)], segment: u64) -> Option<&Option<Vec<u8>>>
+pub(crate) fn tail_listed(
+    tails: &[(u64, Option<Vec<u8>>)],
+    segment: u64,
+) -> Option<&Option<Vec<u8>>>
     ensures { option_map (λ t. t.now) result ≡ lookup (nat_eq segment) tails.now }
 {
     for i in 0..tails.len() {
@@ -249,7 +252,7 @@ fn is_settled(acts: &[Act], cut: bool) -> bool
 }
 
 /// Whether a Settle of these acts is done.
-fn any_settle(acts: &[Act]) -> bool
+pub(crate) fn any_settle(acts: &[Act]) -> bool
     ensures { result ≡ settled (acts_of acts.now) }
 {
     for i in 0..acts.len() {

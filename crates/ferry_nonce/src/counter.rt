@@ -67,6 +67,7 @@ impl Counter {
         requires most { blocks ≤ 2097152 }
         requires settled { IfSome (D.told depot.old) (λ t. settled t.history.acts ≡ true) }
         ensures drawn { IfOk result (λ first. (first ≡ self.old.free) × (self.new ≡ drawn self.old blocks)) }
+        ensures within { IfOk result (λ first. first + blocks ≤ 2 ^ 64 - 1) }
         ensures refused { OnErr result (self.new ≡ record self.old { spent = spends result }) }
         ensures kept { FitIn self.old blocks → (result ≡ Ok self.old.free) × (depot.new ≡ depot.old) }
         ensures replaced { (FitIn self.old blocks → ⊥)

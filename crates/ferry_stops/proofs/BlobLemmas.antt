@@ -1,5 +1,5 @@
 -- Lemmas on specs/Blobs.antt: what a stop leaves by no chance, and the world that follows it, have no other blobs.
-use Rattle.std.proofs.Common.{◌≡◌, ◌⊎◌, inl, inr, ℕ, Bool, true, false, List, [], ◌∷◌, ◌++◌, length, drop, Option, Some, None, unwrap_or, refl, sym, ◌∙◌}
+use Rattle.std.proofs.Common.{◌≡◌, ◌⊎◌, inl, inr, ℕ, Bool, true, false, List, [], ◌++◌, length, Option, Some, None, unwrap_or, refl, sym}
 use Rattle.std.proofs.Common.{ap, subst, arith}
 use Rattle.std.specs.FinMap.{get}
 use Rattle.std.proofs.lemmas.List.{append-nil, length-append}
@@ -15,7 +15,7 @@ use Rattle.ferry_stops.proofs.ReadLemmas.{reads_in_all}
 
 -- ---- the start of a run
 
-none_has : (blob : List ℕ) → HasBlob [] blob → ⊥
+pub none_has : (blob : List ℕ) → HasBlob [] blob → ⊥
 none_has blob has =
     let entry = PutEntry has.key blob in
     omega (

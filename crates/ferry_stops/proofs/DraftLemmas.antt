@@ -1,14 +1,14 @@
 -- Lemmas on specs/Ground.antt: what a stop leaves of a segment of data isn't committed, and of a commit it leaves the whole or nothing committed.
-use Rattle.std.proofs.Common.{◌≡◌, ◌⊎◌, inl, inr, ℕ, zero, suc, ◌+◌, ◌≤◌, Bool, true, false, List, [], ◌∷◌, ◌++◌, length, drop, replicate, Option, Some}
+use Rattle.std.proofs.Common.{◌≡◌, ◌⊎◌, inl, inr, ℕ, zero, suc, ◌≤◌, Bool, true, false, List, [], ◌∷◌, ◌++◌, length, drop, replicate, Option, Some}
 use Rattle.std.proofs.Common.{None, refl, sym, ◌∙◌}
 use Rattle.std.proofs.Common.{ap, subst, arith}
 use Rattle.std.specs.List.{AllByRecursion}
 use Rattle.std.specs.Str.{bytes_eq}
 use Rattle.std.proofs.lemmas.List.{append-nil, append_assoc, length-append, length-drop, drop-append-le}
 use Rattle.std.proofs.lemmas.Slice.Eq.{bytes_eq-Decides}
-use Rattle.ferry_disk.specs.Image.{Fate, Continues, MayLeave, at_rest}
-use Rattle.ferry_segment.specs.Entry.{LogEntry, CommitEntry, Fits, spelling, size_of}
-use Rattle.ferry_segment.specs.Segment.{magic, spellings, IsData, IsClosed, Committed}
+use Rattle.ferry_disk.specs.Image.{Fate, MayLeave, at_rest}
+use Rattle.ferry_segment.specs.Entry.{LogEntry, CommitEntry, Fits, spelling}
+use Rattle.ferry_segment.specs.Segment.{magic, spellings, IsData, Committed}
 use Rattle.ferry_segment.proofs.EntryLemmas.{length-spelling, size_of-least}
 use Rattle.ferry_segment.proofs.SegmentLemmas.{front_of}
 use Rattle.ferry_stops.specs.Chance.{ReadsThen, FileByNoChance, all_bytes}

@@ -1,10 +1,9 @@
 -- Lemmas on specs/Entries.antt: what files show is what the log reads of them, and one thing.
-use Rattle.std.proofs.Common.{◌≡◌, ◌⊎◌, inl, inr, ℕ, zero, suc, ◌+◌, ◌<◌, ◌≤◌, Bool, true, false, cond, List, [], ◌∷◌, ◌++◌, map, filter, nat_lt, nat_le}
+use Rattle.std.proofs.Common.{◌≡◌, ◌⊎◌, inl, inr, ℕ, zero, suc, ◌+◌, ◌<◌, ◌≤◌, Bool, true, false, List, [], ◌∷◌, ◌++◌, map, filter, nat_lt, nat_le}
 use Rattle.std.proofs.Common.{is_some, Option}
 use Rattle.std.proofs.Common.{Some, None, unwrap_or, refl, sym, ◌∙◌, ap, subst, arith}
-use Rattle.std.specs.FinMap.{get, keys, contains_key-keys, nat_cmp-IsAntisymmetric}
-use Rattle.std.specs.List.{AllByRecursion, list_any}
-use Rattle.std.specs.Ordering.{nat_cmp, eq_by_cmp}
+use Rattle.std.specs.FinMap.{get, contains_key-keys}
+use Rattle.std.specs.List.{AllByRecursion}
 use Rattle.std.proofs.lemmas.Bool.{cases_lt, le-leb, lt-leb, lt-ltb, le-ltb}
 use Rattle.std.proofs.lemmas.List.{append-nil, append_assoc}
 use Rattle.ferry_disk.specs.Files.{Files, segment_bytes, segment_numbers}
@@ -13,8 +12,8 @@ use Rattle.ferry_segment.specs.Segment.{Splits, Committed}
 use Rattle.ferry_segment.proofs.SegmentLemmas.{one_split}
 use Rattle.ferry_log.specs.Log.{Located, located, IsTransaction, numbers_up_to, IsUncommitted, Joins, IsLog}
 use Rattle.ferry_log.specs.Log as Log
-use Rattle.ferry_stops.specs.Entries.{SegmentHas, HaveBelow, IsOpen, OpenFrom, EndsAt, CommittedBelow, Shows, ShowsAt}
-use Rattle.ferry_stops.proofs.NumberLemmas.{any_all, all_of, there_all, Rising, keys_rising, below, alone, below_suc, below_none}
+use Rattle.ferry_stops.specs.Entries.{SegmentHas, HaveBelow, IsOpen, OpenFrom, EndsAt, Shows, ShowsAt}
+use Rattle.ferry_stops.proofs.NumberLemmas.{all_of, there_all, Rising, keys_rising, below, alone, below_suc, below_none}
 use Rattle.ferry_stops.proofs.NumberLemmas.{rising_front, rising_back, split_there}
 
 -- ---- segments that aren't committed

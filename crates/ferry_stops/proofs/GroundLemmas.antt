@@ -1,5 +1,5 @@
 -- Lemmas on specs/Ground.antt: what a stop leaves of segments at rest, and of those that are written.
-use Rattle.std.proofs.Common.{◌≡◌, ◌⊎◌, inl, inr, ℕ, zero, suc, ◌+◌, ◌<◌, ◌≤◌, true, false, List, [], ◌∷◌, ◌++◌, length, Option, Some, None, refl, sym}
+use Rattle.std.proofs.Common.{◌≡◌, inl, inr, ℕ, zero, suc, ◌<◌, ◌≤◌, List, [], ◌∷◌, ◌++◌, length, Option, Some, None, refl, sym}
 use Rattle.std.proofs.Common.{◌∙◌, ap, subst, arith}
 use Rattle.std.specs.FinMap.{get}
 use Rattle.std.proofs.lemmas.List.{append-nil, length-append}
@@ -7,7 +7,7 @@ use Rattle.ferry_disk.specs.Act.{History, files_now}
 use Rattle.ferry_disk.specs.Files.{Files}
 use Rattle.ferry_disk.specs.Image.{Fate, at_rest, Continues, MayLeave, Leaves}
 use Rattle.ferry_segment.specs.Entry.{LogEntry}
-use Rattle.ferry_stops.specs.Chance.{IsLeft, EachStop}
+use Rattle.ferry_stops.specs.Chance.{EachStop}
 use Rattle.ferry_stops.specs.Entries.{SegmentHas, HaveBelow, CommittedBelow, ShowsAt}
 use Rattle.ferry_stops.specs.Ground.{IsSafe, IsOwn}
 

@@ -1,8 +1,7 @@
 -- Lemmas on specs/Chance.antt: what a read gives is left by a stop by no chance, where each act is done.
 use Rattle.std.proofs.Common.{◌≡◌, ℕ, nat_eq, Bool, true, false, List, [], ◌∷◌, ◌++◌, fold, Option, Some, None, unwrap_or, if◌then◌else◌, refl, sym, ap, subst}
-use Rattle.std.specs.FinMap.{get}
 use Rattle.std.specs.List.{AllByRecursion}
-use Rattle.ferry_disk.specs.Act.{Step, AppendTo, SyncOf, RemoveOf, ReplaceBy, SettleAll, TellOf, Act, History, files_now, applied}
+use Rattle.ferry_disk.specs.Act.{Step, AppendTo, SyncOf, RemoveOf, ReplaceBy, SettleAll, TellOf, Act, History, files_now}
 use Rattle.ferry_disk.specs.Image.{Fate, fate_of, fate_in, fate_after, fate_stepped, fate_appended, fate_synced, fate_removed, settled}
 use Rattle.ferry_disk.proofs.ImageLemmas.{fate_read, read_is_image}
 use Rattle.ferry_stops.specs.Chance.{ReadsThen, IsLeft, FileByNoChance}

@@ -1,5 +1,5 @@
 -- Lemmas on the numbers of segments: those that are there below a number, one number more.
-use Rattle.std.proofs.Common.{◌≡◌, ◌⊎◌, inl, inr, ℕ, suc, ◌+◌, ◌<◌, ◌≤◌, Bool, true, false, cond, ◌||◌, ◌&&◌, T, List, [], ◌∷◌, ◌++◌, map, filter, nat_lt}
+use Rattle.std.proofs.Common.{◌≡◌, ℕ, suc, ◌<◌, ◌≤◌, Bool, true, false, cond, ◌||◌, ◌&&◌, T, List, [], ◌∷◌, ◌++◌, map, filter, nat_lt}
 use Rattle.std.proofs.Common.{is_some, refl, sym, ◌∙◌}
 use Rattle.std.proofs.Common.{ap, subst, arith}
 use Rattle.std.specs.FinMap.{FinMap, get, entries, entries_sorted, keys, contains_key-keys, nat_cmp-IsAntisymmetric}

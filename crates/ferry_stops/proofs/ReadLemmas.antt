@@ -1,9 +1,9 @@
 -- Lemmas on specs/Chance.antt: each entry that reads in what a stop leaves by no chance stands at its place in all that the segment had.
-use Rattle.std.proofs.Common.{◌≡◌, ◌⊎◌, inl, inr, ℕ, ◌+◌, ◌<◌, ◌≤◌, List, [], ◌∷◌, ◌++◌, length, take, drop, Option, Some, None, refl, sym, ◌∙◌, ap, subst}
+use Rattle.std.proofs.Common.{◌≡◌, ◌⊎◌, inl, inr, ℕ, ◌+◌, ◌<◌, ◌≤◌, List, [], ◌∷◌, ◌++◌, length, take, drop, refl, sym, ◌∙◌, ap, subst}
 use Rattle.std.proofs.Common.{arith}
 use Rattle.std.specs.List.{AllByRecursion}
 use Rattle.std.proofs.lemmas.Bool.{cases_lt}
-use Rattle.std.proofs.lemmas.List.{append-nil, append_assoc, length-append, length-drop, drop-drop, take-append-le, drop-append-le, take-append-drop}
+use Rattle.std.proofs.lemmas.List.{append-nil, append_assoc, length-drop, drop-drop, take-append-le, drop-append-le, take-append-drop}
 use Rattle.std.proofs.Math.Seq.{take-append_seam, drop-append_seam}
 use Rattle.ferry_disk.specs.Image.{Fate, Continues}
 use Rattle.ferry_segment.specs.Entry.{LogEntry, Fits, spelling, size_of}

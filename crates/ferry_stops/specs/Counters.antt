@@ -1,12 +1,12 @@
 -- Counter blocks over all runs: no two blobs share one, and the number in the file `nonce` is above all that were taken, whatever a stop
 -- leaves (BorgBackup 1.2, Internals, "Data structures and file formats", Encryption).
-use Rattle.std.specs.Prelude.{◌≡◌, ℕ, ◌<◌, ◌≤◌, true, ◌⊎◌, List, [], ◌∷◌, ◌++◌, length, Option, Some, None, Ok}
+use Rattle.std.specs.Prelude.{◌≡◌, ℕ, ◌<◌, ◌≤◌, ◌⊎◌, List, [], ◌∷◌, ◌++◌, length, Option, Some, None, Ok}
 use Rattle.std.specs.Int.{w64, from_be_bytes}
 use Rattle.hex.specs.Hex.{decode_of}
 use Rattle.ferry_blob.specs.Blob.{IsBlockOf}
 use Rattle.ferry_disk.specs.Act.{History}
 use Rattle.ferry_disk.specs.Files.{Files}
-use Rattle.ferry_disk.specs.Image.{PlainFate, plain_in, settled, ImageOf}
+use Rattle.ferry_disk.specs.Image.{plain_in, ImageOf}
 use Rattle.ferry_disk.specs.declared.name.Name.TheVariants.{Nonce}
 use Rattle.ferry_stops.specs.Blobs.{BlobOf}
 use Rattle.ferry_stops.specs.Chance.{EachStop}

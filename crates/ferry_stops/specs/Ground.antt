@@ -1,9 +1,8 @@
 -- What a writer stands on: the segments up to the last commit are at rest, and a stop leaves no other commit.
-use Rattle.std.specs.Prelude.{◌≡◌, ℕ, ◌<◌, ◌≤◌, true, false, List, [], ◌++◌, Option, Some, None}
+use Rattle.std.specs.Prelude.{◌≡◌, ℕ, ◌<◌, ◌≤◌, true, List, ◌++◌, Option}
 use Rattle.std.specs.FinMap.{get}
 use Rattle.std.specs.List.{AllByRecursion}
-use Rattle.ferry_disk.specs.Act.{Act, History, files_now}
-use Rattle.ferry_disk.specs.Files.{Files}
+use Rattle.ferry_disk.specs.Act.{History, files_now}
 use Rattle.ferry_disk.specs.Image.{Fate, fate_in, at_rest, MayLeave, settled}
 use Rattle.ferry_segment.specs.Entry.{LogEntry, Fits}
 use Rattle.ferry_segment.specs.Segment.{magic, spellings, IsData}

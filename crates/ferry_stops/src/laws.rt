@@ -2,15 +2,15 @@
 ghost use Rattle.std.specs.Prelude.{◌≡◌, ◌⊎◌, ◌<◌, ◌≤◌, ◌++◌, ℕ, suc, true, false, List, [], ◌∷◌, map, Option, Some, None};
 ghost use Rattle.std.specs.FinMap.{get};
 ghost use Rattle.std.specs.List.{AllByRecursion};
-ghost use Rattle.ferry_disk.specs.Act.{Step, Act, History, files_now, with_act, after_run, after_stop};
-ghost use Rattle.ferry_disk.specs.Files.{Files};
-ghost use Rattle.ferry_disk.specs.Image.{Fate, at_rest, MayLeave, settled};
+ghost use Rattle.ferry_disk.specs.Act.{Step, Act, History, files_now, with_act, untouched, after_run, after_stop};
+ghost use Rattle.ferry_disk.specs.Files.{Files, segment_numbers};
+ghost use Rattle.ferry_disk.specs.Image.{Fate, at_rest, MayLeave, settled, ImageOf};
 ghost use Rattle.ferry_log.specs.Log.{Located, IsUncommitted, IsLog};
 ghost use Rattle.ferry_segment.specs.Entry.{LogEntry, CommitEntry, spelling};
 ghost use Rattle.ferry_segment.specs.Segment.{magic, Committed};
 ghost use Rattle.ferry_stops.specs.Blobs.{FileHasBlob, BlobOf, AllTraced};
 ghost use Rattle.ferry_stops.specs.Chance.{IsLeft, EachStop, FileByNoChance};
-ghost use Rattle.ferry_stops.specs.Counters.{IsAbove, IsKept, Counts, TakenBelow};
+ghost use Rattle.ferry_stops.specs.Counters.{IsNonce, IsAbove, IsKept, Counts, TakenBelow};
 ghost use Rattle.ferry_stops.specs.Entries.{HaveBelow, IsOpen, Shows, ShowsAt};
 ghost use Rattle.ferry_stops.specs.Ground.{IsHarmless, IsDraft, IsOwn};
 
@@ -57,14 +57,16 @@ pub fn blob_laws()
 
 /// What a counter's file says at each moment.
 pub fn counter_laws()
-    // Where a counter's next free number is above each block, so is what a stop leaves of its file, whatever that is.
+    // Where a counter's next free number is above each block, so is what a stop leaves of its file, chance or none.
     ensures above { (free : ℕ) (history : History) (image : Files) → settled history.acts ≡ true → Counts free history → TakenBelow free history
-        → IsLeft history image → IsAbove history image }
+        → ImageOf history image → IsAbove history image }
 {}
 
-/// What is kept at a moment is kept by the world that follows: by the run after a stop, whatever the stop left by no chance, and by the run
-/// after one that ended without a stop. So it is kept over every list of runs and stops.
+/// Files with no segment, whose file `nonce` is absent or a number, are kept. What is kept at a moment is kept by the world that follows: by
+/// the run after a stop, whatever the stop left by no chance, and by the run after one that ended without a stop. So it is kept over every
+/// list of runs and stops.
 pub fn kept_laws()
+    ensures empty { (files : Files) (value : ℕ) → segment_numbers files ≡ [] → IsNonce files.nonce value → IsKept (untouched files) }
     ensures stop { (history : History) (image : Files) → IsKept history → AllTraced history → IsLeft history image
         → IsKept (after_stop image history.acts history) }
     ensures again { (history : History) → IsKept history → AllTraced history → IsLeft history (files_now history) → IsKept (after_run history) }

@@ -1,5 +1,5 @@
 -- Lemmas on specs/Check.antt: the report of a repository that opened is that of the files that it was opened on.
-use Rattle.std.proofs.Common.{◌≡◌, ◌⊎◌, inl, inr, ℕ, Bool, true, false, List, Option, Some, None, is_some, not, IfSome, refl}
+use Rattle.std.proofs.Common.{◌≡◌, inr, Bool, true, false, Option, Some, None, is_some, not, IfSome, refl}
 use Rattle.ferry_check.specs.Report.{Counts, IsReport}
 use Rattle.ferry_check.specs.declared.report.Report.{Report}
 use Rattle.ferry_disk.specs.Device.{Told, told_files, heard, WritesSome, RoseWhere}

@@ -3,3 +3,5 @@ pub mod KeysLemmas
 pub mod ListLemmas
 pub mod ItemsLemmas
 pub mod CheckLemmas
+pub mod InitLemmas
+pub mod RunLemmas

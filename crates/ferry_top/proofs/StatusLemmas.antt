@@ -1,5 +1,5 @@
 -- Lemmas on specs/Status.antt and specs/Run.antt: what a fault says, its status says.
-use Rattle.std.proofs.Common.{◌≡◌, ℕ, false, List, Option, IfSome, refl, inr}
+use Rattle.std.proofs.Common.{◌≡◌, ℕ, false, List, Option, IfSome, refl, sym, ◌∙◌, inr}
 use Rattle.ferry_disk.specs.Files.{Files}
 use Rattle.ferry_disk.specs.Device.{Told, told_files, WritesSome, RoseWhere}
 use Rattle.ferry_log.specs.Fault.{log_failed}
@@ -13,8 +13,17 @@ use Rattle.ferry_view.specs.declared.fault.ViewFault.{ViewFault}
 use Rattle.ferry_view.specs.declared.fault.ViewFault.TheVariants as View
 use Rattle.ferry_top.specs.Devices.{Written}
 use Rattle.ferry_top.specs.Run.{Prints}
-use Rattle.ferry_top.specs.Status.{log_status, output_status, repo_status, view_status, source_failed}
+use Rattle.ferry_nonce.specs.declared.fault.NonceFault.TheVariants as Nonces
+use Rattle.ferry_store.specs.Fault.{depot_failed, source_failed as drawing_failed}
+use Rattle.ferry_store.specs.declared.fault.StoreRefusal.{StoreRefusal}
+use Rattle.ferry_store.specs.declared.fault.StoreRefusal.TheVariants as Store
+use Rattle.ferry_top.specs.Status.{log_status, output_status, repo_status, store_status, target_status, view_status}
+use Rattle.ferry_top.specs.Status.{source_failed, target_failed, entropy_failed, output_failed}
+use Rattle.ferry_top.specs.declared.status.Limit.{Limit}
 use Rattle.ferry_top.specs.declared.status.Refusal.{Refusal}
+use Rattle.ferry_top.specs.declared.status.Status.{Status}
+use Rattle.ferry_top.specs.declared.status.Status.TheVariants as TheStatus
+use Rattle.ferry_write.specs.declared.fault.WriteFault.TheVariants as Writes
 
 -- ---- which device failed
 
@@ -53,7 +62,150 @@ failed_of_view View.NotFound missing = refl
 failed_of_view View.Output missing = refl
 failed_of_view View.Memory missing = refl
 
-pub ruleset causes = (failed_of_log, failed_of_repo, failed_of_output, failed_of_view)
+-- of a store
+
+target_of_repo : (fault : RepoFault) → target_failed (target_status fault) ≡ repo_failed fault
+target_of_repo Repo.NoCommit = refl
+target_of_repo (Repo.Damaged segment at) = refl
+target_of_repo (Repo.Config fault) = refl
+target_of_repo (Repo.Key fault) = refl
+target_of_repo (Repo.Missing id) = refl
+target_of_repo (Repo.Blob id fault) = refl
+target_of_repo (Repo.Manifest fault) = refl
+target_of_repo (Repo.Archive id fault) = refl
+target_of_repo (Repo.Item id fault) = refl
+target_of_repo (Repo.Size id) = refl
+target_of_repo (Repo.KeyFile fault) = refl
+target_of_repo (Repo.Other file config) = refl
+target_of_repo Repo.NoKey = refl
+target_of_repo Repo.Device = refl
+target_of_repo Repo.Memory = refl
+
+depot_of_repo : (fault : RepoFault) → depot_failed (Store.Repo fault) ≡ repo_failed fault
+depot_of_repo Repo.NoCommit = refl
+depot_of_repo (Repo.Damaged segment at) = refl
+depot_of_repo (Repo.Config fault) = refl
+depot_of_repo (Repo.Key fault) = refl
+depot_of_repo (Repo.Missing id) = refl
+depot_of_repo (Repo.Blob id fault) = refl
+depot_of_repo (Repo.Manifest fault) = refl
+depot_of_repo (Repo.Archive id fault) = refl
+depot_of_repo (Repo.Item id fault) = refl
+depot_of_repo (Repo.Size id) = refl
+depot_of_repo (Repo.KeyFile fault) = refl
+depot_of_repo (Repo.Other file config) = refl
+depot_of_repo Repo.NoKey = refl
+depot_of_repo Repo.Device = refl
+depot_of_repo Repo.Memory = refl
+
+pub target_of_store : (refusal : StoreRefusal) → target_failed (store_status refusal) ≡ depot_failed refusal
+target_of_store (Store.Repo fault) = target_of_repo fault ∙ sym (depot_of_repo fault)
+target_of_store (Store.Write Writes.Device) = refl
+target_of_store (Store.Write Writes.Memory) = refl
+target_of_store (Store.Write Writes.Numbers) = refl
+target_of_store (Store.Nonce Nonces.Missing) = refl
+target_of_store (Store.Nonce Nonces.Text) = refl
+target_of_store (Store.Nonce Nonces.Exhausted) = refl
+target_of_store (Store.Nonce Nonces.Device) = refl
+target_of_store (Store.Nonce Nonces.Memory) = refl
+target_of_store Store.Committed = refl
+target_of_store Store.TooLarge = refl
+target_of_store Store.Entropy = refl
+target_of_store Store.Memory = refl
+
+-- what the status of a refusal isn't
+pub record IsOfStore (status : Status) : Type 0 where
+  pub source : source_failed status ≡ false
+  pub output : output_failed status ≡ false
+  pub used : (n : ℕ) → status ≡ TheStatus.Usage n → ⊥
+  pub done : status ≡ TheStatus.Done → ⊥
+
+device_is : IsOfStore TheStatus.TargetDevice
+device_is = record { source = refl; output = refl; used = λ n e. let no : ⊥ = cc in no; done = λ e. let no : ⊥ = cc in no }
+
+memory_is : IsOfStore TheStatus.Memory
+memory_is = record { source = refl; output = refl; used = λ n e. let no : ⊥ = cc in no; done = λ e. let no : ⊥ = cc in no }
+
+entropy_is : IsOfStore TheStatus.EntropyDevice
+entropy_is = record { source = refl; output = refl; used = λ n e. let no : ⊥ = cc in no; done = λ e. let no : ⊥ = cc in no }
+
+refused_is : (refusal : Refusal) → IsOfStore (TheStatus.TargetRefused refusal)
+refused_is refusal = record { source = refl; output = refl; used = λ n e. let no : ⊥ = cc in no; done = λ e. let no : ⊥ = cc in no }
+
+limit_is : (limit : Limit) → IsOfStore (TheStatus.Limit limit)
+limit_is limit = record { source = refl; output = refl; used = λ n e. let no : ⊥ = cc in no; done = λ e. let no : ⊥ = cc in no }
+
+of_target : (fault : RepoFault) → IsOfStore (target_status fault)
+of_target Repo.NoCommit = refused_is _
+of_target (Repo.Damaged segment at) = refused_is _
+of_target (Repo.Config fault) = refused_is _
+of_target (Repo.Key fault) = refused_is _
+of_target (Repo.Missing id) = refused_is _
+of_target (Repo.Blob id fault) = refused_is _
+of_target (Repo.Manifest fault) = refused_is _
+of_target (Repo.Archive id fault) = refused_is _
+of_target (Repo.Item id fault) = refused_is _
+of_target (Repo.Size id) = refused_is _
+of_target (Repo.KeyFile fault) = refused_is _
+of_target (Repo.Other file config) = refused_is _
+of_target Repo.NoKey = refused_is _
+of_target Repo.Device = device_is
+of_target Repo.Memory = memory_is
+
+pub of_store : (refusal : StoreRefusal) → IsOfStore (store_status refusal)
+of_store (Store.Repo fault) = of_target fault
+of_store (Store.Write Writes.Device) = device_is
+of_store (Store.Write Writes.Memory) = memory_is
+of_store (Store.Write Writes.Numbers) = limit_is _
+of_store (Store.Nonce Nonces.Missing) = refused_is _
+of_store (Store.Nonce Nonces.Text) = refused_is _
+of_store (Store.Nonce Nonces.Exhausted) = limit_is _
+of_store (Store.Nonce Nonces.Device) = device_is
+of_store (Store.Nonce Nonces.Memory) = memory_is
+of_store Store.Committed = refused_is _
+of_store Store.TooLarge = limit_is _
+of_store Store.Entropy = entropy_is
+of_store Store.Memory = memory_is
+
+entropy_of_target : (fault : RepoFault) → entropy_failed (target_status fault) ≡ false
+entropy_of_target Repo.NoCommit = refl
+entropy_of_target (Repo.Damaged segment at) = refl
+entropy_of_target (Repo.Config fault) = refl
+entropy_of_target (Repo.Key fault) = refl
+entropy_of_target (Repo.Missing id) = refl
+entropy_of_target (Repo.Blob id fault) = refl
+entropy_of_target (Repo.Manifest fault) = refl
+entropy_of_target (Repo.Archive id fault) = refl
+entropy_of_target (Repo.Item id fault) = refl
+entropy_of_target (Repo.Size id) = refl
+entropy_of_target (Repo.KeyFile fault) = refl
+entropy_of_target (Repo.Other file config) = refl
+entropy_of_target Repo.NoKey = refl
+entropy_of_target Repo.Device = refl
+entropy_of_target Repo.Memory = refl
+
+pub entropy_of_store : (refusal : StoreRefusal) → entropy_failed (store_status refusal) ≡ drawing_failed refusal
+entropy_of_store (Store.Repo fault) = entropy_of_target fault
+entropy_of_store (Store.Write Writes.Device) = refl
+entropy_of_store (Store.Write Writes.Memory) = refl
+entropy_of_store (Store.Write Writes.Numbers) = refl
+entropy_of_store (Store.Nonce Nonces.Missing) = refl
+entropy_of_store (Store.Nonce Nonces.Text) = refl
+entropy_of_store (Store.Nonce Nonces.Exhausted) = refl
+entropy_of_store (Store.Nonce Nonces.Device) = refl
+entropy_of_store (Store.Nonce Nonces.Memory) = refl
+entropy_of_store Store.Committed = refl
+entropy_of_store Store.TooLarge = refl
+entropy_of_store Store.Entropy = refl
+entropy_of_store Store.Memory = refl
+
+pub entropy_of_output : (fault : ViewFault) → entropy_failed (output_status fault) ≡ false
+entropy_of_output (View.Repo fault) = refl
+entropy_of_output View.NotFound = refl
+entropy_of_output View.Output = refl
+entropy_of_output View.Memory = refl
+
+pub ruleset causes = (failed_of_log, failed_of_repo, failed_of_output, failed_of_view, target_of_store, entropy_of_store, entropy_of_output)
 
 -- ---- what was written
 

@@ -11,9 +11,8 @@ use Rattle.ferry_repo.specs.declared.fault.RepoFault.{RepoFault}
 use Rattle.ferry_repo.specs.declared.secret.Secret.{Secret}
 use Rattle.ferry_top.specs.Devices.{Written}
 use Rattle.ferry_top.specs.List.{RefusesOpening}
-use Rattle.ferry_top.specs.declared.status.Refusal.{Refusal}
 use Rattle.ferry_top.specs.declared.status.Status.{Status}
-use Rattle.ferry_top.specs.declared.status.Status.TheVariants.{Done, No, Usage, Memory, SourceDevice, OutputDevice, SourceRefused, NotFound}
+use Rattle.ferry_top.specs.declared.status.Status.TheVariants.{Done, No, Memory, SourceDevice, OutputDevice, SourceRefused}
 
 -- the line of a repository that verifies: how many archives and live chunks it has, how many of these no archive uses, and how many
 -- archives have an untagged record
@@ -55,11 +54,10 @@ abbrev pub Checks : Secret → Option Told → Written → Status → Written �
 Checks secret source before Done after = Reported secret source (λ report. (report.bad ≡ None) × LineOut before after report)
 Checks secret source before No after =
     Reported secret source (λ report. ((fault : RepoFault) × (report.bad ≡ Some fault)) × LineOut before after report)
-Checks secret source before (Usage word) after = ⊥
 Checks secret source before Memory after = (after ≡ before)
     ⊎ Reported secret source (λ report. WritesSome before.bytes (report_line report) after.bytes × (after.faults ≡ before.faults))
 Checks secret source before SourceDevice after = after ≡ before
 Checks secret source before OutputDevice after =
     Reported secret source (λ report. WritesSome before.bytes (report_line report) after.bytes × Rose before.faults after.faults)
 Checks secret source before (SourceRefused refusal) after = IfSome source (λ t. RefusesOpening secret (told_files t) refusal) × (after ≡ before)
-Checks secret source before (NotFound what) after = ⊥
+Checks secret source before status after = ⊥

@@ -37,6 +37,7 @@ ShowsFileFront secret name path files text = OpensWith secret (λ f repo. IsFile
 abbrev pub RefusesShowing : Secret → (Files → RepoState → ViewFault → Type 0) → Files → Refusal → Type 0
 RefusesShowing secret RefusesView files (Repo fault) = IsOfFiles fault
     × (RefusesRepo files secret fault ⊎ OpensWith secret (λ f repo. RefusesView f repo (View.Repo fault)) files)
+RefusesShowing secret RefusesView files refusal = ⊥
 
 -- The files open, and no archive has the name, which is told.
 abbrev pub LacksArchive : Secret → List ℕ → Files → List ℕ → Type 0

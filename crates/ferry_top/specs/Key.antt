@@ -21,3 +21,4 @@ pub record IsIdLine (secret : Secret) (bytes text : List ℕ) : Type 0 where
 -- what a refusal says of a file `config` and a secret
 abbrev pub RefusesUnlocking : Secret → List ℕ → Refusal → Type 0
 RefusesUnlocking secret bytes (Repo fault) = IsOfFiles fault × RefusesKey bytes secret fault
+RefusesUnlocking secret bytes refusal = ⊥

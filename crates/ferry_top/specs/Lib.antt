@@ -1,8 +1,10 @@
 pub mod Check
 pub mod Devices
+pub mod Init
 pub mod Key
 pub mod Keys
 pub mod List
+pub mod MakeKey
 pub mod Items
 pub mod Run
 pub mod Status

@@ -17,3 +17,4 @@ pub record IsArchiveListing (secret : Secret) (files : Files) (text : List ℕ) 
 -- what a refusal says of the files of a source that is to be opened
 abbrev pub RefusesOpening : Secret → Files → Refusal → Type 0
 RefusesOpening secret files (Repo fault) = IsOfFiles fault × RefusesRepo files secret fault
+RefusesOpening secret files refusal = ⊥

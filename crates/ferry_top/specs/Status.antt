@@ -4,10 +4,20 @@ use Rattle.ferry_disk.specs.Files.{Files}
 use Rattle.ferry_log.specs.Log.{IsUncommitted, IsDamaged}
 use Rattle.ferry_log.specs.declared.fault.LogFault.{LogFault}
 use Rattle.ferry_log.specs.declared.fault.LogFault.TheVariants as Log
+use Rattle.ferry_nonce.specs.Fault.{number_of_fault as nonce_number}
+use Rattle.ferry_nonce.specs.declared.fault.NonceFault.{NonceFault}
+use Rattle.ferry_nonce.specs.declared.fault.NonceFault.TheVariants as Nonces
+use Rattle.ferry_store.specs.declared.fault.StoreRefusal.{StoreRefusal}
+use Rattle.ferry_store.specs.declared.fault.StoreRefusal.TheVariants as Store
+use Rattle.ferry_top.specs.declared.status.Limit.{Limit as LimitKind}
+use Rattle.ferry_top.specs.declared.status.Limit.TheVariants as Limits
 use Rattle.ferry_top.specs.declared.status.Status.{Status}
-use Rattle.ferry_top.specs.declared.status.Status.TheVariants.{Done, No, Usage, Memory, SourceDevice, OutputDevice, SourceRefused, NotFound}
+use Rattle.ferry_top.specs.declared.status.Status.TheVariants.{Done, No, Usage, Memory, SourceDevice, TargetDevice, EntropyDevice, OutputDevice}
+use Rattle.ferry_top.specs.declared.status.Status.TheVariants.{SourceRefused, TargetRefused, NotFound, Limit}
 use Rattle.ferry_top.specs.declared.status.Refusal.{Refusal}
-use Rattle.ferry_top.specs.declared.status.Refusal.TheVariants.{Repo}
+use Rattle.ferry_top.specs.declared.status.Refusal.TheVariants.{Repo, Nonce, Committed}
+use Rattle.ferry_write.specs.declared.fault.WriteFault.{WriteFault}
+use Rattle.ferry_write.specs.declared.fault.WriteFault.TheVariants as Writes
 use Rattle.ferry_repo.specs.Reason.{reason}
 use Rattle.ferry_text.specs.Text.{escaped}
 use Rattle.ferry_view.specs.declared.fault.ViewFault.{ViewFault}
@@ -22,9 +32,13 @@ status_number No = 1
 status_number (Usage word) = 2
 status_number Memory = 3
 status_number SourceDevice = 4
+status_number TargetDevice = 5
+status_number EntropyDevice = 6
 status_number OutputDevice = 7
 status_number (SourceRefused refusal) = 8
+status_number (TargetRefused refusal) = 9
 status_number (NotFound what) = 11
+status_number (Limit limit) = 12
 
 -- the status where the source's log doesn't open
 abbrev pub log_status : LogFault → Status
@@ -51,13 +65,61 @@ view_status View.NotFound missing = NotFound missing
 view_status View.Output missing = OutputDevice
 view_status View.Memory missing = Memory
 
+-- the status where the target doesn't open
+abbrev pub target_status : RepoFault → Status
+target_status Device = TargetDevice
+target_status RepoMemory = Memory
+target_status fault = TargetRefused (Repo fault)
+
+-- the status where no entries can be written
+abbrev pub write_status : WriteFault → Status
+write_status Writes.Device = TargetDevice
+write_status Writes.Memory = Memory
+write_status Writes.Numbers = Limit Limits.Segment
+
+-- the status where no counter blocks can be drawn
+abbrev pub nonce_status : NonceFault → Status
+nonce_status Nonces.Device = TargetDevice
+nonce_status Nonces.Memory = Memory
+nonce_status Nonces.Exhausted = Limit Limits.Nonce
+nonce_status fault = TargetRefused (Nonce fault)
+
+-- the status where a store can't be made, opened or written
+abbrev pub store_status : StoreRefusal → Status
+store_status (Store.Repo fault) = target_status fault
+store_status (Store.Write fault) = write_status fault
+store_status (Store.Nonce fault) = nonce_status fault
+store_status Store.Committed = TargetRefused Committed
+store_status Store.TooLarge = Limit Limits.Manifest
+store_status Store.Entropy = EntropyDevice
+store_status Store.Memory = Memory
+
+-- ---- lines
+
 -- the fault line of the first wrong word
 abbrev pub usage_line : ℕ → List ℕ
 usage_line word = codes "usage: word " ++ (decimal word ++ (10 ∷ []))
 
--- the fault line of a source that is refused
-abbrev pub refused_line : RepoFault → List ℕ
-refused_line fault = codes "source refused: " ++ (reason fault ++ (10 ∷ []))
+-- why files are refused
+abbrev pub refusal_reason : Refusal → List ℕ
+refusal_reason (Repo fault) = reason fault
+refusal_reason (Nonce fault) = codes "nonce " ++ decimal (nonce_number fault)
+refusal_reason Committed = codes "committed"
+
+-- the fault line of a source and of a target that is refused
+abbrev pub source_line : Refusal → List ℕ
+source_line refusal = codes "source refused: " ++ (refusal_reason refusal ++ (10 ∷ []))
+
+abbrev pub target_line : Refusal → List ℕ
+target_line refusal = codes "target refused: " ++ (refusal_reason refusal ++ (10 ∷ []))
+
+-- the fault line of a limit that is met
+abbrev pub limit_line : LimitKind → List ℕ
+limit_line Limits.Nonce = codes "limit: nonce\n"
+limit_line Limits.Manifest = codes "limit: manifest\n"
+limit_line Limits.Archive = codes "limit: record\n"
+limit_line Limits.Segment = codes "limit: segment\n"
+limit_line Limits.Item = codes "limit: item\n"
 
 -- the fault line of what isn't there
 abbrev pub missing_line : List ℕ → List ℕ
@@ -70,15 +132,19 @@ fault_line No = []
 fault_line (Usage word) = usage_line word
 fault_line Memory = codes "memory\n"
 fault_line SourceDevice = codes "source device failed\n"
+fault_line TargetDevice = codes "target device failed\n"
+fault_line EntropyDevice = codes "entropy failed\n"
 fault_line OutputDevice = []
-fault_line (SourceRefused (Repo fault)) = refused_line fault
+fault_line (SourceRefused refusal) = source_line refusal
+fault_line (TargetRefused refusal) = target_line refusal
 fault_line (NotFound what) = missing_line what
+fault_line (Limit limit) = limit_line limit
 
 -- what a refusal says of the files of a source whose keys are to be listed
 abbrev pub RefusesKeys : Files → Refusal → Type 0
 RefusesKeys files (Repo NoCommit) = IsUncommitted files
 RefusesKeys files (Repo (Damaged segment at)) = IsDamaged files segment at
-RefusesKeys files (Repo fault) = ⊥
+RefusesKeys files refusal = ⊥
 
 -- ---- which device a status says has failed
 
@@ -86,6 +152,16 @@ RefusesKeys files (Repo fault) = ⊥
 abbrev pub source_failed : Status → Bool
 source_failed SourceDevice = true
 source_failed status = false
+
+-- whether it is the target's
+abbrev pub target_failed : Status → Bool
+target_failed TargetDevice = true
+target_failed status = false
+
+-- whether it is the source of random bytes
+abbrev pub entropy_failed : Status → Bool
+entropy_failed EntropyDevice = true
+entropy_failed status = false
 
 -- whether it is the output
 abbrev pub output_failed : Status → Bool

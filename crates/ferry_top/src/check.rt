@@ -1,9 +1,9 @@
 //! The command that verifies the source.
-ghost use Rattle.std.specs.Prelude.{◌≡◌, IfOk, Ok, string_bytes};
+ghost use Rattle.std.specs.Prelude.{◌≡◌, IfOk, string_bytes};
 ghost use Rattle.ferry_disk.specs.Device.{KeptWhere, RoseWhere, heard};
 ghost use Rattle.ferry_top.specs.Check.{bad_line, good_line, report_line};
 ghost use Rattle.ferry_top.specs.Devices.{written};
-ghost use Rattle.ferry_top.specs.Run.{DoesCommand};
+ghost use Rattle.ferry_top.specs.Run.{Shows};
 ghost use Rattle.ferry_top.specs.Status.{source_failed};
 ghost use Rattle.ferry_words.specs.declared.command.Command.TheVariants as TheCommand;
 
@@ -23,7 +23,7 @@ pub(crate) fn check<S: Shelf, K: Sink>(
     source: &mut S,
     out: &mut K,
 ) -> Status
-    ensures out { DoesCommand (Ok TheCommand.Check) secret.now (S.told source.old)
+    ensures out { Shows TheCommand.Check secret.now (S.told source.old)
         (written (K.written out.old) (K.faults out.old)) result (written (K.written out.new) (K.faults out.new)) }
     ensures same { KeptWhere (source_failed result) (heard (S.told source.old)) (S.told source.new) }
     ensures cause { RoseWhere (source_failed result) (S.faults source.old) (S.faults source.new) }

@@ -1,8 +1,7 @@
 //! The commands that show an archive: its items, or the content of a file.
-ghost use Rattle.std.specs.Prelude.{Ok};
 ghost use Rattle.ferry_disk.specs.Device.{KeptWhere, RoseWhere, heard};
 ghost use Rattle.ferry_top.specs.Devices.{written};
-ghost use Rattle.ferry_top.specs.Run.{DoesCommand};
+ghost use Rattle.ferry_top.specs.Run.{Shows};
 ghost use Rattle.ferry_top.specs.Status.{source_failed};
 ghost use Rattle.ferry_words.specs.declared.command.Command.TheVariants as TheCommand;
 
@@ -21,7 +20,7 @@ pub(crate) fn list_items<S: Shelf, K: Sink>(
     out: &mut K,
     name: Bytes,
 ) -> Status
-    ensures out { DoesCommand (Ok (TheCommand.ListItems name)) secret.now (S.told source.old)
+    ensures out { Shows (TheCommand.ListItems name) secret.now (S.told source.old)
         (written (K.written out.old) (K.faults out.old)) result (written (K.written out.new) (K.faults out.new)) }
     ensures same { KeptWhere (source_failed result) (heard (S.told source.old)) (S.told source.new) }
     ensures cause { RoseWhere (source_failed result) (S.faults source.old) (S.faults source.new) }
@@ -46,7 +45,7 @@ pub(crate) fn extract<S: Shelf, K: Sink>(
     name: Bytes,
     path: Bytes,
 ) -> Status
-    ensures out { DoesCommand (Ok (TheCommand.Extract name path)) secret.now (S.told source.old)
+    ensures out { Shows (TheCommand.Extract name path) secret.now (S.told source.old)
         (written (K.written out.old) (K.faults out.old)) result (written (K.written out.new) (K.faults out.new)) }
     ensures same { KeptWhere (source_failed result) (heard (S.told source.old)) (S.told source.new) }
     ensures cause { RoseWhere (source_failed result) (S.faults source.old) (S.faults source.new) }

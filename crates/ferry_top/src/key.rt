@@ -1,14 +1,13 @@
 //! The command that opens the repository key.
-ghost use Rattle.std.specs.Prelude.{IfOk};
+ghost use Rattle.std.specs.Prelude.{◌≡◌, IfOk};
 ghost use Rattle.ferry_disk.specs.Device.{KeptWhere, RoseWhere, heard};
 ghost use Rattle.ferry_disk.specs.declared.name.Name.TheVariants as FileName;
 ghost use Rattle.ferry_keyblob.specs.Opening.{key_view};
 ghost use Rattle.ferry_top.specs.Devices.{written};
 ghost use Rattle.ferry_top.specs.Keys.{key_line};
-ghost use Rattle.ferry_top.specs.Run.{DoesCommand};
+ghost use Rattle.ferry_top.specs.Run.{Shows};
 ghost use Rattle.ferry_top.specs.Status.{source_failed};
 ghost use Rattle.ferry_words.specs.declared.command.Command.TheVariants as TheCommand;
-ghost use Rattle.std.specs.Prelude.{◌≡◌, Ok};
 
 use crate::lines::push_line;
 use crate::status::{Status, of_output, of_repo};
@@ -25,7 +24,7 @@ pub(crate) fn key<S: Shelf, K: Sink>(
     source: &mut S,
     out: &mut K,
 ) -> Status
-    ensures out { DoesCommand (Ok TheCommand.Key) secret.now (S.told source.old)
+    ensures out { Shows TheCommand.Key secret.now (S.told source.old)
         (written (K.written out.old) (K.faults out.old)) result (written (K.written out.new) (K.faults out.new)) }
     ensures same { KeptWhere (source_failed result) (heard (S.told source.old)) (S.told source.new) }
     ensures cause { RoseWhere (source_failed result) (S.faults source.old) (S.faults source.new) }

@@ -1,10 +1,10 @@
 //! The command that lists the live keys.
-ghost use Rattle.std.specs.Prelude.{◌≡◌, ◌++◌, Ok, OnOk, OnErr, option_map};
+ghost use Rattle.std.specs.Prelude.{◌≡◌, ◌++◌, OnOk, OnErr, option_map};
 ghost use Rattle.std.specs.FinMap.{entries, empty};
 ghost use Rattle.ferry_disk.specs.Device.{WritesSome, HasCause, KeptWhere, RoseWhere, heard};
 ghost use Rattle.ferry_top.specs.Devices.{written};
 ghost use Rattle.ferry_top.specs.Keys.{key_lines};
-ghost use Rattle.ferry_top.specs.Run.{DoesCommand};
+ghost use Rattle.ferry_top.specs.Run.{Shows};
 ghost use Rattle.ferry_top.specs.Status.{source_failed};
 ghost use Rattle.ferry_words.specs.declared.command.Command.TheVariants as TheCommand;
 ghost use Rattle.ferry_view.specs.Output.{view_failed};
@@ -26,7 +26,7 @@ pub(crate) fn keys<S: Shelf, K: Sink>(
     source: &mut S,
     out: &mut K,
 ) -> Status
-    ensures out { DoesCommand (Ok TheCommand.Keys) secret.now (S.told source.old)
+    ensures out { Shows TheCommand.Keys secret.now (S.told source.old)
         (written (K.written out.old) (K.faults out.old)) result (written (K.written out.new) (K.faults out.new)) }
     ensures same { KeptWhere (source_failed result) (heard (S.told source.old)) (S.told source.new) }
     ensures cause { RoseWhere (source_failed result) (S.faults source.old) (S.faults source.new) }

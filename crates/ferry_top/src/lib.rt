@@ -5,19 +5,25 @@
 #![tactic(auto)]
 
 mod check;
+mod init;
 mod items;
 mod key;
 mod keys;
+mod laws;
 mod lines;
 mod list;
+mod make_key;
 mod report;
 mod status;
+#[cfg(test)]
+mod target_tests;
 #[cfg(test)]
 mod tests;
 mod top;
 mod words;
 
 pub use ferry_repo::{RepoFault, Secret};
-pub use status::{Refusal, Secrets, Status};
+pub use laws::init_laws;
+pub use status::{Limit, Refusal, Secrets, Status};
 pub use top::run;
 pub use words::places_fit;

@@ -1,15 +1,17 @@
 //! The fault lines.
-ghost use Rattle.std.specs.Prelude.{◌≡◌, ◌++◌, IfOk, OnOk, OnErr, option_map};
+ghost use Rattle.std.specs.Prelude.{◌≡◌, ◌++◌, ℕ, List, IfOk, OnOk, OnErr, codes, decimal, option_map};
 ghost use Rattle.ferry_disk.specs.Device.{WritesSome, HasCause, sink_failed};
-ghost use Rattle.ferry_top.specs.Status.{usage_line, refused_line, missing_line};
+ghost use Rattle.ferry_top.specs.Status.{usage_line, source_line, target_line, missing_line, limit_line, refusal_reason};
+ghost use Rattle.ferry_nonce.specs.Fault.{number_of_fault as nonce_number};
 ghost use Rattle.ferry_repo.specs.Reason.{reason};
 ghost use Rattle.ferry_top.specs.Devices.{written};
 ghost use Rattle.ferry_top.specs.Run.{Reports};
 
-use crate::status::{Refusal, Status};
+use crate::status::{Limit, Refusal, Status};
 use ferry_disk::{Sink, SinkFault};
+use ferry_nonce::NonceFault;
 use ferry_repo::{RepoFault, write_reason};
-use ferry_text::write_text;
+use ferry_text::{write_number, write_text};
 use std::alloc::{AllocError, Global};
 
 /// Writes the fault line of a status that has one. Where the output doesn't take it, the status tells alone.
@@ -21,31 +23,77 @@ pub(crate) fn report<K: Sink>(alloc: Global, status: &Status, out: &mut K)
         Status::Usage(word) => write_usage(alloc, *word, out),
         Status::Memory => out.write(b"memory\n"),
         Status::SourceDevice => out.write(b"source device failed\n"),
-        Status::SourceRefused(Refusal::Repo(fault)) => write_refused(alloc, fault, out),
-        Status::NotFound(what) => write_missing(alloc, what.as_slice(), out),
+        Status::TargetDevice => out.write(b"target device failed\n"),
+        Status::EntropyDevice => out.write(b"entropy failed\n"),
+        Status::SourceRefused(refusal) => write_line(source_line(alloc, refusal), out),
+        Status::TargetRefused(refusal) => write_line(target_line(alloc, refusal), out),
+        Status::NotFound(what) => write_line(missing_line(alloc, what.as_slice()), out),
+        Status::Limit(limit) => out.write(limit_line(*limit)),
     };
 }
 
-/// Writes the line of a source that is refused.
-fn write_refused<K: Sink>(alloc: Global, fault: &RepoFault, out: &mut K) -> Result<(), SinkFault>
-    ensures ok { OnOk result (K.written out.new ≡ option_map (λ w. w ++ refused_line fault.now) (K.written out.old)) }
-    ensures err { OnErr result (WritesSome (K.written out.old) (refused_line fault.now) (K.written out.new)) }
+/// Writes a line, where there was memory for it.
+fn write_line<K: Sink>(line: Result<Vec<u8>, AllocError>, out: &mut K) -> Result<(), SinkFault>
+    ensures ok { (text : List ℕ) → IfOk line (λ l. l.items ≡ text) → OnOk result (K.written out.new ≡ option_map (λ w. w ++ text) (K.written out.old)) }
+    ensures err { (text : List ℕ) → IfOk line (λ l. l.items ≡ text) → OnErr result (WritesSome (K.written out.old) text (K.written out.new)) }
     ensures cause { HasCause sink_failed (K.faults out.old) (K.faults out.new) result }
 {
-    match refused_line(alloc, fault) {
+    match line {
         Ok(line) => out.write(&line),
         Err(_) => Err(SinkFault::Memory),
     }
 }
 
 /// The line of a source that is refused.
-fn refused_line(alloc: Global, fault: &RepoFault) -> Result<Vec<u8>, AllocError>
-    ensures line { IfOk result (λ line. line.items ≡ refused_line fault.now) }
+fn source_line(alloc: Global, refusal: &Refusal) -> Result<Vec<u8>, AllocError>
+    ensures line { IfOk result (λ line. line.items ≡ source_line refusal.now) }
 {
     let mut line = Vec::from_slice(alloc, b"source refused: ")?;
-    append_reason(fault, &mut line)?;
+    append_refusal(refusal, &mut line)?;
     line.push(b'\n')?;
     Ok(line)
+}
+
+/// The line of a target that is refused.
+fn target_line(alloc: Global, refusal: &Refusal) -> Result<Vec<u8>, AllocError>
+    ensures line { IfOk result (λ line. line.items ≡ target_line refusal.now) }
+{
+    let mut line = Vec::from_slice(alloc, b"target refused: ")?;
+    append_refusal(refusal, &mut line)?;
+    line.push(b'\n')?;
+    Ok(line)
+}
+
+/// Appends why files are refused.
+fn append_refusal(refusal: &Refusal, line: &mut Vec<u8>) -> Result<(), AllocError>
+    ensures reason { OnOk result (line.new.items ≡ line.old.items ++ refusal_reason refusal.now) }
+{
+    match refusal {
+        Refusal::Repo(fault) => append_reason(fault, line),
+        Refusal::Nonce(fault) => append_nonce(*fault, line),
+        Refusal::Committed => line.extend_from_slice(b"committed"),
+    }
+}
+
+/// Appends why a file `nonce` is refused.
+fn append_nonce(fault: NonceFault, line: &mut Vec<u8>) -> Result<(), AllocError>
+    ensures reason { OnOk result (line.new.items ≡ line.old.items ++ (codes "nonce " ++ decimal (nonce_number fault))) }
+{
+    line.extend_from_slice(b"nonce ")?;
+    write_number(u128::from(fault.number()), line)
+}
+
+/// The line of a limit that is met.
+fn limit_line(limit: Limit) -> &'static [u8]
+    ensures { result.now ≡ limit_line limit }
+{
+    match limit {
+        Limit::Nonce => b"limit: nonce\n",
+        Limit::Manifest => b"limit: manifest\n",
+        Limit::Archive => b"limit: record\n",
+        Limit::Segment => b"limit: segment\n",
+        Limit::Item => b"limit: item\n",
+    }
 }
 
 /// Appends the reason of a refusal. A fault of the device, or want of memory, has none.
@@ -67,18 +115,6 @@ fn write_usage<K: Sink>(alloc: Global, word: u64, out: &mut K) -> Result<(), Sin
 {
     match format!(in alloc; "usage: word {word}\n") {
         Ok(line) => out.write(line.as_bytes()),
-        Err(_) => Err(SinkFault::Memory),
-    }
-}
-
-/// Writes the line of what isn't there.
-fn write_missing<K: Sink>(alloc: Global, what: &[u8], out: &mut K) -> Result<(), SinkFault>
-    ensures ok { OnOk result (K.written out.new ≡ option_map (λ w. w ++ missing_line what.now) (K.written out.old)) }
-    ensures err { OnErr result (WritesSome (K.written out.old) (missing_line what.now) (K.written out.new)) }
-    ensures cause { HasCause sink_failed (K.faults out.old) (K.faults out.new) result }
-{
-    match missing_line(alloc, what) {
-        Ok(line) => out.write(&line),
         Err(_) => Err(SinkFault::Memory),
     }
 }

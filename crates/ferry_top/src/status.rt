@@ -1,11 +1,15 @@
 //! How a run ends.
 ghost use Rattle.std.specs.Prelude.{◌≡◌};
-ghost use Rattle.ferry_top.specs.Status.{status_number, log_status, repo_status, output_status, view_status};
+ghost use Rattle.ferry_top.specs.Status.{status_number, log_status, repo_status, output_status, view_status, store_status, target_status, write_status};
+ghost use Rattle.ferry_top.specs.Status.{nonce_status};
 
 use ferry_base::Bytes;
 use ferry_log::LogFault;
+use ferry_nonce::NonceFault;
 use ferry_repo::{RepoFault, Secret};
+use ferry_store::StoreRefusal;
 use ferry_view::ViewFault;
+use ferry_write::WriteFault;
 
 /// What opens the keys of the source and of the target. The caller owns it.
 #[derive(Drop)]
@@ -27,19 +31,46 @@ pub enum Status {
     Memory,
     /// The source's device failed.
     SourceDevice,
+    /// The target's device failed.
+    TargetDevice,
+    /// The source of random bytes failed.
+    EntropyDevice,
     /// The output failed.
     OutputDevice,
     /// The source's files are refused.
     SourceRefused(Refusal),
+    /// The target's files are refused.
+    TargetRefused(Refusal),
     /// No archive has this name, or no item of the archive that has content has this path.
     NotFound(Bytes),
+    /// A limit of the target is met.
+    Limit(Limit),
 }
 
 /// Why a repository's files are refused.
 #[derive(Clone, Copy, Debug, PartialEq, Eq)]
 pub enum Refusal {
-    /// The repository doesn't open.
+    /// The repository doesn't open, or the key that was handed in.
     Repo(RepoFault),
+    /// The file `nonce` is missing, or has no number.
+    Nonce(NonceFault),
+    /// A segment is committed where a repository was to be made.
+    Committed,
+}
+
+/// What is used up, or too large to be written.
+#[derive(Clone, Copy, Debug, PartialEq, Eq)]
+pub enum Limit {
+    /// No counter blocks are left.
+    Nonce = 1,
+    /// The manifest is larger than the content of an object may be.
+    Manifest = 2,
+    /// The record of an archive is larger than the content of an object may be.
+    Archive = 3,
+    /// The numbers of segments are used up.
+    Segment = 4,
+    /// The content of an item has too many pieces.
+    Item = 5,
 }
 
 impl Status {
@@ -53,9 +84,13 @@ impl Status {
             Status::Usage(_) => 2,
             Status::Memory => 3,
             Status::SourceDevice => 4,
+            Status::TargetDevice => 5,
+            Status::EntropyDevice => 6,
             Status::OutputDevice => 7,
             Status::SourceRefused(_) => 8,
+            Status::TargetRefused(_) => 9,
             Status::NotFound(_) => 11,
+            Status::Limit(_) => 12,
         }
     }
 }
@@ -104,5 +139,54 @@ pub(crate) fn of_view(fault: ViewFault, missing: Bytes) -> Status
         ViewFault::NotFound => Status::NotFound(missing),
         ViewFault::Output => Status::OutputDevice,
         ViewFault::Memory => Status::Memory,
+    }
+}
+
+/// The status where a store can't be made, opened or written.
+pub(crate) fn of_store(refusal: StoreRefusal) -> Status
+    ensures { result ≡ store_status refusal }
+{
+    match refusal {
+        StoreRefusal::Repo(fault) => of_target(fault),
+        StoreRefusal::Write(fault) => of_write(fault),
+        StoreRefusal::Nonce(fault) => of_nonce(fault),
+        StoreRefusal::Committed => Status::TargetRefused(Refusal::Committed),
+        StoreRefusal::TooLarge => Status::Limit(Limit::Manifest),
+        StoreRefusal::Entropy => Status::EntropyDevice,
+        StoreRefusal::Memory => Status::Memory,
+    }
+}
+
+/// The status of a target that doesn't open.
+fn of_target(fault: RepoFault) -> Status
+    ensures { result ≡ target_status fault }
+{
+    match fault {
+        RepoFault::Device => Status::TargetDevice,
+        RepoFault::Memory => Status::Memory,
+        fault => Status::TargetRefused(Refusal::Repo(fault)),
+    }
+}
+
+/// The status where no entries can be written.
+fn of_write(fault: WriteFault) -> Status
+    ensures { result ≡ write_status fault }
+{
+    match fault {
+        WriteFault::Device => Status::TargetDevice,
+        WriteFault::Memory => Status::Memory,
+        WriteFault::Numbers => Status::Limit(Limit::Segment),
+    }
+}
+
+/// The status where no counter blocks can be drawn.
+fn of_nonce(fault: NonceFault) -> Status
+    ensures { result ≡ nonce_status fault }
+{
+    match fault {
+        NonceFault::Missing | NonceFault::Text => Status::TargetRefused(Refusal::Nonce(fault)),
+        NonceFault::Exhausted => Status::Limit(Limit::Nonce),
+        NonceFault::Device => Status::TargetDevice,
+        NonceFault::Memory => Status::Memory,
     }
 }

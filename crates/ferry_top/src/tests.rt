@@ -17,7 +17,7 @@ const FIVE: &str = "111111111111111111111111111111111111111111111111111111111111
 const EMPTY: &str = "1111111111111111111111111111111111111111111111111111111111111111 0\n";
 
 /// The passphrase that each run gets for its source.
-const PASSPHRASE: &[u8] = b"passphrase";
+pub(crate) const PASSPHRASE: &[u8] = b"passphrase";
 
 /// The lines of a `config` before its key.
 const CONFIG: &str = "[repository]\nversion = 1\n\
@@ -337,7 +337,7 @@ fn small(alloc: Global) -> Result<Vec<(Name, Vec<u8>)>, Fail> {
     committed(alloc, bytes)
 }
 
-fn strings(alloc: Global, words: &[&str]) -> Result<Vec<String>, AllocError> {
+pub(crate) fn strings(alloc: Global, words: &[&str]) -> Result<Vec<String>, AllocError> {
     let mut strings = Vec::new(alloc);
     for word in words {
         strings.push(String::from_str(alloc, *word)?)?;
@@ -345,7 +345,11 @@ fn strings(alloc: Global, words: &[&str]) -> Result<Vec<String>, AllocError> {
     Ok(strings)
 }
 
-fn secret(alloc: Global, passphrase: &[u8], key_file: &[u8]) -> Result<Secret, AllocError> {
+pub(crate) fn secret(
+    alloc: Global,
+    passphrase: &[u8],
+    key_file: &[u8],
+) -> Result<Secret, AllocError> {
     Ok(Secret {
         passphrase: Bytes::new(Vec::from_slice(alloc, passphrase)?),
         key_file: Bytes::new(Vec::from_slice(alloc, key_file)?),

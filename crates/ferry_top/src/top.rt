@@ -1,20 +1,19 @@
 //! The top call.
 ghost use Rattle.std.specs.Prelude.{◌≡◌, ◌⊎◌, ℕ, map, string_bytes, Ok, IfErr, MatchResult};
-ghost use Rattle.ferry_disk.specs.Device.{KeptWhere, RoseWhere, heard};
-ghost use Rattle.ferry_top.specs.Devices.{devices, store, drawn, written};
+ghost use Rattle.ferry_top.specs.Devices.{HasCauses, devices, store, drawn, written};
 ghost use Rattle.ferry_top.specs.Run.{DoesCommand, Runs};
-ghost use Rattle.ferry_top.specs.Status.{source_failed};
-ghost use Rattle.ferry_words.specs.Words.{command_of};
+ghost use Rattle.ferry_words.specs.Words.{IsInRange, command_of};
 
 use crate::check::check;
+use crate::init::init;
 use crate::items::{extract, list_items};
 use crate::key::key;
 use crate::keys::keys;
 use crate::list::list;
+use crate::make_key::make_key;
 use crate::report::report;
 use crate::status::{Secrets, Status};
 use ferry_disk::{Depot, Entropy, Shelf, Sink};
-use ferry_repo::Secret;
 use ferry_words::{Command, Usage, read_words};
 use std::alloc::Global;
 
@@ -26,7 +25,10 @@ use std::alloc::Global;
 /// prints, for each archive in byte order of names, the id of its record, its time and its name; with a name it prints, for each item of
 /// that archive in the order of its stream, its kind, its size in bytes and its path. `extract` writes the content of the first item of an
 /// archive that has content and a path. `check` opens every live chunk and reads every archive, and prints how many there are, or the first
-/// fault, with which it answers `No`. None uses `target` and `entropy`.
+/// fault, with which it answers `No`. None of these uses `target` and `entropy`. `init` makes a repository in the target, with the key of the
+/// target's key file where there is one, and tells `initialized ` and its id as 64 hex digits; it uses neither `source` nor `out` but for its
+/// fault line. `make-key` draws a new key, seals it with the target's passphrase and prints the text of its key file; it uses neither `source`
+/// nor `target`.
 pub fn run<S: Shelf, D: Depot, E: Entropy, K: Sink>(
     alloc: Global,
     words: &[String],
@@ -39,42 +41,98 @@ pub fn run<S: Shelf, D: Depot, E: Entropy, K: Sink>(
     ensures usage { MatchResult (command_of (map string_bytes words.now)) (λ _. (n : ℕ) → result ≡ Status.Usage n → ⊥)
         (λ n. (result ≡ Status.Usage n) ⊎ (result ≡ Status.Memory)) }
     ensures idle { IfErr (command_of (map string_bytes words.now)) (λ _. source.new ≡ source.old) }
-    ensures runs { Runs (command_of (map string_bytes words.now)) secrets.now.source
+    ensures runs { Runs (command_of (map string_bytes words.now)) secrets.now
         (devices (store (S.told source.old) (S.faults source.old)) (store (D.told target.old) (D.faults target.old))
         (drawn (E.drawn entropy.old) (E.faults entropy.old)) (written (K.written out.old) (K.faults out.old)))
         result
         (devices (store (S.told source.new) (S.faults source.new)) (store (D.told target.new) (D.faults target.new))
         (drawn (E.drawn entropy.new) (E.faults entropy.new)) (written (K.written out.new) (K.faults out.new))) }
 {
-    let status = match read_words(alloc, words) {
-        Ok(command) => carry_out(alloc, command, &secrets.source, source, out),
-        Err(Usage::Word(word)) => Status::Usage(word),
-        Err(Usage::Memory) => Status::Memory,
-    };
+    let status = answer(alloc, words, secrets, source, target, entropy, out);
     report(alloc, &status, out);
     status
 }
 
-/// Does a command of the source, under its secret.
-fn carry_out<S: Shelf, K: Sink>(
+/// Does what the words say, but for the fault line.
+fn answer<S: Shelf, D: Depot, E: Entropy, K: Sink>(
     alloc: Global,
-    command: Command,
-    secret: &Secret,
+    words: &[String],
+    secrets: &Secrets,
     source: &mut S,
+    target: &mut D,
+    entropy: &mut E,
     out: &mut K,
 ) -> Status
-    ensures out { DoesCommand (Ok command) secret.now (S.told source.old)
-        (written (K.written out.old) (K.faults out.old)) result (written (K.written out.new) (K.faults out.new)) }
-    ensures same { KeptWhere (source_failed result) (heard (S.told source.old)) (S.told source.new) }
-    ensures cause { RoseWhere (source_failed result) (S.faults source.old) (S.faults source.new) }
+    ensures usage { MatchResult (command_of (map string_bytes words.now)) (λ _. (n : ℕ) → result ≡ Status.Usage n → ⊥)
+        (λ n. (result ≡ Status.Usage n) ⊎ (result ≡ Status.Memory)) }
+    ensures idle { IfErr (command_of (map string_bytes words.now)) (λ _. source.new ≡ source.old) }
+    ensures does { DoesCommand (command_of (map string_bytes words.now)) secrets.now
+        (devices (store (S.told source.old) (S.faults source.old)) (store (D.told target.old) (D.faults target.old))
+        (drawn (E.drawn entropy.old) (E.faults entropy.old)) (written (K.written out.old) (K.faults out.old)))
+        result
+        (devices (store (S.told source.new) (S.faults source.new)) (store (D.told target.new) (D.faults target.new))
+        (drawn (E.drawn entropy.new) (E.faults entropy.new)) (written (K.written out.new) (K.faults out.new))) }
+    ensures causes { HasCauses result
+        (devices (store (S.told source.old) (S.faults source.old)) (store (D.told target.old) (D.faults target.old))
+        (drawn (E.drawn entropy.old) (E.faults entropy.old)) (written (K.written out.old) (K.faults out.old)))
+        (devices (store (S.told source.new) (S.faults source.new)) (store (D.told target.new) (D.faults target.new))
+        (drawn (E.drawn entropy.new) (E.faults entropy.new)) (written (K.written out.new) (K.faults out.new))) }
+{
+    match read_words(alloc, words) {
+        Ok(command) => carry_out(alloc, command, secrets, source, target, entropy, out),
+        Err(Usage::Word(word)) => Status::Usage(word),
+        Err(Usage::Memory) => Status::Memory,
+    }
+}
+
+/// Does a command, with the secrets and the devices that it uses.
+fn carry_out<S: Shelf, D: Depot, E: Entropy, K: Sink>(
+    alloc: Global,
+    command: Command,
+    secrets: &Secrets,
+    source: &mut S,
+    target: &mut D,
+    entropy: &mut E,
+    out: &mut K,
+) -> Status
+    requires in_range { IsInRange command }
+    ensures does { DoesCommand (Ok command) secrets.now
+        (devices (store (S.told source.old) (S.faults source.old)) (store (D.told target.old) (D.faults target.old))
+        (drawn (E.drawn entropy.old) (E.faults entropy.old)) (written (K.written out.old) (K.faults out.old)))
+        result
+        (devices (store (S.told source.new) (S.faults source.new)) (store (D.told target.new) (D.faults target.new))
+        (drawn (E.drawn entropy.new) (E.faults entropy.new)) (written (K.written out.new) (K.faults out.new))) }
+    ensures causes { HasCauses result
+        (devices (store (S.told source.old) (S.faults source.old)) (store (D.told target.old) (D.faults target.old))
+        (drawn (E.drawn entropy.old) (E.faults entropy.old)) (written (K.written out.old) (K.faults out.old)))
+        (devices (store (S.told source.new) (S.faults source.new)) (store (D.told target.new) (D.faults target.new))
+        (drawn (E.drawn entropy.new) (E.faults entropy.new)) (written (K.written out.new) (K.faults out.new))) }
     ensures used { (n : ℕ) → result ≡ Status.Usage n → ⊥ }
 {
     match command {
-        Command::Keys => keys(alloc, secret, source, out),
-        Command::Key => key(alloc, secret, source, out),
-        Command::List => list(alloc, secret, source, out),
-        Command::ListItems { name } => list_items(alloc, secret, source, out, name),
-        Command::Extract { name, path } => extract(alloc, secret, source, out, name, path),
-        Command::Check => check(alloc, secret, source, out),
+        Command::Keys => keys(alloc, &secrets.source, source, out),
+        Command::Key => key(alloc, &secrets.source, source, out),
+        Command::List => list(alloc, &secrets.source, source, out),
+        Command::ListItems { name } => list_items(alloc, &secrets.source, source, out, name),
+        Command::Extract { name, path } => extract(alloc, &secrets.source, source, out, name, path),
+        Command::Check => check(alloc, &secrets.source, source, out),
+        Command::Init {
+            iterations,
+            timestamp,
+        } => init(
+            alloc,
+            &secrets.target,
+            iterations,
+            timestamp,
+            target,
+            entropy,
+        ),
+        Command::MakeKey { iterations } => make_key(
+            alloc,
+            &secrets.target,
+            iterations,
+            entropy,
+            out,
+        ),
     }
 }

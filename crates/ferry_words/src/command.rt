@@ -2,7 +2,7 @@
 
 use ferry_base::Bytes;
 
-/// A command, with its operands, each the bytes of a word in UTF-8.
+/// A command, with its options and operands; texts are the bytes of a word in UTF-8.
 #[derive(Drop)]
 pub enum Command {
     /// `keys`: lists the live keys of the source.
@@ -25,4 +25,16 @@ pub enum Command {
     },
     /// `check`: verifies the source.
     Check,
+    /// `init [--iterations N] [--timestamp T]`: makes a repository in the target.
+    Init {
+        /// The iterations of PBKDF2 for the passphrase, 1 to 10000000.
+        iterations: u32,
+        /// The manifest's timestamp, where one is given.
+        timestamp: Option<Bytes>,
+    },
+    /// `make-key [--iterations N]`: writes a key file.
+    MakeKey {
+        /// The iterations of PBKDF2 for the passphrase, 1 to 10000000.
+        iterations: u32,
+    },
 }

@@ -7,6 +7,8 @@
 
 mod command;
 mod laws;
+mod number;
+mod options;
 mod reading;
 #[cfg(test)]
 mod tests;

@@ -1,19 +1,19 @@
 -- Lemmas on specs/Session.antt: a session that begins. All is made stable, and what isn't committed is removed.
-use Rattle.std.proofs.Common.{◌≡◌, ◌⊎◌, inl, inr, ℕ, suc, ◌+◌, ◌<◌, ◌≤◌, nat_lt, Bool, true, false, ◌||◌, if◌then◌else◌, List, [], ◌∷◌, ◌++◌, is_some}
-use Rattle.std.proofs.Common.{Option, Some, None, Result, Ok, Err, IfSome, OnOk, unwrap_or, refl, sym, ◌∙◌, ap, subst, arith}
-use Rattle.std.specs.FinMap.{get, keys}
+use Rattle.std.proofs.Common.{◌≡◌, ◌⊎◌, inl, inr, ℕ, ◌<◌, ◌≤◌, Bool, true, false, ◌||◌, if◌then◌else◌, List, [], ◌∷◌, ◌++◌, is_some}
+use Rattle.std.proofs.Common.{Option, Some, None, Result, Ok, Err, IfSome, unwrap_or, refl, sym, ◌∙◌, ap, subst, arith}
+use Rattle.std.specs.FinMap.{get}
 use Rattle.std.specs.List.{AllByRecursion}
 use Rattle.std.proofs.lemmas.Bool.{cases_lt, lt-ltb, le-ltb}
 use Rattle.std.proofs.lemmas.List.{append-nil}
 use Rattle.ferry_disk.specs.Act.{Step, RemoveOf, SettleAll, History, files_now, with_act}
 use Rattle.ferry_disk.specs.Device.{Told, told_files}
 use Rattle.ferry_disk.specs.Files.{Files, segment_numbers}
-use Rattle.ferry_disk.specs.Image.{Fate, at_rest, fate_removed, fate_settled, fate_in, MayLeave, settled}
+use Rattle.ferry_disk.specs.Image.{Fate, at_rest, fate_removed, fate_in, MayLeave, settled}
 use Rattle.ferry_disk.specs.Moments.{Between, with_steps, EachMoment}
 use Rattle.ferry_disk.proofs.ImageLemmas.{settled-push, applied-push}
 use Rattle.ferry_disk.proofs.ImageStepLemmas.{unsettled_settle_step}
 use Rattle.ferry_segment.specs.Entry.{LogEntry}
-use Rattle.ferry_stops.specs.Chance.{IsLeft, EachStop, FileByNoChance}
+use Rattle.ferry_stops.specs.Chance.{EachStop, FileByNoChance}
 use Rattle.ferry_stops.specs.Entries.{HaveBelow, IsOpen, CommittedBelow, ShowsAt, Shows}
 use Rattle.ferry_stops.specs.Ground.{IsHarmless, IsOwn}
 use Rattle.ferry_stops.proofs.DraftLemmas.{rest_harmless}
@@ -22,7 +22,7 @@ use Rattle.ferry_write.specs.Room.{behind}
 use Rattle.ferry_write.specs.Script.{DoesAll, Ran, Clears, removals}
 use Rattle.ferry_write.specs.Session.{LastIs, Stands}
 use Rattle.ferry_write.specs.declared.fault.WriteFault.{WriteFault}
-use Rattle.ferry_write.proofs.ScriptLemmas.{each_map, ran_then}
+use Rattle.ferry_write.proofs.ScriptLemmas.{each_map, ran_then, ran_front}
 use Rattle.ferry_write.proofs.StandLemmas.{either_number, fate_next, remove_here, remove_other, settled_next, read_is, own_changed, own_keeps}
 
 -- ---- a Settle
@@ -76,10 +76,10 @@ remove_own end c h k done own le =
 
 -- ---- the removals of segments
 
-kept_first : (end n : ℕ) (ns : List ℕ) → n < end → removals end (n ∷ ns) ≡ removals end ns
+pub kept_first : (end n : ℕ) (ns : List ℕ) → n < end → removals end (n ∷ ns) ≡ removals end ns
 kept_first end n ns lt = ap (λ (b : Bool). if b then removals end ns else RemoveOf n ∷ removals end ns) (lt-ltb n end lt)
 
-removed_first : (end n : ℕ) (ns : List ℕ) → end ≤ n → removals end (n ∷ ns) ≡ RemoveOf n ∷ removals end ns
+pub removed_first : (end n : ℕ) (ns : List ℕ) → end ≤ n → removals end (n ∷ ns) ≡ RemoveOf n ∷ removals end ns
 removed_first end n ns le = ap (λ (b : Bool). if b then removals end ns else RemoveOf n ∷ removals end ns) (le-ltb n end le)
 
 removals_own : (end : ℕ) (c : Option (List LogEntry)) (h : History) (ns : List ℕ) → IsOwn end c h → EachMoment (IsOwn end c) h (removals end ns)
@@ -91,12 +91,12 @@ removals_own end c h (n ∷ ns) own = elim (cases_lt n end) [
       (own, remove_own end c h n false own le, removals_own end c (with_act (RemoveOf n) true h) ns (remove_own end c h n true own le))
 ]
 
-each_last : (P : History → Type 0) (h : History) (steps : List Step) → EachMoment P h steps → P (with_steps steps h)
+pub each_last : (P : History → Type 0) (h : History) (steps : List Step) → EachMoment P h steps → P (with_steps steps h)
 each_last P h [] e = e
 each_last P h (x ∷ xs) e = each_last P (with_act x true h) xs e.2
 
 -- what is kept by one removal is kept by all
-kept_by_all : (Q : History → Type 0) (end : ℕ) → ((h : History) (n : ℕ) → end ≤ n → Q h → Q (with_act (RemoveOf n) true h)) → (ns : List ℕ) (h : History)
+pub kept_by_all : (Q : History → Type 0) (end : ℕ) → ((h : History) (n : ℕ) → end ≤ n → Q h → Q (with_act (RemoveOf n) true h)) → (ns : List ℕ) (h : History)
     → Q h → Q (with_steps (removals end ns) h)
 kept_by_all Q end one [] h q = q
 kept_by_all Q end one (n ∷ ns) h q = elim (cases_lt n end) [
@@ -189,17 +189,27 @@ pub clears_ok : (end : ℕ) (a b c d : Option Told) (n m k j : ℕ) (numbers : L
 clears_ok end a b c d n m k j numbers result p q listed r = record {
   numbers = numbers;
   ran = ran_then (SettleAll ∷ []) (removals end numbers) a c d n k j tt result (ran_then (SettleAll ∷ []) [] a b c n m k tt (Ok tt) p q) r;
-  listed = on_ok result (settled_listed a b numbers p.runs listed);
-} where
-  on_ok : (result : Result (Unit {0}) WriteFault) → IfSome a (λ t. numbers ≡ segment_numbers (told_files t))
-      → OnOk result (IfSome a (λ t. numbers ≡ segment_numbers (told_files t)))
-  on_ok (Ok y) h = h
-  on_ok (Err y) h = tt
+  listed = settled_listed a b numbers p.runs listed;
+}
+
+-- the numbers of the segments that a device tells
+numbers_told : (a : Option Told) → (numbers : List ℕ) × IfSome a (λ t. numbers ≡ segment_numbers (told_files t))
+numbers_told None = ([], tt)
+numbers_told (Some t) = (segment_numbers (told_files t), refl)
 
 pub clears_err : (end : ℕ) (a b c : Option Told) (n m k : ℕ) (fault : WriteFault) → Ran {T = Unit {0}} (SettleAll ∷ []) a b n m (Ok tt)
     → Ran {T = Unit {0}} [] b c m k (Err fault) → Clears {T = Unit {0}} end a c n k (Err fault)
 clears_err end a b c n m k fault p q = record {
-  numbers = [];
-  ran = ran_then (SettleAll ∷ []) [] a b c n m k tt (Err fault) p q;
-  listed = tt;
+  numbers = (numbers_told a).0;
+  ran = ran_then (SettleAll ∷ []) (removals end (numbers_told a).0) a b c n m k tt (Err fault) p
+      (ran_front {T = Unit {0}} {U = Unit {0}} [] (removals end (numbers_told a).0) b c m k fault q);
+  listed = (numbers_told a).1;
+}
+
+pub clears_none : (end : ℕ) (a b : Option Told) (n m : ℕ) (fault : WriteFault) → Ran {T = Unit {0}} (SettleAll ∷ []) a b n m (Err fault)
+    → Clears {T = Unit {0}} end a b n m (Err fault)
+clears_none end a b n m fault p = record {
+  numbers = (numbers_told a).0;
+  ran = ran_front {T = Unit {0}} {U = Unit {0}} (SettleAll ∷ []) (removals end (numbers_told a).0) a b n m fault p;
+  listed = (numbers_told a).1;
 }

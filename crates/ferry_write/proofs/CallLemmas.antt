@@ -1,9 +1,9 @@
 -- Lemmas on specs/Session.antt: the clauses of a session's calls, from the scripts of their bodies.
-use Rattle.std.proofs.Common.{◌≡◌, ◌⊎◌, ℕ, ◌+◌, ◌≤◌, true, List, [], ◌∷◌, ◌++◌, length, take, drop, Option, Some}
-use Rattle.std.proofs.Common.{None, unwrap_or, Result, Ok, Err, IfSome, OnOk}
+use Rattle.std.proofs.Common.{◌≡◌, ◌⊎◌, ℕ, ◌+◌, ◌≤◌, true, List, [], ◌∷◌, ◌++◌, length, take, Option, Some}
+use Rattle.std.proofs.Common.{None, unwrap_or, Result, Ok, IfSome}
 use Rattle.std.proofs.Common.{refl, sym, ◌∙◌, ap, subst, arith}
 use Rattle.std.specs.FinMap.{get}
-use Rattle.std.proofs.lemmas.List.{append-nil, length-append, drop_at, take_all}
+use Rattle.std.proofs.lemmas.List.{length-append, drop_at, take_all}
 use Rattle.ferry_disk.specs.Act.{Step, AppendTo, SettleAll, History, files_now, with_act}
 use Rattle.ferry_disk.specs.Device.{Told, told_files}
 use Rattle.ferry_disk.specs.Files.{segment_bytes, segment_numbers}

@@ -1,5 +1,5 @@
 -- Lemmas on specs/Session.antt: a commit. Until it is stable each stop shows what was committed before, or that and what was put.
-use Rattle.std.proofs.Common.{◌≡◌, ◌⊎◌, inl, inr, ℕ, suc, ◌+◌, ◌<◌, ◌≤◌, Bool, true, false, List, [], ◌∷◌, ◌++◌}
+use Rattle.std.proofs.Common.{◌≡◌, ◌⊎◌, inl, inr, ℕ, suc, ◌<◌, ◌≤◌, Bool, true, false, List, [], ◌∷◌, ◌++◌}
 use Rattle.std.proofs.Common.{Option, Some, None, unwrap_or, refl, sym, ◌∙◌, ap, subst, arith}
 use Rattle.std.specs.FinMap.{get}
 use Rattle.std.proofs.lemmas.Bool.{cases_lt}
@@ -10,17 +10,17 @@ use Rattle.ferry_disk.specs.Image.{Fate, at_rest, fate_appended, fate_synced, fa
 use Rattle.ferry_disk.specs.Moments.{with_steps, EachMoment}
 use Rattle.ferry_segment.specs.Entry.{LogEntry, CommitEntry, spelling}
 use Rattle.ferry_segment.specs.Segment.{magic, Splits, Committed}
-use Rattle.ferry_stops.specs.Chance.{IsLeft, EachStop, FileByNoChance}
-use Rattle.ferry_stops.specs.Entries.{SegmentHas, HaveBelow, IsOpen, EndsAt, Shows}
+use Rattle.ferry_stops.specs.Chance.{EachStop, FileByNoChance}
+use Rattle.ferry_stops.specs.Entries.{SegmentHas, HaveBelow, IsOpen, Shows}
 use Rattle.ferry_stops.specs.Ground.{IsHarmless, IsOwn}
 use Rattle.ferry_stops.proofs.DraftLemmas.{rest_harmless, torn_commit}
-use Rattle.ferry_stops.proofs.GroundLemmas.{rest_left, have_same, own_shows}
+use Rattle.ferry_stops.proofs.GroundLemmas.{rest_left, have_same}
 use Rattle.ferry_write.specs.Room.{behind, sync_steps, commit_steps}
 use Rattle.ferry_write.specs.Session.{Stands, with_commit}
 use Rattle.ferry_write.proofs.ScriptLemmas.{with_steps-append, each_append, each_map}
-use Rattle.ferry_write.proofs.StandLemmas.{either_number, append_here, append_other, sync_here, sync_other, settled_next, read_is, files_same, rest_same}
+use Rattle.ferry_write.proofs.StandLemmas.{append_here, append_other, sync_here, sync_other, settled_next, read_is, files_same, rest_same}
 use Rattle.ferry_write.proofs.StandLemmas.{committed_same, own_keeps}
-use Rattle.ferry_write.proofs.SessionLemmas.{Own, Goes, synced, all_rest}
+use Rattle.ferry_write.proofs.SessionLemmas.{Own, synced, all_rest}
 
 -- the bytes of a commit's segment
 abbrev pub commit_bytes : List ℕ

@@ -1,19 +1,18 @@
 -- Lemmas on specs/Rows.antt: the scripts of a session's calls bring the blob of their entry and no other.
-use Rattle.std.proofs.Common.{◌≡◌, ◌⊎◌, inl, inr, ℕ, suc, ◌+◌, ◌<◌, ◌≤◌, Bool, true, false, List, [], ◌∷◌, ◌++◌, length, Option, Some, None, unwrap_or}
+use Rattle.std.proofs.Common.{◌≡◌, ◌⊎◌, inl, inr, ℕ, ◌+◌, Bool, true, false, List, [], ◌∷◌, ◌++◌, length, Option, Some, None}
 use Rattle.std.proofs.Common.{Result, Ok, refl, sym, ◌∙◌, ap, subst, arith}
-use Rattle.std.proofs.lemmas.List.{append-nil, append_assoc, length-append}
+use Rattle.std.proofs.lemmas.List.{append-nil, append_assoc}
 use Rattle.ferry_disk.specs.Act.{Step, AppendTo, SyncOf, History, with_act}
 use Rattle.ferry_disk.specs.Device.{Told}
-use Rattle.ferry_disk.specs.Image.{Fate, at_rest, fate_in}
-use Rattle.ferry_disk.specs.Moments.{Between, with_steps, EachMoment, Moments}
+use Rattle.ferry_disk.specs.Image.{fate_in}
+use Rattle.ferry_disk.specs.Moments.{Between, with_steps, EachMoment}
 use Rattle.ferry_disk.proofs.MomentLemmas.{between_map}
-use Rattle.ferry_segment.specs.Entry.{LogEntry, PutEntry, DeleteEntry, CommitEntry, Fits, spelling, size_of}
-use Rattle.ferry_segment.specs.Segment.{magic, spellings, IsData}
-use Rattle.ferry_segment.proofs.EntryLemmas.{length-spelling, size_of-least}
+use Rattle.ferry_segment.specs.Entry.{LogEntry, PutEntry, DeleteEntry, Fits, spelling, size_of}
+use Rattle.ferry_segment.specs.Segment.{magic, spellings}
 use Rattle.ferry_stops.specs.Blobs.{HasBlob, BlobOf, row_in, AllTraced, Gains}
 use Rattle.ferry_stops.specs.Chance.{all_bytes}
 use Rattle.ferry_write.specs.Room.{behind, is_full, must_begin, room_in, room_of, sync_steps, room_steps, put_steps, delete_steps}
-use Rattle.ferry_write.specs.Rows.{RowIs, RowsStand, SessionRows, IsPutOf, Brings, KeepsRows}
+use Rattle.ferry_write.specs.Rows.{RowsStand, SessionRows, IsPutOf, Brings, KeepsRows}
 use Rattle.ferry_write.specs.Script.{DoesAll, StopsIn, Ran}
 use Rattle.ferry_write.specs.Session.{Stands, SessionFits}
 use Rattle.ferry_write.specs.declared.fault.WriteFault.{WriteFault}
@@ -21,8 +20,8 @@ use Rattle.ferry_write.specs.declared.room.Room.{Room}
 use Rattle.ferry_write.specs.declared.session.Session.{Session}
 use Rattle.ferry_write.proofs.ScriptLemmas.{with_steps-append, each_append, stop_moments, ran_stops}
 use Rattle.ferry_write.proofs.StandLemmas.{append_here, written_all}
-use Rattle.ferry_write.proofs.SessionLemmas.{Goes, synced, begun, new_room, roomed}
-use Rattle.ferry_write.proofs.RowLemmas.{row_blob, blob_more, row_other, row_all, append_gains, sync_gains, row_synced, data_blob}
+use Rattle.ferry_write.proofs.SessionLemmas.{synced, roomed}
+use Rattle.ferry_write.proofs.RowLemmas.{row_blob, blob_more, row_other, row_all, append_gains, sync_gains, row_synced, data_blob, short_none}
 
 -- what holds of rows and blobs behind some steps, and at each moment of them
 pub record Grows (base : History) (IsNew : List ℕ → Type 0) (last size : Option ℕ) (h : History) (steps : List Step) : Type 0 where
@@ -30,7 +29,7 @@ pub record Grows (base : History) (IsNew : List ℕ → Type 0) (last size : Opt
   pub last_gains : Gains base IsNew (with_steps steps h)
   pub each : EachMoment (Gains base IsNew) h steps
 
-grows_then : (base : History) (IsNew : List ℕ → Type 0) (l s k t : Option ℕ) (h : History) (xs ys : List Step) → Grows base IsNew l s h xs
+pub grows_then : (base : History) (IsNew : List ℕ → Type 0) (l s k t : Option ℕ) (h : History) (xs ys : List Step) → Grows base IsNew l s h xs
     → Grows base IsNew k t (with_steps xs h) ys → Grows base IsNew k t h (xs ++ ys)
 grows_then base IsNew l s k t h xs ys a b = record {
   rows = subst (RowsStand k t) (sym (with_steps-append xs ys h)) b.rows;
@@ -43,7 +42,7 @@ no_steps base IsNew l s h rows gains = record { rows = rows; last_gains = gains;
 
 -- ---- the Sync of the segment that is written
 
-sync_grows : (base : History) (IsNew : List ℕ → Type 0) (after last size : Option ℕ) (c : Option (List LogEntry)) (p : List LogEntry) (h : History)
+pub sync_grows : (base : History) (IsNew : List ℕ → Type 0) (after last size : Option ℕ) (c : Option (List LogEntry)) (p : List LogEntry) (h : History)
     → Stands after last size c p h → RowsStand last size h → Gains base IsNew h → Grows base IsNew last None h (sync_steps last size)
 sync_grows base IsNew after None size c p h st rows gains = no_steps base IsNew None None h (record { above = rows.above; current = tt }) gains
 sync_grows base IsNew after (Some n) None c p h st rows gains = no_steps base IsNew (Some n) None h rows gains
@@ -59,16 +58,7 @@ sync_grows base IsNew after (Some n) (Some s) c p h st rows gains =
 -- ---- a segment that begins
 
 magic_none : (blob : List ℕ) → HasBlob magic blob → ⊥
-magic_none blob has =
-    let entry = PutEntry has.key blob in
-    omega (
-      arith,
-      ap length has.reads.spelled,
-      length-append (spellings has.before) (spelling entry ++ has.reads.rest),
-      length-append (spelling entry) has.reads.rest,
-      length-spelling entry,
-      size_of-least entry,
-    )
+magic_none blob has = short_none magic blob (omega arith) has
 
 begin_grows : (base : History) (IsNew : List ℕ → Type 0) (after last : Option ℕ) (c : Option (List LogEntry)) (p : List LogEntry) (h : History)
     → Stands after last None c p h → RowsStand last None h → Gains base IsNew h
@@ -177,7 +167,7 @@ two_grows base after n s c p h e x y st rows gains fits eq =
 
 -- ---- the calls
 
-own_gains : (h : History) (IsNew : List ℕ → Type 0) → AllTraced h → Gains h IsNew h
+pub own_gains : (h : History) (IsNew : List ℕ → Type 0) → AllTraced h → Gains h IsNew h
 own_gains h IsNew traced = record { traced = traced; gained = λ blob is. inl is }
 
 put_grows : (s : Session) (head key blob : List ℕ) (c : Option (List LogEntry)) (p : List LogEntry) (h : History)
@@ -204,7 +194,7 @@ put_brings s head key blob a b n m result eq fits ran =
     (put_grows s head key blob c p before eq fits st rows).each stop)
     (ran_stops (put_steps s head blob) a b n m result ran)
 
-rows_as : (last size end count : Option ℕ) (h g : History) → end ≡ last → count ≡ size → g ≡ h → AllTraced h → RowsStand last size h
+pub rows_as : (last size end count : Option ℕ) (h g : History) → end ≡ last → count ≡ size → g ≡ h → AllTraced h → RowsStand last size h
     → (s : Session) → s.last ≡ end → s.size ≡ count → SessionRows s g
 rows_as last size end count h g e d i traced rows s f k = record {
   traced = subst AllTraced (sym i) traced;

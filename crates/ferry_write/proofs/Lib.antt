@@ -7,3 +7,8 @@ pub mod RoomLemmas
 pub mod CallLemmas
 pub mod RowLemmas
 pub mod GainLemmas
+pub mod BeginGainLemmas
+pub mod CommitGainLemmas
+pub mod PlainLemmas
+pub mod LawLemmas
+pub mod StayLemmas

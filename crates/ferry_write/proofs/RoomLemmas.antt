@@ -1,17 +1,18 @@
 -- Lemmas on specs/Room.antt: where an entry begins, and the scripts of entries.
-use Rattle.std.proofs.Common.{◌≡◌, ◌⊎◌, inl, inr, ℕ, ◌+◌, ◌^◌, ◌<◌, ◌≤◌, nat_lt, Bool, true, false, ◌&&◌, List, [], ◌∷◌, ◌++◌, Option, Some, None}
+use Rattle.std.proofs.Common.{◌≡◌, inl, inr, ℕ, ◌+◌, ◌^◌, ◌<◌, ◌≤◌, nat_lt, Bool, true, false, ◌&&◌, List, [], ◌++◌, Option, Some, None}
 use Rattle.std.proofs.Common.{Result, Ok, Err}
 use Rattle.std.proofs.Common.{IsErrOf, refl, sym, ◌∙◌, ap, subst, arith}
 use Rattle.std.proofs.lemmas.Bool.{cases_lt, lt-ltb}
 use Rattle.ferry_disk.specs.Act.{Step}
 use Rattle.ferry_disk.specs.Device.{Told}
 use Rattle.ferry_disk.specs.Moments.{Between}
-use Rattle.ferry_write.specs.Room.{is_full, must_begin, room_steps}
+use Rattle.ferry_write.specs.Room.{is_full, must_begin, room_of, room_steps, after_entry}
 use Rattle.ferry_write.specs.Script.{StopsIn, Ran}
 use Rattle.ferry_write.specs.declared.fault.WriteFault.{WriteFault}
 use Rattle.ferry_write.specs.declared.fault.WriteFault.TheVariants.{Device, Memory, Numbers}
 use Rattle.ferry_write.specs.declared.room.Room.{Room}
-use Rattle.ferry_write.proofs.ScriptLemmas.{none_ran, ran_then, ran_as}
+use Rattle.ferry_write.specs.declared.session.Session.{Session}
+use Rattle.ferry_write.proofs.ScriptLemmas.{none_ran, ran_then}
 
 pub not_full_fits : (at limit more : ℕ) → is_full at limit more ≡ false → limit < 2 ^ 64 → more ≤ 20971520 → at + more < 2 ^ 64
 not_full_fits at limit more e lim small = elim (cases_lt 8 at) [
@@ -54,3 +55,11 @@ pub in_room : {U : Type 0} (s : List Step) (f : ℕ → List Step) (r q : Room) 
     → Ran s a b n m (Ok r) → Ran (f r.segment) b c m k result → Ran (s ++ f q.segment) a c n k result
 in_room {U} s f r q a b c n m k result e p w =
     ran_then s (f q.segment) a b c n m k r result p (subst (λ (x : Room). Ran {T = U} (f x.segment) b c m k result) e w)
+
+-- the session behind an entry of a size, which was written in the room for one of that size
+pub takes_entry : (old new : Session) (room : Room) (more size : ℕ) → new ≡ record old { last = Some room.segment; size = Some (room.at + more) }
+    → room ≡ room_of old size → size ≡ more → new ≡ after_entry old more
+takes_entry old new room more size is room_is size_is =
+    is
+    ∙ (ap (λ (r : Room). record old { last = Some r.segment; size = Some (r.at + more) }) room_is
+    ∙ ap (λ (k : ℕ). record old { last = Some (room_of old k).segment; size = Some ((room_of old k).at + more) }) size_is)

@@ -1,19 +1,21 @@
 -- Lemmas on specs/Rows.antt: which blobs a step brings.
-use Rattle.std.proofs.Common.{◌≡◌, ◌⊎◌, inl, inr, ℕ, suc, ◌+◌, ◌<◌, ◌≤◌, nat_eq, Bool, true, false, if◌then◌else◌, List, [], ◌∷◌, ◌++◌, length, drop}
-use Rattle.std.proofs.Common.{Option, Some, None, unwrap_or, refl, sym, ◌∙◌, ap, subst, arith}
+use Rattle.std.proofs.Common.{◌≡◌, ◌⊎◌, inl, inr, ℕ, ◌<◌, nat_eq, Bool, true, false, if◌then◌else◌, List, [], ◌∷◌, ◌++◌, length}
+use Rattle.std.proofs.Common.{Option, unwrap_or, refl, sym, ◌∙◌, ap, subst, arith}
 use Rattle.std.specs.FinMap.{get}
 use Rattle.std.specs.List.{AllByRecursion}
-use Rattle.std.proofs.lemmas.List.{append-nil, append_assoc, length-append}
-use Rattle.ferry_disk.specs.Act.{Step, AppendTo, SyncOf, Act, History, with_act}
-use Rattle.ferry_disk.specs.Image.{Fate, at_rest, fate_appended, fate_synced, fate_in}
+use Rattle.std.proofs.lemmas.List.{append-nil, append_assoc, length-append, length-drop}
+use Rattle.ferry_disk.specs.Act.{Step, AppendTo, SyncOf, RemoveOf, SettleAll, Act, History, with_act}
+use Rattle.ferry_disk.specs.Image.{Fate, fate_synced, fate_removed, fate_settled, fate_in}
 use Rattle.ferry_segment.specs.Entry.{LogEntry, PutEntry, Fits, spelling}
 use Rattle.ferry_segment.specs.Segment.{magic, spellings}
+use Rattle.ferry_segment.proofs.EntryLemmas.{length-spelling}
 use Rattle.ferry_segment.proofs.SegmentLemmas.{front_of, spellings_more}
-use Rattle.ferry_stops.specs.Blobs.{HasBlob, FileHasBlob, row_after, IsRow, open_row, IsBlob, BlobOf, row_in, IsTraced, AllTraced, Gains}
-use Rattle.ferry_stops.specs.Chance.{ReadsThen, stable_bytes, all_bytes}
+use Rattle.ferry_stops.specs.Blobs.{HasBlob, FileHasBlob, row_after, IsRow, open_row, BlobOf, row_in, IsTraced, Gains}
+use Rattle.ferry_stops.specs.Chance.{stable_bytes, all_bytes}
 use Rattle.ferry_stops.proofs.DraftLemmas.{spellings-append}
 use Rattle.ferry_write.specs.Rows.{IsPutOf}
 use Rattle.ferry_write.proofs.StandLemmas.{either_number, own_number, off_number, all-append, append_here, append_other, sync_here, sync_other}
+use Rattle.ferry_write.proofs.StandLemmas.{fate_next, remove_here, remove_other}
 
 -- ---- rows, one act later
 
@@ -124,7 +126,7 @@ row_other h k x done m off =
     row_next h (AppendTo k x) done m ∙ ap (λ (b : Bool). if b then row_in h m ++ x else row_in h m) (off_number m k off)
 
 -- the same of a segment whose fate is the same
-traced_same : (h g : History) (m : ℕ) → fate_in g m ≡ fate_in h m → ((blob : List ℕ) → BlobOf h blob → BlobOf g blob) → IsTraced h m → IsTraced g m
+pub traced_same : (h g : History) (m : ℕ) → fate_in g m ≡ fate_in h m → ((blob : List ℕ) → BlobOf h blob → BlobOf g blob) → IsTraced h m → IsTraced g m
 traced_same h g m e more t = record {
   rest = t.rest;
   begins = subst (λ (f : Fate). all_bytes f ≡ stable_bytes f ++ t.rest) (sym e) t.begins;
@@ -213,6 +215,107 @@ sync_gains base h IsNew k done gains e = record {
 
 pub row_synced : (h : History) (k : ℕ) (done : Bool) (m : ℕ) → row_in (with_act (SyncOf k) done h) m ≡ row_in h m
 row_synced h k done m = row_next h (SyncOf k) done m
+
+-- ---- bytes without a PUT
+
+-- a PUT has a head of 41 bytes, behind the 8 of the magic
+pub short_none : (bytes blob : List ℕ) → length bytes < 49 → HasBlob bytes blob → ⊥
+short_none bytes blob short has =
+    let entry = PutEntry has.key blob in
+    omega (
+      arith,
+      short,
+      has.reads.fits.0,
+      ap length has.reads.spelled,
+      length-drop 8 bytes,
+      length-append (spellings has.before) (spelling entry ++ has.reads.rest),
+      length-append (spelling entry) has.reads.rest,
+      length-spelling entry,
+      length-append has.key blob,
+    )
+
+pub none_has : (blob : List ℕ) → HasBlob [] blob → ⊥
+none_has blob has = short_none [] blob (omega arith) has
+
+-- ---- a Remove
+
+remove_by : (h : History) (k : ℕ) (blob : List ℕ) (seg : ℕ) → (seg ≡ k) ⊎ (seg ≡ k → ⊥) → HasBlob (row_after seg (row_in h seg) (RemoveOf k)) blob
+    → BlobOf h blob
+remove_by h k blob seg (inl e) has =
+    absurd (none_has blob
+    (subst (λ (b : Bool). HasBlob (if b then [] else row_in h k) blob) (own_number k)
+    (subst (λ (n : ℕ). HasBlob (if nat_eq n k then [] else row_in h n) blob) e has)))
+remove_by h k blob seg (inr off) has =
+    row_blob h seg blob (subst (λ (b : Bool). HasBlob (if b then [] else row_in h seg) blob) (off_number seg k off) has)
+
+remove_blob : (h : History) (k : ℕ) (done : Bool) (blob : List ℕ) → BlobOf (with_act (RemoveOf k) done h) blob → BlobOf h blob
+remove_blob h k done blob is = by_sum (blob_one h (RemoveOf k) done blob is) where
+  by_sum : BlobOf h blob ⊎ ((seg : ℕ) × HasBlob (row_after seg (row_in h seg) (RemoveOf k)) blob) → BlobOf h blob
+  by_sum (inl q) = q
+  by_sum (inr q) = remove_by h k blob q.0 (either_number q.0 k) q.1
+
+removed_traced : (h g : History) (k : ℕ) (done : Bool) → fate_in g k ≡ fate_removed done (fate_in h k) → ((blob : List ℕ) → BlobOf h blob → BlobOf g blob)
+    → IsTraced h k → IsTraced g k
+removed_traced h g k true e more t = record {
+  rest = [];
+  begins = subst (λ (f : Fate). all_bytes f ≡ stable_bytes f ++ []) (sym e) refl;
+  known = λ blob has. absurd (none_has blob (subst (λ (f : Fate). HasBlob (all_bytes f) blob) e has));
+}
+removed_traced h g k false e more t = record {
+  rest = t.rest;
+  begins = subst (λ (f : Fate). all_bytes f ≡ stable_bytes f ++ t.rest) (sym e) t.begins;
+  known = λ blob has. more blob (t.known blob (subst (λ (f : Fate). HasBlob (all_bytes f) blob) e has));
+}
+
+pub remove_gains : (base h : History) (IsNew : List ℕ → Type 0) (k : ℕ) (done : Bool) → Gains base IsNew h
+    → Gains base IsNew (with_act (RemoveOf k) done h)
+remove_gains base h IsNew k done gains = record {
+  traced = λ m. traced_by m (either_number m k);
+  gained = λ blob is. gains.gained blob (remove_blob h k done blob is);
+} where
+  traced_by : (m : ℕ) → (m ≡ k) ⊎ (m ≡ k → ⊥) → IsTraced (with_act (RemoveOf k) done h) m
+  traced_by m (inl q) =
+      subst (IsTraced (with_act (RemoveOf k) done h)) (sym q)
+      (removed_traced h (with_act (RemoveOf k) done h) k done (remove_here h k done) (blob_more h (RemoveOf k) done) (gains.traced k))
+  traced_by m (inr off) =
+      traced_same h (with_act (RemoveOf k) done h) m (remove_other h k done m off) (blob_more h (RemoveOf k) done) (gains.traced m)
+
+none_either : (b : Bool) → ◌≡◌ {A = List ℕ} (if b then [] else []) []
+none_either true = refl
+none_either false = refl
+
+pub row_removed : (h : History) (k : ℕ) (m : ℕ) → row_in h m ≡ [] → row_in (with_act (RemoveOf k) true h) m ≡ []
+row_removed h k m e =
+    row_next h (RemoveOf k) true m ∙ (ap (λ (r : List ℕ). if nat_eq m k then [] else r) e ∙ none_either (nat_eq m k))
+
+-- ---- a Settle
+
+pub row_settled : (h : History) (done : Bool) (m : ℕ) → row_in (with_act SettleAll done h) m ≡ []
+row_settled h done m = row_next h SettleAll done m
+
+settle_blob : (h : History) (done : Bool) (blob : List ℕ) → BlobOf (with_act SettleAll done h) blob → BlobOf h blob
+settle_blob h done blob is = by_sum (blob_one h SettleAll done blob is) where
+  by_sum : BlobOf h blob ⊎ ((seg : ℕ) × HasBlob [] blob) → BlobOf h blob
+  by_sum (inl q) = q
+  by_sum (inr q) = absurd (none_has blob q.1)
+
+settled_traced : (h g : History) (m : ℕ) (done : Bool) → fate_in g m ≡ fate_settled done (fate_in h m)
+    → ((blob : List ℕ) → BlobOf h blob → BlobOf g blob) → ((blob : List ℕ) → HasBlob (unwrap_or (fate_in h m).read []) blob → BlobOf h blob)
+    → IsTraced h m → IsTraced g m
+settled_traced h g m true e more known t = record {
+  rest = [];
+  begins = subst (λ (f : Fate). all_bytes f ≡ stable_bytes f ++ []) (sym e) (sym (append-nil (unwrap_or (fate_in h m).read [])));
+  known = λ blob has. more blob (known blob (subst (λ (f : Fate). HasBlob (all_bytes f) blob) e has));
+}
+settled_traced h g m false e more known t = traced_same h g m e more t
+
+pub settle_gains : (base h : History) (IsNew : List ℕ → Type 0) (done : Bool) → Gains base IsNew h
+    → ((m : ℕ) (blob : List ℕ) → HasBlob (unwrap_or (fate_in h m).read []) blob → BlobOf h blob) → Gains base IsNew (with_act SettleAll done h)
+settle_gains base h IsNew done gains known = record {
+  traced = λ m.
+      settled_traced h (with_act SettleAll done h) m done (fate_next h SettleAll done m) (blob_more h SettleAll done) (known m) (gains.traced m);
+  gained = λ blob is. gains.gained blob (settle_blob h done blob is);
+}
 
 -- ---- the blobs of a segment that is written
 

@@ -1,13 +1,13 @@
 -- Lemmas on specs/Script.antt: scripts one after another, and what holds at each of their moments.
 use Rattle.std.proofs.Common.{◌≡◌, ◌⊎◌, inl, inr, ℕ, ◌+◌, ◌<◌, ◌≤◌, nat_lt, if◌then◌else◌, length, drop, Bool, true, false, List, [], ◌∷◌, ◌++◌}
-use Rattle.std.proofs.Common.{Option, Some, None, Result, Ok, Err, MatchResult, IsErrAnd, option_map}
+use Rattle.std.proofs.Common.{Option, Some, None, Result, Ok, Err, IsErrAnd, option_map}
 use Rattle.std.proofs.Common.{refl, sym, ◌∙◌, ap, subst, append_assoc}
 use Rattle.std.proofs.lemmas.List.{append-nil, drop_more, drop_all}
 use lib.ListN.{get_or}
 use Rattle.ferry_disk.specs.Act.{Step, RemoveOf, History, with_act}
 use Rattle.ferry_disk.specs.Device.{Told, Heard, heard, heard_of, called, acted, failed_at, first_failed, store_failed}
-use Rattle.ferry_disk.specs.Device.{HasCause, RoseWhere, NotActs, KeepsTold, KeptWhere}
-use Rattle.ferry_disk.specs.Faults.{failed_told, FailedWhere, EndsAtFault}
+use Rattle.ferry_disk.specs.Device.{RoseWhere, NotActs, KeptWhere}
+use Rattle.ferry_disk.specs.Faults.{failed_told, FailedWhere}
 use Rattle.ferry_disk.specs.Moments.{Between, with_steps, EachMoment, Moments}
 use Rattle.ferry_disk.specs.declared.shelf.StoreFault.{StoreFault}
 use Rattle.ferry_disk.specs.declared.shelf.StoreFault.TheVariants as Store
@@ -17,7 +17,7 @@ use Rattle.ferry_segment.specs.Crc.{crc, register_after, bits_of}
 use Rattle.ferry_segment.specs.Entry.{CommitEntry, spelling}
 use Rattle.ferry_write.specs.Room.{sync_steps}
 use Rattle.ferry_write.specs.Fault.{write_failed, store_fault}
-use Rattle.ferry_write.specs.Script.{DoesAll, StopsIn, Ran, removals}
+use Rattle.ferry_write.specs.Script.{AllDone, DoesAll, StopsIn, Ran, removals}
 use Rattle.ferry_write.specs.declared.fault.WriteFault.{WriteFault}
 
 -- ---- steps
@@ -177,6 +177,10 @@ ran_as s a b n m x y p = record { runs = p.runs; ends = p.ends; cause = p.cause 
 pub ran_fault : {T U : Type 0} (s : List Step) (a b : Option Told) (n m : ℕ) (fault : WriteFault) → Ran {T = T} s a b n m (Err fault)
     → Ran {T = U} s a b n m (Err fault)
 ran_fault s a b n m fault p = record { runs = p.runs; ends = p.ends; cause = p.cause }
+
+-- where the answer is `Ok` all acts are done
+pub ran_done : {T : Type 0} (s : List Step) (a b : Option Told) (n m : ℕ) (x : T) → Ran s a b n m (Ok x) → Between a b AllDone
+ran_done s a b n m x p = between_map a b (DoesAll s) AllDone (λ before now d. (s, d)) p.runs
 
 -- whatever the answer, all is a stop in the script
 pub ran_stops : {T : Type 0} (s : List Step) (a b : Option Told) (n m : ℕ) (result : Result T WriteFault) → Ran s a b n m result

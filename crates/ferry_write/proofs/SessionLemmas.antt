@@ -1,28 +1,25 @@
 -- Lemmas on specs/Session.antt: what a session stands on, one call later.
-use Rattle.std.proofs.Common.{◌≡◌, ◌⊎◌, inl, inr, ℕ, zero, suc, ◌+◌, ◌<◌, ◌≤◌, nat_lt, Bool, true, false, ◌&&◌, if◌then◌else◌, List, [], ◌∷◌, ◌++◌}
+use Rattle.std.proofs.Common.{◌≡◌, ◌⊎◌, inl, inr, ℕ, suc, ◌+◌, ◌<◌, Bool, true, false, List, [], ◌∷◌, ◌++◌}
 use Rattle.std.proofs.Common.{length, Option, Some, None, unwrap_or, refl, sym, ◌∙◌, ap, subst, arith}
 use Rattle.std.specs.FinMap.{get}
-use Rattle.std.specs.List.{AllByRecursion}
 use Rattle.std.proofs.lemmas.Bool.{cases_lt}
 use Rattle.std.proofs.lemmas.List.{append-nil, append_assoc, length-append}
 use Rattle.ferry_disk.specs.Act.{Step, AppendTo, SyncOf, History, files_now, with_act}
 use Rattle.ferry_disk.specs.Files.{Files}
-use Rattle.ferry_disk.specs.Image.{Fate, at_rest, fate_appended, fate_synced, fate_in, settled}
+use Rattle.ferry_disk.specs.Image.{Fate, at_rest, fate_appended, fate_in}
 use Rattle.ferry_disk.specs.Moments.{with_steps, EachMoment}
 use Rattle.ferry_segment.specs.Entry.{LogEntry, Fits, spelling, size_of}
-use Rattle.ferry_segment.specs.Segment.{magic, spellings, Splits, IsData}
+use Rattle.ferry_segment.specs.Segment.{magic, spellings, IsData}
 use Rattle.ferry_segment.proofs.EntryLemmas.{length-spelling}
 use Rattle.ferry_segment.proofs.SegmentLemmas.{spellings_more}
 use Rattle.ferry_stops.specs.Entries.{SegmentHas, HaveBelow}
-use Rattle.ferry_stops.specs.Ground.{IsHarmless, IsDataFront, IsOwn}
+use Rattle.ferry_stops.specs.Ground.{IsDataFront, IsOwn}
 use Rattle.ferry_stops.proofs.GroundLemmas.{have_same}
-use Rattle.ferry_write.specs.Room.{behind, is_full, must_begin, room_in, room_of, sync_steps, room_steps, put_steps, delete_steps}
-use Rattle.ferry_write.specs.Session.{IsWritten, IsCurrent, LastIs, Stands}
-use Rattle.ferry_write.specs.declared.room.Room.{Room}
-use Rattle.ferry_write.specs.declared.session.Session.{Session}
+use Rattle.ferry_write.specs.Room.{behind, is_full, must_begin, room_in, sync_steps, room_steps}
+use Rattle.ferry_write.specs.Session.{IsWritten, Stands}
 use Rattle.ferry_write.proofs.ScriptLemmas.{with_steps-append, each_append}
-use Rattle.ferry_write.proofs.StandLemmas.{either_number, all-append, append_here, append_other, sync_here, sync_other, settled_next, read_is, files_same}
-use Rattle.ferry_write.proofs.StandLemmas.{rest_same, own_changed, append_own, written_next, sync_own, synced_rest, begin_own, front_of_data, all_of_data}
+use Rattle.ferry_write.proofs.StandLemmas.{either_number, all-append, append_here, append_other, sync_here, sync_other, read_is, files_same}
+use Rattle.ferry_write.proofs.StandLemmas.{rest_same, append_own, written_next, sync_own, synced_rest, begin_own, front_of_data, all_of_data}
 use Rattle.ferry_write.proofs.StandLemmas.{split_more, Grew, grew_one, grew_then}
 
 -- what is safe and committed below the session's end

@@ -1,27 +1,25 @@
 -- Lemmas on specs/Session.antt: what one more step leaves of what a session stands on.
-use Rattle.std.proofs.Common.{◌≡◌, ◌⊎◌, inl, inr, ℕ, zero, suc, ◌+◌, ◌<◌, ◌≤◌, nat_eq, Bool, true, false, ◌&&◌, ◌||◌, if◌then◌else◌, List, [], ◌∷◌, ◌++◌}
-use Rattle.std.proofs.Common.{length, Option, Some, None, unwrap_or, refl, sym, ◌∙◌, ap, subst, arith}
+use Rattle.std.proofs.Common.{◌≡◌, ◌⊎◌, inl, inr, ℕ, ◌<◌, ◌≤◌, nat_eq, Bool, true, false, ◌&&◌, ◌||◌, if◌then◌else◌, List, [], ◌∷◌, ◌++◌}
+use Rattle.std.proofs.Common.{Option, Some, None, unwrap_or, refl, sym, ◌∙◌, ap, subst, arith}
 use Rattle.std.specs.FinMap.{get}
 use Rattle.std.specs.List.{AllByRecursion}
 use Rattle.std.specs.Cmp.{nat_eq_equiv}
 use Rattle.std.proofs.lemmas.Bool.{cases_lt}
-use Rattle.std.proofs.lemmas.List.{append-nil, append_assoc, length-append}
-use Rattle.ferry_disk.specs.Act.{Step, AppendTo, SyncOf, RemoveOf, SettleAll, History, files_now, with_act}
+use Rattle.std.proofs.lemmas.List.{append-nil, append_assoc}
+use Rattle.ferry_disk.specs.Act.{Step, AppendTo, SyncOf, RemoveOf, History, files_now, with_act}
 use Rattle.ferry_disk.specs.Files.{Files}
 use Rattle.ferry_disk.specs.Image.{Fate, at_rest, fate_appended, fate_synced, fate_removed, fate_stepped, fate_in, is_settle, settled}
 use Rattle.ferry_disk.proofs.FilesLemmas.{same_number}
-use Rattle.ferry_disk.proofs.ImageLemmas.{fate_of-push, settled-push, applied-push, fate_read}
-use Rattle.ferry_segment.specs.Entry.{LogEntry, Fits, spelling, size_of}
+use Rattle.ferry_disk.proofs.ImageLemmas.{fate_of-push, settled-push, fate_read}
+use Rattle.ferry_segment.specs.Entry.{LogEntry, Fits, spelling}
 use Rattle.ferry_segment.specs.Segment.{magic, spellings, Splits, IsData}
-use Rattle.ferry_segment.proofs.EntryLemmas.{length-spelling}
 use Rattle.ferry_segment.proofs.SegmentLemmas.{spellings_more}
 use Rattle.ferry_stops.specs.Chance.{EachStop, stable_bytes, all_bytes}
-use Rattle.ferry_stops.specs.Entries.{SegmentHas, HaveBelow, CommittedBelow, Shows}
-use Rattle.ferry_stops.specs.Ground.{IsHarmless, IsDataFront, IsDraft, IsSafe, IsOwn}
+use Rattle.ferry_stops.specs.Entries.{CommittedBelow, Shows}
+use Rattle.ferry_stops.specs.Ground.{IsHarmless, IsDataFront, IsDraft, IsOwn}
 use Rattle.ferry_stops.proofs.DraftLemmas.{draft_harmless}
 use Rattle.ferry_stops.proofs.GroundLemmas.{have_same, own_shows}
-use Rattle.ferry_write.specs.Room.{behind}
-use Rattle.ferry_write.specs.Session.{IsWritten, IsCurrent, LastIs, Stands}
+use Rattle.ferry_write.specs.Session.{IsWritten}
 
 -- ---- numbers and lists
 

@@ -1,5 +1,5 @@
 -- Where a session's next entry begins: in the segment that is written, or in a new one.
-use Rattle.std.specs.Prelude.{◌≡◌, ℕ, suc, ◌+◌, ◌<◌, nat_lt, Bool, true, false, ◌&&◌, if◌then◌else◌, List, [], ◌∷◌, ◌++◌, length, Option, Some, None}
+use Rattle.std.specs.Prelude.{ℕ, suc, ◌+◌, ◌<◌, nat_lt, Bool, true, false, ◌&&◌, if◌then◌else◌, List, [], ◌∷◌, ◌++◌, length, Option, Some, None}
 use Rattle.ferry_disk.specs.Act.{Step, AppendTo, SyncOf}
 use Rattle.ferry_segment.specs.Entry.{CommitEntry, spelling}
 use Rattle.ferry_segment.specs.Segment.{magic}
@@ -28,6 +28,14 @@ room_in last size begins = record { segment = behind last; at = 8 }
 
 abbrev pub room_of : Session → ℕ → Room
 room_of session more = room_in session.last session.size (must_begin session.last session.size session.limit more)
+
+-- a session with an entry of this size put
+abbrev pub after_entry : Session → ℕ → Session
+after_entry session more = record session { last = Some (room_of session more).segment; size = Some ((room_of session more).at + more) }
+
+-- a session with all committed that was put
+abbrev pub after_commit : Session → Session
+after_commit session = record session { after = Some (behind session.last); last = Some (behind session.last); size = None }
 
 -- the Sync of the segment that is written, where there is one
 abbrev pub sync_steps : Option ℕ → Option ℕ → List Step

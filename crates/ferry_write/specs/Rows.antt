@@ -1,5 +1,5 @@
 -- What a session knows of the appends to its segments, so that its calls bring the blobs that are put and no others.
-use Rattle.std.specs.Prelude.{◌≡◌, ℕ, ◌≤◌, List, [], Option, Some, None}
+use Rattle.std.specs.Prelude.{◌≡◌, ℕ, ◌≤◌, List, [], Option, Some}
 use Rattle.ferry_disk.specs.Act.{History}
 use Rattle.ferry_disk.specs.Image.{fate_in}
 use Rattle.ferry_disk.specs.Moments.{Moments}
@@ -38,3 +38,20 @@ Brings session entry before now = (committed : Option (List LogEntry)) (pending 
 abbrev pub KeepsRows : Session → Session → History → History → Type 0
 KeepsRows old new before now = (committed : Option (List LogEntry)) (pending : List LogEntry) → SessionFits old committed pending before
     → SessionRows old before → SessionRows new now
+
+-- ---- a session that begins
+
+-- Where no act of this run was made before, the rows stand.
+abbrev pub BeginsRows : Session → History → History → Type 0
+BeginsRows session before now = before.acts ≡ [] → SessionRows session now
+
+-- And at each moment the history has the blobs from before, and no other.
+abbrev pub BeginBrings : History → History → Type 0
+BeginBrings before now = before.acts ≡ [] → Moments (Gains before (λ _. ⊥)) before now
+
+-- ---- a commit
+
+-- At each moment the history has the blobs from before, and no other.
+abbrev pub BringsNone : Session → History → History → Type 0
+BringsNone session before now = (committed : Option (List LogEntry)) (pending : List LogEntry) → SessionFits session committed pending before
+    → SessionRows session before → Moments (Gains before (λ _. ⊥)) before now

@@ -1,19 +1,24 @@
 -- What a session stands on, and what its calls leave of it.
 use Rattle.std.specs.Prelude.{◌≡◌, ℕ, suc, ◌+◌, ◌<◌, ◌≤◌, false, ◌⊎◌, List, [], ◌∷◌, ◌++◌, length, Option, Some, None, unwrap_or}
+use Rattle.std.specs.Prelude.{Result, MatchResult}
 use Rattle.std.specs.FinMap.{get}
 use Rattle.std.specs.List.{AllByRecursion}
-use Rattle.ferry_disk.specs.Act.{History, files_now}
+use Rattle.ferry_disk.specs.Act.{Step, ReplaceBy, SettleAll, TellOf, Act, History, IsPlain, files_now}
+use Rattle.ferry_disk.specs.Device.{Told}
 use Rattle.ferry_disk.specs.Files.{Files, segment_bytes}
-use Rattle.ferry_disk.specs.Image.{fate_in, at_rest}
-use Rattle.ferry_disk.specs.Moments.{Moments}
+use Rattle.ferry_disk.specs.Image.{PlainFate, plain_in, fate_in, at_rest}
+use Rattle.ferry_disk.specs.Moments.{Between, Moments}
+use Rattle.ferry_disk.specs.declared.name.Name.{Name}
 use Rattle.ferry_log.specs.State.{IsBlobAt}
 use Rattle.ferry_log.specs.declared.place.Place.{Place}
 use Rattle.ferry_segment.specs.Entry.{LogEntry, CommitEntry, Fits}
 use Rattle.ferry_segment.specs.Segment.{magic, spellings, IsData}
 use Rattle.ferry_stops.specs.Chance.{EachStop, stable_bytes}
-use Rattle.ferry_stops.specs.Entries.{HaveBelow, CommittedBelow, ShowsAt, Shows}
+use Rattle.ferry_stops.specs.Entries.{HaveBelow, ShowsAt, Shows}
 use Rattle.ferry_stops.specs.Ground.{IsOwn}
 use Rattle.ferry_write.specs.Room.{behind}
+use Rattle.ferry_write.specs.Script.{DoesAll, StopsIn, clear_steps}
+use Rattle.ferry_write.specs.declared.fault.WriteFault.{WriteFault}
 use Rattle.ferry_write.specs.declared.session.Session.{Session}
 
 -- A segment that is written: it has these bytes, the stable ones are a front of them, and no removal of it is in doubt.
@@ -53,6 +58,33 @@ pub record Stands (after last size : Option ℕ) (committed : Option (List LogEn
 abbrev pub SessionFits : Session → Option (List LogEntry) → List LogEntry → History → Type 0
 SessionFits session committed pending history = Stands session.after session.last session.size committed pending history
 
+-- ---- beside a session
+
+-- nothing of such a file is in doubt
+abbrev pub rests_at : Option (List ℕ) → PlainFate
+rests_at file = record { read = file; perhaps = None }
+
+-- A file that is no segment, and of which nothing is in doubt, is so at each moment, with the same contents.
+abbrev pub KeepsPlain : History → History → Type 0
+KeepsPlain before now = (name : Name) (file : Option (List ℕ)) → plain_in before name ≡ rests_at file
+    → Moments (λ h. plain_in h name ≡ rests_at file) before now
+
+-- Each segment has what it had, and perhaps more behind it; those up to a commit are as they were.
+pub record Stays (after : Option ℕ) (before now : History) : Type 0 where
+  pub below : (n : ℕ) → n < behind after → get (files_now now).segments n ≡ get (files_now before).segments n
+  pub longer : (n : ℕ) → (rest : List ℕ) × (segment_bytes (files_now now) n ≡ segment_bytes (files_now before) n ++ rest)
+
+-- That holds of what a read gives before and after a call of a session that fits.
+abbrev pub OnlyAppends : Session → History → History → Type 0
+OnlyAppends session before now = (committed : Option (List LogEntry)) (pending : List LogEntry) → SessionFits session committed pending before
+    → Stays session.after before now
+
+-- A step of a layer above beside a session: it replaces a file that is no segment, or tells a line.
+abbrev pub IsBeside : Step → Type 0
+IsBeside (ReplaceBy name bytes) = IsPlain name
+IsBeside (TellOf line) = Unit {0}
+IsBeside step = ⊥
+
 -- ---- `begin`
 
 -- These entries are committed up to a segment, and no segment above it is.
@@ -68,6 +100,25 @@ Begins after session before now = (committed : Option (List LogEntry)) → Commi
 abbrev pub BeginKeeps : Option ℕ → History → History → Type 0
 BeginKeeps after before now = (committed : Option (List LogEntry)) → CommittedUpTo after committed (files_now before)
     → EachStop (λ image. Shows image committed) before → Moments (EachStop (λ image. Shows image committed)) before now
+
+-- A Settle is done, and each segment behind the number is removed, by increasing number; or a fault stopped in these steps.
+abbrev pub ClearsAll : Option ℕ → History → History → Type 0
+ClearsAll after before now = DoesAll (clear_steps (behind after) (files_now before)) before now
+
+abbrev pub ClearsSome : Option ℕ → History → History → Type 0
+ClearsSome after before now = StopsIn (clear_steps (behind after) (files_now before)) before now
+
+abbrev pub ClearsAbove : {T : Type 0} → Option ℕ → Option Told → Option Told → Result T WriteFault → Type 0
+ClearsAbove after before now result = MatchResult result (λ _. Between before now (ClearsAll after)) (λ _. Between before now (ClearsSome after))
+
+-- The first of these acts, where there is one, is a Settle.
+abbrev pub BeginBySettle : List Act → Type 0
+BeginBySettle [] = Unit {0}
+BeginBySettle (act ∷ acts) = act.step ≡ SettleAll
+
+-- The first act of a run that had made none is a Settle.
+abbrev pub SettlesFirst : History → History → Type 0
+SettlesFirst before now = before.acts ≡ [] → BeginBySettle now.acts
 
 -- ---- `put` and `delete`
 

@@ -5,6 +5,7 @@
 #![tactic(auto)]
 
 mod fault;
+mod laws;
 mod room;
 mod script;
 mod session;
@@ -12,4 +13,5 @@ mod session;
 mod tests;
 
 pub use fault::WriteFault;
+pub use laws::session_laws;
 pub use session::Session;

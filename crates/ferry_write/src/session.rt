@@ -1,5 +1,5 @@
 //! A session: entries that are put behind the last commit, and committed together.
-ghost use Rattle.std.specs.Prelude.{◌≡◌, ◌≤◌, ◌<◌, ◌+◌, ◌↔◌, ◌∷◌, ◌++◌, ◌^◌, [], IsTrue, IfOk, OnOk, IsErrOf, Some, false, length, is_err};
+ghost use Rattle.std.specs.Prelude.{◌≡◌, ◌≤◌, ◌<◌, ◌+◌, ◌↔◌, ◌∷◌, ◌++◌, ◌^◌, [], IsTrue, IfOk, OnOk, OnErr, IsErrOf, Some, None, true, false, length, is_err};
 ghost use Rattle.ferry_disk.specs.Act.{AppendTo, SyncOf};
 ghost use Rattle.ferry_disk.specs.Device.{HasCause};
 ghost use Rattle.ferry_disk.specs.Faults.{EndsAtFault};
@@ -8,9 +8,11 @@ ghost use Rattle.ferry_segment.specs.Entry.{PutEntry, DeleteEntry, CommitEntry, 
 ghost use Rattle.ferry_segment.specs.Segment.{magic};
 ghost use Rattle.ferry_write.specs.Fault.{write_failed};
 ghost use Rattle.ferry_write.specs.Room.{behind, must_begin, room_of, room_steps, put_steps, delete_steps, commit_steps, AreUsedUp};
-ghost use Rattle.ferry_write.specs.Rows.{Brings, KeepsRows};
-ghost use Rattle.ferry_write.specs.Script.{Ran};
-ghost use Rattle.ferry_write.specs.Session.{BeginKeeps, Begins, Keeps, Puts, Lies, KeepsOrCommits, Commits};
+ghost use Rattle.ferry_write.specs.Room.{after_entry, after_commit};
+ghost use Rattle.ferry_write.specs.Rows.{BeginBrings, BeginsRows, Brings, BringsNone, KeepsRows};
+ghost use Rattle.ferry_write.specs.Script.{AllDone, Ran};
+ghost use Rattle.ferry_write.specs.Session.{BeginKeeps, Begins, ClearsAbove, SettlesFirst, Keeps, Puts, Lies, KeepsOrCommits, Commits};
+ghost use Rattle.ferry_write.specs.Session.{KeepsPlain, OnlyAppends};
 ghost use Rattle.ferry_write.specs.declared.fault.WriteFault.TheVariants as Write;
 
 use crate::fault::WriteFault;
@@ -46,7 +48,12 @@ impl Session {
     ) -> Result<Session, WriteFault>
         ensures moments { Between (D.told depot.old) (D.told depot.new) (BeginKeeps after) }
         ensures begun { IfOk result (λ session. Between (D.told depot.old) (D.told depot.new) (Begins after session)) }
-        ensures fresh { IfOk result (λ session. (session.spent ≡ false) × (session.after ≡ after)) }
+        ensures fresh { IfOk result (λ session. session ≡ record { limit = limit; after = after; last = after; size = None; spent = false }) }
+        ensures acts { ClearsAbove after (D.told depot.old) (D.told depot.new) result }
+        ensures first { Between (D.told depot.old) (D.told depot.new) SettlesFirst }
+        ensures gains { Between (D.told depot.old) (D.told depot.new) BeginBrings }
+        ensures rows { IfOk result (λ session. Between (D.told depot.old) (D.told depot.new) (BeginsRows session)) }
+        ensures beside { Between (D.told depot.old) (D.told depot.new) KeepsPlain }
         ensures numbers { IsErrOf result Write.Numbers → ⊥ }
         ensures cause { HasCause write_failed (D.faults depot.old) (D.faults depot.new) result }
         ensures ends { EndsAtFault write_failed (D.told depot.old) (D.told depot.new) result }
@@ -82,6 +89,11 @@ impl Session {
         ensures place { IfOk result (λ place. Between (D.told depot.old) (D.told depot.new) (Lies self.old place blob.now)) }
         ensures gains { Between (D.told depot.old) (D.told depot.new) (Brings self.old (PutEntry key.now blob.now)) }
         ensures rows { OnOk result (Between (D.told depot.old) (D.told depot.new) (KeepsRows self.old self.new)) }
+        ensures stays { Between (D.told depot.old) (D.told depot.new) (OnlyAppends self.old) }
+        ensures beside { Between (D.told depot.old) (D.told depot.new) KeepsPlain }
+        ensures ok { OnOk result (self.new ≡ after_entry self.old (41 + length blob.now)) }
+        ensures done { OnOk result (Between (D.told depot.old) (D.told depot.new) AllDone) }
+        ensures err { OnErr result (self.new ≡ record self.old { spent = true }) }
         ensures spent { self.new.spent ≡ is_err result }
         ensures numbers { IsErrOf result Write.Numbers
             ↔ (IsTrue (must_begin self.old.last self.old.size self.old.limit (41 + length blob.now)) × AreUsedUp self.old.last) }
@@ -98,10 +110,7 @@ impl Session {
                     size: blob.len() as u32,
                 })
             }
-            Err(fault) => {
-                self.spent = true;
-                Err(fault)
-            }
+            Err(fault) => Err(self.spend(fault)),
         }
     }
 
@@ -112,6 +121,11 @@ impl Session {
         ensures put { OnOk result (Between (D.told depot.old) (D.told depot.new) (Puts self.old self.new (DeleteEntry key.now))) }
         ensures gains { Between (D.told depot.old) (D.told depot.new) (Brings self.old (DeleteEntry key.now)) }
         ensures rows { OnOk result (Between (D.told depot.old) (D.told depot.new) (KeepsRows self.old self.new)) }
+        ensures stays { Between (D.told depot.old) (D.told depot.new) (OnlyAppends self.old) }
+        ensures beside { Between (D.told depot.old) (D.told depot.new) KeepsPlain }
+        ensures ok { OnOk result (self.new ≡ after_entry self.old 41) }
+        ensures done { OnOk result (Between (D.told depot.old) (D.told depot.new) AllDone) }
+        ensures err { OnErr result (self.new ≡ record self.old { spent = true }) }
         ensures spent { self.new.spent ≡ is_err result }
         ensures numbers { IsErrOf result Write.Numbers
             ↔ (IsTrue (must_begin self.old.last self.old.size self.old.limit 41) × AreUsedUp self.old.last) }
@@ -124,10 +138,7 @@ impl Session {
                 self.take_entry(room, PUT_HEAD);
                 Ok(())
             }
-            Err(fault) => {
-                self.spent = true;
-                Err(fault)
-            }
+            Err(fault) => Err(self.spend(fault)),
         }
     }
 
@@ -136,7 +147,14 @@ impl Session {
         requires not_spent { self.old.spent ≡ false }
         ensures moments { Between (D.told depot.old) (D.told depot.new) (KeepsOrCommits self.old) }
         ensures committed { OnOk result (Between (D.told depot.old) (D.told depot.new) (Commits self.old self.new)) }
-        ensures number { IfOk result (λ number. (self.new.after ≡ Some number) × (number ≡ behind self.old.last)) }
+        ensures gains { Between (D.told depot.old) (D.told depot.new) (BringsNone self.old) }
+        ensures rows { OnOk result (Between (D.told depot.old) (D.told depot.new) (KeepsRows self.old self.new)) }
+        ensures stays { Between (D.told depot.old) (D.told depot.new) (OnlyAppends self.old) }
+        ensures beside { Between (D.told depot.old) (D.told depot.new) KeepsPlain }
+        ensures number { IfOk result (λ number. number ≡ behind self.old.last) }
+        ensures ok { OnOk result (self.new ≡ after_commit self.old) }
+        ensures done { OnOk result (Between (D.told depot.old) (D.told depot.new) AllDone) }
+        ensures err { OnErr result (self.new ≡ record self.old { spent = true }) }
         ensures spent { self.new.spent ≡ is_err result }
         ensures numbers { IsErrOf result Write.Numbers ↔ AreUsedUp self.old.last }
         ensures cause { HasCause write_failed (D.faults depot.old) (D.faults depot.new) result }
@@ -149,10 +167,7 @@ impl Session {
                 self.size = None;
                 Ok(number)
             }
-            Err(fault) => {
-                self.spent = true;
-                Err(fault)
-            }
+            Err(fault) => Err(self.spend(fault)),
         }
     }
 }
@@ -225,6 +240,15 @@ impl Session {
         sync_current(depot, self.last, self.size)?;
         append_commit(depot, number)?;
         Ok(number)
+    }
+
+    /// Takes a fault into account: no further call may be made.
+    fn spend(&mut self, fault: WriteFault) -> WriteFault
+        ensures fault { result ≡ fault }
+        ensures spent { self.new ≡ record self.old { spent = true } }
+    {
+        self.spent = true;
+        fault
     }
 
     /// Takes an entry of this size into account, which was written there.

@@ -1,7 +1,7 @@
-use Rattle.std.proofs.Common.{◌≡◌, ℕ, List, ◌++◌, Some, None, option_map, refl, sym, ◌∙◌, ap, subst}
+use Rattle.std.proofs.Common.{ℕ, List, ◌++◌, option_map, sym, ◌∙◌, ap, subst}
 use Rattle.ferry_disk.specs.Device.{WritesSome}
 use Rattle.ferry_repo.specs.Opening.{repo_view, cached_in}
-use Rattle.ferry_top.specs.Check.{Checks, report_line}
+use Rattle.ferry_top.specs.Check.{Checks}
 use Rattle.ferry_top.specs.Devices.{written}
 use Rattle.ferry_top.specs.declared.status.Status.{Status}
 use Rattle.ferry_top.proofs.CheckLemmas.{is_checked, cut_line, none_there, some_there}

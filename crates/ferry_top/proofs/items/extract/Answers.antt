@@ -1,19 +1,18 @@
-use Rattle.std.proofs.Common.{◌≡◌, ◌⊎◌, ℕ, List, None, IfSome, option_map, is_some, true, false, refl, sym, ◌∙◌, ap, subst, inl, inr}
+use Rattle.std.proofs.Common.{◌≡◌, ℕ, List, None, IfSome, option_map, is_some, true, false, refl, sym, ◌∙◌, ap, subst, inl, inr}
 use Rattle.ferry_disk.specs.Device.{told_files}
-use Rattle.ferry_disk.specs.Files.{Files}
 use Rattle.ferry_disk.proofs.DeviceLemmas.{told_then, told_with}
 use Rattle.ferry_manifest.specs.declared.manifest.ArchiveRef.{ArchiveRef}
 use Rattle.ferry_repo.specs.Archives.{archive_named}
-use Rattle.ferry_repo.specs.Opening.{RepoState, OpensFilesTo, repo_view, cached_in}
-use Rattle.ferry_view.specs.Items.{IsFile, IsFileText, LacksFile, RefusesFile}
+use Rattle.ferry_repo.specs.Opening.{OpensFilesTo, repo_view, cached_in}
+use Rattle.ferry_view.specs.Items.{IsFile, IsFileText, RefusesFile}
 use Rattle.ferry_view.specs.Output.{ShowsAll, ShowsSome}
 use Rattle.ferry_view.specs.declared.fault.ViewFault.{ViewFault}
 use Rattle.ferry_view.specs.declared.fault.ViewFault.TheVariants as View
 use Rattle.ferry_top.specs.Devices.{written}
-use Rattle.ferry_top.specs.Items.{OpensWith, LacksArchive, LacksPath, RefusesShowing, ShowsFile, ShowsFileFront}
+use Rattle.ferry_top.specs.Items.{LacksPath, RefusesShowing, ShowsFile, ShowsFileFront}
 use Rattle.ferry_top.specs.Run.{PrintsAsRead}
 use Rattle.ferry_top.specs.declared.status.Status.{Status}
-use Rattle.ferry_top.proofs.ItemsLemmas.{all_shown, fits_later, named_there, not_named, not_shown, opens_with}
+use Rattle.ferry_top.proofs.ItemsLemmas.{all_shown, fits_later, named_there, not_named, not_shown}
 use Rattle.ferry_top.proofs.items.extract.Goals as goal
 
 pub extract-requires : goal.extract-requires

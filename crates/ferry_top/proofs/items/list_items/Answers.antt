@@ -1,9 +1,8 @@
 use Rattle.std.proofs.Common.{◌≡◌, ℕ, List, None, IfSome, refl, sym, subst}
 use Rattle.ferry_disk.specs.Device.{told_files}
-use Rattle.ferry_disk.specs.Files.{Files}
 use Rattle.ferry_disk.proofs.DeviceLemmas.{told_then}
 use Rattle.ferry_repo.specs.Archives.{archive_named}
-use Rattle.ferry_repo.specs.Opening.{RepoState, repo_view, cached_in}
+use Rattle.ferry_repo.specs.Opening.{repo_view, cached_in}
 use Rattle.ferry_view.specs.Items.{IsItemListing, IsItemText, RefusesItems}
 use Rattle.ferry_view.specs.Output.{ShowsAll, ShowsSome}
 use Rattle.ferry_view.specs.declared.fault.ViewFault.{ViewFault}

@@ -1,5 +1,5 @@
 use Rattle.std.proofs.Common.{[], ◌∷◌, ◌++◌, ℕ, List, Result, Ok, Err, subst}
-use Rattle.ferry_disk.specs.Act.{Step, AppendTo, SyncOf}
+use Rattle.ferry_disk.specs.Act.{AppendTo, SyncOf}
 use Rattle.ferry_segment.specs.Entry.{CommitEntry, spelling}
 use Rattle.ferry_segment.specs.Segment.{magic}
 use Rattle.ferry_write.specs.Script.{Ran}

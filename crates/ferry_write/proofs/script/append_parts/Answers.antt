@@ -1,5 +1,5 @@
 use Rattle.std.proofs.Common.{[], ◌∷◌, ◌++◌, Result}
-use Rattle.ferry_disk.specs.Act.{Step, AppendTo, SyncOf}
+use Rattle.ferry_disk.specs.Act.{AppendTo}
 use Rattle.ferry_write.specs.Script.{Ran}
 use Rattle.ferry_write.specs.declared.fault.WriteFault.{WriteFault}
 use Rattle.ferry_write.proofs.ScriptLemmas.{ran_then, ran_front, err_is}

@@ -1,5 +1,5 @@
 use Rattle.std.proofs.Common.{[], ◌∷◌, ◌++◌, Result}
-use Rattle.ferry_disk.specs.Act.{Step, AppendTo, SyncOf}
+use Rattle.ferry_disk.specs.Act.{AppendTo}
 use Rattle.ferry_segment.specs.Segment.{magic}
 use Rattle.ferry_write.specs.Room.{sync_steps}
 use Rattle.ferry_write.specs.Script.{Ran}

@@ -1,12 +1,22 @@
-use Rattle.std.proofs.Common.{[], ◌∷◌, ℕ, List, Result, Vec, subst, sym}
+use Rattle.std.proofs.Common.{[], ℕ, List, Result, Vec, subst}
 use Rattle.std.specs.Global.{Global}
-use Rattle.ferry_disk.specs.Act.{SettleAll}
 use Rattle.ferry_write.specs.Room.{behind}
 use Rattle.ferry_write.specs.Script.{Clears, Ran, removals}
 use Rattle.ferry_write.specs.declared.fault.WriteFault.{WriteFault}
 use Rattle.ferry_write.proofs.ScriptLemmas.{ran_as, ran_fault, err_is}
-use Rattle.ferry_write.proofs.BeginLemmas.{clears_ok, clears_err}
+use Rattle.ferry_write.proofs.BeginLemmas.{clears_ok, clears_err, clears_none}
 use Rattle.ferry_write.proofs.script.clear.Goals as goal
+
+pub returns-in_err-settle_all-clause-clears : goal.returns-in_err-settle_all-clause-clears
+returns-in_err-settle_all-clause-clears g c =
+    let a = g.D.Shelf.told c.args.depot.now in
+    let b = g.D.Shelf.told c.settle_all.new.depot in
+    let n = g.D.Shelf.faults c.args.depot.now in
+    let m = g.D.Shelf.faults c.settle_all.new.depot in
+    let fault = c.in_err-settle_all.field-0.0 in
+    err_is c.from_residual.result fault
+    (λ (r : Result (Unit {0}) WriteFault). Clears (behind c.args.after) a b n m r) c.from_residual.ensures.1
+    (clears_none (behind c.args.after) a b n m fault c.in_err-settle_all.ensures.ran)
 
 pub returns-in_err-numbers-clause-clears : goal.returns-in_err-numbers-clause-clears
 returns-in_err-numbers-clause-clears g c =

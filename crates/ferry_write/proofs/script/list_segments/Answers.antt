@@ -1,4 +1,4 @@
-use Rattle.std.proofs.Common.{[], ◌∷◌, ℕ, Result, Vec}
+use Rattle.std.proofs.Common.{[], ℕ, Result, Vec}
 use Rattle.std.specs.Global.{Global}
 use Rattle.ferry_write.specs.Fault.{store_fault}
 use Rattle.ferry_write.specs.Script.{Ran}

@@ -1,4 +1,4 @@
-use Rattle.std.proofs.Common.{◌≡◌, [], ◌∷◌, true, nat_lt, sym, ◌∙◌}
+use Rattle.std.proofs.Common.{◌≡◌, [], ◌∷◌, true, nat_lt}
 use Rattle.ferry_disk.specs.Act.{RemoveOf}
 use Rattle.ferry_write.specs.Room.{behind}
 use Rattle.ferry_write.proofs.ScriptLemmas.{kept_ran}

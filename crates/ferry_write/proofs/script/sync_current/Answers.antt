@@ -1,4 +1,3 @@
-use Rattle.std.proofs.Common.{◌≡◌, None}
 use Rattle.ferry_write.proofs.ScriptLemmas.{unsized_ran, unwritten_ran}
 use Rattle.ferry_write.proofs.script.sync_current.Goals as goal
 

@@ -1,7 +1,11 @@
-use Rattle.std.proofs.Common.{Ok, Err, ◌≡◌, ◌+◌, length, refl, arith}
+use Rattle.std.proofs.Common.{Ok, Err, arith}
 use Rattle.ferry_write.proofs.CallLemmas.{put_fit, put_keeps, put_takes, put_lies}
 use Rattle.ferry_write.proofs.CallLemmas.{put_size}
 use Rattle.ferry_write.proofs.GainLemmas.{put_brings, put_takes_rows}
+use Rattle.ferry_write.proofs.PlainLemmas.{put_plain}
+use Rattle.ferry_write.proofs.RoomLemmas.{takes_entry}
+use Rattle.ferry_write.proofs.ScriptLemmas.{ran_done}
+use Rattle.ferry_write.proofs.StayLemmas.{put_stays}
 use Rattle.ferry_write.proofs.session.Session.put.Goals as goal
 
 pub returns-in-Ok-clause-moments : goal.returns-in-Ok-clause-moments
@@ -53,3 +57,36 @@ returns-in-Ok-clause-rows g c =
     (g.D.Shelf.faults c.args.depot.now) (g.D.Shelf.faults c.write_put.new.depot) c.in-Ok.room c.put_head-head.ensures
     (put_fit c.args.key.now c.args.blob.now head c.put_head-head.ensures (omega arith) c.requires.small)
     c.take_entry.ensures (put_size c.args.key.now c.args.blob.now head c.put_head-head.ensures (omega arith)) c.in-Ok.ensures.room c.in-Ok.ensures.ran
+
+pub returns-in-Ok-clause-beside : goal.returns-in-Ok-clause-beside
+returns-in-Ok-clause-beside g c =
+    put_plain c.args.self.now c.put_head-head.result c.args.blob.now (g.D.Shelf.told c.args.depot.now) (g.D.Shelf.told c.write_put.new.depot)
+    (g.D.Shelf.faults c.args.depot.now) (g.D.Shelf.faults c.write_put.new.depot)
+    (Ok c.in-Ok.room) c.in-Ok.ensures.ran
+
+pub returns-in-Err-clause-beside : goal.returns-in-Err-clause-beside
+returns-in-Err-clause-beside g c =
+    put_plain c.args.self.now c.put_head-head.result c.args.blob.now (g.D.Shelf.told c.args.depot.now) (g.D.Shelf.told c.write_put.new.depot)
+    (g.D.Shelf.faults c.args.depot.now) (g.D.Shelf.faults c.write_put.new.depot)
+    (Err c.in-Err.fault) c.in-Err.ensures.ran
+
+pub returns-in-Ok-clause-ok : goal.returns-in-Ok-clause-ok
+returns-in-Ok-clause-ok g c =
+    takes_entry c.args.self.now c.take_entry.new.self c.in-Ok.room _ _ c.take_entry.ensures c.in-Ok.ensures.room (omega arith)
+
+pub returns-in-Ok-clause-done : goal.returns-in-Ok-clause-done
+returns-in-Ok-clause-done g c =
+    ran_done _ (g.D.Shelf.told c.args.depot.now) (g.D.Shelf.told c.write_put.new.depot) (g.D.Shelf.faults c.args.depot.now)
+    (g.D.Shelf.faults c.write_put.new.depot) c.in-Ok.room c.in-Ok.ensures.ran
+
+pub returns-in-Ok-clause-stays : goal.returns-in-Ok-clause-stays
+returns-in-Ok-clause-stays g c =
+    put_stays c.args.self.now c.put_head-head.result c.args.blob.now (g.D.Shelf.told c.args.depot.now) (g.D.Shelf.told c.write_put.new.depot)
+    (g.D.Shelf.faults c.args.depot.now) (g.D.Shelf.faults c.write_put.new.depot)
+    (Ok c.in-Ok.room) c.in-Ok.ensures.ran
+
+pub returns-in-Err-clause-stays : goal.returns-in-Err-clause-stays
+returns-in-Err-clause-stays g c =
+    put_stays c.args.self.now c.put_head-head.result c.args.blob.now (g.D.Shelf.told c.args.depot.now) (g.D.Shelf.told c.write_put.new.depot)
+    (g.D.Shelf.faults c.args.depot.now) (g.D.Shelf.faults c.write_put.new.depot)
+    (Err c.in-Err.fault) c.in-Err.ensures.ran

@@ -1,4 +1,4 @@
-use Rattle.std.proofs.Common.{[], ◌∷◌, ◌++◌, ◌≡◌, ℕ, List, Result, Ok, Err, subst}
+use Rattle.std.proofs.Common.{[], ◌∷◌, ◌++◌, ℕ, List, Result, Ok, Err, subst}
 use Rattle.ferry_disk.specs.Act.{Step, AppendTo, SyncOf}
 use Rattle.ferry_segment.specs.Entry.{CommitEntry, spelling}
 use Rattle.ferry_segment.specs.Segment.{magic}

@@ -1,4 +1,4 @@
-use Rattle.std.proofs.Common.{[], ◌∷◌, ◌++◌, ◌+◌, ℕ, List, length, Result, Ok, Err}
+use Rattle.std.proofs.Common.{[], ◌∷◌, ◌++◌, ℕ, List, length, Result, Ok, Err}
 use Rattle.ferry_disk.specs.Act.{Step, AppendTo}
 use Rattle.ferry_write.specs.Room.{must_begin, room_of, room_steps}
 use Rattle.ferry_write.specs.Script.{Ran}

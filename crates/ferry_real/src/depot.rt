@@ -1,0 +1,91 @@
+//! The device over a repository's folder that is written as well.
+ghost use Rattle.std.specs.Prelude.{◌≡◌, None};
+ghost use Rattle.ferry_disk.specs.Device.{HasCause, store_failed};
+ghost use Rattle.ferry_real.specs.Count.{count_after};
+
+use crate::count::count_store;
+use crate::writer::Writer;
+use ferry_disk::{Depot, Name, Shelf, StoreFault};
+use std::alloc::{AllocError, Global};
+use std::rt::Runtime;
+
+/// A repository's files in a folder, and standard output for its lines. It tells nothing of them, and counts its faults.
+#[derive(Drop)]
+pub struct FolderDepot<R: Runtime> {
+    writer: Writer<R>,
+    faults: u64,
+}
+
+impl<R: Runtime> FolderDepot<R> {
+    /// The files of the repository at this path. A folder that isn't there has none, and is made by the first call that writes a file. For
+    /// the word `-` and the empty one every file is absent, and each call that writes but `tell` fails.
+    pub fn new(rt: R, alloc: Global, place: &str) -> Result<FolderDepot<R>, AllocError> {
+        let writer = Writer::new(rt, alloc, place)?;
+        Ok(FolderDepot { writer, faults: 0 })
+    }
+
+    /// Counts what a call that writes has answered. After one that failed the files are looked at anew.
+    fn count(&mut self, outcome: Result<(), StoreFault>) -> Result<(), StoreFault>
+        ensures outcome { result ≡ outcome }
+        ensures count { self.new.faults ≡ count_after store_failed self.old.faults result }
+        ensures cause { HasCause store_failed self.old.faults self.new.faults result }
+    {
+        if let Err(StoreFault::Failed) = &outcome {
+            self.writer.forget();
+        }
+        count_store(&mut self.faults, outcome)
+    }
+}
+
+impl<R: Runtime> Shelf for FolderDepot<R> {
+    ghost told = { λ _. None };
+
+    ghost faults = { λ d. d.faults };
+
+    fn segments(&mut self, alloc: Global) -> Result<Vec<u64>, StoreFault> {
+        let outcome = self.writer.folder.segments(alloc);
+        count_store(&mut self.faults, outcome)
+    }
+
+    fn size(&mut self, name: Name) -> Result<Option<u64>, StoreFault> {
+        let outcome = self.writer.folder.size(name);
+        count_store(&mut self.faults, outcome)
+    }
+
+    fn read_at(&mut self, name: Name, at: u64, into: &mut [u8]) -> Result<usize, StoreFault> {
+        let outcome = self.writer.folder.read_at(name, at, into);
+        count_store(&mut self.faults, outcome)
+    }
+}
+
+impl<R: Runtime> Depot for FolderDepot<R> {
+    fn append(&mut self, segment: u64, bytes: &[u8]) -> Result<(), StoreFault> {
+        let outcome = self.writer.append(segment, bytes);
+        self.count(outcome)
+    }
+
+    fn sync(&mut self, segment: u64) -> Result<(), StoreFault> {
+        let outcome = self.writer.sync(segment);
+        self.count(outcome)
+    }
+
+    fn remove(&mut self, segment: u64) -> Result<(), StoreFault> {
+        let outcome = self.writer.remove(segment);
+        self.count(outcome)
+    }
+
+    fn replace(&mut self, name: Name, bytes: &[u8]) -> Result<(), StoreFault> {
+        let outcome = self.writer.replace(name, bytes);
+        self.count(outcome)
+    }
+
+    fn settle(&mut self) -> Result<(), StoreFault> {
+        let outcome = self.writer.settle();
+        self.count(outcome)
+    }
+
+    fn tell(&mut self, line: &[u8]) -> Result<(), StoreFault> {
+        let outcome = self.writer.tell(line);
+        self.count(outcome)
+    }
+}

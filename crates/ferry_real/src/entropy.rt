@@ -1,0 +1,64 @@
+//! The device over the system's random bytes.
+ghost use Rattle.std.specs.Prelude.{None};
+
+use crate::count::count_entropy;
+use crate::read::fill;
+use ferry_disk::{Entropy, EntropyFault};
+use std::fs::File;
+use std::rt::Runtime;
+
+/// The file with the system's random bytes.
+const RANDOM_BYTES: &str = "/dev/urandom";
+
+/// The system's random bytes. It tells nothing of what it handed out, and counts its faults.
+#[derive(Drop)]
+pub struct SystemEntropy<R: Runtime> {
+    rt: R,
+    /// The file that they are read from, which stays open.
+    opened: Option<R::File>,
+    faults: u64,
+}
+
+impl<R: Runtime> SystemEntropy<R> {
+    /// The system's random bytes; nothing is opened yet.
+    pub fn new(rt: R) -> SystemEntropy<R> {
+        SystemEntropy {
+            rt,
+            opened: None,
+            faults: 0,
+        }
+    }
+}
+
+/// Fills `into` from the file, which is opened where it isn't open. Where fewer bytes come, and where none do, that is a failure.
+fn draw<R: Runtime>(
+    rt: &R,
+    opened: &mut Option<R::File>,
+    into: &mut [u8],
+) -> Result<(), EntropyFault> {
+    let mut file = match opened.take() {
+        Some(file) => file,
+        None => match File::open(rt, RANDOM_BYTES) {
+            Ok(file) => file,
+            Err(_) => return Err(EntropyFault::Failed),
+        },
+    };
+    match fill(&mut file, into) {
+        Ok(count) if count == into.len() => {
+            *opened = Some(file);
+            Ok(())
+        }
+        _ => Err(EntropyFault::Failed),
+    }
+}
+
+impl<R: Runtime> Entropy for SystemEntropy<R> {
+    ghost drawn = { λ _. None };
+
+    ghost faults = { λ e. e.faults };
+
+    fn fill(&mut self, into: &mut [u8]) -> Result<(), EntropyFault> {
+        let outcome = draw(&self.rt, &mut self.opened, into);
+        count_entropy(&mut self.faults, outcome)
+    }
+}

@@ -1,0 +1,226 @@
+//! A repository's folder, whose files are read where they lie. No fault is counted here.
+ghost use Rattle.std.specs.Prelude.{◌≤◌, length, IfOk};
+ghost use Rattle.std.specs.List.Sorted.{IsStrictlyIncreasing};
+
+use crate::count::store_fault;
+use crate::listing::{Listing, numbers};
+use crate::names::Location;
+use crate::place::{Place, file_name};
+use crate::read::read_file_at;
+use crate::walk::walk;
+use ferry_config::{ConfigFault, read_config};
+use ferry_disk::{Name, StoreFault};
+use std::alloc::{AllocError, Global};
+use std::fs;
+use std::fs::File;
+use std::io::ErrorKind;
+use std::num::NonZeroU64;
+use std::rt::Runtime;
+
+/// How many segments a folder of `data` holds, where the repository's settings don't read.
+/// Source: BorgBackup 1.2, Internals, Repository.
+const SEGMENTS_PER_FOLDER: u64 = 1000;
+
+/// Whether there is anything at a repository's place.
+#[derive(Clone, Copy, Debug, PartialEq, Eq)]
+pub enum Presence {
+    /// Something is there, or it can't be told.
+    There,
+    /// Nothing is there.
+    Absent,
+    /// The word stands for no folder.
+    Unnamed,
+}
+
+/// A repository's folder.
+#[derive(Drop)]
+pub struct Folder<R: Runtime> {
+    pub rt: R,
+    pub alloc: Global,
+    /// The folder's place, `None` where the word stands for no folder.
+    pub place: Option<Place>,
+    /// What lies below `data`, `None` before it was listed.
+    pub found: Option<Listing>,
+    /// The file that was read last, which stays open.
+    opened: Option<Opened<R>>,
+}
+
+/// An open file.
+#[derive(Drop)]
+struct Opened<R: Runtime> {
+    name: Name,
+    file: R::File,
+}
+
+impl<R: Runtime> Folder<R> {
+    /// The folder at this path; nothing is looked at yet. The word `-` and an empty path name no folder.
+    pub fn new(rt: R, alloc: Global, path: &str) -> Result<Folder<R>, AllocError> {
+        let place = Place::named(alloc, path)?;
+        Ok(Folder {
+            rt,
+            alloc,
+            place,
+            found: None,
+            opened: None,
+        })
+    }
+
+    /// Whether the folder is there now. Nothing in it is looked at.
+    pub fn presence(&self) -> Presence {
+        let Some(place) = &self.place else {
+            return Presence::Unnamed;
+        };
+        match fs::metadata(&self.rt, place.path()) {
+            Err(error) if error.kind() == ErrorKind::NotFound => Presence::Absent,
+            _ => Presence::There,
+        }
+    }
+
+    /// The numbers of the segments that are there now, increasing.
+    pub fn segments(&mut self, alloc: Global) -> Result<Vec<u64>, StoreFault>
+        ensures increasing { IfOk result (λ numbers. IsStrictlyIncreasing numbers.items) }
+    {
+        self.opened = None;
+        let found = self.list()?;
+        let listed = numbers(alloc, &found.places);
+        self.found = Some(found);
+        match listed {
+            Ok(numbers) => Ok(numbers),
+            Err(_) => Err(StoreFault::Memory),
+        }
+    }
+
+    /// A file's length in bytes, `None` where it is absent.
+    pub fn size(&mut self, name: Name) -> Result<Option<u64>, StoreFault> {
+        match self.path_of(name)? {
+            Some(path) => length_of(&self.rt, path.as_str()),
+            None => Ok(None),
+        }
+    }
+
+    /// Fills the front of `into` from byte `at` of a file on, and answers how many bytes it got.
+    pub fn read_at(&mut self, name: Name, at: u64, into: &mut [u8]) -> Result<usize, StoreFault>
+        ensures within { IfOk result (λ count. count ≤ length into.old) }
+    {
+        self.open(name)?;
+        match &mut self.opened {
+            Some(opened) => read_file_at(&mut opened.file, at, into),
+            None => Ok(0),
+        }
+    }
+
+    /// Opens a file, where it isn't open. Nothing is open afterwards where the file is absent.
+    fn open(&mut self, name: Name) -> Result<(), StoreFault> {
+        if let Some(opened) = &self.opened
+            && opened.name == name
+        {
+            return Ok(());
+        }
+        self.opened = None;
+        let Some(path) = self.path_of(name)? else {
+            return Ok(());
+        };
+        if length_of(&self.rt, path.as_str())?.is_none() {
+            return Ok(());
+        }
+        match File::open(&self.rt, path.as_str()) {
+            Ok(file) => {
+                self.opened = Some(Opened { name, file });
+                Ok(())
+            }
+            Err(error) if error.kind() == ErrorKind::NotFound => Ok(()),
+            Err(error) => Err(store_fault(&error)),
+        }
+    }
+
+    /// Closes the file that was read last, which may be another one from now on.
+    pub fn close(&mut self) {
+        self.opened = None;
+    }
+
+    /// Where a file lies. `None` where there is no folder, or no segment of that number in it.
+    fn path_of(&mut self, name: Name) -> Result<Option<String>, StoreFault> {
+        match name {
+            Name::Segment(number) => self.path_of_segment(number),
+            _ => match (&self.place, file_name(name)) {
+                (Some(place), Some(name)) => Ok(Some(place.path_to(name)?)),
+                _ => Ok(None),
+            },
+        }
+    }
+
+    /// Where a segment's file lies, `None` where there is none.
+    pub fn path_of_segment(&mut self, number: u64) -> Result<Option<String>, StoreFault> {
+        match self.folder_of(number)? {
+            Some(folder) => self.path_in(number, folder),
+            None => Ok(None),
+        }
+    }
+
+    /// The path of a segment in this folder of `data`, `None` being `data` itself.
+    fn path_in(&self, number: u64, folder: Option<u64>) -> Result<Option<String>, StoreFault> {
+        match &self.place {
+            Some(place) => Ok(Some(place.segment(number, folder)?)),
+            None => Ok(None),
+        }
+    }
+
+    /// The folder of `data` that a segment's file lies in, where there is one. What lies below `data` is listed first, where it was
+    /// not.
+    pub fn folder_of(&mut self, number: u64) -> Result<Option<Option<u64>>, StoreFault> {
+        if self.found.is_none() {
+            self.found = Some(self.list()?);
+        }
+        let Some(found) = &self.found else {
+            return Ok(None);
+        };
+        let location: Option<Location> = found.places.get(&number).copied();
+        Ok(location.map(|location| found.folder(number, location)))
+    }
+
+    /// Finds the segments that are there.
+    pub fn list(&self) -> Result<Listing, StoreFault> {
+        let mut found = Listing::new(self.alloc, self.per_folder()?);
+        if let Some(place) = &self.place {
+            walk(&self.rt, place, &mut found)?;
+        }
+        Ok(found)
+    }
+
+    /// How many segments a folder of `data` holds.
+    fn per_folder(&self) -> Result<NonZeroU64, StoreFault> {
+        let said = match &self.place {
+            Some(place) => self.per_folder_in(place.path_to("config")?.as_str())?,
+            None => None,
+        };
+        let number = said.unwrap_or(SEGMENTS_PER_FOLDER);
+        Ok(NonZeroU64::new(number).unwrap_or(NonZeroU64::MIN))
+    }
+
+    /// The same as the file at a path says it, `None` where it isn't there or doesn't read as `config`.
+    fn per_folder_in(&self, path: &str) -> Result<Option<u64>, StoreFault> {
+        if length_of(&self.rt, path)?.is_none() {
+            return Ok(None);
+        }
+        let text = match fs::read(&self.rt, path) {
+            Ok(text) => text,
+            Err(error) if error.kind() == ErrorKind::NotFound => return Ok(None),
+            Err(error) => return Err(store_fault(&error)),
+        };
+        match read_config(self.alloc, text.as_slice()) {
+            Ok(config) => Ok(Some(config.per_dir)),
+            Err(ConfigFault::Memory) => Err(StoreFault::Memory),
+            Err(_) => Ok(None),
+        }
+    }
+}
+
+/// The length of the file at a path. Only a regular file is one: a pipe, say, would be waited for.
+pub fn length_of<R: Runtime>(rt: &R, path: &str) -> Result<Option<u64>, StoreFault> {
+    match fs::metadata(rt, path) {
+        Ok(metadata) if metadata.is_file() => Ok(Some(metadata.len())),
+        Ok(_) => Ok(None),
+        Err(error) if error.kind() == ErrorKind::NotFound => Ok(None),
+        Err(error) => Err(store_fault(&error)),
+    }
+}

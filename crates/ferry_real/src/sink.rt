@@ -1,0 +1,36 @@
+//! The device over standard output.
+ghost use Rattle.std.specs.Prelude.{None};
+
+use crate::count::{count_sink, sink_fault};
+use crate::write::write_all;
+use ferry_disk::{Sink, SinkFault};
+use std::io;
+use std::rt::Runtime;
+
+/// Standard output. It tells nothing of what was written, keeps nothing back, and counts its faults.
+#[derive(Drop)]
+pub struct StdSink<R: Runtime> {
+    rt: R,
+    faults: u64,
+}
+
+impl<R: Runtime> StdSink<R> {
+    /// Standard output.
+    pub fn new(rt: R) -> StdSink<R> {
+        StdSink { rt, faults: 0 }
+    }
+}
+
+impl<R: Runtime> Sink for StdSink<R> {
+    ghost written = { λ _. None };
+
+    ghost faults = { λ s. s.faults };
+
+    fn write(&mut self, bytes: &[u8]) -> Result<(), SinkFault> {
+        let outcome = match write_all(&mut io::writer(&self.rt), bytes) {
+            Ok(()) => Ok(()),
+            Err(error) => Err(sink_fault(&error)),
+        };
+        count_sink(&mut self.faults, outcome)
+    }
+}

@@ -1,0 +1,90 @@
+//! The pass over a repository's `data` that finds its segments.
+
+use crate::count::store_fault;
+use crate::listing::Listing;
+use crate::names::number_of;
+use crate::place::Place;
+use ferry_disk::StoreFault;
+use std::fs::{DirEntry, FileType, ReadDir};
+use std::io::ErrorKind;
+use std::rt::Runtime;
+use std::{fs, io};
+
+/// Finds the segments of a repository in its folder `data` and the numbered folders in it. There are none where `data`
+/// isn't there.
+pub fn walk<R: Runtime>(rt: &R, place: &Place, found: &mut Listing) -> Result<(), StoreFault> {
+    let data = place.data()?;
+    let Some(entries) = entries_of(rt, data.as_str())? else {
+        return Ok(());
+    };
+    for entry in entries {
+        match numbered(rt, entry)? {
+            Some((folder, kind)) if kind.is_dir() => walk_folder(rt, place, folder, found)?,
+            Some((number, kind)) if kind.is_file() => add(found, number, None)?,
+            _ => {}
+        }
+    }
+    Ok(())
+}
+
+/// Adds a numbered folder and its segments.
+fn walk_folder<R: Runtime>(
+    rt: &R,
+    place: &Place,
+    folder: u64,
+    found: &mut Listing,
+) -> Result<(), StoreFault> {
+    if found.folders.push(folder).is_err() {
+        return Err(StoreFault::Memory);
+    }
+    let path = place.folder(folder)?;
+    let Some(entries) = entries_of(rt, path.as_str())? else {
+        return Ok(());
+    };
+    for entry in entries {
+        match numbered(rt, entry)? {
+            Some((number, kind)) if kind.is_file() => add(found, number, Some(folder))?,
+            _ => {}
+        }
+    }
+    Ok(())
+}
+
+/// Adds a segment that was found in this folder, `None` being `data` itself.
+fn add(found: &mut Listing, number: u64, folder: Option<u64>) -> Result<(), StoreFault> {
+    match found.add(number, folder) {
+        Ok(()) => Ok(()),
+        Err(_) => Err(StoreFault::Memory),
+    }
+}
+
+/// The entries of a folder, `None` where it isn't there.
+fn entries_of<R: Runtime>(rt: &R, path: &str) -> Result<Option<ReadDir<R, R::A>>, StoreFault> {
+    match fs::read_dir(rt, path) {
+        Ok(entries) => Ok(Some(entries)),
+        Err(error) if error.kind() == ErrorKind::NotFound => Ok(None),
+        Err(error) => Err(store_fault(&error)),
+    }
+}
+
+/// The number that names an entry, and what the entry is. `None` where the name is no number or not text, or the entry has
+/// gone meanwhile.
+fn numbered<R: Runtime>(
+    rt: &R,
+    entry: io::Result<DirEntry<R, R::A>>,
+) -> Result<Option<(u64, FileType)>, StoreFault> {
+    let entry = match entry {
+        Ok(entry) => entry,
+        // std's answer to a name that isn't UTF-8; the entries go on behind it.
+        Err(error) if error.kind() == ErrorKind::InvalidFilename => return Ok(None),
+        Err(error) => return Err(store_fault(&error)),
+    };
+    let Some(number) = number_of(entry.file_name()) else {
+        return Ok(None);
+    };
+    match fs::metadata(rt, entry.path()) {
+        Ok(metadata) => Ok(Some((number, metadata.file_type()))),
+        Err(error) if error.kind() == ErrorKind::NotFound => Ok(None),
+        Err(error) => Err(store_fault(&error)),
+    }
+}

@@ -1,0 +1,4 @@
+pub mod CutLemmas
+pub mod CutterLemmas
+pub mod CuttingLemmas
+pub mod FeedLemmas

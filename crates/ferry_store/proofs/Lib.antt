@@ -1,0 +1,11 @@
+pub mod StepLemmas
+pub mod KeyLemmas
+pub mod BasisLemmas
+pub mod ManifestLemmas
+pub mod NewLemmas
+pub mod SoundLemmas
+pub mod CallLemmas
+pub mod PutLemmas
+pub mod InitLemmas
+pub mod StoreLemmas
+pub mod OpenLemmas

@@ -1,0 +1,412 @@
+-- Each moment of a repository that is written is sound.
+use Rattle.std.proofs.Common.{◌≡◌, ◌⊎◌, inl, inr, ℕ, ◌<◌, ◌≤◌, Bool, true, false, List, [], Option, Some, None}
+use Rattle.std.proofs.Common.{refl, sym, ◌∙◌, ap, subst, arith}
+use Rattle.ferry_blob.specs.Blob.{IsBlockOf, blocks}
+use Rattle.ferry_disk.specs.Act.{Step, ReplaceBy, SettleAll, Act, History, files_now, with_act}
+use Rattle.ferry_disk.specs.Files.{Files, file_at}
+use Rattle.ferry_disk.specs.Image.{PlainFate, MayStand, plain_in, plain_of, settled, ImageOf}
+use Rattle.ferry_disk.specs.Moments.{Moments}
+use Rattle.ferry_disk.specs.declared.name.Name.{Name}
+use Rattle.ferry_disk.specs.declared.name.Name.TheVariants.{Config as ConfigFile, Nonce as NonceFile, Readme}
+use Rattle.ferry_disk.proofs.ImageLemmas.{start_is_image, unsettled_image}
+use Rattle.ferry_nonce.proofs.MomentLemmas.{same_keeps, fits_left}
+use Rattle.ferry_nonce.proofs.TextLemmas.{one_number}
+use Rattle.ferry_nonce.specs.Counter.{CounterFits, KeepsAbove, LeavesNonce, reserves}
+use Rattle.ferry_nonce.specs.declared.counter.Counter.{Counter}
+use Rattle.ferry_segment.specs.Entry.{LogEntry, PutEntry}
+use Rattle.ferry_stops.proofs.BlobLemmas.{begin_traced}
+use Rattle.ferry_stops.proofs.GroundLemmas.{own_shows}
+use Rattle.ferry_stops.specs.Blobs.{BlobOf, AllTraced, Gains}
+use Rattle.ferry_stops.specs.Chance.{EachStop}
+use Rattle.ferry_stops.specs.Counters.{IsNonce, AreApart, TakenBelow, IsAbove, IsFresh, IsKept, Counts}
+use Rattle.ferry_stops.specs.Entries.{Shows}
+use Rattle.ferry_store.proofs.StepLemmas.{moments_map, moments_both, moments_start, moments_settled, step_moments}
+use Rattle.ferry_store.specs.State.{AreTaken, IsUnderWay, IsSound, Written, BeginsSound, Begins, with_entry, all_committed, IsStep, ShowsEither}
+use Rattle.ferry_write.proofs.LawLemmas.{beside_fits, beside_rows, beside_blobs}
+use Rattle.ferry_write.specs.Room.{behind}
+use Rattle.ferry_write.specs.Rows.{SessionRows, BeginBrings, BringsNone, BeginsRows, Brings, KeepsRows, IsPutOf}
+use Rattle.ferry_write.proofs.PlainLemmas.{plain_next}
+use Rattle.ferry_write.specs.Session.{CommittedUpTo, IsBeside, Commits, KeepsOrCommits, with_commit, SessionFits, BeginKeeps, Begins as SessionBegins}
+use Rattle.ferry_write.specs.Session.{Keeps, Puts, KeepsPlain, rests_at}
+use Rattle.ferry_write.specs.declared.session.Session.{Session}
+
+-- ---- fresh
+
+-- blobs of one history are those of another, so they are apart as well
+apart_as : (h g : History) → ((blob : List ℕ) → BlobOf g blob → BlobOf h blob) → AreApart (BlobOf h) → AreApart (BlobOf g)
+apart_as h g back apart a b x y = apart a b (back a x) (back b y)
+
+below_as : (h g : History) (n : ℕ) → ((blob : List ℕ) → BlobOf g blob → BlobOf h blob) → TakenBelow n h → TakenBelow n g
+below_as h g n back below blob number is block = below blob number (back blob is) block
+
+-- a counter that fits is above all that were taken, whatever a stop leaves
+pub fresh_by : (free : ℕ) (h : History) → settled h.acts ≡ true → Counts free h → AreTaken free h → IsFresh h
+fresh_by free h is_settled counts taken = record {
+  apart = taken.apart;
+  above = λ image is. (same_keeps free h is_settled counts taken.below).last.above image is;
+}
+
+-- ---- a moment as it stands
+
+pub sound_now : (counts : Bool) (session : Session) (counter : Counter) (written : Written) (h : History)
+    → IsUnderWay counts session counter written h → IsSound (λ image. Shows image written.committed) counts h
+sound_now counts session counter written h u = record {
+  shows = λ image left. (_, own_shows _ written.committed h u.fits.own image left);
+  traced = u.rows.traced;
+  fresh = λ e. fresh_by counter.free h u.fits.own.safe.settled_is u.counter_fits.free (u.taken e);
+}
+
+-- ---- the begin of a run
+
+-- at the begin of a run nothing of a plain file is in doubt
+plain_begun : (h : History) (name : Name) → h.acts ≡ [] → plain_in h name ≡ rests_at (file_at h.start name)
+unfolding plain_of
+plain_begun h name e = ap (λ (acts : List Act). plain_of (file_at h.start name) acts name) e
+
+-- and what a read gives is the start
+files_begun : (h : History) → h.acts ≡ [] → files_now h ≡ h.start
+files_begun h e = ap (λ (acts : List Act). Rattle.ferry_disk.specs.Act.applied h.start acts) e
+
+unsettled_begun : (h : History) → h.acts ≡ [] → settled h.acts ≡ false
+unsettled_begun h e = ap settled e
+
+pub image_begun : (h : History) (image : Files) → h.acts ≡ [] → ImageOf h image → image ≡ files_now h
+image_begun h image e is = (unsettled_image h.start h.acts image (unsettled_begun h e)).0 is ∙ sym (files_begun h e)
+
+pub shows_begun : (after : Option ℕ) (committed : Option (List LogEntry)) (h : History) → h.acts ≡ [] → CommittedUpTo after committed (files_now h)
+    → EachStop (λ image. Shows image committed) h
+shows_begun after committed h e shown image left =
+    subst (λ (f : Files). Shows f committed) (sym (image_begun h image e left.image_is)) (behind after, shown)
+
+pub traced_begun : (h : History) → h.acts ≡ [] → AllTraced h
+traced_begun h e = subst AllTraced (ap (λ (acts : List Act). record { start = h.start; past = h.past; acts = acts }) (sym e)) (begin_traced h.start h.past)
+
+-- where nothing of a file is in doubt, a stop leaves what a read gives
+rest_stands : (file image : Option (List ℕ)) (fate : PlainFate) → fate ≡ rests_at file → MayStand fate image → image ≡ file
+rest_stands file image fate e (inl is) = is ∙ ap (λ (f : PlainFate). f.read) e
+rest_stands file image fate e (inr is) =
+    let none : fate.perhaps ≡ None = ap (λ (f : PlainFate). f.perhaps) e in
+    let both : None ≡ Some is.0 = sym none ∙ is.1 in absurd (let no : ⊥ = cc in no)
+
+-- the file `nonce` that a stop leaves, where nothing of it is in doubt and the run began with it
+nonce_left : (h : History) (image : Files) → plain_in h NonceFile ≡ rests_at h.start.nonce → ImageOf h image → image.nonce ≡ h.start.nonce
+nonce_left h image rest is = by_settled (settled h.acts) refl where
+  by_settled : (b : Bool) → settled h.acts ≡ b → image.nonce ≡ h.start.nonce
+  by_settled true e = rest_stands h.start.nonce image.nonce (plain_in h NonceFile) rest (is.after e).nonce
+  by_settled false e = ap (λ (f : Files). f.nonce) (is.before e)
+
+-- what was kept at the begin is above, at each moment at which the file is as it was
+above_later : (h g : History) → h.acts ≡ [] → IsKept h → g.start ≡ h.start → plain_in g NonceFile ≡ rests_at h.start.nonce
+    → ((blob : List ℕ) → BlobOf g blob → BlobOf h blob) → (image : Files) → ImageOf g image → IsAbove g image
+above_later h g e kept start rest back image is =
+    let above = kept.fresh.above h.start (start_is_image h.start h.acts (unsettled_begun h e)) in
+    let same : h.start.nonce ≡ g.start.nonce = ap (λ (f : Files). f.nonce) (sym start) in
+    let left : image.nonce ≡ h.start.nonce = nonce_left g image (rest ∙ ap rests_at same) is ∙ sym same in
+    record {
+      value = above.value;
+      nonce = subst (λ (f : Option (List ℕ)). IsNonce f above.value) (sym left) above.nonce;
+      above = λ blob number known block. above.above blob number (back blob known) block;
+    }
+
+none_new : (h g : History) → Gains h (λ _. ⊥) g → (blob : List ℕ) → BlobOf g blob → BlobOf h blob
+none_new h g gains blob is = by_sum (gains.gained blob is) where
+  by_sum : BlobOf h blob ⊎ ⊥ → BlobOf h blob
+  by_sum (inl known) = known
+  by_sum (inr none) = absurd none
+
+-- at each moment of a session that begins
+pub begin_sound : (after : Option ℕ) (h g : History) → BeginKeeps after h g → BeginBrings h g → KeepsPlain h g → BeginsSound after h g
+begin_sound after h g keeps brings plain counts committed begun =
+    let rest = plain_begun h NonceFile begun.no_acts in
+    let nonce = plain NonceFile (file_at h.start NonceFile) rest in
+    let shows = keeps committed begun.shown (shows_begun after committed h begun.no_acts begun.shown) in
+    let gains = brings begun.no_acts in
+    let start = moments_start _ h g gains in
+    moments_map _ (IsSound (λ image. Shows image committed) counts) h g (λ m all. record {
+      shows = all.0.0;
+      traced = all.0.1.traced;
+      fresh = λ e. record {
+        apart = apart_as h m (none_new h m all.0.1) (begun.kept e).fresh.apart;
+        above = above_later h m begun.no_acts (begun.kept e) all.1.1 all.1.0 (none_new h m all.0.1);
+      };
+    })
+    (moments_both _ _ h g (moments_both _ _ h g shows gains) (moments_both _ _ h g nonce start))
+
+-- a counter's file is as it was
+counts_kept : (n : ℕ) (h g : History) → KeepsPlain h g → Counts n h → Counts n g
+counts_kept n h g plain counts = record {
+  file = counts.file;
+  at_rest = (plain NonceFile counts.file counts.at_rest).last;
+  value = counts.value;
+  nonce = counts.nonce;
+  within = counts.within;
+}
+
+pub counter_kept : (counter : Counter) (h g : History) → KeepsPlain h g → CounterFits counter h → CounterFits counter g
+counter_kept counter h g plain fits = record {
+  reserved = counts_kept counter.reserved h g plain fits.reserved;
+  free = counts_kept counter.free h g plain fits.free;
+}
+
+-- at the begin of a run all blocks are below the number of the file
+taken_begun : (free : ℕ) (h : History) → h.acts ≡ [] → IsKept h → IsNonce (file_at (files_now h) NonceFile) free → AreTaken free h
+taken_begun free h e kept is =
+    let above = kept.fresh.above h.start (start_is_image h.start h.acts (unsettled_begun h e)) in
+    let same : free ≡ above.value =
+    one_number h.start.nonce free above.value (subst (λ (f : Files). IsNonce f.nonce free) (files_begun h e) is) above.nonce in
+    record { apart = kept.fresh.apart; below = λ blob number known block. subst (λ (n : ℕ). number < n) (sym same) (above.above blob number known block) }
+
+taken_later : (free : ℕ) (h g : History) → ((blob : List ℕ) → BlobOf g blob → BlobOf h blob) → AreTaken free h → AreTaken free g
+taken_later free h g back taken = record { apart = apart_as h g back taken.apart; below = below_as h g free back taken.below }
+
+pub begin_stands : (after : Option ℕ) (counter : Counter) (session : Session) (h g : History) → IsNonce (file_at (files_now h) NonceFile) counter.free
+    → ((plain_in h NonceFile).perhaps ≡ None → CounterFits counter h) → SessionBegins after session h g → BeginsRows session h g → BeginBrings h g
+    → KeepsPlain h g → Begins after counter session h g
+begin_stands after counter session h g number opened begins rows brings plain counts committed begun =
+    let e = begun.no_acts in
+    let rest = plain_begun h NonceFile e in
+    let same = files_begun h e in
+    let back = none_new h g (brings e).last in
+    record {
+      fits = begins committed begun.shown;
+      rows = rows e;
+      counter_fits = counter_kept counter h g plain (opened (ap (λ (f : PlainFate). f.perhaps) rest));
+      config = (plain ConfigFile (file_at h.start ConfigFile) (plain_begun h ConfigFile e)).last ∙ ap (λ (f : Files). rests_at f.config) (sym same);
+      readme = (plain Readme (file_at h.start Readme) (plain_begun h Readme e)).last ∙ ap (λ (f : Files). rests_at f.readme) (sym same);
+      taken = λ c. taken_later counter.free h g back (taken_begun counter.free h e (begun.kept c) number);
+    }
+
+-- ---- an entry that is put
+
+-- the blob of an entry that is put is new, with blocks from a number on, or is none
+abbrev pub TakesBlocks : LogEntry → ℕ → ℕ → Type 0
+TakesBlocks entry first behind = (blob : List ℕ) (number : ℕ) → IsPutOf entry blob → IsBlockOf blob number → (first ≤ number) × (number < behind)
+
+pub put_same : (id blob other : List ℕ) → IsPutOf (PutEntry id blob) other → other ≡ blob
+put_same id blob other put = let e = put.1 in cc
+
+one_put : (entry : LogEntry) (a b : List ℕ) → IsPutOf entry a → IsPutOf entry b → a ≡ b
+one_put entry a b x y = let both : PutEntry x.0 a ≡ PutEntry y.0 b = sym x.1 ∙ y.1 in cc
+
+gained_taken : (first behind : ℕ) (entry : LogEntry) (h g : History) → first ≤ behind → TakesBlocks entry first behind → Gains h (IsPutOf entry) g
+    → AreTaken first h → AreTaken behind g
+gained_taken first behind entry h g order blocks gains taken = record {
+  apart = λ a b x y. by_sums a b (gains.gained a x) (gains.gained b y);
+  below = λ blob number is block. below_by blob number block (gains.gained blob is);
+} where
+  below_by : (blob : List ℕ) (number : ℕ) → IsBlockOf blob number → BlobOf h blob ⊎ IsPutOf entry blob → number < behind
+  below_by blob number block (inl old) = let lower = taken.below blob number old block in omega (arith, lower, order)
+  below_by blob number block (inr put) = (blocks blob number put block).1
+
+  by_sums : (a b : List ℕ) → BlobOf h a ⊎ IsPutOf entry a → BlobOf h b ⊎ IsPutOf entry b
+      → (a ≡ b) ⊎ ((number : ℕ) → IsBlockOf a number → IsBlockOf b number → ⊥)
+  by_sums a b (inl x) (inl y) = taken.apart a b x y
+  by_sums a b (inr x) (inr y) = inl (one_put entry a b x y)
+  by_sums a b (inl x) (inr y) = inr (λ number p q.
+      let lower = taken.below a number x p in let upper = (blocks b number y q).0 in let no : ⊥ = omega (arith, lower, upper) in no)
+  by_sums a b (inr x) (inl y) = inr (λ number p q.
+      let lower = taken.below b number y q in let upper = (blocks a number x p).0 in let no : ⊥ = omega (arith, lower, upper) in no)
+
+-- a counter behind a draw: its file counts up to its next free number, and what was taken before the draw is below the first
+pub record HasDrawn (counts : Bool) (session : Session) (first : ℕ) (counter : Counter) (written : Written) (history : History) : Type 0 where
+  pub fits : SessionFits session written.committed written.pending history
+  pub rows : SessionRows session history
+  pub counter_fits : CounterFits counter history
+  pub config : plain_in history ConfigFile ≡ rests_at written.config
+  pub readme : plain_in history Readme ≡ rests_at written.readme
+  pub order : first ≤ counter.free
+  pub taken : counts ≡ true → AreTaken first history
+
+pub put_sound : (counts : Bool) (session : Session) (first : ℕ) (counter : Counter) (written : Written) (entry : LogEntry) (h g : History)
+    → TakesBlocks entry first counter.free → HasDrawn counts session first counter written h → Keeps session h g → Brings session entry h g
+    → KeepsPlain h g → Moments (IsSound (λ image. Shows image written.committed) counts) h g
+put_sound counts session first counter written entry h g blocks u keeps brings plain =
+    let shows = keeps written.committed written.pending u.fits in
+    let gains = brings written.committed written.pending u.fits u.rows in
+    let nonce = plain NonceFile u.counter_fits.free.file u.counter_fits.free.at_rest in
+    let is_settled = moments_settled _ h g u.fits.own.safe.settled_is gains in
+    moments_map _ (IsSound (λ image. Shows image written.committed) counts) h g (λ m all. record {
+      shows = all.0.0;
+      traced = all.0.1.traced;
+      fresh = λ e. fresh_by counter.free m all.1.1
+          (record {
+            file = u.counter_fits.free.file;
+            at_rest = all.1.0;
+            value = u.counter_fits.free.value;
+            nonce = u.counter_fits.free.nonce;
+            within = u.counter_fits.free.within;
+          })
+          (gained_taken first counter.free entry h m u.order blocks all.0.1 (u.taken e));
+    })
+    (moments_both _ _ h g (moments_both _ _ h g shows gains) (moments_both _ _ h g nonce is_settled))
+
+pub put_stands : (counts : Bool) (session now : Session) (first : ℕ) (counter : Counter) (written : Written) (entry : LogEntry) (h g : History)
+    → TakesBlocks entry first counter.free → HasDrawn counts session first counter written h → Puts session now entry h g → KeepsRows session now h g
+    → Brings session entry h g → KeepsPlain h g → IsUnderWay counts now counter (with_entry written entry) g
+put_stands counts session now first counter written entry h g blocks u puts rows brings plain = record {
+  fits = puts written.committed written.pending u.fits;
+  rows = rows written.committed written.pending u.fits u.rows;
+  counter_fits = counter_kept counter h g plain u.counter_fits;
+  config = (plain ConfigFile written.config u.config).last;
+  readme = (plain Readme written.readme u.readme).last;
+  taken = λ e. gained_taken first counter.free entry h g u.order blocks (brings written.committed written.pending u.fits u.rows).last (u.taken e);
+}
+
+-- ---- an act beside the session
+
+pub beside_sound : (counts : Bool) (session : Session) (counter : Counter) (written : Written) (step : Step) (done : Bool) (h : History) → IsBeside step
+    → LeavesNonce step → IsUnderWay counts session counter written h → IsSound (λ image. Shows image written.committed) counts (with_act step done h)
+beside_sound counts session counter written step done h beside leaves u =
+    let g = with_act step done h in
+    let fits = beside_fits session written.committed written.pending h step done beside u.fits in
+    record {
+      shows = λ image left. (_, own_shows _ written.committed g fits.own image left);
+      traced = (beside_rows session h step done beside u.rows).traced;
+      fresh = λ e. fresh_by counter.free g fits.own.safe.settled_is (fits_left counter h step done leaves u.counter_fits).free
+          (taken_later counter.free h g (λ blob. (beside_blobs h step done blob beside).0) (u.taken e));
+    }
+
+pub replace_moments : (counts : Bool) (session : Session) (counter : Counter) (written : Written) (step : Step) (h g : History) → IsBeside step
+    → LeavesNonce step → IsUnderWay counts session counter written h → IsStep step h g → Moments (IsSound (λ image. Shows image written.committed) counts) h g
+replace_moments counts session counter written step h g beside leaves u is =
+    step_moments (IsSound (λ image. Shows image written.committed) counts) step h g (sound_now counts session counter written h u)
+    (λ done. beside_sound counts session counter written step done h beside leaves u) is
+
+pub readme_stands : (counts : Bool) (session : Session) (counter : Counter) (written : Written) (bytes : List ℕ) (h : History)
+    → IsUnderWay counts session counter written h
+    → IsUnderWay counts session counter (record written { readme = Some bytes }) (with_act (ReplaceBy Readme bytes) true h)
+readme_stands counts session counter written bytes h u =
+    let step = ReplaceBy Readme bytes in
+    let g = with_act step true h in
+    record {
+      fits = beside_fits session written.committed written.pending h step true tt u.fits;
+      rows = beside_rows session h step true tt u.rows;
+      counter_fits = fits_left counter h step true tt u.counter_fits;
+      config = plain_next h step true ConfigFile ∙ u.config;
+      readme = plain_next h step true Readme;
+      taken = λ e. taken_later counter.free h g (λ blob. (beside_blobs h step true blob tt).0) (u.taken e);
+    }
+
+pub config_stands : (counts : Bool) (session : Session) (counter : Counter) (written : Written) (bytes : List ℕ) (h : History)
+    → IsUnderWay counts session counter written h
+    → IsUnderWay counts session counter (record written { config = Some bytes }) (with_act (ReplaceBy ConfigFile bytes) true h)
+config_stands counts session counter written bytes h u =
+    let step = ReplaceBy ConfigFile bytes in
+    let g = with_act step true h in
+    record {
+      fits = beside_fits session written.committed written.pending h step true tt u.fits;
+      rows = beside_rows session h step true tt u.rows;
+      counter_fits = fits_left counter h step true tt u.counter_fits;
+      config = plain_next h step true ConfigFile;
+      readme = plain_next h step true Readme ∙ u.readme;
+      taken = λ e. taken_later counter.free h g (λ blob. (beside_blobs h step true blob tt).0) (u.taken e);
+    }
+
+-- ---- a draw
+
+abbrev quiet : (session : Session) (counter : Counter) (written : Written) (h : History) → Type 0
+quiet session counter written h = SessionFits session written.committed written.pending h × SessionRows session h
+
+draw_base : (counts : Bool) (session : Session) (counter : Counter) (written : Written) (number : ℕ) (h g : History)
+    → IsUnderWay counts session counter written h
+    → IsStep (reserves number) h g → Moments (λ m. quiet session counter written m × ((blob : List ℕ) → BlobOf m blob → BlobOf h blob)) h g
+draw_base counts session counter written number h g u is =
+    step_moments (λ m. quiet session counter written m × ((blob : List ℕ) → BlobOf m blob → BlobOf h blob)) (reserves number) h g
+    ((u.fits, u.rows), λ blob x. x)
+    (λ done. (
+      (beside_fits session written.committed written.pending h (reserves number) done tt u.fits, beside_rows session h (reserves number) done tt u.rows),
+      λ blob. (beside_blobs h (reserves number) done blob tt).0,
+    )) is
+
+quiet_sound : (counts : Bool) (session : Session) (counter : Counter) (written : Written) (m : History) → quiet session counter written m
+    → (counts ≡ true → IsFresh m) → IsSound (λ image. Shows image written.committed) counts m
+quiet_sound counts session counter written m q fresh = record {
+  shows = λ image left. (_, own_shows _ written.committed m q.0.own image left);
+  traced = q.1.traced;
+  fresh = fresh;
+}
+
+pub draw_sound : (counts : Bool) (session : Session) (counter : Counter) (written : Written) (number : ℕ) (h g : History)
+    → IsUnderWay counts session counter written h → IsStep (reserves number) h g → KeepsAbove counter.free h g
+    → Moments (IsSound (λ image. Shows image written.committed) counts) h g
+draw_sound false session counter written number h g u is keeps =
+    moments_map _ (IsSound (λ image. Shows image written.committed) false) h g
+    (λ m q. quiet_sound false session counter written m q.0 (λ e. absurd (let no : ⊥ = cc in no))) (draw_base false session counter written number h g u is)
+draw_sound true session counter written number h g u is keeps =
+    let taken = u.taken refl in
+    let above = keeps u.counter_fits.free taken.below in
+    moments_map _ (IsSound (λ image. Shows image written.committed) true) h g
+    (λ m q. quiet_sound true session counter written m q.0.0 (λ e. record { apart = apart_as h m q.0.1 taken.apart; above = q.1.above }))
+    (moments_both _ _ h g (draw_base true session counter written number h g u is) above)
+
+pub draw_stands : (counts : Bool) (session : Session) (counter drawn : Counter) (written : Written) (number : ℕ) (h g : History)
+    → IsUnderWay counts session counter written h → (g ≡ h) ⊎ (g ≡ with_act (reserves number) true h) → counter.free ≤ drawn.free
+    → (CounterFits counter h → CounterFits drawn g) → HasDrawn counts session counter.free drawn written g
+draw_stands counts session counter drawn written number h g u (inl e) order fits =
+    subst (HasDrawn counts session counter.free drawn written) (sym e) (record {
+      fits = u.fits;
+      rows = u.rows;
+      counter_fits = subst (CounterFits drawn) e (fits u.counter_fits);
+      config = u.config;
+      readme = u.readme;
+      order = order;
+      taken = u.taken;
+    })
+draw_stands counts session counter drawn written number h g u (inr e) order fits =
+    let step = reserves number in
+    let k = with_act step true h in
+    subst (HasDrawn counts session counter.free drawn written) (sym e) (record {
+      fits = beside_fits session written.committed written.pending h step true tt u.fits;
+      rows = beside_rows session h step true tt u.rows;
+      counter_fits = subst (CounterFits drawn) e (fits u.counter_fits);
+      config = plain_next h step true ConfigFile ∙ u.config;
+      readme = plain_next h step true Readme ∙ u.readme;
+      order = order;
+      taken = λ c. taken_later counter.free h k (λ blob. (beside_blobs h step true blob tt).0) (u.taken c);
+    })
+
+-- ---- a commit
+
+config_left : (h : History) (config : Option (List ℕ)) (image : Files) → plain_in h ConfigFile ≡ rests_at config → settled h.acts ≡ true → ImageOf h image
+    → image.config ≡ config
+config_left h config image rest is_settled is = rest_stands config image.config (plain_in h ConfigFile) rest (is.after is_settled).config
+
+either_shown : (written : Written) (image : Files) → image.config ≡ written.config
+    → Shows image written.committed ⊎ Shows image (with_commit written.committed written.pending) → ShowsEither written image
+either_shown written image config (inl shown) = inl shown
+either_shown written image config (inr shown) = inr (shown, config)
+
+pub commit_sound : (counts : Bool) (session : Session) (counter : Counter) (written : Written) (h g : History) → IsUnderWay counts session counter written h
+    → KeepsOrCommits session h g → BringsNone session h g → KeepsPlain h g → Moments (IsSound (ShowsEither written) counts) h g
+commit_sound counts session counter written h g u keeps brings plain =
+    let shows = keeps written.committed written.pending u.fits in
+    let gains = brings written.committed written.pending u.fits u.rows in
+    let nonce = plain NonceFile u.counter_fits.free.file u.counter_fits.free.at_rest in
+    let config = plain ConfigFile written.config u.config in
+    let is_settled = moments_settled _ h g u.fits.own.safe.settled_is gains in
+    moments_map _ (IsSound (ShowsEither written) counts) h g (λ m all. record {
+      shows = λ image left. either_shown written image (config_left m written.config image all.1.0.1 all.1.1 left.image_is) (all.0.0 image left);
+      traced = all.0.1.traced;
+      fresh = λ e. fresh_by counter.free m all.1.1
+          (record {
+            file = u.counter_fits.free.file;
+            at_rest = all.1.0.0;
+            value = u.counter_fits.free.value;
+            nonce = u.counter_fits.free.nonce;
+            within = u.counter_fits.free.within;
+          })
+          (taken_later counter.free h m (none_new h m all.0.1) (u.taken e));
+    })
+    (moments_both _ _ h g (moments_both _ _ h g shows gains) (moments_both _ _ h g (moments_both _ _ h g nonce config) is_settled))
+
+pub commit_stands : (counts : Bool) (session now : Session) (counter : Counter) (written : Written) (h g : History)
+    → IsUnderWay counts session counter written h → Commits session now h g → KeepsRows session now h g → BringsNone session h g → KeepsPlain h g
+    → IsUnderWay counts now counter (all_committed written) g
+commit_stands counts session now counter written h g u commits rows brings plain = record {
+  fits = commits written.committed written.pending u.fits;
+  rows = rows written.committed written.pending u.fits u.rows;
+  counter_fits = counter_kept counter h g plain u.counter_fits;
+  config = (plain ConfigFile written.config u.config).last;
+  readme = (plain Readme written.readme u.readme).last;
+  taken = λ e. taken_later counter.free h g (none_new h g (brings written.committed written.pending u.fits u.rows).last) (u.taken e);
+}

@@ -1,0 +1,283 @@
+-- What `init` leaves, from what its parts did.
+use Rattle.std.proofs.Common.{◌≡◌, inl, inr, ℕ, Bool, true, false, List, [], Option, Some, None, Result, Ok, Err, IfSome}
+use Rattle.std.proofs.Common.{refl, sym, ◌∙◌, ap, subst}
+use Rattle.ferry_disk.proofs.ImageLemmas.{plain_read, config_plain, readme_plain}
+use Rattle.ferry_disk.proofs.FaultLemmas.{keeps_end}
+use Rattle.ferry_disk.proofs.MomentLemmas.{between_map}
+use Rattle.ferry_disk.specs.Act.{History, files_now}
+use Rattle.ferry_disk.specs.Device.{Told, KeepsTold, RoseWhere, told_files}
+use Rattle.ferry_disk.specs.Faults.{FailedWhere}
+use Rattle.ferry_disk.specs.Files.{Files}
+use Rattle.ferry_disk.specs.Image.{PlainFate, plain_in}
+use Rattle.ferry_disk.specs.Moments.{Between}
+use Rattle.ferry_disk.specs.declared.name.Name.TheVariants.{Config as ConfigFile, Readme}
+use Rattle.ferry_log.specs.Log.{IsUncommitted}
+use Rattle.ferry_nonce.specs.declared.counter.Counter.{Counter}
+use Rattle.ferry_repo.proofs.LawLemmas.{opens_fits, repo_apart}
+use Rattle.ferry_repo.specs.Fault.{IsOfFiles, repo_failed}
+use Rattle.ferry_repo.specs.declared.fault.RepoFault.{RepoFault}
+use Rattle.ferry_repo.specs.declared.fault.RepoFault.TheVariants as Repos
+use Rattle.ferry_repo.specs.Opening.{FitsRepo, OpensFilesTo, RefusesRepo, cached_in, repo_view}
+use Rattle.ferry_repo.specs.declared.repo.Repo.{Repo}
+use Rattle.ferry_repo.specs.declared.secret.Secret.{Secret}
+use Rattle.ferry_stops.proofs.EntryLemmas.{uncommitted_shown, unshown_uncommitted}
+use Rattle.ferry_stops.specs.Blobs.{AllTraced}
+use Rattle.ferry_stops.specs.Chance.{EachStop}
+use Rattle.ferry_stops.specs.Counters.{IsKept}
+use Rattle.ferry_stops.specs.Entries.{ShowsSomething}
+use Rattle.ferry_store.proofs.CallLemmas.{first_here, read_refused}
+use Rattle.ferry_store.proofs.NewLemmas.{opens_new}
+use Rattle.ferry_store.proofs.SoundLemmas.{traced_begun, image_begun}
+use Rattle.ferry_store.proofs.StepLemmas.{Reads, before_same, did_as, did_front, did_known, did_then, moments_here, moments_map, read_did, same_told}
+use Rattle.ferry_store.specs.Init.{IsMadeBy, MakesOf}
+use Rattle.ferry_store.specs.Fault.{depot_failed, repo_refusal}
+use Rattle.ferry_store.specs.Key.{RefusesGiven}
+use Rattle.ferry_store.specs.declared.fault.StoreRefusal.{StoreRefusal}
+use Rattle.ferry_store.specs.declared.fault.StoreRefusal.TheVariants.{Repo as RepoRefusal, Write, Nonce, Committed, TooLarge, Entropy, Memory}
+use Rattle.ferry_store.specs.New.{IsNothingOrNew, MakesSound, OpensNew, ShowsNew, first_written}
+use Rattle.ferry_store.specs.State.{Did, IsBegun, IsSound}
+use Rattle.ferry_store.specs.Store.{InitEach, InitFits, InitKeeps, InitMakes, InitShows, RefusesFiles, RefusesInit}
+use Rattle.ferry_store.specs.declared.store.Store.{Store}
+use Rattle.ferry_write.proofs.LawLemmas.{fits_now}
+use Rattle.ferry_write.specs.Script.{AllDone}
+use Rattle.ferry_write.specs.Session.{SettlesFirst, rests_at}
+use Rattle.ferry_write.specs.declared.session.Session.{Session}
+
+-- ---- each moment
+
+nothing_or_new : (secret : Secret) (image : Files) → ShowsNew secret image → IsNothingOrNew secret image
+nothing_or_new secret image (inl none) = inl (unshown_uncommitted image none)
+nothing_or_new secret image (inr new) = inr new.0
+
+shows_something : (secret : Secret) (image : Files) → ShowsNew secret image → ShowsSomething image
+shows_something secret image (inl none) = (None, none)
+shows_something secret image (inr new) = new.1
+
+begun_by : (counts : Bool) (h : History) → h.acts ≡ [] → IsUncommitted (files_now h) → (counts ≡ true → IsKept h) → IsBegun counts None None h
+begun_by counts h e none kept = record { no_acts = e; shown = uncommitted_shown (files_now h) none; kept = kept }
+
+shows_of : (secret : Secret) (h g : History) → MakesSound secret h g → InitShows secret h g
+shows_of secret h g made e none =
+    moments_map (IsSound (ShowsNew secret) false) (EachStop (IsNothingOrNew secret)) h g
+    (λ k s image left. nothing_or_new secret image (s.shows image left))
+    (made false (begun_by false h e none (λ c. absurd (let no : ⊥ = cc in no)))).0
+
+keeps_of : (secret : Secret) (h g : History) → IsUncommitted (files_now h) → MakesSound secret h g → InitKeeps h g
+keeps_of secret h g none made e kept =
+    moments_map (IsSound (ShowsNew secret) true) (λ k. IsKept k × AllTraced k) h g
+    (λ k s. (record { fresh = s.fresh refl; shows = λ image left. shows_something secret image (s.shows image left) }, s.traced))
+    (made true (begun_by true h e none (λ c. kept))).0
+
+first_of : (secret : Secret) (h g : History) → IsUncommitted (files_now h) → MakesSound secret h g → SettlesFirst h g
+first_of secret h g none made e = (made false (begun_by false h e none (λ c. absurd (let no : ⊥ = cc in no)))).1
+
+-- where nothing was done
+shows_here : (secret : Secret) (h : History) → InitShows secret h h
+shows_here secret h e none =
+    moments_here (EachStop (IsNothingOrNew secret)) h
+    (λ image left. inl (subst IsUncommitted (sym (image_begun h image e left.image_is)) none))
+
+pub keeps_here : (h : History) → InitKeeps h h
+keeps_here h e kept = moments_here (λ k. IsKept k × AllTraced k) h (kept, traced_begun h e)
+
+pub each_here : (secret : Secret) (h : History) → InitEach secret h h
+each_here secret h = (shows_here secret h, (keeps_here h, (first_here h, λ committed. refl)))
+
+pub each_of : (secret : Secret) (h g : History) → IsUncommitted (files_now h) → MakesSound secret h g → InitEach secret h g
+each_of secret h g none made =
+    (shows_of secret h g made, (keeps_of secret h g none made, (first_of secret h g none made, λ committed. absurd (committed none))))
+
+-- ---- the end
+
+config_now : (h : History) (file : Option (List ℕ)) → plain_in h ConfigFile ≡ rests_at file → (files_now h).config ≡ file
+config_now h file rest = plain_read h.start h.acts ConfigFile config_plain ∙ ap (λ (f : PlainFate). f.read) rest
+
+readme_now : (h : History) (file : Option (List ℕ)) → plain_in h Readme ≡ rests_at file → (files_now h).readme ≡ file
+readme_now h file rest = plain_read h.start h.acts Readme readme_plain ∙ ap (λ (f : PlainFate). f.read) rest
+
+pub makes_files : (secret : Secret) (iterations : ℕ) (timestamp bytes : List ℕ) (counter : Counter) (session : Session) (h g : History)
+    → IsUncommitted (files_now h) → IsMadeBy secret iterations timestamp bytes counter session h g → InitMakes secret iterations timestamp bytes h g
+makes_files secret iterations timestamp bytes counter session h g none made e =
+    let u = made.makes false (begun_by false h e none (λ c. absurd (let no : ⊥ = cc in no))) in
+    let shows = fits_now session _ [] g u.fits in
+    let config = config_now g _ u.config in
+    record {
+      uncommitted = none;
+      free = made.free;
+      number = made.number;
+      made = record {
+        basis = made.basis;
+        basis_bytes = made.basis_bytes;
+        basis_is = made.basis_is;
+        salt = made.salt;
+        salt_size = made.salt_size;
+        bytes_are = made.bytes_are;
+        config = config;
+        readme = readme_now g _ u.readme;
+        entries = (_, shows);
+      };
+      opens = opens_new secret (files_now g) _ _ made.openable config (_, shows);
+    }
+
+pub store_fits : (secret : Secret) (iterations : ℕ) (timestamp bytes : List ℕ) (store : Store) (h g : History) → IsUncommitted (files_now h)
+    → IsMadeBy secret iterations timestamp bytes store.counter store.session h g → OpensFilesTo (files_now g) secret (repo_view store.repo)
+    → cached_in store.repo ≡ [] → InitFits store h g
+store_fits secret iterations timestamp bytes store h g none made opens empty counts e kept = record {
+  written = first_written made.basis.config _;
+  under_way = made.makes counts (begun_by counts h e none kept);
+  repo = subst (FitsRepo (files_now g) (repo_view store.repo)) (sym empty) (opens_fits (files_now g) secret (repo_view store.repo) opens);
+}
+
+-- ---- the steps of `init`
+
+pub repo_is : (fault : RepoFault) → depot_failed (repo_refusal fault) ≡ repo_failed fault
+repo_is Repos.Device = refl
+repo_is Repos.Memory = refl
+repo_is Repos.NoCommit = refl
+repo_is (Repos.Damaged segment at) = refl
+repo_is (Repos.Config fault) = refl
+repo_is (Repos.Key fault) = refl
+repo_is (Repos.Missing id) = refl
+repo_is (Repos.Blob id fault) = refl
+repo_is (Repos.Manifest fault) = refl
+repo_is (Repos.Archive id fault) = refl
+repo_is (Repos.Item id fault) = refl
+repo_is (Repos.Size id) = refl
+repo_is (Repos.KeyFile fault) = refl
+repo_is (Repos.Other file config) = refl
+repo_is Repos.NoKey = refl
+
+pub given_still : (secret : Secret) (refusal : StoreRefusal) → RefusesGiven secret refusal → depot_failed refusal ≡ false
+given_still secret (RepoRefusal (Repos.KeyFile fault)) is = refl
+given_still secret (RepoRefusal (Repos.Key fault)) is = refl
+given_still secret (RepoRefusal Repos.Device) is = absurd is
+given_still secret (RepoRefusal Repos.Memory) is = absurd is
+given_still secret (RepoRefusal Repos.NoCommit) is = absurd is
+given_still secret (RepoRefusal (Repos.Damaged segment at)) is = absurd is
+given_still secret (RepoRefusal (Repos.Config fault)) is = absurd is
+given_still secret (RepoRefusal (Repos.Missing id)) is = absurd is
+given_still secret (RepoRefusal (Repos.Blob id fault)) is = absurd is
+given_still secret (RepoRefusal (Repos.Manifest fault)) is = absurd is
+given_still secret (RepoRefusal (Repos.Archive id fault)) is = absurd is
+given_still secret (RepoRefusal (Repos.Item id fault)) is = absurd is
+given_still secret (RepoRefusal (Repos.Size id)) is = absurd is
+given_still secret (RepoRefusal (Repos.Other file config)) is = absurd is
+given_still secret (RepoRefusal Repos.NoKey) is = absurd is
+given_still secret Memory is = refl
+given_still secret (Write fault) is = absurd is
+given_still secret (Nonce fault) is = absurd is
+given_still secret Committed is = absurd is
+given_still secret TooLarge is = absurd is
+given_still secret Entropy is = absurd is
+
+-- refused before anything was made
+pub init_unread : (secret : Secret) (refusal : StoreRefusal) (a b : Option Told) (n m : ℕ) → KeepsTold {T = Unit {0}} depot_failed a b (Err refusal)
+    → RoseWhere (depot_failed refusal) n m → Did {T = Store} (InitEach secret) InitFits a b n m (Err refusal)
+init_unread secret refusal a b n m same caused = record {
+  each = between_map a b Reads (InitEach secret) (λ h g e. subst (InitEach secret h) (sym e) (each_here secret h))
+      (same_told {T = Unit {0}} depot_failed a b (Err refusal) same);
+  end = tt;
+  ends = keeps_end {T = Unit {0}} depot_failed a b (Err refusal) same;
+  cause = caused;
+}
+
+pub init_ungiven : (secret : Secret) (refusal : StoreRefusal) (a b : Option Told) (n m : ℕ) → depot_failed refusal ≡ false
+    → KeepsTold {T = Unit {0}} depot_failed a b (Ok tt) → m ≡ n → Did {T = Store} (InitEach secret) InitFits a b n m (Err refusal)
+init_ungiven secret refusal a b n m still same caused = record {
+  each = between_map a b Reads (InitEach secret) (λ h g e. subst (InitEach secret h) (sym e) (each_here secret h))
+      (same_told {T = Unit {0}} depot_failed a b (Ok tt) same);
+  end = tt;
+  ends = subst (λ (d : Bool). FailedWhere d a b) (sym still) (keeps_end {T = Unit {0}} depot_failed a b (Ok tt) same);
+  cause = subst (λ (d : Bool). RoseWhere d n m) (sym still) caused;
+}
+
+-- where nothing is committed
+abbrev pub MadeOf : Secret → ℕ → List ℕ → List ℕ → Counter × Session → History → History → Type 0
+MadeOf secret iterations timestamp bytes x h g = IsUncommitted (files_now h) × IsMadeBy secret iterations timestamp bytes x.0 x.1 h g
+
+pub init_made : (secret : Secret) (iterations : ℕ) (timestamp bytes : List ℕ) (a b c : Option Told) (n m k : ℕ) (r : Result (Counter × Session) StoreRefusal)
+    → IfSome a (λ t. IsUncommitted (told_files t)) → KeepsTold {T = Unit {0}} depot_failed a b (Ok tt) → m ≡ n
+    → Did (MakesSound secret) (λ x. MakesOf secret iterations timestamp bytes x.0 x.1) b c m k r
+    → Did (InitEach secret) (MadeOf secret iterations timestamp bytes) a c n k r
+init_made secret iterations timestamp bytes a b c n m k r none same caused p =
+    did_then {T = Unit {0}} Reads (λ _ h g. IsUncommitted (files_now h) × Reads h g) (MakesSound secret)
+    (λ x. MakesOf secret iterations timestamp bytes x.0 x.1)
+    (InitEach secret) (MadeOf secret iterations timestamp bytes) a b c n m k tt r
+    (λ h g i e d q f. each_of secret h i q.0 (subst (λ (x : History). MakesSound secret x i) q.1 f))
+    (λ y h g i q f. (q.0, subst (λ (x : History). MakesOf secret iterations timestamp bytes y.0 y.1 x i) q.1 f))
+    (did_known {T = Unit {0}} (λ h. IsUncommitted (files_now h)) Reads (λ _. Reads) a b n m tt none
+    (read_did {T = Unit {0}} depot_failed a b n m tt same caused))
+    p
+
+pub init_front : (secret : Secret) (iterations : ℕ) (timestamp bytes : List ℕ) (a c : Option Told) (n k : ℕ) (refusal : StoreRefusal)
+    → Did (InitEach secret) (MadeOf secret iterations timestamp bytes) a c n k (Err refusal) → Did {T = Store} (InitEach secret) InitFits a c n k (Err refusal)
+init_front secret iterations timestamp bytes a c n k refusal p =
+    did_front (InitEach secret) (MadeOf secret iterations timestamp bytes) (InitEach secret) InitFits a c n k refusal (λ h g e. e) p
+
+each_read : (secret : Secret) (h g i : History) → InitEach secret h g → Reads g i → InitEach secret h i
+each_read secret h g i e same = subst (InitEach secret h) (sym same) e
+
+pub init_unopened : (secret : Secret) (iterations : ℕ) (timestamp bytes : List ℕ) (x : Counter × Session) (fault : RepoFault) (a c d : Option Told) (n k j : ℕ)
+    → Did (InitEach secret) (MadeOf secret iterations timestamp bytes) a c n k (Ok x) → KeepsTold {T = Repo} repo_failed c d (Err fault)
+    → RoseWhere (repo_failed fault) k j → Did {T = Store} (InitEach secret) InitFits a d n j (Err (repo_refusal fault))
+init_unopened secret iterations timestamp bytes x fault a c d n k j p same caused =
+    did_front (InitEach secret) (λ (y : Store) h g. Unit {0}) (InitEach secret) InitFits a d n j (repo_refusal fault) (λ h g e. e)
+    (did_then {U = Store} (InitEach secret) (MadeOf secret iterations timestamp bytes) Reads (λ _. Reads) (InitEach secret) (λ y h g. Unit {0}) a c d n k j x
+    (Err (repo_refusal fault)) (λ h g i e q m f. each_read secret h g i e f) (λ y h g i q f. tt) p
+    (read_refused {T = Store} repo_failed fault (repo_refusal fault) Reads (λ _. Reads) c d k j (repo_is fault) (λ h. refl) same caused))
+
+pub init_opened : (secret : Secret) (iterations : ℕ) (timestamp bytes : List ℕ) (store : Store) (a c d : Option Told) (n k j : ℕ)
+    → Did (InitEach secret) (MadeOf secret iterations timestamp bytes) a c n k (Ok (store.counter, store.session))
+    → KeepsTold {F = RepoFault} repo_failed c d (Ok store.repo) → j ≡ k → IfSome c (λ t. OpensFilesTo (told_files t) secret (repo_view store.repo))
+    → cached_in store.repo ≡ [] → Did (InitEach secret) InitFits a d n j (Ok store)
+init_opened secret iterations timestamp bytes store a c d n k j p same caused opens empty =
+    did_then (InitEach secret) (MadeOf secret iterations timestamp bytes) Reads
+    (λ (s : Store) h g. OpensFilesTo (files_now h) secret (repo_view store.repo) × ((s ≡ store) × Reads h g)) (InitEach secret) InitFits a c d n k j
+    (store.counter, store.session) (Ok store)
+    (λ h g i e q m f. each_read secret h g i e f)
+    (λ y h g i made f. subst (λ (s : Store). InitFits s h i) (sym f.1.0)
+    (subst (InitFits store h) (sym f.1.1) (store_fits secret iterations timestamp bytes store h g made.0 made.1 f.0 empty)))
+    p (did_known {T = Store} (λ h. OpensFilesTo (files_now h) secret (repo_view store.repo)) Reads (λ s h g. (s ≡ store) × Reads h g) c d k j store opens
+    (did_as Reads (λ _. Reads) Reads (λ s h g. (s ≡ store) × Reads h g) c d k j store.repo store (λ h g e. e) (λ h g e. (refl, e))
+    (read_did {T = Repo} repo_failed c d k j store.repo same caused)))
+
+pub init_makes : (secret : Secret) (iterations : ℕ) (timestamp bytes : List ℕ) (x : Counter × Session) (a c d : Option Told) (n k : ℕ)
+    → Did (InitEach secret) (MadeOf secret iterations timestamp bytes) a c n k (Ok x) → Between c d Reads
+    → Between a d (InitMakes secret iterations timestamp bytes)
+init_makes secret iterations timestamp bytes x a c d n k p same =
+    before_same (InitMakes secret iterations timestamp bytes) a c d
+    (between_map a c (λ h g. AllDone h g × MadeOf secret iterations timestamp bytes x h g) (InitMakes secret iterations timestamp bytes)
+    (λ h g e. makes_files secret iterations timestamp bytes x.0 x.1 h g e.1.0 e.1.1) p.end) same
+
+-- ---- a repository that was made isn't refused
+
+opened_by_fault : (secret : Secret) (files : Files) (fault : RepoFault) → OpensNew secret files → RefusesRepo files secret fault → IsOfFiles fault → ⊥
+opened_by_fault secret files fault new refused of = repo_apart files secret new.repo fault new.opens of refused
+
+not_refused : (secret : Secret) (timestamp : List ℕ) (start files : Files) (fault : RepoFault) → OpensNew secret files → RefusesRepo files secret fault
+    → RefusesFiles secret timestamp start (repo_refusal fault)
+not_refused secret timestamp start files Repos.Device new refused = tt
+not_refused secret timestamp start files Repos.Memory new refused = tt
+not_refused secret timestamp start files Repos.NoCommit new refused = absurd (opened_by_fault secret files Repos.NoCommit new refused tt)
+not_refused secret timestamp start files (Repos.Damaged s at) new refused = absurd (opened_by_fault secret files (Repos.Damaged s at) new refused tt)
+not_refused secret timestamp start files (Repos.Config f) new refused = absurd (opened_by_fault secret files (Repos.Config f) new refused tt)
+not_refused secret timestamp start files (Repos.Key f) new refused = absurd (opened_by_fault secret files (Repos.Key f) new refused tt)
+not_refused secret timestamp start files (Repos.Missing id) new refused = absurd (opened_by_fault secret files (Repos.Missing id) new refused tt)
+not_refused secret timestamp start files (Repos.Blob id f) new refused = absurd (opened_by_fault secret files (Repos.Blob id f) new refused tt)
+not_refused secret timestamp start files (Repos.Manifest f) new refused = absurd (opened_by_fault secret files (Repos.Manifest f) new refused tt)
+not_refused secret timestamp start files (Repos.Archive id f) new refused = absurd (opened_by_fault secret files (Repos.Archive id f) new refused tt)
+not_refused secret timestamp start files (Repos.Item id f) new refused = absurd (opened_by_fault secret files (Repos.Item id f) new refused tt)
+not_refused secret timestamp start files (Repos.Size id) new refused = absurd (opened_by_fault secret files (Repos.Size id) new refused tt)
+not_refused secret timestamp start files (Repos.KeyFile f) new refused = absurd (opened_by_fault secret files (Repos.KeyFile f) new refused tt)
+not_refused secret timestamp start files (Repos.Other x y) new refused = absurd (opened_by_fault secret files (Repos.Other x y) new refused tt)
+not_refused secret timestamp start files Repos.NoKey new refused = absurd (opened_by_fault secret files Repos.NoKey new refused tt)
+
+pub open_refused : (secret : Secret) (iterations : ℕ) (timestamp bytes : List ℕ) (x : Counter × Session) (fault : RepoFault) (a c : Option Told) (n k : ℕ)
+    → Did (InitEach secret) (MadeOf secret iterations timestamp bytes) a c n k (Ok x) → IfSome c (λ t. RefusesRepo (told_files t) secret fault)
+    → IfSome a (λ t. RefusesInit secret timestamp t.history (repo_refusal fault))
+open_refused secret iterations timestamp bytes x fault None c n k p refused = tt
+open_refused secret iterations timestamp bytes x fault (Some t) None n k p refused = absurd (let e = p.end.1 in let no : ⊥ = cc in no)
+open_refused secret iterations timestamp bytes x fault (Some t) (Some u) n k p refused = λ e.
+    let same : u ≡ p.end.0 = (let f = p.end.1 in cc) in
+    let made = makes_files secret iterations timestamp bytes x.0 x.1 t.history p.end.0.history p.end.2.1.0 p.end.2.1.1 e in
+    not_refused secret timestamp (told_files t) (told_files u) fault (subst (λ (v : Told). OpensNew secret (told_files v)) (sym same) made.opens) refused

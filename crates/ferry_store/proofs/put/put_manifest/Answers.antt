@@ -1,0 +1,60 @@
+use Rattle.std.proofs.Common.{rules, ◌≡◌, ◌+◌, ◌++◌, ℕ, List, Result, drop, length, OnOk, option_map, subst}
+use Rattle.ferry_base.specs.Limits.{zero_id}
+use Rattle.ferry_blob.specs.Blob.{sealed}
+use Rattle.ferry_blob.specs.declared.mode.Mode.{Mode}
+use Rattle.ferry_segment.specs.Entry.{PutEntry}
+use Rattle.ferry_store.specs.State.{Did, KeepsSound, TakesEntry}
+use Rattle.ferry_store.proofs.PutLemmas.{always, manifest_put, manifest_unput}
+use Rattle.ferry_store.proofs.StepLemmas.{err_is}
+use Rattle.ferry_store.proofs.put.put_manifest.Goals as goal
+use Rattle.ferry_store.specs.New.{PutsManifest, manifest_bytes}
+use Rattle.ferry_store.specs.declared.fault.StoreRefusal.{StoreRefusal}
+
+pub returns-in_err-buffer-clause-put : goal.returns-in_err-buffer-clause-put
+returns-in_err-buffer-clause-put g c =
+    let a = g.D.Shelf.told c.args.depot.now in
+    let n = g.D.Shelf.faults c.args.depot.now in
+    let made = c.in_err-buffer.ensures.made in
+    let salt = made.0 in
+    let refusal = c.in_err-buffer.field-0.0 in
+    let basis = c.args.basis.now in
+    let session = c.args.session.now in
+    let counter = c.args.counter.now in (
+      salt,
+      (
+        made.1.0,
+        err_is c.from_residual.result refusal
+            (λ (r : Result (Unit {0}) StoreRefusal). OnOk r
+            (g.E.Entropy.drawn c.first_manifest.new.entropy ≡ option_map (λ (d : List ℕ). d ++ salt) (g.E.Entropy.drawn c.args.entropy.now)))
+            c.from_residual.ensures.1 tt,
+        err_is c.from_residual.result refusal
+            (λ (r : Result (Unit {0}) StoreRefusal). PutsManifest basis c.args.timestamp.now salt session counter session counter a a n n r)
+            c.from_residual.ensures.1
+            (manifest_unput basis c.args.timestamp.now salt session counter a n refusal made.1.3),
+      ),
+    )
+
+pub returns-clause-put : goal.returns-clause-put
+returns-clause-put g c =
+    let made = c.in_ok-buffer.ensures.made in
+    let salt = made.0 in
+    let basis = c.args.basis.now in
+    let buffer = c.deref_mut.result.now in
+    let is : drop 43 buffer ≡ manifest_bytes basis c.args.timestamp.now salt = search rules in
+    let size : length buffer ≡ 43 + length (manifest_bytes basis c.args.timestamp.now salt) = search rules in
+    let did = subst (λ (m : Mode). Did (KeepsSound c.args.session.now c.args.counter.now)
+    (λ _. TakesEntry c.args.session.now c.args.counter.now (PutEntry zero_id (sealed basis.keys m c.args.counter.now.free (drop 43 buffer)))
+    c.put_object.new.session c.put_object.new.counter) (g.D.Shelf.told c.args.depot.now) (g.D.Shelf.told c.put_object.new.depot)
+    (g.D.Shelf.faults c.args.depot.now) (g.D.Shelf.faults c.put_object.new.depot) c.put_object.result) c.mode_of-mode.ensures.mode
+    c.put_object.ensures.did in (
+      salt,
+      (
+        made.1.0,
+        always (g.E.Entropy.drawn c.first_manifest.new.entropy ≡ option_map (λ (d : List ℕ). d ++ salt) (g.E.Entropy.drawn c.args.entropy.now))
+            c.put_object.result made.1.1,
+        manifest_put basis c.args.timestamp.now salt buffer c.args.session.now c.put_object.new.session c.args.counter.now c.put_object.new.counter
+            (g.D.Shelf.told c.args.depot.now) (g.D.Shelf.told c.put_object.new.depot) (g.D.Shelf.faults c.args.depot.now)
+            (g.D.Shelf.faults c.put_object.new.depot) c.put_object.result is size made.1.2.2 made.1.2.3 did c.put_object.ensures.session
+            c.put_object.ensures.refused c.put_object.ensures.exhausted,
+      ),
+    )

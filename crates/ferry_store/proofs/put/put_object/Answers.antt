@@ -1,0 +1,104 @@
+use Rattle.std.proofs.Common.{rules, List, ◌≡◌, ◌+◌, ◌-◌, ◌≤◌, ◌<◌, ◌^◌, ℕ, Ok, Err, Result, drop, length, sym, ap, ◌∙◌, subst, arith}
+use Rattle.ferry_blob.proofs.CallerLemmas.{blocks_from, blocks_most}
+use Rattle.ferry_blob.specs.Blob.{sealed}
+use Rattle.ferry_nonce.specs.Counter.{reserved_for}
+use Rattle.ferry_segment.specs.Entry.{PutEntry}
+use Rattle.ferry_store.proofs.CallLemmas.{HasPut, draw_err, draw_ok, object_blocks, object_both, put_err, put_ok}
+use Rattle.ferry_store.proofs.StepLemmas.{err_is}
+use Rattle.ferry_store.proofs.put.put_object.Goals as goal
+use Rattle.ferry_store.specs.Fault.{nonce_refusal, write_refusal}
+use Rattle.ferry_store.specs.State.{Did, KeepsSound, TakesEntry}
+use Rattle.ferry_store.specs.declared.fault.StoreRefusal.{StoreRefusal}
+
+pub draw-requires-clause-some : goal.draw-requires-clause-some
+draw-requires-clause-some g c =
+    subst (λ (n : ℕ). 1 ≤ n) (sym c.blocks_of-blocks.ensures.blocks) (blocks_from (length c.args.buffer.now - 43))
+
+pub draw-requires-clause-most : goal.draw-requires-clause-most
+draw-requires-clause-most g c =
+    let most = blocks_most (length c.args.buffer.now - 43) (let small = c.requires.size in omega (arith, small)) in
+    subst (λ (n : ℕ). n ≤ 2097152) (sym c.blocks_of-blocks.ensures.blocks) (omega (arith, most))
+
+pub returns-in_err-first-clause-did : goal.returns-in_err-first-clause-did
+returns-in_err-first-clause-did g c =
+    let a = g.D.Shelf.told c.args.depot.now in
+    let b = g.D.Shelf.told c.draw.new.depot in
+    let n = g.D.Shelf.faults c.args.depot.now in
+    let m = g.D.Shelf.faults c.draw.new.depot in
+    let fault = c.in_err-first.field-0.0 in
+    let session = c.args.session.now in
+    let counter = c.args.counter.now in
+    let entry = PutEntry c.args.id.now (sealed c.args.keys.now c.args.mode counter.free (drop 43 c.args.buffer.now)) in
+    err_is c.from_residual.result (nonce_refusal fault)
+    (λ (r : Result (Unit {0}) StoreRefusal). Did (KeepsSound session counter) (λ _. TakesEntry session counter entry session c.draw.new.self) a b n m r)
+    c.from_residual.ensures.1
+    (draw_err {T = Unit {0}} session counter (λ _. TakesEntry session counter entry session c.draw.new.self) c.blocks_of-blocks.result fault a b n m
+    (λ fit. ap g.D.Shelf.told (c.in_err-first.ensures.kept fit).1) c.in_err-first.ensures.replaced c.in_err-first.ensures.moments
+    c.in_err-first.ensures.cause c.in_err-first.ensures.ends)
+
+pub seal-requires-clause-blocks : goal.seal-requires-clause-blocks
+seal-requires-clause-blocks g c =
+    subst (λ (n : ℕ). c.in_ok-first.first + n ≤ 18446744073709551615) c.blocks_of-blocks.ensures.blocks c.in_ok-first.ensures.within
+
+pub returns-in_err-put-clause-did : goal.returns-in_err-put-clause-did
+returns-in_err-put-clause-did g c =
+    let a = g.D.Shelf.told c.args.depot.now in
+    let b = g.D.Shelf.told c.draw.new.depot in
+    let d = g.D.Shelf.told c.put.new.depot in
+    let n = g.D.Shelf.faults c.args.depot.now in
+    let m = g.D.Shelf.faults c.draw.new.depot in
+    let k = g.D.Shelf.faults c.put.new.depot in
+    let session = c.args.session.now in
+    let counter = c.args.counter.now in
+    let first = c.in_ok-first.first in
+    let id = c.args.id.now in
+    let now = c.put.new.self in
+    let drawn = c.draw.new.self in
+    let blob = c.seal.new.buffer in
+    let blocks = c.blocks_of-blocks.result in
+    let whole = sealed c.args.keys.now c.args.mode counter.free (drop 43 c.args.buffer.now) in
+    let same : blob ≡ whole =
+    c.seal.ensures.blob ∙ ap (λ (f : ℕ). sealed c.args.keys.now c.args.mode f (drop 43 c.args.buffer.now)) c.in_ok-first.ensures.drawn.0 in
+    let fits : first < 2 ^ 64 = search rules in
+    let taken = object_blocks c.args.keys.now c.args.mode counter drawn blocks first id c.args.buffer.now blob c.in_ok-first.ensures.drawn.0 fits
+    c.seal.ensures.blob c.blocks_of-blocks.ensures.blocks c.in_ok-first.ensures.drawn.1 in
+    let fault = c.in_err-put.field-0.0 in
+    err_is c.from_residual-in_err-put.result (write_refusal fault)
+    (λ (r : Result (Unit {0}) StoreRefusal). Did (KeepsSound session counter) (λ _. TakesEntry session counter (PutEntry id whole) now drawn) a d n k r)
+    c.from_residual-in_err-put.ensures.1
+    (subst (λ (x : List ℕ). Did {T = Unit {0}} (KeepsSound session counter) (λ _. TakesEntry session counter (PutEntry id x) now drawn) a d n k
+    (Err (write_refusal fault))) same
+    (object_both session now counter drawn (PutEntry id blob) (reserved_for counter blocks) first a b d n m k (Err (write_refusal fault)) taken.0 taken.1
+    (draw_ok counter drawn blocks first a b n m (λ fit. ap g.D.Shelf.told (c.in_ok-first.ensures.kept fit).1) c.in_ok-first.ensures.replaced
+    c.in_ok-first.ensures.moments c.in_ok-first.ensures.fits c.in_ok-first.ensures.cause c.in_ok-first.ensures.ends)
+    (put_err {T = Unit {0}} session (PutEntry id blob) (λ _. HasPut session (PutEntry id blob) now) fault b d m k c.in_err-put.ensures.moments
+    c.in_err-put.ensures.gains c.in_err-put.ensures.beside c.in_err-put.ensures.cause c.in_err-put.ensures.ends)))
+
+pub returns-clause-did : goal.returns-clause-did
+returns-clause-did g c =
+    let a = g.D.Shelf.told c.args.depot.now in
+    let b = g.D.Shelf.told c.draw.new.depot in
+    let d = g.D.Shelf.told c.put.new.depot in
+    let n = g.D.Shelf.faults c.args.depot.now in
+    let m = g.D.Shelf.faults c.draw.new.depot in
+    let k = g.D.Shelf.faults c.put.new.depot in
+    let session = c.args.session.now in
+    let counter = c.args.counter.now in
+    let first = c.in_ok-first.first in
+    let id = c.args.id.now in
+    let now = c.put.new.self in
+    let drawn = c.draw.new.self in
+    let blob = c.seal.new.buffer in
+    let blocks = c.blocks_of-blocks.result in
+    let whole = sealed c.args.keys.now c.args.mode counter.free (drop 43 c.args.buffer.now) in
+    let same : blob ≡ whole =
+    c.seal.ensures.blob ∙ ap (λ (f : ℕ). sealed c.args.keys.now c.args.mode f (drop 43 c.args.buffer.now)) c.in_ok-first.ensures.drawn.0 in
+    let fits : first < 2 ^ 64 = search rules in
+    let taken = object_blocks c.args.keys.now c.args.mode counter drawn blocks first id c.args.buffer.now blob c.in_ok-first.ensures.drawn.0 fits
+    c.seal.ensures.blob c.blocks_of-blocks.ensures.blocks c.in_ok-first.ensures.drawn.1 in
+    subst (λ (x : List ℕ). Did {T = Unit {0}} (KeepsSound session counter) (λ _. TakesEntry session counter (PutEntry id x) now drawn) a d n k (Ok tt)) same
+    (object_both session now counter drawn (PutEntry id blob) (reserved_for counter blocks) first a b d n m k (Ok tt) taken.0 taken.1
+    (draw_ok counter drawn blocks first a b n m (λ fit. ap g.D.Shelf.told (c.in_ok-first.ensures.kept fit).1) c.in_ok-first.ensures.replaced
+    c.in_ok-first.ensures.moments c.in_ok-first.ensures.fits c.in_ok-first.ensures.cause c.in_ok-first.ensures.ends)
+    (put_ok {T = Unit {0}} session now (PutEntry id blob) tt b d m k c.in_ok-put.ensures.moments c.in_ok-put.ensures.put c.in_ok-put.ensures.gains
+    c.in_ok-put.ensures.rows c.in_ok-put.ensures.beside c.in_ok-put.ensures.done c.in_ok-put.ensures.cause c.in_ok-put.ensures.ends))

@@ -1,0 +1,137 @@
+use Rattle.std.proofs.Common.{Ok, Err, Result, IfErr, IfSome}
+use Rattle.ferry_disk.specs.Device.{HasCause}
+use Rattle.ferry_repo.specs.Fault.{repo_failed}
+use Rattle.ferry_store.proofs.InitLemmas.{still_cause}
+use Rattle.ferry_store.proofs.StepLemmas.{err_is, same_told}
+use Rattle.ferry_store.proofs.StoreLemmas.{given_still, init_front, init_made, init_makes, init_opened, init_ungiven, init_unopened, init_unread, open_refused}
+use Rattle.ferry_store.proofs.store.Store.init.Goals as goal
+use Rattle.ferry_store.specs.Fault.{repo_refusal, source_failed}
+use Rattle.ferry_store.specs.State.{Did}
+use Rattle.ferry_store.specs.Store.{InitEach, InitFits, RefusesInit}
+use Rattle.ferry_store.specs.declared.fault.StoreRefusal.{StoreRefusal}
+use Rattle.ferry_store.specs.declared.store.Store.{Store}
+
+pub returns-in_err-expect_no_commit-clause-did : goal.returns-in_err-expect_no_commit-clause-did
+returns-in_err-expect_no_commit-clause-did g c =
+    let a = g.D.Shelf.told c.args.depot.now in
+    let b = g.D.Shelf.told c.expect_no_commit.new.depot in
+    let n = g.D.Shelf.faults c.args.depot.now in
+    let m = g.D.Shelf.faults c.expect_no_commit.new.depot in
+    let refusal = c.in_err-expect_no_commit.field-0.0 in
+    err_is c.from_residual.result refusal
+    (λ (r : Result Store StoreRefusal). Did (InitEach c.args.secret.now) InitFits a b n m r) c.from_residual.ensures.1
+    (init_unread c.args.secret.now refusal a b n m c.in_err-expect_no_commit.ensures.same c.in_err-expect_no_commit.ensures.cause)
+
+pub returns-in_err-expect_no_commit-clause-entropy : goal.returns-in_err-expect_no_commit-clause-entropy
+returns-in_err-expect_no_commit-clause-entropy g c =
+    let n = g.E.Entropy.faults c.args.entropy.now in
+    let refusal = c.in_err-expect_no_commit.field-0.0 in
+    err_is c.from_residual.result refusal (λ (r : Result Store StoreRefusal). HasCause source_failed n n r) c.from_residual.ensures.1
+    (still_cause refusal n c.in_err-expect_no_commit.ensures.still)
+
+pub returns-in_err-given-clause-did : goal.returns-in_err-given-clause-did
+returns-in_err-given-clause-did g c =
+    let a = g.D.Shelf.told c.args.depot.now in
+    let b = g.D.Shelf.told c.expect_no_commit.new.depot in
+    let n = g.D.Shelf.faults c.args.depot.now in
+    let m = g.D.Shelf.faults c.expect_no_commit.new.depot in
+    let refusal = c.in_err-given.field-0.0 in
+    err_is c.from_residual-in_err-given.result refusal
+    (λ (r : Result Store StoreRefusal). Did (InitEach c.args.secret.now) InitFits a b n m r) c.from_residual-in_err-given.ensures.1
+    (init_ungiven c.args.secret.now refusal a b n m (given_still c.args.secret.now refusal c.in_err-given.ensures.refused)
+    c.in_ok-expect_no_commit.ensures.same c.in_ok-expect_no_commit.ensures.cause)
+
+pub returns-in_err-counter-clause-did : goal.returns-in_err-counter-clause-did
+returns-in_err-counter-clause-did g c =
+    let a = g.D.Shelf.told c.args.depot.now in
+    let b = g.D.Shelf.told c.expect_no_commit.new.depot in
+    let d = g.D.Shelf.told c.make_repository.new.depot in
+    let n = g.D.Shelf.faults c.args.depot.now in
+    let m = g.D.Shelf.faults c.expect_no_commit.new.depot in
+    let k = g.D.Shelf.faults c.make_repository.new.depot in
+    let refusal = c.in_err-counter.field-0.0 in
+    let secret = c.args.secret.now in
+    let made = c.in_err-counter.ensures.made in
+    err_is c.from_residual-in_err-counter.result refusal (λ (r : Result Store StoreRefusal). Did (InitEach secret) InitFits a d n k r)
+    c.from_residual-in_err-counter.ensures.1
+    (init_front secret c.args.iterations c.args.timestamp.now made.0 a d n k refusal
+    (init_made secret c.args.iterations c.args.timestamp.now made.0 a b d n m k (Err refusal) c.in_ok-expect_no_commit.ensures.none
+    c.in_ok-expect_no_commit.ensures.same c.in_ok-expect_no_commit.ensures.cause made.1.1))
+
+pub returns-in_err-repo-clause-did : goal.returns-in_err-repo-clause-did
+returns-in_err-repo-clause-did g c =
+    let a = g.D.Shelf.told c.args.depot.now in
+    let b = g.D.Shelf.told c.expect_no_commit.new.depot in
+    let d = g.D.Shelf.told c.make_repository.new.depot in
+    let e = g.D.Shelf.told c.open.new.shelf in
+    let n = g.D.Shelf.faults c.args.depot.now in
+    let m = g.D.Shelf.faults c.expect_no_commit.new.depot in
+    let k = g.D.Shelf.faults c.make_repository.new.depot in
+    let j = g.D.Shelf.faults c.open.new.shelf in
+    let fault = c.in_err-repo.field-0.0 in
+    let secret = c.args.secret.now in
+    let made = c.in_ok-counter.ensures.made in
+    err_is c.from_residual-in_err-repo.result (repo_refusal fault) (λ (r : Result Store StoreRefusal). Did (InitEach secret) InitFits a e n j r)
+    c.from_residual-in_err-repo.ensures.1
+    (init_unopened secret c.args.iterations c.args.timestamp.now made.0 (c.in_ok-counter.counter, c.in_ok-counter.session) fault a d e n k j
+    (init_made secret c.args.iterations c.args.timestamp.now made.0 a b d n m k (Ok (c.in_ok-counter.counter, c.in_ok-counter.session))
+    c.in_ok-expect_no_commit.ensures.none c.in_ok-expect_no_commit.ensures.same c.in_ok-expect_no_commit.ensures.cause made.1.1)
+    c.in_err-repo.ensures.same c.in_err-repo.ensures.cause)
+
+pub returns-in_err-repo-clause-refused : goal.returns-in_err-repo-clause-refused
+returns-in_err-repo-clause-refused g c =
+    let a = g.D.Shelf.told c.args.depot.now in
+    let b = g.D.Shelf.told c.expect_no_commit.new.depot in
+    let d = g.D.Shelf.told c.make_repository.new.depot in
+    let n = g.D.Shelf.faults c.args.depot.now in
+    let m = g.D.Shelf.faults c.expect_no_commit.new.depot in
+    let k = g.D.Shelf.faults c.make_repository.new.depot in
+    let fault = c.in_err-repo.field-0.0 in
+    let secret = c.args.secret.now in
+    let made = c.in_ok-counter.ensures.made in
+    err_is c.from_residual-in_err-repo.result (repo_refusal fault)
+    (λ (r : Result Store StoreRefusal). IfErr r (λ x. IfSome a (λ t. RefusesInit secret c.args.timestamp.now t.history x)))
+    c.from_residual-in_err-repo.ensures.1
+    (open_refused secret c.args.iterations c.args.timestamp.now made.0 (c.in_ok-counter.counter, c.in_ok-counter.session) fault a d n k
+    (init_made secret c.args.iterations c.args.timestamp.now made.0 a b d n m k (Ok (c.in_ok-counter.counter, c.in_ok-counter.session))
+    c.in_ok-expect_no_commit.ensures.none c.in_ok-expect_no_commit.ensures.same c.in_ok-expect_no_commit.ensures.cause made.1.1)
+    c.in_err-repo.ensures.refused)
+
+pub returns-clause-made : goal.returns-clause-made
+returns-clause-made g c =
+    let a = g.D.Shelf.told c.args.depot.now in
+    let b = g.D.Shelf.told c.expect_no_commit.new.depot in
+    let d = g.D.Shelf.told c.make_repository.new.depot in
+    let e = g.D.Shelf.told c.open.new.shelf in
+    let n = g.D.Shelf.faults c.args.depot.now in
+    let m = g.D.Shelf.faults c.expect_no_commit.new.depot in
+    let k = g.D.Shelf.faults c.make_repository.new.depot in
+    let secret = c.args.secret.now in
+    let made = c.in_ok-counter.ensures.made in (
+      made.0,
+      (
+        made.1.0,
+        init_makes secret c.args.iterations c.args.timestamp.now made.0 (c.in_ok-counter.counter, c.in_ok-counter.session) a d e n k
+            (init_made secret c.args.iterations c.args.timestamp.now made.0 a b d n m k (Ok (c.in_ok-counter.counter, c.in_ok-counter.session))
+            c.in_ok-expect_no_commit.ensures.none c.in_ok-expect_no_commit.ensures.same c.in_ok-expect_no_commit.ensures.cause made.1.1)
+            (same_told repo_failed d e (Ok c.in_ok-repo.repo) c.in_ok-repo.ensures.same),
+      ),
+    )
+
+pub returns-clause-did : goal.returns-clause-did
+returns-clause-did g c =
+    let a = g.D.Shelf.told c.args.depot.now in
+    let b = g.D.Shelf.told c.expect_no_commit.new.depot in
+    let d = g.D.Shelf.told c.make_repository.new.depot in
+    let e = g.D.Shelf.told c.open.new.shelf in
+    let n = g.D.Shelf.faults c.args.depot.now in
+    let m = g.D.Shelf.faults c.expect_no_commit.new.depot in
+    let k = g.D.Shelf.faults c.make_repository.new.depot in
+    let j = g.D.Shelf.faults c.open.new.shelf in
+    let secret = c.args.secret.now in
+    let made = c.in_ok-counter.ensures.made in
+    init_opened secret c.args.iterations c.args.timestamp.now made.0
+    (record { repo = c.in_ok-repo.repo; session = c.in_ok-counter.session; counter = c.in_ok-counter.counter; pending = 0 }) a d e n k j
+    (init_made secret c.args.iterations c.args.timestamp.now made.0 a b d n m k (Ok (c.in_ok-counter.counter, c.in_ok-counter.session))
+    c.in_ok-expect_no_commit.ensures.none c.in_ok-expect_no_commit.ensures.same c.in_ok-expect_no_commit.ensures.cause made.1.1)
+    c.in_ok-repo.ensures.same c.in_ok-repo.ensures.cause c.in_ok-repo.ensures.repository c.in_ok-repo.ensures.cached

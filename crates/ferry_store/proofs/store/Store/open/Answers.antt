@@ -1,0 +1,74 @@
+use Rattle.std.proofs.Common.{rules, ◌≡◌, ℕ, Some, Ok, Err, Result, IfErr, IfSome, subst}
+use Rattle.ferry_disk.specs.Device.{told_files}
+use Rattle.ferry_disk.specs.Moments.{Between}
+use Rattle.ferry_nonce.specs.declared.counter.Counter.{Counter}
+use Rattle.ferry_repo.specs.Fault.{repo_failed}
+use Rattle.ferry_repo.specs.Opening.{repo_view}
+use Rattle.ferry_store.proofs.OpenLemmas.{begin_told, open_begun, open_unbegun, open_unread}
+use Rattle.ferry_store.proofs.StepLemmas.{err_is, same_told}
+use Rattle.ferry_store.proofs.store.Store.open.Goals as goal
+use Rattle.ferry_store.specs.Fault.{repo_refusal}
+use Rattle.ferry_store.specs.State.{Begins, BeginsSound, Did}
+use Rattle.ferry_store.specs.Store.{InitFits, OpenEach, RefusesOpen}
+use Rattle.ferry_store.specs.declared.fault.StoreRefusal.{StoreRefusal}
+use Rattle.ferry_store.specs.declared.store.Store.{Store}
+use Rattle.ferry_write.specs.Session.{ClearsAll}
+use Rattle.ferry_write.specs.declared.session.Session.{Session}
+
+pub returns-in_err-repo-clause-did : goal.returns-in_err-repo-clause-did
+returns-in_err-repo-clause-did g c =
+    let a = g.D.Shelf.told c.args.depot.now in
+    let b = g.D.Shelf.told c.open.new.shelf in
+    let n = g.D.Shelf.faults c.args.depot.now in
+    let m = g.D.Shelf.faults c.open.new.shelf in
+    let fault = c.in_err-repo.field-0.0 in
+    err_is c.from_residual.result (repo_refusal fault) (λ (r : Result Store StoreRefusal). Did OpenEach InitFits a b n m r) c.from_residual.ensures.1
+    (open_unread fault a b n m c.in_err-repo.ensures.same c.in_err-repo.ensures.cause)
+
+pub returns-in_err-counter-clause-did : goal.returns-in_err-counter-clause-did
+returns-in_err-counter-clause-did g c =
+    let a = g.D.Shelf.told c.args.depot.now in
+    let b = g.D.Shelf.told c.open.new.shelf in
+    let d = g.D.Shelf.told c.begin_at.new.depot in
+    let n = g.D.Shelf.faults c.args.depot.now in
+    let m = g.D.Shelf.faults c.open.new.shelf in
+    let k = g.D.Shelf.faults c.begin_at.new.depot in
+    let refusal = c.in_err-counter.field-0.0 in
+    let repo = c.in_ok-repo.repo in
+    let is : c.transaction-transaction.result ≡ (repo_view repo).log.transaction = search rules in
+    err_is c.from_residual-in_err-counter.result refusal (λ (r : Result Store StoreRefusal). Did OpenEach InitFits a d n k r)
+    c.from_residual-in_err-counter.ensures.1
+    (open_unbegun c.args.secret.now repo refusal a b d n m k c.in_ok-repo.ensures.same c.in_ok-repo.ensures.cause c.in_ok-repo.ensures.repository
+    c.in_err-counter.ensures.first
+    (subst (λ (t : ℕ). Did {T = Counter × Session} (BeginsSound (Some t)) (λ x. Begins (Some t) x.0 x.1) b d m k (Err refusal)) is
+    c.in_err-counter.ensures.did))
+
+pub returns-in_err-counter-clause-refused : goal.returns-in_err-counter-clause-refused
+returns-in_err-counter-clause-refused g c =
+    let a = g.D.Shelf.told c.args.depot.now in
+    let b = g.D.Shelf.told c.open.new.shelf in
+    let refusal = c.in_err-counter.field-0.0 in
+    let repo = c.in_ok-repo.repo in
+    err_is c.from_residual-in_err-counter.result refusal
+    (λ (r : Result Store StoreRefusal). IfErr r (λ x. IfSome a (λ t. RefusesOpen c.args.secret.now (told_files t) x)))
+    c.from_residual-in_err-counter.ensures.1
+    (begin_told c.args.secret.now (repo_view repo) refusal a b (same_told repo_failed a b (Ok repo) c.in_ok-repo.ensures.same)
+    c.in_ok-repo.ensures.repository c.in_err-counter.ensures.refused)
+
+pub returns-clause-did : goal.returns-clause-did
+returns-clause-did g c =
+    let a = g.D.Shelf.told c.args.depot.now in
+    let b = g.D.Shelf.told c.open.new.shelf in
+    let d = g.D.Shelf.told c.begin_at.new.depot in
+    let n = g.D.Shelf.faults c.args.depot.now in
+    let m = g.D.Shelf.faults c.open.new.shelf in
+    let k = g.D.Shelf.faults c.begin_at.new.depot in
+    let repo = c.in_ok-repo.repo in
+    let counter = c.in_ok-counter.counter in
+    let session = c.in_ok-counter.session in
+    let is : c.transaction-transaction.result ≡ (repo_view repo).log.transaction = search rules in
+    open_begun c.args.secret.now (record { repo = repo; session = session; counter = counter; pending = 0 }) a b d n m k c.in_ok-repo.ensures.same
+    c.in_ok-repo.ensures.cause c.in_ok-repo.ensures.repository c.in_ok-repo.ensures.cached c.in_ok-counter.ensures.first
+    (subst (λ (t : ℕ). Between b d (ClearsAll (Some t))) is c.in_ok-counter.ensures.clears)
+    (subst (λ (t : ℕ). Did {T = Counter × Session} (BeginsSound (Some t)) (λ x. Begins (Some t) x.0 x.1) b d m k (Ok (counter, session))) is
+    c.in_ok-counter.ensures.did)

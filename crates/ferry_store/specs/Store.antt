@@ -1,0 +1,101 @@
+-- What a store stands on, and what `init` and `open` leave, whatever a stop does.
+use Rattle.std.specs.Prelude.{◌≡◌, ℕ, Bool, true, List, [], Some}
+use Rattle.ferry_disk.specs.Act.{History, files_now}
+use Rattle.ferry_disk.specs.Files.{Files, file_at}
+use Rattle.ferry_disk.specs.Moments.{Moments}
+use Rattle.ferry_disk.specs.declared.name.Name.TheVariants.{Nonce as NonceFile}
+use Rattle.ferry_log.specs.Log.{IsUncommitted}
+use Rattle.ferry_nonce.specs.declared.fault.NonceFault.TheVariants as Nonces
+use Rattle.ferry_repo.specs.Opening.{FitsRepo, OpensFilesTo, RefusesRepo, RepoState, cached_in, repo_view}
+use Rattle.ferry_repo.specs.declared.fault.RepoFault.TheVariants as Repos
+use Rattle.ferry_repo.specs.declared.secret.Secret.{Secret}
+use Rattle.ferry_stops.specs.Blobs.{AllTraced}
+use Rattle.ferry_stops.specs.Chance.{EachStop}
+use Rattle.ferry_segment.specs.Entry.{LogEntry}
+use Rattle.ferry_stops.specs.Counters.{IsKept, IsNonce}
+use Rattle.ferry_stops.specs.Entries.{Shows}
+use Rattle.ferry_store.specs.Init.{RefusesMaking}
+use Rattle.ferry_store.specs.Key.{RefusesGiven}
+use Rattle.ferry_store.specs.New.{IsMade, IsNothingOrNew, OpensNew}
+use Rattle.ferry_store.specs.State.{IsUnderWay, RefusesBegin, Written}
+use Rattle.ferry_store.specs.declared.fault.StoreRefusal.{StoreRefusal}
+use Rattle.ferry_store.specs.declared.fault.StoreRefusal.TheVariants.{Repo, Write, Nonce, Committed, TooLarge, Entropy, Memory}
+use Rattle.ferry_store.specs.declared.store.Store.{Store}
+use Rattle.ferry_write.specs.Session.{SettlesFirst}
+use Rattle.ferry_write.specs.declared.fault.WriteFault.TheVariants as Writes
+
+-- A store fits what its depot told: what was written stands, and the repository fits the files. With `counts` each counter block that was taken
+-- is below the store's counter.
+pub record StoreFits (counts : Bool) (store : Store) (history : History) : Type 0 where
+  pub written : Written
+  pub under_way : IsUnderWay counts store.session store.counter written history
+  pub repo : FitsRepo (files_now history) (repo_view store.repo) (cached_in store.repo)
+
+-- ---- `init`
+
+-- The files that are made where nothing is committed, where the run had made no act.
+pub record MakesFiles (secret : Secret) (iterations : ℕ) (timestamp bytes : List ℕ) (before now : History) : Type 0 where
+  pub uncommitted : IsUncommitted (files_now before)
+  pub free : ℕ
+  pub number : IsNonce (file_at (files_now before) NonceFile) free
+  pub made : IsMade secret iterations timestamp free bytes (files_now now)
+  pub opens : OpensNew secret (files_now now)
+
+abbrev pub InitMakes : Secret → ℕ → List ℕ → List ℕ → History → History → Type 0
+InitMakes secret iterations timestamp bytes before now = before.acts ≡ [] → MakesFiles secret iterations timestamp bytes before now
+
+-- The new store fits, and where the blocks of the runs before are kept, so are those that are taken now.
+abbrev pub InitFits : Store → History → History → Type 0
+InitFits store before now = (counts : Bool) → before.acts ≡ [] → (counts ≡ true → IsKept before) → StoreFits counts store now
+
+-- Where nothing is committed, each stop at each moment leaves nothing that is committed, or the new repository.
+abbrev pub InitShows : Secret → History → History → Type 0
+InitShows secret before now = before.acts ≡ [] → IsUncommitted (files_now before) → Moments (EachStop (IsNothingOrNew secret)) before now
+
+-- What is kept is kept at each moment.
+abbrev pub InitKeeps : History → History → Type 0
+InitKeeps before now = before.acts ≡ [] → IsKept before → Moments (λ h. IsKept h × AllTraced h) before now
+
+-- Where something is committed, nothing is done.
+abbrev pub InitLeaves : History → History → Type 0
+InitLeaves before now = (IsUncommitted (files_now before) → ⊥) → now ≡ before
+
+-- At each moment of `init`, and at its end.
+abbrev pub InitEach : Secret → History → History → Type 0
+InitEach secret before now = InitShows secret before now × (InitKeeps before now × (SettlesFirst before now × InitLeaves before now))
+
+-- Why a repository isn't made of these files. Each but `Committed`, the devices and memory says as well that nothing is committed.
+abbrev pub RefusesFiles : Secret → List ℕ → Files → StoreRefusal → Type 0
+RefusesFiles secret timestamp files Committed = IsUncommitted files → ⊥
+RefusesFiles secret timestamp files (Repo Repos.Device) = Unit {0}
+RefusesFiles secret timestamp files (Repo fault) = IsUncommitted files × RefusesGiven secret (Repo fault)
+RefusesFiles secret timestamp files (Write fault) = RefusesMaking timestamp files (Write fault)
+RefusesFiles secret timestamp files (Nonce Nonces.Device) = Unit {0}
+RefusesFiles secret timestamp files (Nonce fault) = IsUncommitted files × RefusesMaking timestamp files (Nonce fault)
+RefusesFiles secret timestamp files TooLarge = IsUncommitted files × RefusesMaking timestamp files TooLarge
+RefusesFiles secret timestamp files Entropy = Unit {0}
+RefusesFiles secret timestamp files Memory = Unit {0}
+
+-- The same of a run that had made no act.
+abbrev pub RefusesInit : Secret → List ℕ → History → StoreRefusal → Type 0
+RefusesInit secret timestamp history refusal = history.acts ≡ [] → RefusesFiles secret timestamp (files_now history) refusal
+
+-- ---- `open`
+
+-- Each stop at each moment shows what is committed.
+abbrev pub OpenShows : History → History → Type 0
+OpenShows before now = (committed : List LogEntry) → before.acts ≡ [] → Shows (files_now before) (Some committed)
+    → Moments (EachStop (λ image. Shows image (Some committed))) before now
+
+-- At each moment of `open`, and at its end.
+abbrev pub OpenEach : History → History → Type 0
+OpenEach before now = OpenShows before now × (InitKeeps before now × SettlesFirst before now)
+
+-- Why these files don't open to be written. `Nonce` says as well that the repository opens.
+abbrev pub RefusesOpen : Secret → Files → StoreRefusal → Type 0
+RefusesOpen secret files (Repo fault) = RefusesRepo files secret fault
+RefusesOpen secret files (Nonce Nonces.Device) = Unit {0}
+RefusesOpen secret files (Nonce fault) = ((repo : RepoState) × OpensFilesTo files secret repo) × RefusesBegin true files (Nonce fault)
+RefusesOpen secret files (Write Writes.Device) = Unit {0}
+RefusesOpen secret files Memory = Unit {0}
+RefusesOpen secret files refusal = ⊥

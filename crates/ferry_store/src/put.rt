@@ -1,0 +1,154 @@
+//! Objects sealed and put.
+ghost use Rattle.std.specs.Prelude.{◌≡◌, ◌<◌, ◌≤◌, ◌+◌, ◌-◌, ◌++◌, ◌↔◌, ℕ, List, true, false, Ok, drop, length, IfOk, IfErr, IfSome, OnOk, IsErrOf, option_map};
+ghost use Rattle.ferry_base.specs.Limits.{blob_limit, content_limit, zero_id};
+ghost use Rattle.ferry_blob.specs.Blob.{blocks, sealed};
+ghost use Rattle.ferry_disk.specs.Device.{HasCause};
+ghost use Rattle.ferry_disk.specs.Image.{settled};
+ghost use Rattle.ferry_manifest.specs.Manifest.Text.{manifest_of, manifest_view};
+ghost use Rattle.ferry_manifest.specs.Manifest.Writing.{manifest_text};
+ghost use Rattle.ferry_nonce.specs.Counter.{IsExhausted};
+ghost use Rattle.ferry_nonce.specs.declared.fault.NonceFault.TheVariants as Nonces;
+ghost use Rattle.ferry_repo.specs.Opening.{mode_of};
+ghost use Rattle.ferry_segment.specs.Entry.{PutEntry};
+ghost use Rattle.ferry_store.specs.Fault.{source_failed};
+ghost use Rattle.ferry_store.specs.New.{PutsManifest, first_manifest};
+ghost use Rattle.ferry_store.specs.State.{Did, KeepsSound, RefusesManifest, RefusesPut, TakesEntry};
+ghost use Rattle.ferry_store.specs.declared.fault.StoreRefusal.TheVariants as Refusal;
+ghost use Rattle.ferry_write.specs.Room.{after_entry};
+
+use crate::fault::StoreRefusal;
+use crate::key::Basis;
+use ferry_base::{Bytes, Id, ZERO_ID};
+use ferry_blob::{Mode, blocks_of, seal};
+use ferry_config::Config;
+use ferry_disk::{Depot, Entropy};
+use ferry_mac::Keys;
+use ferry_manifest::{ArchiveRefs, Manifest, MetaFault, Names, write_manifest};
+use ferry_msgpack::Value;
+use ferry_nonce::Counter;
+use ferry_write::Session;
+use std::alloc::Global;
+
+/// How many bytes of a blob stand before its content.
+const HEAD: usize = 43;
+
+/// Seals the content at `buffer[43..]` with the next counter blocks, and puts the blob under an id.
+pub(crate) fn put_object<D: Depot>(
+    depot: &mut D,
+    keys: &Keys,
+    mode: Mode,
+    session: &mut Session,
+    counter: &mut Counter,
+    id: &Id,
+    buffer: &mut [u8],
+) -> Result<(), StoreRefusal>
+    requires session { session.old.spent ≡ false }
+    requires counter { counter.old.spent ≡ false }
+    requires head { 43 ≤ length buffer.old }
+    requires size { length buffer.old ≤ blob_limit }
+    requires settled { IfSome (D.told depot.old) (λ t. settled t.history.acts ≡ true) }
+    ensures did { Did (KeepsSound session.old counter.old)
+        (λ _. TakesEntry session.old counter.old (PutEntry id.now (sealed keys.now mode counter.old.free (drop 43 buffer.old))) session.new counter.new)
+        (D.told depot.old) (D.told depot.new) (D.faults depot.old) (D.faults depot.new) result }
+    ensures session { OnOk result (session.new ≡ after_entry session.old (41 + length buffer.old)) }
+    ensures counter { OnOk result (counter.new.spent ≡ false) }
+    ensures refused { IfErr result (RefusesPut session.old (41 + length buffer.old)) }
+    ensures exhausted { IsErrOf result (Refusal.Nonce Nonces.Exhausted) ↔ IsExhausted counter.old (blocks (length buffer.old - 43)) }
+{
+    let blocks = blocks_of((buffer.len() - HEAD) as u64);
+    let first = counter.draw(depot, blocks)?;
+    seal(keys, mode, first, buffer);
+    session.put(depot, id, buffer)?;
+    Ok(())
+}
+
+/// A manifest without archives.
+fn no_archives(alloc: Global, timestamp: &[u8]) -> Result<Manifest, StoreRefusal>
+    ensures manifest { IfOk result (λ manifest. manifest_view manifest ≡ first_manifest timestamp.now) }
+    ensures refused { IfErr result (λ refusal. refusal ≡ Refusal.Memory) }
+{
+    Ok(Manifest {
+        timestamp: Some(Bytes::new(Vec::from_slice(alloc, timestamp)?)),
+        config: Value::Table(Vec::new(alloc)),
+        item_keys: Names::new(Vec::new(alloc)),
+        archives: ArchiveRefs::new(Vec::new(alloc)),
+        more: Value::Table(Vec::new(alloc)),
+    })
+}
+
+/// The packed bytes of a manifest without archives, behind room for the head of a blob. It takes 64 random bytes.
+fn first_manifest<E: Entropy>(
+    alloc: Global,
+    entropy: &mut E,
+    keys: &Keys,
+    timestamp: &[u8],
+) -> Result<Vec<u8>, StoreRefusal>
+    ensures made { (salt : List ℕ) × ((length salt ≡ 64) × OnOk result (E.drawn entropy.new ≡ option_map (λ d. d ++ salt) (E.drawn entropy.old))
+        × IfOk result (λ buffer. (drop 43 buffer.items ≡ manifest_text keys.now salt (first_manifest timestamp.now))
+        × (length buffer.items ≡ 43 + length (manifest_text keys.now salt (first_manifest timestamp.now)))
+        × (manifest_of keys.now (manifest_text keys.now salt (first_manifest timestamp.now)) ≡ Ok (first_manifest timestamp.now))
+        × (length (manifest_text keys.now salt (first_manifest timestamp.now)) ≤ content_limit))
+        × IfErr result (RefusesManifest (length (manifest_text keys.now salt (first_manifest timestamp.now))))) }
+    ensures cause { HasCause source_failed (E.faults entropy.old) (E.faults entropy.new) result }
+{
+    let mut salt = [0u8; 64];
+    entropy.fill(&mut salt)?;
+    let manifest = no_archives(alloc, timestamp)?;
+    match write_manifest(alloc, keys, &manifest, &salt) {
+        Ok(text) => behind_head(alloc, &text),
+        Err(MetaFault::TooLarge) => Err(StoreRefusal::TooLarge),
+        Err(_) => Err(StoreRefusal::Memory),
+    }
+}
+
+/// A content behind room for the head of its blob.
+fn behind_head(alloc: Global, content: &[u8]) -> Result<Vec<u8>, StoreRefusal>
+    ensures buffer { IfOk result (λ buffer. (drop 43 buffer.items ≡ content.now) × (length buffer.items ≡ 43 + length content.now)) }
+    ensures refused { IfErr result (λ refusal. refusal ≡ Refusal.Memory) }
+{
+    let mut buffer = Vec::from_slice(alloc, &[0; HEAD])?;
+    buffer.extend_from_slice(content)?;
+    Ok(buffer)
+}
+
+/// Where the key of these settings lies.
+fn mode_of(config: &Config) -> Mode
+    ensures mode { result ≡ mode_of config.now }
+{
+    if config.key.as_slice().is_empty() {
+        Mode::Keyfile
+    } else {
+        Mode::Repokey
+    }
+}
+
+/// Puts the first manifest of a repository.
+pub(crate) fn put_manifest<D: Depot, E: Entropy>(
+    alloc: Global,
+    depot: &mut D,
+    entropy: &mut E,
+    basis: &Basis,
+    timestamp: &[u8],
+    counter: &mut Counter,
+    session: &mut Session,
+) -> Result<(), StoreRefusal>
+    requires session { session.old.spent ≡ false }
+    requires counter { counter.old.spent ≡ false }
+    requires settled { IfSome (D.told depot.old) (λ t. settled t.history.acts ≡ true) }
+    ensures put { (salt : List ℕ) × ((length salt ≡ 64) × OnOk result (E.drawn entropy.new ≡ option_map (λ d. d ++ salt) (E.drawn entropy.old))
+        × PutsManifest basis.now timestamp.now salt session.old counter.old session.new counter.new (D.told depot.old) (D.told depot.new)
+        (D.faults depot.old) (D.faults depot.new) result) }
+    ensures cause { HasCause source_failed (E.faults entropy.old) (E.faults entropy.new) result }
+{
+    let mut buffer = first_manifest(alloc, entropy, &basis.keys, timestamp)?;
+    let mode = mode_of(&basis.config);
+    put_object(
+        depot,
+        &basis.keys,
+        mode,
+        session,
+        counter,
+        &ZERO_ID,
+        &mut buffer,
+    )
+}

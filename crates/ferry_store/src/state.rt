@@ -1,0 +1,96 @@
+//! The first steps of a repository that is made: what is there already, and the files beside the segments.
+ghost use Rattle.std.specs.Prelude.{◌≡◌, ℕ, true, false, Ok, IfOk, IfErr, IfSome, OnOk};
+ghost use Rattle.ferry_config.specs.Config.{config_of};
+ghost use Rattle.ferry_config.specs.Text.{config_text};
+ghost use Rattle.ferry_disk.specs.Act.{IsPlain, ReplaceBy, with_act};
+ghost use Rattle.ferry_disk.specs.Device.{HasCause, KeepsTold, told_files};
+ghost use Rattle.ferry_disk.specs.Files.{file_at};
+ghost use Rattle.ferry_disk.specs.Image.{settled};
+ghost use Rattle.ferry_disk.specs.Moments.{Between};
+ghost use Rattle.ferry_disk.specs.declared.name.Name.TheVariants as FileName;
+ghost use Rattle.ferry_log.specs.Log.{IsUncommitted};
+ghost use Rattle.ferry_stops.specs.Counters.{IsNonce};
+ghost use Rattle.ferry_store.specs.Fault.{depot_failed, source_failed};
+ghost use Rattle.ferry_store.specs.State.{Begins, BeginsSound, Did, IsFirst, IsStep, IsTarget, RefusesBegin, RefusesLog, SettingsSound, TakesSettings};
+ghost use Rattle.ferry_write.specs.Session.{ClearsAll, SettlesFirst};
+
+use crate::fault::StoreRefusal;
+use ferry_config::{Config, print_config};
+use ferry_disk::{Depot, Name};
+use ferry_log::{LogFault, open_log};
+use ferry_nonce::Counter;
+use ferry_repo::RepoFault;
+use ferry_write::Session;
+use std::alloc::Global;
+
+/// The text of the file `README` of a new repository.
+const README: &[u8] = b"This is a Borg Backup repository.\n";
+
+/// Refuses a place where a segment is committed.
+pub(crate) fn expect_no_commit<D: Depot>(alloc: Global, depot: &mut D) -> Result<(), StoreRefusal>
+    ensures none { OnOk result (IfSome (D.told depot.old) (λ t. IsUncommitted (told_files t))) }
+    ensures refused { IfErr result (λ refusal. IfSome (D.told depot.old) (λ t. RefusesLog (told_files t) refusal)) }
+    ensures still { IfErr result (λ refusal. source_failed refusal ≡ false) }
+    ensures same { KeepsTold depot_failed (D.told depot.old) (D.told depot.new) result }
+    ensures cause { HasCause depot_failed (D.faults depot.old) (D.faults depot.new) result }
+{
+    match open_log(alloc, depot) {
+        Ok(_) => Err(StoreRefusal::Committed),
+        Err(LogFault::Damaged { .. }) => Err(StoreRefusal::Committed),
+        Err(LogFault::NoCommit) => Ok(()),
+        Err(LogFault::Device) => Err(StoreRefusal::Repo(RepoFault::Device)),
+        Err(LogFault::Memory) => Err(StoreRefusal::Memory),
+    }
+}
+
+/// Opens the counter of a place, where something is committed or not, and begins a session behind the commit in segment `after`, or behind none.
+pub(crate) fn begin_at<D: Depot>(
+    alloc: Global,
+    depot: &mut D,
+    committed: bool,
+    after: Option<u64>,
+    limit: u64,
+) -> Result<(Counter, Session), StoreRefusal>
+    ensures did { Did (BeginsSound after) (λ b. Begins after b.0 b.1) (D.told depot.old) (D.told depot.new) (D.faults depot.old) (D.faults depot.new)
+        result }
+    ensures number { IfOk result (λ b. IfSome (D.told depot.old) (λ t. IsNonce (file_at (told_files t) FileName.Nonce) b.0.free)) }
+    ensures fresh { IfOk result (λ b. IsFirst after limit b.0 b.1) }
+    ensures settled { OnOk result (IfSome (D.told depot.new) (λ t. settled t.history.acts ≡ true)) }
+    ensures first { Between (D.told depot.old) (D.told depot.new) SettlesFirst }
+    ensures clears { OnOk result (Between (D.told depot.old) (D.told depot.new) (ClearsAll after)) }
+    ensures refused { IfErr result (λ refusal. IfSome (D.told depot.old) (λ t. RefusesBegin committed (told_files t) refusal)) }
+    ensures still { IfErr result (λ refusal. source_failed refusal ≡ false) }
+{
+    let counter = Counter::open(depot, committed)?;
+    let session = Session::begin(alloc, depot, after, limit)?;
+    Ok((counter, session))
+}
+
+/// Replaces a file that is no segment.
+fn replace<D: Depot>(depot: &mut D, name: Name, bytes: &[u8]) -> Result<(), StoreRefusal>
+    requires { IsPlain name }
+    ensures did { Did (IsStep (ReplaceBy name bytes.now)) (λ _ h g. g ≡ with_act (ReplaceBy name bytes.now) true h)
+        (D.told depot.old) (D.told depot.new) (D.faults depot.old) (D.faults depot.new) result }
+    ensures refused { IfErr result IsTarget }
+{
+    depot.replace(name, bytes)?;
+    Ok(())
+}
+
+/// Replaces `README` and `config` by those of a new repository.
+pub(crate) fn replace_settings<D: Depot>(
+    alloc: Global,
+    depot: &mut D,
+    config: &Config,
+) -> Result<(), StoreRefusal>
+    requires per_dir { config.now.per_dir ≡ 1000 }
+    requires limit { config.now.limit ≡ 524288000 }
+    ensures did { Did SettingsSound (λ _. TakesSettings config.now) (D.told depot.old) (D.told depot.new) (D.faults depot.old) (D.faults depot.new)
+        result }
+    ensures read_again { OnOk result (config_of (config_text config.now) ≡ Ok config.now) }
+    ensures refused { IfErr result IsTarget }
+{
+    let text = print_config(alloc, config)?;
+    replace(depot, Name::Readme, README)?;
+    replace(depot, Name::Config, &text)
+}

@@ -1,0 +1,83 @@
+-- What the command that makes a repository leaves, and what it says where it makes none.
+use Rattle.std.specs.Prelude.{◌≡◌, ◌⊎◌, ℕ, true, List, [], ◌∷◌, ◌++◌, codes, Option, unwrap_or, IfSome, option_map}
+use Rattle.hex.specs.Hex.{encode_lower}
+use Rattle.ferry_disk.specs.Act.{History, TellOf, with_act}
+use Rattle.ferry_disk.specs.Device.{Told}
+use Rattle.ferry_disk.specs.Files.{Files, file_at}
+use Rattle.ferry_disk.specs.Moments.{Between}
+use Rattle.ferry_disk.specs.declared.name.Name.TheVariants.{Nonce as NonceFile}
+use Rattle.ferry_log.specs.Log.{IsUncommitted}
+use Rattle.ferry_nonce.specs.Counter.{HasNoNumber}
+use Rattle.ferry_repo.specs.declared.fault.RepoFault.{RepoFault}
+use Rattle.ferry_repo.specs.declared.secret.Secret.{Secret}
+use Rattle.ferry_store.specs.Init.{HasNoBlocks, IsTooLarge}
+use Rattle.ferry_store.specs.Key.{RefusesGiven}
+use Rattle.ferry_store.specs.Store.{InitKeeps, InitLeaves, InitShows, MakesFiles, RefusesInit}
+use Rattle.ferry_store.specs.declared.fault.StoreRefusal.{StoreRefusal}
+use Rattle.ferry_store.specs.declared.fault.StoreRefusal.TheVariants.{Repo, Write, Memory}
+use Rattle.ferry_top.specs.Devices.{Devices}
+use Rattle.ferry_top.specs.Status.{store_status, target_failed, entropy_failed}
+use Rattle.ferry_top.specs.declared.status.Status.{Status}
+use Rattle.ferry_top.specs.declared.status.Status.TheVariants.{Done, Memory as NoMemory}
+use Rattle.ferry_write.specs.Session.{SettlesFirst}
+use Rattle.ferry_write.specs.declared.fault.WriteFault.TheVariants as Writes
+
+-- the timestamp that the words give, or the begin of 1970
+abbrev pub time_or : Option (List ℕ) → List ℕ
+time_or timestamp = unwrap_or timestamp (codes "1970-01-01T00:00:00.000000")
+
+-- the line that is told of a new repository: its id in hex digits
+abbrev pub initialized_line : List ℕ → List ℕ
+initialized_line id = codes "initialized " ++ (encode_lower id ++ (10 ∷ []))
+
+-- A new repository is made of these random bytes, and then the id in its `config` is told.
+pub record MakesAndTells (secret : Secret) (iterations : ℕ) (timestamp bytes : List ℕ) (before now : History) : Type 0 where
+  pub makes : MakesFiles secret iterations timestamp bytes before now
+  pub made : History
+  pub tells : now ≡ with_act (TellOf (initialized_line makes.opens.repo.config.id)) true made
+
+-- The same of a run that had made no act.
+abbrev pub InitTells : Secret → ℕ → List ℕ → List ℕ → History → History → Type 0
+InitTells secret iterations timestamp bytes before now = before.acts ≡ [] → MakesAndTells secret iterations timestamp bytes before now
+
+-- At each moment of the command, and at its end.
+abbrev pub CommandEach : Secret → History → History → Type 0
+CommandEach secret before now = InitShows secret before now × (InitKeeps before now × (SettlesFirst before now
+    × (before.acts ≡ [] → InitLeaves before now)))
+
+-- Why a line isn't told: the target failed, or memory was refused.
+abbrev pub RefusesTelling : StoreRefusal → Type 0
+RefusesTelling (Write Writes.Device) = Unit {0}
+RefusesTelling Memory = Unit {0}
+RefusesTelling refusal = ⊥
+
+-- A status is that of a refusal, which says this of the target.
+pub record IsRefused (secret : Secret) (timestamp : List ℕ) (target : Option Told) (status : Status) : Type 0 where
+  pub refusal : StoreRefusal
+  pub status_is : status ≡ store_status refusal
+  pub refuses : IfSome target (λ t. RefusesInit secret timestamp t.history refusal)
+
+-- A repository is made in the target, or that is refused. Whatever a stop leaves at any moment has no commit, or is the new repository; the
+-- counter blocks of the runs before stay apart. Source and output are not used.
+pub record MakesRepository (secret : Secret) (iterations : ℕ) (timestamp : List ℕ) (before : Devices) (status : Status) (after : Devices) : Type 0 where
+  pub source : after.source ≡ before.source
+  pub output : after.output ≡ before.output
+  pub made : status ≡ Done → (bytes : List ℕ) × (after.entropy.bytes ≡ option_map (λ d. d ++ bytes) before.entropy.bytes)
+      × Between before.target.told after.target.told (InitTells secret iterations timestamp bytes)
+  pub each : Between before.target.told after.target.told (CommandEach secret)
+  pub refused : (status ≡ Done) ⊎ IsRefused secret timestamp before.target.told status
+
+-- ---- where nothing refuses
+
+-- A new repository may be made of these files: nothing is committed, the key file reads and opens where there is one, and the file `nonce` has
+-- a number behind which the blocks of the manifest are left, which isn't too large.
+pub record IsReady (secret : Secret) (timestamp : List ℕ) (files : Files) : Type 0 where
+  pub uncommitted : IsUncommitted files
+  pub key : (fault : RepoFault) → RefusesGiven secret (Repo fault) → ⊥
+  pub nonce : HasNoNumber (file_at files NonceFile) → ⊥
+  pub blocks : HasNoBlocks timestamp files → ⊥
+  pub fits : IsTooLarge timestamp → ⊥
+
+-- Memory was refused, or the target or the source of random bytes failed.
+abbrev pub IsFault : Status → Type 0
+IsFault status = (status ≡ NoMemory) ⊎ ((target_failed status ≡ true) ⊎ (entropy_failed status ≡ true))

@@ -1,0 +1,31 @@
+-- What the command that makes a key writes.
+use Rattle.std.specs.Prelude.{◌≡◌, ◌⊎◌, ℕ, List, ◌++◌, Option, option_map}
+use Rattle.ferry_disk.specs.Device.{Rose, WritesSome}
+use Rattle.ferry_repo.specs.declared.secret.Secret.{Secret}
+use Rattle.ferry_store.specs.Key.{IsNewKeyFile}
+use Rattle.ferry_top.specs.Devices.{Devices, Written}
+use Rattle.ferry_top.specs.declared.status.Status.{Status}
+use Rattle.ferry_top.specs.declared.status.Status.TheVariants.{Done, Memory, EntropyDevice, OutputDevice}
+
+-- The text is that of a key file, made of the bytes that the source of random bytes has handed out meanwhile.
+pub record IsDrawnKey (passphrase : List ℕ) (iterations : ℕ) (before after : Option (List ℕ)) (text : List ℕ) : Type 0 where
+  pub bytes : List ℕ
+  pub key : IsNewKeyFile passphrase iterations bytes text
+  pub drawn : after ≡ option_map (λ d. d ++ bytes) before
+
+-- What is written when the command ends with a status, where it prints such a text.
+abbrev pub PrintsKey : (List ℕ → Type 0) → Written → Status → Written → Type 0
+PrintsKey IsText before Done after =
+    (text : List ℕ) × IsText text × (after.bytes ≡ option_map (λ w. w ++ text) before.bytes) × (after.faults ≡ before.faults)
+PrintsKey IsText before Memory after =
+    (after ≡ before) ⊎ ((text : List ℕ) × IsText text × WritesSome before.bytes text after.bytes × (after.faults ≡ before.faults))
+PrintsKey IsText before EntropyDevice after = after ≡ before
+PrintsKey IsText before OutputDevice after =
+    (text : List ℕ) × IsText text × WritesSome before.bytes text after.bytes × Rose before.faults after.faults
+PrintsKey IsText before status after = ⊥
+
+-- The text of a new key file is printed, sealed with the passphrase. Source and target are not used.
+pub record MakesKey (secret : Secret) (iterations : ℕ) (before : Devices) (status : Status) (after : Devices) : Type 0 where
+  pub source : after.source ≡ before.source
+  pub target : after.target ≡ before.target
+  pub prints : PrintsKey (IsDrawnKey secret.passphrase iterations before.entropy.bytes after.entropy.bytes) before.output status after.output

@@ -1,0 +1,161 @@
+//! The options of the commands.
+
+ghost use Rattle.std.specs.Prelude.{◌≡◌, ◌+◌, ◌≤◌, ℕ, [], IfOk, IfErr, length, Ok, Err, map, string_bytes};
+ghost use Rattle.std.specs.Option.{option_map};
+ghost use Rattle.ferry_words.specs.Options.{options_of};
+ghost use Rattle.ferry_words.specs.Words as spec;
+
+use crate::number::number_of;
+use crate::usage::Usage;
+use ferry_base::Bytes;
+use std::alloc::{AllocError, Global};
+
+/// The most iterations of PBKDF2 that are taken.
+const ITERATIONS_LIMIT: u32 = 10_000_000;
+
+/// The iterations of PBKDF2 where none are given.
+const ITERATIONS: u32 = 100_000;
+
+/// Which options a command has.
+#[derive(Clone, Copy)]
+pub(crate) enum Options {
+    /// None.
+    None,
+    /// `--iterations N` and `--timestamp T`.
+    Init,
+    /// `--iterations N`.
+    MakeKey,
+}
+
+impl Options {
+    /// Whether a word is the name of one of the options.
+    fn has(self, name: &str) -> bool
+        ensures known { result ≡ spec.is_known (options_of self) name.now }
+    {
+        match (self, name) {
+            (Options::Init | Options::MakeKey, "--iterations") => true,
+            (Options::Init, "--timestamp") => true,
+            _ => false,
+        }
+    }
+
+    /// Whether a word is the name of one of the options, and isn't among those that are given.
+    fn is_new(self, given: &[String], name: &str) -> bool
+        ensures new { result ≡ spec.is_new (options_of self) (map string_bytes given.now) name.now }
+    {
+        self.has(name) && value_of(given, name).is_none()
+    }
+
+    /// Whether a word may be the value of the option of this name.
+    fn takes(self, name: &str, value: &str) -> bool
+        ensures taken { result ≡ spec.is_taken (options_of self) name.now value.now }
+    {
+        match (self, name) {
+            (Options::Init | Options::MakeKey, "--iterations") => {
+                number_of(value, 1, ITERATIONS_LIMIT).is_some()
+            }
+            (Options::Init, "--timestamp") => !value.is_empty(),
+            _ => false,
+        }
+    }
+}
+
+/// The options and the operands among the words behind a command's word.
+#[derive(Clone, Copy)]
+pub(crate) struct Parts<'a> {
+    /// The options, each a name and its value behind it.
+    pub(crate) given: &'a [String],
+    /// The number, from 1, of the word at which the operands begin, or would begin.
+    pub(crate) first: u64,
+    /// The operands.
+    pub(crate) operands: &'a [String],
+}
+
+/// The options and the operands among the words behind a command's word, or the number of the word that is wrong in an option's place.
+pub(crate) fn parts_of(options: Options, behind: &[String]) -> Result<Parts<'_>, Usage>
+    ensures parts { IfOk result (λ parts. spec.parts_of (options_of options) [] (map string_bytes behind.now)
+        ≡ Ok record { given = map string_bytes parts.given.now; first = parts.first; operands = map string_bytes parts.operands.now }) }
+    ensures first { IfOk result (λ parts. parts.first ≤ length behind.now + 2) }
+    ensures wrong { IfErr result (λ usage. (number : ℕ) × (usage ≡ Usage.Word number)
+        × (spec.parts_of (options_of options) [] (map string_bytes behind.now) ≡ Err number)) }
+{
+    let mut at = 0usize;
+    while at < behind.len() {
+        let word = behind[at].as_str();
+        if word == "--" {
+            return Ok(Parts {
+                given: &behind[..at],
+                first: at as u64 + 3,
+                operands: &behind[at + 1..],
+            });
+        }
+        if !is_option(word) {
+            break;
+        }
+        if !options.is_new(&behind[..at], word) {
+            return Err(Usage::Word(at as u64 + 2));
+        }
+        if at + 1 == behind.len() {
+            return Err(Usage::Word(at as u64 + 3));
+        }
+        if !options.takes(word, behind[at + 1].as_str()) {
+            return Err(Usage::Word(at as u64 + 3));
+        }
+        at += 2;
+    }
+    Ok(Parts {
+        given: &behind[..at],
+        first: at as u64 + 2,
+        operands: &behind[at..],
+    })
+}
+
+/// Whether a word has the form of an option's name.
+fn is_option(word: &str) -> bool
+    ensures { result ≡ spec.is_option word.now }
+{
+    word.as_bytes().starts_with(b"--")
+}
+
+/// The value of the option of this name among options, each a name and its value behind it.
+#[tactic(auto, unfolding(crate::specs::Words::value_of))]
+fn value_of<'a>(given: &'a [String], name: &str) -> Option<&'a String>
+    ensures value { option_map (λ value. string_bytes value.now) result ≡ spec.value_of (map string_bytes given.now) name.now }
+{
+    let mut rest = given;
+    while let [first, value, more @ ..] = rest {
+        if first.as_str() == name {
+            return Some(value);
+        }
+        rest = more;
+    }
+    None
+}
+
+/// The iterations that are given, or 100000.
+pub(crate) fn iterations_of(given: &[String]) -> u32
+    ensures iterations { result ≡ spec.iterations_of (map string_bytes given.now) }
+{
+    match value_of(given, "--iterations") {
+        Some(value) => number_of(value.as_str(), 1, ITERATIONS_LIMIT).unwrap_or(ITERATIONS),
+        None => ITERATIONS,
+    }
+}
+
+/// The timestamp that is given.
+pub(crate) fn timestamp_of(alloc: Global, given: &[String]) -> Result<Option<Bytes>, AllocError>
+    ensures timestamp { IfOk result (λ timestamp. timestamp ≡ spec.timestamp_of (map string_bytes given.now)) }
+{
+    match value_of(given, "--timestamp") {
+        Some(value) => Ok(Some(bytes_of(alloc, value)?)),
+        None => Ok(None),
+    }
+}
+
+/// A copy of a word's bytes.
+pub(crate) fn bytes_of(alloc: Global, word: &String) -> Result<Bytes, AllocError>
+    ensures bytes { IfOk result (λ bytes. bytes ≡ string_bytes word.now) }
+{
+    let bytes = Vec::from_slice(alloc, word.as_bytes())?;
+    Ok(Bytes::new(bytes))
+}
