@@ -7,8 +7,10 @@ comes from the table in docs/FORMATS.md, of which each row is met. Nothing may b
 after. One line for each case that differs, and at the end 'N passed, M failed'; status 1 where M isn't 0.
 """
 import base64
+import concurrent.futures
 import hashlib
 import os
+import pty
 import random
 import re
 import resource
@@ -17,6 +19,9 @@ import struct
 import subprocess
 import sys
 import tempfile
+import threading
+import time
+import tty
 
 sys.dont_write_bytecode = True
 import repositories
@@ -90,10 +95,14 @@ def state(root):
     return all_of_it
 
 
+def environment(variables):
+    """The variables of a run: those of this one without Borg's, and these."""
+    return {**{name: value for name, value in os.environb.items() if not name.startswith(b"BORG_")}, **variables}
+
+
 def run(words, cwd, variables=None, stdout=subprocess.PIPE, limit=None, stderr=subprocess.PIPE):
     """The status and the output of one run."""
-    env = {name: value for name, value in os.environb.items() if not name.startswith(b"BORG_")}
-    env.update(variables or {})
+    env = environment(variables or {})
     before = lambda: limit and resource.setrlimit(resource.RLIMIT_AS, (limit, limit))
     try:
         ran = subprocess.run([PROGRAM, *words], cwd=cwd, env=env, stdin=subprocess.DEVNULL, stdout=stdout, stderr=stderr, timeout=60, preexec_fn=before)
@@ -705,6 +714,84 @@ def outputs():
             judge(f"a closed standard error: {words}", (closed.returncode, closed.stdout), want)
 
 
+def lasting(words, cwd, pause=0.0, most=None, is_shared=False, is_terminal=True):
+    """One run with standard error on a terminal, or in a pipe, and with standard output on the same where that is shared.
+
+    Else standard output is a pipe that is read with a pause after each 64 KiB, so that the run lasts, and is closed once `most`
+    bytes have come. Answers the status, standard output, what came to standard error, and the seconds.
+    """
+    reads, error = pty.openpty() if is_terminal else os.pipe()
+    if is_terminal:
+        tty.setraw(error)
+    began, shown, out = time.monotonic(), [], b""
+    output = error if is_shared else subprocess.PIPE
+    running = subprocess.Popen([PROGRAM, *words], cwd=cwd, env=environment(OPEN), stdin=subprocess.DEVNULL, stdout=output, stderr=error)
+    os.close(error)
+    listener = threading.Thread(target=lambda: shown.extend(pieces(reads)))
+    listener.start()
+    while not is_shared and (most is None or len(out) < most) and (piece := running.stdout.read(65536)):
+        out += piece
+        time.sleep(pause)
+    if not is_shared:
+        running.stdout.close()
+    status = running.wait(60)
+    listener.join()
+    os.close(reads)
+    return status, out, b"".join(shown), time.monotonic() - began
+
+
+def pieces(reads):
+    """What comes to a terminal or a pipe until the program has ended."""
+    try:
+        while piece := os.read(reads, 65536):
+            yield piece
+    except OSError:
+        return
+
+
+PROGRESS = re.compile(rb"\rread (\d+) MB, written (\d+) MB, (\d+) s\x1b\[K")
+
+
+def progress():
+    """The line of a long run: its form, how often it is written, that it is gone behind the run, and that a terminal alone has it."""
+
+    def shows(name, got, status, behind, least=(0, 0)):
+        """The terminal has lines of progress, at most ten a second, whose numbers grow, the last at least to these; the line is erased; then `behind` comes."""
+        ended, _, shown, seconds = got
+        lines = [tuple(map(int, numbers)) for numbers in PROGRESS.findall(shown)]
+        judge(f"progress: {name}", (ended, PROGRESS.sub(b"", shown)), (status, b"\r\x1b[K" + behind))
+        judge(f"progress: {name}: in front", (PROGRESS.match(shown) is not None, b""), (True, b""))
+        judge(f"progress: {name}: {len(lines)} in {seconds:.1f} s", (1 <= len(lines) <= 10 * seconds, b""), (True, b""))
+        grows = all(left <= right for one, after in zip(lines, lines[1:]) for left, right in zip(one, after))
+        read, written, lasted = lines[-1] if lines else (0, 0, 0)
+        judge(f"progress: {name}: {lines}", (grows and read >= least[0] and written >= least[1] and lasted <= seconds, b""), (True, b""))
+
+    keys, plain = Keys(), {row: b"%s\n" % text.encode() for row, text in PLAIN.items()}
+    whole = repository(keys, PASSPHRASE, keys.blob(keys.tagged(fields([(b"a", K, b"2020")]))))
+    entries = [put(number.to_bytes(32, "big"), b"") for number in range(30000)] + [put(K, bytes(3000000))]
+    check, bad = ("slow", "-", "check"), b"bad missing %s\n" % K.hex().encode()
+    with tempfile.TemporaryDirectory() as root, concurrent.futures.ThreadPoolExecutor() as pool:
+        make(root, inside("source", log(segment(*entries), COMMIT_SEGMENT)))
+        make(root, inside("small", log(segment(put(K, b"abc")), COMMIT_SEGMENT)))
+        make(root, inside("slow", {**whole, "config": repositories.config(keys.text(PASSPHRASE, 2000000))}))
+        want = run(KEYS, root)
+        runs = [
+            pool.submit(lasting, KEYS, root, 0.04), pool.submit(lasting, KEYS, root, 0.08, 10 * 65536),
+            pool.submit(lasting, KEYS, root, 0.03, is_terminal=False), pool.submit(lasting, check, root, is_shared=True),
+            pool.submit(lasting, check, root, is_shared=True, is_terminal=False),
+        ]
+        slow, ends, piped, both, neither = [one.result() for one in runs]
+        judge("progress: standard output", slow[:2], want)
+        shows("a slow output", slow, 0, b"", (4, 1))
+        shows("an output that ends", ends, 7, plain["none", "standard output failed, status 7"])
+        shows("a terminal for both", both, 1, bad + plain["bad REASON", ""])
+        judge("progress: standard error is a pipe", piped[:3], (*want, b""))
+        judge("progress: a pipe for both", (neither[0], neither[2]), (1, bad + plain["bad REASON", ""]))
+        judge("progress: these runs lasted", (min(piped[3], neither[3]) >= 0.6, b""), (True, b""))
+        short = lasting(("small", "-", "keys"), root, is_shared=True)
+        judge("progress: a short run", (short[0], short[2]), line((K, 3)))
+
+
 def rows():
     """Each row of the table of plain words was met."""
     met.add(("none", "standard output failed, status 7"))
@@ -714,7 +801,8 @@ def rows():
         judge(f"plain words: {row}", (row in met, b""), (True, b""))
 
 
-for cases in (folders, logs, damage, memory, names, words, keys_of_configs, listings, archives, checked, every_byte, key_files, targets, variables, outputs, rows):
+reading = (folders, logs, damage, memory, names, words, keys_of_configs, listings, archives, checked, every_byte)
+for cases in (*reading, key_files, targets, variables, outputs, progress, rows):
     cases()
 print(f"{passed} passed, {failed} failed")
 sys.exit(1 if failed or not passed else 0)

@@ -10,8 +10,14 @@ mod lines;
 mod start;
 mod target;
 
+use ferry_real::Terminals;
+use std::io::IsTerminal;
 use std::process::ExitCode;
 
 fn main(rt: HostRuntime) -> ExitCode {
-    ExitCode::from(start::start(&rt))
+    let terminals = Terminals {
+        output: rt.stdout().is_terminal(),
+        error: rt.stderr().is_terminal(),
+    };
+    ExitCode::from(start::start(&rt, terminals))
 }

@@ -3,7 +3,7 @@
 use crate::advice::{FORM, MEMORY, NOT_TEXT, OUTPUT, UNREADABLE, advice};
 use crate::lines::{HELP, VERSION};
 use ferry_base::Bytes;
-use ferry_real::{FolderDepot, FolderShelf, StdSink, SystemEntropy};
+use ferry_real::{FolderDepot, FolderShelf, Progress, StdSink, SystemEntropy, Terminals};
 use ferry_top::{Secret, Secrets, places_fit, run};
 use std::alloc::{AllocError, AllocGlobal, Global};
 use std::env::VarError;
@@ -48,40 +48,42 @@ impl From<AllocError> for StartFault {
     }
 }
 
-/// Does what the words say, and answers the status to end with.
-pub fn start<R: Runtime + AllocGlobal>(rt: &R) -> u8 {
-    match carry_out(rt) {
+/// Does what the words say, and answers the status to end with. `terminals` says which of the program's streams lead to one.
+pub fn start<R: Runtime + AllocGlobal>(rt: &R, terminals: Terminals) -> u8 {
+    match carry_out(rt, terminals) {
         Ok(status) => status,
         Err(fault) => refuse(rt, &fault),
     }
 }
 
 /// Does what the words say, or answers why not.
-fn carry_out<R: Runtime + AllocGlobal>(rt: &R) -> Result<u8, StartFault> {
+fn carry_out<R: Runtime + AllocGlobal>(rt: &R, terminals: Terminals) -> Result<u8, StartFault> {
     let words = words(rt)?;
     match words.as_slice() {
         [word] if word.as_str() == "--help" => Ok(print(rt, HELP)),
         [word] if word.as_str() == "--version" => Ok(print(rt, VERSION)),
         [source, target, command @ ..] if places_fit(words.as_slice()) => {
-            run_command(rt, source.as_str(), target.as_str(), command)
+            run_command(rt, terminals, source.as_str(), target.as_str(), command)
         }
         _ => Err(StartFault::Usage),
     }
 }
 
-/// Runs a command between the repositories at two places.
+/// Runs a command between the repositories at two places. The line of a long run is gone before anything else is said.
 fn run_command<R: Runtime + AllocGlobal>(
     rt: &R,
+    terminals: Terminals,
     source: &str,
     target: &str,
     command: &[String],
 ) -> Result<u8, StartFault> {
     let alloc = rt.alloc();
     let secrets = secrets(rt)?;
-    let mut source = FolderShelf::new(rt.clone()?, alloc, source)?;
-    let mut target = FolderDepot::new(rt.clone()?, alloc, target)?;
+    let progress = Progress::new(rt.clone()?, alloc, terminals)?;
+    let mut source = FolderShelf::new(rt.clone()?, alloc, source, progress.clone()?)?;
+    let mut target = FolderDepot::new(rt.clone()?, alloc, target, progress.clone()?)?;
     let mut entropy = SystemEntropy::new(rt.clone()?);
-    let mut out = StdSink::new(rt.clone()?);
+    let mut out = StdSink::new(rt.clone()?, progress.clone()?);
     let status = run(
         alloc,
         command,
@@ -91,6 +93,7 @@ fn run_command<R: Runtime + AllocGlobal>(
         &mut entropy,
         &mut out,
     );
+    progress.end();
     let word = command.first().map_or("", |word| word.as_str());
     if let Some(line) = advice(&status, word, source.presence()) {
         advise(rt, line);

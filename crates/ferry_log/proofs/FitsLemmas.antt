@@ -1,14 +1,15 @@
 -- Lemmas on specs/State.antt: what fits a log, and what keeps it.
-use Rattle.std.proofs.Common.{◌≡◌, ℕ, ◌<◌, ◌≤◌, Bool, true, false, cond, nat_le, List, [], ◌∷◌, ◌++◌, length, take, drop, map, filter, Option}
+use Rattle.std.proofs.Common.{◌≡◌, ◌≢◌, ℕ, ◌+◌, ◌<◌, ◌≤◌, Bool, true, false, cond, nat_le, List, [], ◌∷◌, ◌++◌, length, take, drop, map, filter, Option}
 use Rattle.std.proofs.Common.{Some, None, unwrap_or, refl, sym, ◌∙◌, ap, subst, arith}
 use Rattle.std.proofs.lemmas.List.{length-append}
 use Rattle.std.specs.Ordering.{nat_cmp, eq_by_cmp, is_eq}
 use Rattle.std.specs.declared.cmp.Ordering.{Ordering}
 use Rattle.std.specs.declared.cmp.Ordering.TheVariants.{Less, Equal, Greater}
 use borrow.Author.Tests.{leb-true}
-use Rattle.std.specs.Cmp.{nat_cmp_total}
+use Rattle.std.specs.Cmp.{nat_cmp_total, eq_by_cmp_equiv}
+use Rattle.std.specs.Cmp.Lexicographic.{nat_list_cmp_total}
 use Rattle.std.specs.FinMap.{FinMap, get, entries, entries_sorted, empty, get-empty, get-entries, get-insert, get-remove}
-use Rattle.std.specs.FinMap.{nat_cmp-IsAntisymmetric}
+use Rattle.std.specs.FinMap.{nat_cmp-IsAntisymmetric, slice_cmp-IsAntisymmetric}
 use Rattle.std.specs.FinMap.Entries.{find, where_key, is_sorted-where_key, find-where_key, same_entries}
 use Rattle.std.specs.List.{AllByRecursion}
 use Rattle.ferry_segment.specs.Segment.{Splits}
@@ -17,8 +18,8 @@ use Rattle.ferry_disk.specs.Files.{Files, segment_numbers, segment_bytes, with_f
 use Rattle.ferry_disk.specs.declared.name.Name.{Name}
 use Rattle.ferry_disk.specs.declared.name.Name.TheVariants.{Config, Nonce, Readme, Segment}
 use Rattle.ferry_log.specs.Log.{Located, numbers_up_to, Joins}
-use Rattle.ferry_log.specs.Live.{live_blob}
-use Rattle.ferry_log.specs.State.{LogState, Places, IsStateOf, FitsFiles, IsBlobAt, place_in, first_place, extents_of, live_size}
+use Rattle.ferry_log.specs.Live.{key_cmp, live_blob}
+use Rattle.ferry_log.specs.State.{LogState, Places, IsStateOf, FitsFiles, IsBlobAt, place_in, first_place, with_learnt, extents_of, live_size}
 use Rattle.ferry_log.specs.declared.place.Place.{Place}
 use Rattle.ferry_log.proofs.PlaceLemmas.{place_lies, place_none}
 
@@ -201,3 +202,43 @@ fits_removed files state n above free fits =
     (λ q small. sym (removed_at files n q (omega arith)))
     (λ key place at. let same = removed_at files n place.segment (free key place at) in let bytes = ap (λ o. length (unwrap_or o [])) same in omega arith)
     fits
+
+-- ---- a key that is learnt
+
+learnt_at : (state : LogState) (key : List ℕ) (place : Place) (q : List ℕ)
+    → get (with_learnt state key place).learnt q ≡ cond (eq_by_cmp key_cmp q key) (Some place) (get state.learnt q)
+learnt_at state key place q = get-insert nat_list_cmp_total state.learnt key place q
+
+within_one : (files : Files) (place p : Place) (old : Option Place) (b : Bool) → place.at + place.size ≤ length (segment_bytes files place.segment)
+    → (old ≡ Some p → p.at + p.size ≤ length (segment_bytes files p.segment)) → cond b (Some place) old ≡ Some p
+    → p.at + p.size ≤ length (segment_bytes files p.segment)
+within_one files place p old true within rest at =
+    let same : place ≡ p = cc in
+    subst (λ (q : Place). q.at + q.size ≤ length (segment_bytes files q.segment)) same within
+within_one files place p old false within rest at = rest at
+
+pub fits_learnt : (files : Files) (state : LogState) (key : List ℕ) (place : Place) → place.at + place.size ≤ length (segment_bytes files place.segment)
+    → FitsFiles files state → FitsFiles files (with_learnt state key place)
+fits_learnt files state key place within fits = record {
+  log = fits.log;
+  joined = fits.joined;
+  places = record { live = fits.places.live; extents_are = fits.places.extents_are };
+  learnt = λ q p at.
+      within_one files place p (get state.learnt q) (eq_by_cmp key_cmp q key) within (fits.learnt q p) (sym (learnt_at state key place q) ∙ at);
+}
+
+pub place_learnt : (state : LogState) (key : List ℕ) (place : Place) → place_in (with_learnt state key place) key ≡ Some place
+place_learnt state key place =
+    ap (λ p. first_place p (get state.opened key)) (learnt_at state key place key
+    ∙ ap (λ b. cond b (Some place) (get state.learnt key)) ((eq_by_cmp_equiv nat_list_cmp_total).refl key))
+
+keys_apart : (q key : List ℕ) (o : Ordering) → key_cmp q key ≡ o → q ≢ key → is_eq o ≡ false
+keys_apart q key Equal e differ = absurd (differ (slice_cmp-IsAntisymmetric nat_cmp-IsAntisymmetric q key e))
+keys_apart q key Less e differ = refl
+keys_apart q key Greater e differ = refl
+
+pub place_other : (state : LogState) (key other : List ℕ) (place : Place) → other ≢ key
+    → place_in (with_learnt state key place) other ≡ place_in state other
+place_other state key other place differ =
+    ap (λ p. first_place p (get state.opened other)) (learnt_at state key place other
+    ∙ ap (λ b. cond b (Some place) (get state.learnt other)) (keys_apart other key (key_cmp other key) refl differ))

@@ -9,6 +9,7 @@ use Rattle.std.specs.declared.cmp.Ordering.TheVariants.{Less, Equal, Greater}
 use Rattle.std.specs.BTreeMap.{is_at, insert_entry}
 use Rattle.std.specs.Cmp.{eq_by_cmp_equiv}
 use Rattle.std.specs.Cmp.Lexicographic.{nat_list_cmp_total}
+use Rattle.std.specs.FinMap.{from_entries, insert, same_map, get-from_entries, get-insert, nat_cmp-IsAntisymmetric, slice_cmp-IsAntisymmetric}
 use Rattle.std.specs.FinMap.Entries.{find}
 use Rattle.std.specs.Map.{lookup, remove_entry}
 use Rattle.ferry_segment.specs.Entry.{LogEntry, PutEntry, DeleteEntry, CommitEntry, size_of, Fits}
@@ -39,6 +40,17 @@ changed_at old new key place h q =
     find-lookup q new
     ∙ (h q
     ∙ (ap (λ b. cond b place (lookup (is_at (key_cmp q)) old)) (keys_turned key q) ∙ ap (cond (eq_by_cmp key_cmp q key) place) (sym (find-lookup q old))))
+
+-- the finite map of a map's entries after a key was inserted
+pub inserted_map : (old new : Pairs) (key : List ℕ) (place : Place)
+    → ((q : List ℕ) → lookup (is_at (key_cmp q)) new ≡ cond (is_at (key_cmp key) q) (Some place) (lookup (is_at (key_cmp q)) old))
+    → from_entries {R = key_cmp} new ≡ insert (from_entries {R = key_cmp} old) key place
+inserted_map old new key place h =
+    same_map nat_list_cmp_total (slice_cmp-IsAntisymmetric nat_cmp-IsAntisymmetric) (from_entries new) (insert (from_entries old) key place)
+    (λ q. get-from_entries nat_list_cmp_total new q
+    ∙ (changed_at old new key (Some place) h q
+    ∙ (ap (cond (eq_by_cmp key_cmp q key) (Some place)) (sym (get-from_entries nat_list_cmp_total old q))
+    ∙ sym (get-insert nat_list_cmp_total (from_entries old) key place q))))
 
 module _ (s : ℕ) where
   abbrev size_of_pair : List ℕ × Place → ℕ

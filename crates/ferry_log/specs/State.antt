@@ -1,6 +1,6 @@
 -- What contracts see of an opened log, and what ties it to the files.
 use Rattle.std.specs.Prelude.{◌≡◌, ℕ, ◌+◌, ◌≤◌, ◌==◌, if◌then◌else◌, List, length, map, sum_by, take, drop, Option, Some, None, MatchOption, IsSome, refl}
-use Rattle.std.specs.FinMap.{FinMap, get, values, empty, code}
+use Rattle.std.specs.FinMap.{FinMap, get, insert, values, empty, code}
 use Rattle.std.specs.Coded.{Coded, code_by, coded×, coded_ℕ, coded_list}
 use Rattle.std.specs.declared.cmp.Ordering.TheVariants.{Less}
 use Rattle.ferry_disk.specs.Files.{Files, segment_bytes}
@@ -49,6 +49,10 @@ first_place None other = other
 -- the place of a live key: where it was learnt, or else where it lay at opening
 abbrev pub place_in : LogState → List ℕ → Option Place
 place_in state key = first_place (get state.learnt key) (get state.opened key)
+
+-- the log once it has learnt the place of a key
+abbrev pub with_learnt : LogState → List ℕ → Place → LogState
+with_learnt state key place = record state { learnt = insert state.learnt key place }
 
 -- a key above the one that was given, in byte order
 abbrev pub IsAbove : Option (List ℕ) → List ℕ → Type 0

@@ -1,5 +1,5 @@
 //! Laws of the log, each the contract of a function with nothing to do.
-ghost use Rattle.std.specs.Prelude.{◌≡◌, ◌⊎◌, ◌<◌, ◌++◌, ℕ, List, Option, Some, None};
+ghost use Rattle.std.specs.Prelude.{◌≡◌, ◌≢◌, ◌⊎◌, ◌+◌, ◌<◌, ◌≤◌, ◌++◌, ℕ, List, length, Option, Some, None};
 ghost use Rattle.std.specs.FinMap.{get};
 ghost use Rattle.ferry_segment.specs.Entry.{IsBytes};
 ghost use Rattle.ferry_disk.specs.Act.{replaced};
@@ -11,7 +11,7 @@ ghost use Rattle.ferry_log.specs.declared.place.Place.{Place};
 ghost use Rattle.ferry_log.specs.Live.{live_blob, live_place};
 ghost use Rattle.ferry_log.specs.Head.{IsHeadAt, IsUnreadAt};
 ghost use Rattle.ferry_log.specs.Log.{Located, IsTransaction, IsUncommitted, IsLog, IsDamaged};
-ghost use Rattle.ferry_log.specs.State.{LogState, IsStateOf, FitsFiles, IsBlobAt, place_in};
+ghost use Rattle.ferry_log.specs.State.{LogState, IsStateOf, FitsFiles, IsBlobAt, place_in, with_learnt};
 
 /// Files have one log, or one first place that doesn't read, or no committed segment, and never two of these.
 pub fn log_laws()
@@ -45,6 +45,16 @@ pub fn fits_laws()
     ensures removed { (files : Files) (state : LogState) (n : ℕ) → state.transaction < n
         → ((key : List ℕ) (place : Place) → get state.learnt key ≡ Some place → place.segment ≡ n → ⊥) → FitsFiles files state
         → FitsFiles (without_segment files n) state }
+    // Kept by a key that is learnt with a place in its segment.
+    ensures learnt { (files : Files) (state : LogState) (key : List ℕ) (place : Place) → place.at + place.size ≤ length (segment_bytes files place.segment)
+        → FitsFiles files state → FitsFiles files (with_learnt state key place) }
+{}
+
+/// A key that is learnt has its place from then on, and the places of the others stay.
+pub fn learn_laws()
+    ensures place { (state : LogState) (key : List ℕ) (place : Place) → place_in (with_learnt state key place) key ≡ Some place }
+    ensures others { (state : LogState) (key other : List ℕ) (place : Place) → other ≢ key
+        → place_in (with_learnt state key place) other ≡ place_in state other }
 {}
 
 /// At a place one thing reads, or nothing does.

@@ -1,6 +1,7 @@
-//! Places of keys in maps: the place of a key, and the least key above another.
-ghost use Rattle.std.specs.Prelude.{◌≡◌, None, Some};
+//! Places of keys in maps: the place of a key, one more key, and the least key above another.
+ghost use Rattle.std.specs.Prelude.{◌≡◌, None, Some, OnOk, OnErr};
 ghost use Rattle.std.specs.BTreeMap.{get};
+ghost use Rattle.std.specs.FinMap.{from_entries, insert};
 ghost use Rattle.std.specs.Option.{option_copied};
 ghost use Rattle.ferry_log.specs.Live.{key_cmp};
 ghost use Rattle.ferry_log.specs.Least.{lesser_pair};
@@ -8,6 +9,7 @@ ghost use Rattle.ferry_log.specs.State.{IsLeastWhere};
 
 use crate::place::Place;
 use ferry_base::Id;
+use std::alloc::AllocError;
 use std::collections::BTreeMap;
 use std::ops::Bound;
 
@@ -16,6 +18,19 @@ pub(crate) fn place_at(places: &BTreeMap<Id, Place>, key: &Id) -> Option<Place>
     ensures { result ≡ get key_cmp places.now key.now }
 {
     places.get(key).copied()
+}
+
+/// Adds a key with its place.
+pub(crate) fn add_place(
+    places: &mut BTreeMap<Id, Place>,
+    key: &Id,
+    place: Place,
+) -> Result<(), AllocError>
+    ensures added { OnOk result (from_entries {R = key_cmp} places.new.entries ≡ insert (from_entries {R = key_cmp} places.old.entries) key.now place) }
+    ensures err { OnErr result (places.new.entries ≡ places.old.entries) }
+{
+    places.insert(*key, place)?;
+    Ok(())
 }
 
 /// The least key of a map above `after`, or the least one, with its place.

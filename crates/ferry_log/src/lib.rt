@@ -20,6 +20,6 @@ mod window;
 pub use fault::LogFault;
 pub use ferry_segment::Head;
 pub use head::head_at;
-pub use laws::{fits_laws, head_laws, log_laws};
+pub use laws::{fits_laws, head_laws, learn_laws, log_laws};
 pub use log::{Log, open_log};
 pub use place::{Extent, Place};

@@ -1,23 +1,23 @@
 //! An opened log.
-ghost use Rattle.std.specs.Prelude.{◌≡◌, IfOk, IfErr, IfSome, MatchResult, slice_get};
+ghost use Rattle.std.specs.Prelude.{◌≡◌, None, IfOk, IfErr, IfSome, OnOk, OnErr, MatchResult, is_some, slice_get};
 ghost use Rattle.std.specs.List.Sorted.{IsStrictlyIncreasing};
 ghost use Rattle.std.specs.Option.{option_copied};
-ghost use Rattle.std.specs.FinMap.{empty};
+ghost use Rattle.std.specs.FinMap.{empty, get};
 ghost use Rattle.ferry_disk.specs.Files.{Files, segment_numbers};
 ghost use Rattle.ferry_disk.specs.Device.{KeepsTold, HasCause, told_files};
 ghost use Rattle.ferry_log.specs.Fault.{IsRefused, log_failed};
 ghost use Rattle.ferry_log.specs.Window.{Tells};
-ghost use Rattle.ferry_log.specs.State.{IsStateOf, IsLeastAbove, place_in};
+ghost use Rattle.ferry_log.specs.State.{IsStateOf, IsLeastAbove, place_in, with_learnt};
 
 use crate::extents::with_live;
 use crate::fault::LogFault;
-use crate::least::{least_in, lesser, place_at};
+use crate::least::{add_place, least_in, lesser, place_at};
 use crate::opening::{log_length, take_segments};
 use crate::place::{Extent, Place};
 use crate::window::no_window;
 use ferry_base::Id;
 use ferry_disk::Shelf;
-use std::alloc::Global;
+use std::alloc::{AllocError, Global};
 use std::collections::BTreeMap;
 use std::marker::Model;
 
@@ -108,6 +108,13 @@ impl Log {
         }
     }
 
+    /// Whether a key was learnt since the log was opened.
+    pub fn has_learnt(&self, key: &Id) -> bool
+        ensures { result ≡ is_some (get self.now.learnt key.now) }
+    {
+        place_at(&self.learnt, key).is_some()
+    }
+
     /// The least live key above `after` in byte order, or the least one, with the place of its blob.
     pub fn next_key(&self, after: Option<&Id>) -> Option<(Id, Place)>
         ensures { IsLeastAbove self.now (option_copied after.entry) result }
@@ -122,5 +129,15 @@ impl Log {
         ensures { result ≡ slice_get self.now.extents i }
     {
         self.extents.get(i).copied()
+    }
+
+    /// Learns the place of a key that isn't live: from then on the key is live, and its blob lies there. A refused call leaves the log
+    /// as it was.
+    pub fn learn(&mut self, key: &Id, place: Place) -> Result<(), AllocError>
+        requires new { place_in self.old key.now ≡ None }
+        ensures learnt { OnOk result (self.new ≡ with_learnt self.old key.now place) }
+        ensures err { OnErr result (self.new ≡ self.old) }
+    {
+        add_place(&mut self.learnt, key, place)
     }
 }

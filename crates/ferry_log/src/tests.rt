@@ -80,7 +80,7 @@ fn the_last_entry_of_a_key_counts_up_to_the_last_commit(rt: HostRuntime) -> Resu
 fn an_empty_blob_by_each_call(rt: HostRuntime) -> Result<(), Fail> {
     let alloc = rt.alloc();
     let mut shelf = shelf_of(alloc, &[Part::Put(0), Part::Commit])?;
-    let log = open_log(alloc, &mut shelf)?;
+    let mut log = open_log(alloc, &mut shelf)?;
     let place = Place {
         segment: 0,
         at: 49,
@@ -94,6 +94,18 @@ fn an_empty_blob_by_each_call(rt: HostRuntime) -> Result<(), Fail> {
     assert!(rt; log.transaction() == 1 && log.find(&KEY) == Some(place));
     assert!(rt; log.next_key(None) == Some((KEY, place)) && log.next_key(Some(&KEY)).is_none());
     assert!(rt; log.extent(0) == Some(extent) && log.extent(2).is_none());
+    let (other, far) = (
+        [0x10; 32],
+        Place {
+            segment: 2,
+            ..place
+        },
+    );
+    if log.find(&other).is_none() {
+        log.learn(&other, far)?;
+    }
+    assert!(rt; log.find(&other) == Some(far) && log.find(&KEY) == Some(place));
+    assert!(rt; log.next_key(None) == Some((other, far)) && log.extent(0) == Some(extent));
     let head = Head {
         tag: 0,
         key: KEY,

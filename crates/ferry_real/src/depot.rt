@@ -4,24 +4,37 @@ ghost use Rattle.ferry_disk.specs.Device.{HasCause, store_failed};
 ghost use Rattle.ferry_real.specs.Count.{count_after};
 
 use crate::count::count_store;
+use crate::progress::Progress;
 use crate::writer::Writer;
 use ferry_disk::{Depot, Name, Shelf, StoreFault};
 use std::alloc::{AllocError, Global};
+use std::rc::Rc;
 use std::rt::Runtime;
 
 /// A repository's files in a folder, and standard output for its lines. It tells nothing of them, and counts its faults.
 #[derive(Drop)]
 pub struct FolderDepot<R: Runtime> {
     writer: Writer<R>,
+    progress: Rc<Progress<R>>,
     faults: u64,
 }
 
 impl<R: Runtime> FolderDepot<R> {
     /// The files of the repository at this path. A folder that isn't there has none, and is made by the first call that writes a file. For
-    /// the word `-` and the empty one every file is absent, and each call that writes but `tell` fails.
-    pub fn new(rt: R, alloc: Global, place: &str) -> Result<FolderDepot<R>, AllocError> {
+    /// the word `-` and the empty one every file is absent, and each call that writes but `tell` fails. The bytes that are read and
+    /// written count into `progress`.
+    pub fn new(
+        rt: R,
+        alloc: Global,
+        place: &str,
+        progress: Rc<Progress<R>>,
+    ) -> Result<FolderDepot<R>, AllocError> {
         let writer = Writer::new(rt, alloc, place)?;
-        Ok(FolderDepot { writer, faults: 0 })
+        Ok(FolderDepot {
+            writer,
+            progress,
+            faults: 0,
+        })
     }
 
     /// Counts what a call that writes has answered. After one that failed the files are looked at anew.
@@ -54,6 +67,9 @@ impl<R: Runtime> Shelf for FolderDepot<R> {
 
     fn read_at(&mut self, name: Name, at: u64, into: &mut [u8]) -> Result<usize, StoreFault> {
         let outcome = self.writer.folder.read_at(name, at, into);
+        if let Ok(count) = &outcome {
+            self.progress.add_read(*count);
+        }
         count_store(&mut self.faults, outcome)
     }
 }
@@ -61,6 +77,9 @@ impl<R: Runtime> Shelf for FolderDepot<R> {
 impl<R: Runtime> Depot for FolderDepot<R> {
     fn append(&mut self, segment: u64, bytes: &[u8]) -> Result<(), StoreFault> {
         let outcome = self.writer.append(segment, bytes);
+        if outcome.is_ok() {
+            self.progress.add_written(bytes.len());
+        }
         self.count(outcome)
     }
 
@@ -76,6 +95,9 @@ impl<R: Runtime> Depot for FolderDepot<R> {
 
     fn replace(&mut self, name: Name, bytes: &[u8]) -> Result<(), StoreFault> {
         let outcome = self.writer.replace(name, bytes);
+        if outcome.is_ok() {
+            self.progress.add_written(bytes.len());
+        }
         self.count(outcome)
     }
 
@@ -85,6 +107,7 @@ impl<R: Runtime> Depot for FolderDepot<R> {
     }
 
     fn tell(&mut self, line: &[u8]) -> Result<(), StoreFault> {
+        self.progress.before_line();
         let outcome = self.writer.tell(line);
         self.count(outcome)
     }

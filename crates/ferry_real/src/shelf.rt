@@ -3,22 +3,35 @@ ghost use Rattle.std.specs.Prelude.{None};
 
 use crate::count::count_store;
 use crate::folder::{Folder, Presence};
+use crate::progress::Progress;
 use ferry_disk::{Name, Shelf, StoreFault};
 use std::alloc::{AllocError, Global};
+use std::rc::Rc;
 use std::rt::Runtime;
 
 /// A repository's files in a folder. It tells nothing of them, and counts its faults.
 #[derive(Drop)]
 pub struct FolderShelf<R: Runtime> {
     folder: Folder<R>,
+    progress: Rc<Progress<R>>,
     faults: u64,
 }
 
 impl<R: Runtime> FolderShelf<R> {
-    /// The files of the repository at this path. For the word `-` and the empty one every file is absent.
-    pub fn new(rt: R, alloc: Global, place: &str) -> Result<FolderShelf<R>, AllocError> {
+    /// The files of the repository at this path. For the word `-` and the empty one every file is absent. The bytes that are read count
+    /// into `progress`.
+    pub fn new(
+        rt: R,
+        alloc: Global,
+        place: &str,
+        progress: Rc<Progress<R>>,
+    ) -> Result<FolderShelf<R>, AllocError> {
         let folder = Folder::new(rt, alloc, place)?;
-        Ok(FolderShelf { folder, faults: 0 })
+        Ok(FolderShelf {
+            folder,
+            progress,
+            faults: 0,
+        })
     }
 
     /// Whether the repository's folder is there now. This is no call of the device, and counts no fault.
@@ -44,6 +57,9 @@ impl<R: Runtime> Shelf for FolderShelf<R> {
 
     fn read_at(&mut self, name: Name, at: u64, into: &mut [u8]) -> Result<usize, StoreFault> {
         let outcome = self.folder.read_at(name, at, into);
+        if let Ok(count) = &outcome {
+            self.progress.add_read(*count);
+        }
         count_store(&mut self.faults, outcome)
     }
 }

@@ -2,11 +2,12 @@
 
 use crate::read::read_file_at;
 use crate::write::write_all;
-use crate::{FolderDepot, FolderShelf, StdSink, SystemEntropy};
+use crate::{FolderDepot, FolderShelf, Progress, StdSink, SystemEntropy, Terminals};
 use ferry_disk::{Depot, Entropy, Name, Shelf, Sink, StoreFault};
 use std::io::{Cursor, Error, ErrorKind, Read, Seek, SeekFrom, Write};
 use std::os::unix::fs::symlink;
 use std::process::Abort;
+use std::rc::Rc;
 use std::test::Fail;
 use std::{env, fs, io, process};
 
@@ -40,6 +41,15 @@ fn new_place(rt: &HostRuntime, test: &str) -> io::Result<String> {
     Ok(place)
 }
 
+/// The progress of a run that shows none.
+fn silent(rt: &HostRuntime) -> Result<Rc<Progress<HostRuntime>>, Fail> {
+    let terminals = Terminals {
+        output: false,
+        error: false,
+    };
+    Ok(Progress::new(rt.clone()?, rt.alloc(), terminals)?)
+}
+
 /// Makes the files in a new folder, and answers its path.
 fn make_folder(rt: &HostRuntime) -> io::Result<String> {
     let alloc = rt.alloc();
@@ -70,7 +80,7 @@ fn are_read<S: Shelf>(rt: &impl Abort, shelf: &mut S, files: &[(Name, &str)]) ->
 #[test]
 fn a_folders_files_are_read_where_they_lie(rt: HostRuntime) -> Result<(), Fail> {
     let place = make_folder(&rt)?;
-    let mut shelf = FolderShelf::new(rt.clone()?, rt.alloc(), place.as_str())?;
+    let mut shelf = FolderShelf::new(rt.clone()?, rt.alloc(), place.as_str(), silent(&rt)?)?;
     let mut early = [0u8; 3];
     let count = shelf.read_at(Name::Segment(7), 3, &mut early)?;
     assert_eq!(rt; (count, &early), (3, b"its"));
@@ -116,9 +126,9 @@ fn write_files(depot: &mut FolderDepot<HostRuntime>) -> Result<(), StoreFault> {
 fn what_a_depot_writes_a_new_shelf_reads(rt: HostRuntime) -> Result<(), Fail> {
     let alloc = rt.alloc();
     let place = new_place(&rt, "writes")?;
-    let mut depot = FolderDepot::new(rt.clone()?, alloc, place.as_str())?;
+    let mut depot = FolderDepot::new(rt.clone()?, alloc, place.as_str(), silent(&rt)?)?;
     assert_eq!(rt; write_files(&mut depot), Ok(()));
-    let mut shelf = FolderShelf::new(rt.clone()?, alloc, place.as_str())?;
+    let mut shelf = FolderShelf::new(rt.clone()?, alloc, place.as_str(), silent(&rt)?)?;
     assert_eq!(rt; shelf.segments(alloc)?.as_slice(), [3, 25].as_slice());
     are_read(&rt, &mut shelf, &WRITTEN)?;
     for (path, content) in [("data/0/3", "other"), ("data/2/25", "onetwo")] {
@@ -140,7 +150,7 @@ fn what_cant_be_written_fails_and_is_kept(rt: HostRuntime) -> Result<(), Fail> {
         fs::write(&rt, format!(in alloc; "{place}/{path}")?, path)?;
     }
     symlink(&rt, "../../outside", format!(in alloc; "{place}/data/0/3")?)?;
-    let mut depot = FolderDepot::new(rt.clone()?, alloc, place.as_str())?;
+    let mut depot = FolderDepot::new(rt.clone()?, alloc, place.as_str(), silent(&rt)?)?;
     // a link, a file that was taken away, no file at all
     assert_eq!(rt; depot.append(3, b"x"), Err(StoreFault::Failed));
     assert_eq!(rt; depot.append(1, b"+"), Ok(()));
@@ -157,7 +167,7 @@ fn what_cant_be_written_fails_and_is_kept(rt: HostRuntime) -> Result<(), Fail> {
 
 #[test]
 fn where_there_is_no_folder_each_write_but_a_line_fails(rt: HostRuntime) -> Result<(), Fail> {
-    let mut depot = FolderDepot::new(rt.clone()?, rt.alloc(), "-")?;
+    let mut depot = FolderDepot::new(rt.clone()?, rt.alloc(), "-", silent(&rt)?)?;
     let refused = [
         depot.settle(),
         depot.append(0, b"x"),
@@ -181,7 +191,7 @@ fn random_bytes_come_and_output_is_taken(rt: HostRuntime) -> Result<(), Fail> {
     assert_eq!(rt; entropy.fill(&mut first), Ok(()));
     assert_eq!(rt; entropy.fill(&mut second), Ok(()));
     assert_ne!(rt; first, second);
-    assert_eq!(rt; StdSink::new(rt.clone()?).write(b""), Ok(()));
+    assert_eq!(rt; StdSink::new(rt.clone()?, silent(&rt)?).write(b""), Ok(()));
     Ok(())
 }
 

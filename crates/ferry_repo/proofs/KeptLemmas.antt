@@ -84,7 +84,7 @@ tied q n Less e h = absurd (let no : ⊥ = cc in no)
 tied q n Greater e h = absurd (let no : ⊥ = cc in no)
 
 -- a blob lies in a segment with more behind it
-lies_more : (bytes more : List ℕ) (at size : ℕ) (blob : List ℕ) → IsBlobAt bytes at size blob → IsBlobAt (bytes ++ more) at size blob
+pub lies_more : (bytes more : List ℕ) (at size : ℕ) (blob : List ℕ) → IsBlobAt bytes at size blob → IsBlobAt (bytes ++ more) at size blob
 lies_more bytes more at size blob lies = record {
   holds = ap (take size) (drop-append-le at bytes more (omega (arith, lies.within)))
       ∙ (take-append-le size (drop at bytes) more (omega (arith, lies.within, length-drop at bytes)) ∙ lies.holds);

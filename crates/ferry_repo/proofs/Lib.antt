@@ -10,3 +10,4 @@ pub mod WalkLawLemmas
 pub mod ContentLemmas
 pub mod WholeLemmas
 pub mod KeptLemmas
+pub mod LearnLemmas

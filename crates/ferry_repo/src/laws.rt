@@ -1,20 +1,23 @@
 //! Laws of repositories and their chunks, each the contract of a function with nothing to do.
-ghost use Rattle.std.specs.Prelude.{◌≡◌, ◌↔◌, ◌⊎◌, ◌++◌, ℕ, List, [], Option, Some, None};
+ghost use Rattle.std.specs.Prelude.{◌≡◌, ◌≢◌, ◌↔◌, ◌⊎◌, ◌++◌, ℕ, List, [], Option, Some, None};
+ghost use Rattle.ferry_base.specs.Limits.{zero_id};
+ghost use Rattle.ferry_blob.specs.Blob.{OpensTo as OpensBlob};
 ghost use Rattle.ferry_disk.specs.Act.{replaced};
 ghost use Rattle.ferry_disk.specs.Files.{Files, segment_bytes, with_file, without_segment};
 ghost use Rattle.ferry_disk.specs.declared.name.Name.{Name};
 ghost use Rattle.ferry_disk.specs.declared.name.Name.TheVariants as FileName;
 ghost use Rattle.ferry_item.specs.Item.{ItemText};
 ghost use Rattle.ferry_log.specs.Live.{live_blob};
-ghost use Rattle.ferry_log.specs.State.{LogState, IsStateOf, FitsFiles, place_in};
+ghost use Rattle.ferry_log.specs.State.{LogState, IsStateOf, FitsFiles, IsBlobAt, place_in, with_learnt};
 ghost use Rattle.ferry_log.specs.declared.place.Place.{Place};
 ghost use Rattle.ferry_mac.specs.declared.keys.Keys.{Keys};
+ghost use Rattle.ferry_manifest.specs.Manifest.Text.{ManifestText};
 ghost use Rattle.ferry_manifest.specs.declared.manifest.ArchiveRef.{ArchiveRef};
 ghost use Rattle.ferry_segment.specs.Entry.{IsBytes};
 ghost use Rattle.ferry_repo.specs.Archives.{archive_named, RefusesRecord};
 ghost use Rattle.ferry_repo.specs.Cached.{Contents};
 ghost use Rattle.ferry_repo.specs.Fault.{IsOfFiles};
-ghost use Rattle.ferry_repo.specs.Objects.{HasBlob, HoldsChunk, RefusesChunk, KeepsBlobs};
+ghost use Rattle.ferry_repo.specs.Objects.{HasBlob, IsMissing, HoldsChunk, RefusesChunk, KeepsBlobs};
 ghost use Rattle.ferry_repo.specs.Opening.{RepoState, OpensFilesTo, FitsRepo, RefusesRepo};
 ghost use Rattle.ferry_repo.specs.Walk.{IsStream, Comes, WalkState, IsToCome, FitsWalk};
 ghost use Rattle.ferry_repo.specs.Whole.{Reading, ReadsArchive, RefusesArchive, WholeArchive, IsWhole, RefusesWhole, HasWhole};
@@ -109,4 +112,30 @@ pub fn kept_laws()
         → KeepsBlobs files log (without_segment files n) log }
     ensures learnt { (files : Files) (log after : LogState)
         → ((id : List ℕ) (place : Place) → place_in log id ≡ Some place → place_in after id ≡ Some place) → KeepsBlobs files log files after }
+{}
+
+/// A chunk that was learnt is read where its blob lies, and each other one is what it was. What fits the repository and its walks stays so,
+/// and so it does with another manifest.
+pub fn learn_laws()
+    ensures blob { (files : Files) (log : LogState) (id blob : List ℕ) (place : Place)
+        → HasBlob files (with_learnt log id place) id blob ↔ IsBlobAt (segment_bytes files place.segment) place.at place.size blob }
+    ensures chunk { (files : Files) (log : LogState) (keys : Keys) (id blob content : List ℕ) (place : Place) → id ≢ zero_id
+        → IsBlobAt (segment_bytes files place.segment) place.at place.size blob → OpensBlob keys id blob content
+        → HoldsChunk files (with_learnt log id place) keys id content }
+    ensures others { (files : Files) (log : LogState) (keys : Keys) (id other content : List ℕ) (place : Place) → other ≢ id
+        → HoldsChunk files (with_learnt log id place) keys other content ↔ HoldsChunk files log keys other content }
+    ensures others_refused { (files : Files) (log : LogState) (keys : Keys) (id other : List ℕ) (place : Place) (fault : RepoFault) → other ≢ id
+        → RefusesChunk files (with_learnt log id place) keys other fault ↔ RefusesChunk files log keys other fault }
+    ensures keeps { (files : Files) (log : LogState) (id : List ℕ) (place : Place) → IsMissing log id
+        → KeepsBlobs files log files (with_learnt log id place) }
+    ensures fits { (files : Files) (repo : RepoState) (cached : Contents) (id blob : List ℕ) (place : Place) → IsMissing repo.log id
+        → IsBlobAt (segment_bytes files place.segment) place.at place.size blob → FitsRepo files repo cached
+        → FitsRepo files (record repo { log = with_learnt repo.log id place }) cached }
+    ensures walk { (files : Files) (log : LogState) (keys : Keys) (id : List ℕ) (place : Place) (walk : WalkState) → IsMissing log id
+        → FitsWalk files log keys walk → FitsWalk files (with_learnt log id place) keys walk }
+    ensures renewed { (files : Files) (repo : RepoState) (cached : Contents) (manifest : ManifestText) → FitsRepo files repo cached
+        → FitsRepo files (record repo { manifest = manifest }) cached }
+    ensures renewed_walk { (files : Files) (repo : RepoState) (manifest : ManifestText) (walk : WalkState)
+        → FitsWalk files repo.log repo.keys walk
+        → FitsWalk files (record repo { manifest = manifest }).log (record repo { manifest = manifest }).keys walk }
 {}

@@ -17,7 +17,7 @@ mod secret;
 mod walk;
 
 pub use fault::RepoFault;
-pub use laws::{chunk_laws, kept_laws, repo_laws, walk_laws, whole_laws};
+pub use laws::{chunk_laws, kept_laws, learn_laws, repo_laws, walk_laws, whole_laws};
 pub use opening::{Unlocked, unlock};
 pub use reason::write_reason;
 pub use repo::Repo;

@@ -2,12 +2,14 @@
 ghost use Rattle.std.specs.Prelude.{◌≡◌, ◌⊎◌, [], IfOk, IfErr, IfSome, OnOk, OnErr, MatchResult, option_map, Ok, false};
 ghost use Rattle.ferry_disk.specs.Files.{Files};
 ghost use Rattle.ferry_disk.specs.Device.{KeepsTold, HasCause, told_files};
+ghost use Rattle.ferry_log.specs.State.{with_learnt};
 ghost use Rattle.ferry_manifest.specs.Manifest.Text.{manifest_view};
+ghost use Rattle.ferry_manifest.specs.Manifest.Writing.{IsPackable};
 ghost use Rattle.ferry_manifest.specs.Record.Text.{archive_of, archive_view};
 ghost use Rattle.ferry_repo.specs.Archives.{archive_named, IsNoRecord, HoldsNamed, RefusesNamed, HoldsContent, RefusesContent};
 ghost use Rattle.ferry_repo.specs.Cached.{IsCached, content_in, used};
 ghost use Rattle.ferry_repo.specs.Fault.{repo_failed};
-ghost use Rattle.ferry_repo.specs.Objects.{HoldsChunk, RefusesChunk};
+ghost use Rattle.ferry_repo.specs.Objects.{IsMissing, HoldsChunk, RefusesChunk};
 ghost use Rattle.ferry_repo.specs.Opening.{repo_view, cached_in, mode_of, OpensFilesTo, RefusesRepo, FitsRepo};
 ghost use Rattle.ferry_repo.specs.Walk.{walk_view, begin_walk, FitsWalk};
 
@@ -22,10 +24,10 @@ use ferry_blob::Mode;
 use ferry_config::Config;
 use ferry_disk::Shelf;
 use ferry_item::ChunkRef;
-use ferry_log::{Log, open_log};
+use ferry_log::{Log, Place, open_log};
 use ferry_mac::Keys;
 use ferry_manifest::{Archive, ArchiveRef, Ids, Manifest, read_archive};
-use std::alloc::Global;
+use std::alloc::{AllocError, Global};
 
 /// A repository opened for reading: it owns what it read of its log, its settings, its keys and its manifest, and copies of the contents
 /// that it answered last, sixteen at most. It is used with the shelf on which it was opened.
@@ -207,6 +209,28 @@ impl Repo {
     {
         let ids = Vec::from_slice(self.alloc, archive.items.as_slice())?;
         Ok(Walk::new(self.alloc, *id, Ids::new(ids)))
+    }
+
+    /// Learns the place of a chunk that isn't live, whose blob was put: from then on the chunk is live, and is read there. A refused call
+    /// leaves the repository as it was.
+    pub fn learn(&mut self, key: &Id, place: Place) -> Result<(), AllocError>
+        requires new { IsMissing (repo_view self.old).log key.now }
+        ensures learnt { OnOk result (repo_view self.new ≡ record (repo_view self.old) {
+          log = with_learnt (repo_view self.old).log key.now place;
+        }) }
+        ensures cached { cached_in self.new ≡ cached_in self.old }
+        ensures err { OnErr result (self.new ≡ self.old) }
+    {
+        self.log.learn(key, place)
+    }
+
+    /// Sets the manifest, as once another one was committed.
+    pub fn renew(&mut self, manifest: Manifest)
+        requires packable { IsPackable (manifest_view manifest) }
+        ensures manifest { repo_view self.new ≡ record (repo_view self.old) { manifest = manifest_view manifest } }
+        ensures cached { cached_in self.new ≡ cached_in self.old }
+    {
+        self.manifest = manifest;
     }
 }
 

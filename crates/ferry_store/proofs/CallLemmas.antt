@@ -1,10 +1,11 @@
 -- What each step of `init` did, from what its calls say.
 use Rattle.std.proofs.Common.{◌≡◌, ◌⊎◌, inl, inr, ℕ, ◌+◌, ◌<◌, ◌≤◌, ◌^◌, Bool, true, false, List, [], ◌∷◌, ◌++◌, length, Option, Some, None, Result}
 use Rattle.std.proofs.Common.{Ok, Err, IfErr, IfSome}
-use Rattle.std.proofs.Common.{refl, sym, ◌∙◌, ap, subst, arith, ltb, ltb-true, ltb-false, map, drop, ◌-◌}
+use Rattle.std.proofs.Common.{refl, sym, ◌∙◌, ap, subst, arith, ltb, ltb-true, ltb-false, map, drop, unwrap_or, ◌-◌}
 use Rattle.std.proofs.lemmas.List.{length-drop}
-use Rattle.ferry_disk.proofs.MomentLemmas.{between_map, between_both}
+use Rattle.ferry_disk.proofs.MomentLemmas.{between_map, between_both, between_then}
 use Rattle.ferry_disk.proofs.FaultLemmas.{acts_end, keeps_end}
+use Rattle.ferry_disk.proofs.ImageLemmas.{applied-push}
 use Rattle.ferry_disk.specs.Act.{Step, RemoveOf, ReplaceBy, SettleAll, History, files_now, with_act}
 use Rattle.ferry_disk.specs.Device.{Told, Acts, HasCause, RoseWhere, KeepsTold, store_failed, told_files}
 use Rattle.ferry_disk.specs.Faults.{EndsAtFault, FailedWhere, failed_told}
@@ -18,6 +19,8 @@ use Rattle.std.specs.List.{AllByRecursion}
 use Rattle.ferry_log.specs.Log as Log
 use Rattle.ferry_log.specs.Log.{IsTransaction, IsUncommitted, IsDamaged}
 use Rattle.ferry_log.specs.State.{LogState, IsStateOf}
+use Rattle.ferry_log.specs.declared.place.Place.{Place}
+use Rattle.std.specs.FinMap.{get}
 use Rattle.ferry_store.specs.declared.fault.StoreRefusal.TheVariants.{Committed}
 use Rattle.ferry_nonce.specs.Counter.{CounterFits, FitIn, KeepsAbove, Reserves, drawn, reserves, reserved_for}
 use Rattle.ferry_nonce.specs.Fault.{nonce_failed}
@@ -44,7 +47,7 @@ use Rattle.ferry_store.proofs.NewLemmas.{opens_new}
 use Rattle.ferry_store.specs.New.{FirstSound, IsOpenable, Makes, MakesSound, ShowsNew, TakesFirst, new_entries, nothing_written}
 use Rattle.ferry_store.specs.Fault.{depot_failed, nonce_refusal, write_refusal, store_refusal}
 use Rattle.ferry_store.specs.State.{Begins, BeginsSound, CommitsSound, Did, IsSound, IsStep, IsUnderWay, KeepsSound, SettingsSound, ShowsEither}
-use Rattle.ferry_store.specs.State.{TakesCommit, TakesEntry, TakesSettings, Written}
+use Rattle.ferry_store.specs.State.{IsPlaced, TakesCommit, TakesEntry, TakesSettings, Written}
 use Rattle.ferry_store.specs.State.{RefusesLog, readme_text, with_settings}
 use Rattle.ferry_store.specs.declared.fault.StoreRefusal.{StoreRefusal}
 use Rattle.ferry_write.specs.Fault.{write_failed}
@@ -52,7 +55,7 @@ use Rattle.ferry_write.specs.Rows.{BeginBrings, BeginsRows, Brings, BringsNone, 
 use Rattle.ferry_write.specs.Room.{behind}
 use Rattle.ferry_write.specs.Script.{AllDone, clear_steps, numbers_from}
 use Rattle.ferry_write.specs.Session.{BeginKeeps, Begins as SessionBegins, BeginBySettle, ClearsAbove, ClearsAll, Commits, Keeps, KeepsOrCommits}
-use Rattle.ferry_write.specs.Session.{KeepsPlain, Puts, SettlesFirst}
+use Rattle.ferry_write.specs.Session.{KeepsPlain, Lies, OnlyAppends, Puts, SettlesFirst, Stays}
 use Rattle.ferry_write.specs.declared.fault.WriteFault.{WriteFault}
 use Rattle.ferry_write.specs.declared.fault.WriteFault.TheVariants as Writes
 use Rattle.ferry_write.specs.declared.session.Session.{Session}
@@ -150,10 +153,10 @@ begun_ok after counter session a b c n m k same opened number fits keeps brings 
       cause = caused ∙ opened;
     }
 
-fail_where : (d e : Bool) (a b : Option Told) → d ≡ e → FailedWhere e a b → FailedWhere d a b
+pub fail_where : (d e : Bool) (a b : Option Told) → d ≡ e → FailedWhere e a b → FailedWhere d a b
 fail_where d e a b same f = subst (λ (x : Bool). FailedWhere x a b) (sym same) f
 
-rose_where : (d e : Bool) (n m : ℕ) → d ≡ e → RoseWhere e n m → RoseWhere d n m
+pub rose_where : (d e : Bool) (n m : ℕ) → d ≡ e → RoseWhere e n m → RoseWhere d n m
 rose_where d e n m same r = subst (λ (x : Bool). RoseWhere x n m) (sym same) r
 
 -- a session that doesn't begin
@@ -420,11 +423,11 @@ put_err session entry Q fault a b n m keeps brings plain caused ends = record {
 }
 
 -- a draw and a put
-pub object_both : (session now : Session) (counter drawn : Counter) (entry : LogEntry) (number first : ℕ) (a b c : Option Told) (n m k : ℕ)
-    (result : Result (Unit {0}) StoreRefusal) → TakesBlocks entry counter.free drawn.free → counter.free ≤ drawn.free
+pub object_both : {T : Type 0} (session now : Session) (counter drawn : Counter) (entry : LogEntry) (number first : ℕ) (a b c : Option Told) (n m k : ℕ)
+    (result : Result T StoreRefusal) → TakesBlocks entry counter.free drawn.free → counter.free ≤ drawn.free
     → Did {T = ℕ} (Draws counter number) (λ _. HasNumbers counter drawn number) a b n m (Ok first)
-    → Did {T = Unit {0}} (PutsAt session entry) (λ _. HasPut session entry now) b c m k result
-    → Did {T = Unit {0}} (KeepsSound session counter) (λ _. TakesEntry session counter entry now drawn) a c n k result
+    → Did {T = T} (PutsAt session entry) (λ _. HasPut session entry now) b c m k result
+    → Did {T = T} (KeepsSound session counter) (λ _. TakesEntry session counter entry now drawn) a c n k result
 object_both session now counter drawn entry number first a b c n m k result blocks order p q =
     did_then (Draws counter number) (λ _. HasNumbers counter drawn number) (PutsAt session entry) (λ _. HasPut session entry now)
     (KeepsSound session counter) (λ _. TakesEntry session counter entry now drawn) a b c n m k first result
@@ -436,6 +439,34 @@ object_both session now counter drawn entry number first a b c n m k result bloc
     put_stands counts session now counter.free drawn written entry g i blocks
     (draw_stands counts session counter drawn written number h g u numbers.0 order numbers.1) f.0 f.1.0 f.1.1.0 f.1.1.1)
     p q
+
+-- the file of the counter replaced, or not, leaves the segments
+segments_drawn : (number : ℕ) (h g : History) → (g ≡ h) ⊎ (g ≡ with_act (reserves number) true h) → (files_now g).segments ≡ (files_now h).segments
+segments_drawn number h g (inl e) = ap (λ (k : History). (files_now k).segments) e
+segments_drawn number h g (inr e) =
+    ap (λ (k : History). (files_now k).segments) e
+    ∙ ap (λ (f : Files). f.segments) (applied-push h.start h.acts (record { step = reserves number; done = true }))
+
+stays_drawn : (after : Option ℕ) (h g i : History) → (files_now g).segments ≡ (files_now h).segments → Stays after g i → Stays after h i
+stays_drawn after h g i same stays = record {
+  below = λ n less. stays.below n less ∙ ap (λ m. get m n) same;
+  longer = λ n. let rest = stays.longer n in
+      (rest.0, rest.1 ∙ ap (λ m. unwrap_or (get m n) [] ++ rest.0) same);
+}
+
+pub object_placed : (session : Session) (counter drawn : Counter) (number : ℕ) (blob : List ℕ) (place : Place) (first : ℕ) (a b c : Option Told) (n m : ℕ)
+    → counter.free ≤ drawn.free → Did {T = ℕ} (Draws counter number) (λ _. HasNumbers counter drawn number) a b n m (Ok first)
+    → Between b c (Lies session place blob) → Between b c (OnlyAppends session) → Between a c (IsPlaced session counter blob place)
+object_placed session counter drawn number blob place first a b c n m order p lies stays =
+    between_then a b c (λ h g. AllDone h g × HasNumbers counter drawn number h g) (λ h g. Lies session place blob h g × OnlyAppends session h g)
+    (IsPlaced session counter blob place)
+    (λ h g i e f counts written u.
+    let drew = draw_stands counts session counter drawn written number h g u e.1.0 order e.1.1 in
+    record {
+      lies = f.0 written.committed written.pending drew.fits;
+      stays = stays_drawn session.after h g i (segments_drawn number h g e.1.0) (f.1 written.committed written.pending drew.fits);
+    })
+    p.end (between_both b c (Lies session place blob) (OnlyAppends session) lies stays)
 
 -- the blocks of a sealed content
 pub sealed_blocks : (keys : Keys) (mode : Mode) (first : ℕ) (id content : List ℕ) (behind : ℕ) → first < 2 ^ 64 → behind ≡ first + blocks (length content)

@@ -3,9 +3,14 @@ pub mod KeyLemmas
 pub mod BasisLemmas
 pub mod ManifestLemmas
 pub mod NewLemmas
+pub mod KnownLemmas
 pub mod SoundLemmas
 pub mod CallLemmas
 pub mod PutLemmas
 pub mod InitLemmas
 pub mod StoreLemmas
 pub mod OpenLemmas
+pub mod ContentLemmas
+pub mod AddLemmas
+pub mod CommitLemmas
+pub mod UseLemmas

@@ -30,6 +30,7 @@ use Rattle.ferry_stops.specs.Counters.{IsKept}
 use Rattle.ferry_stops.specs.Blobs.{AllTraced}
 use Rattle.ferry_stops.specs.Entries.{Shows, ShowsAt}
 use Rattle.ferry_store.proofs.CallLemmas.{first_here, read_refused}
+use Rattle.ferry_store.proofs.KnownLemmas.{nothing_known}
 use Rattle.ferry_store.proofs.SoundLemmas.{image_begun}
 use Rattle.ferry_store.proofs.StepLemmas.{Reads, did_also, did_as, did_front, did_known, did_then, moments_here, moments_map, read_did}
 use Rattle.ferry_store.proofs.StoreLemmas.{keeps_here, repo_is}
@@ -39,6 +40,7 @@ use Rattle.ferry_store.specs.Store.{InitFits, InitKeeps, OpenEach, OpenShows, Re
 use Rattle.ferry_store.specs.declared.fault.StoreRefusal.{StoreRefusal}
 use Rattle.ferry_store.specs.declared.fault.StoreRefusal.TheVariants.{Repo as RepoRefusal, Write, Nonce, Committed, TooLarge, Entropy, Memory}
 use Rattle.ferry_store.specs.declared.store.Store.{Store}
+use Rattle.ferry_write.specs.Room.{behind}
 use Rattle.ferry_write.specs.Script.{AllDone, numbers_from}
 use Rattle.ferry_write.specs.Session.{ClearsAll, SettlesFirst}
 use Rattle.ferry_write.specs.declared.fault.WriteFault.TheVariants as Writes
@@ -128,8 +130,9 @@ cleared_fit state h g e clears fits =
 
 store_opened : (secret : Secret) (store : Store) (h g : History) → OpensFilesTo (files_now h) secret (repo_view store.repo) → cached_in store.repo ≡ []
     → Begins (Some (repo_view store.repo).log.transaction) store.counter store.session h g
-    → ClearsAll (Some (repo_view store.repo).log.transaction) h g → InitFits store h g
-store_opened secret store h g opens empty begins clears counts e kept =
+    → ClearsAll (Some (repo_view store.repo).log.transaction) h g → store.session.after ≡ Some (repo_view store.repo).log.transaction
+    → store.opened.keys ≡ [] → InitFits store h g
+store_opened secret store h g opens empty begins clears after none counts e kept =
     let repo = repo_view store.repo in
     let entries = entries_of (files_now h) secret repo opens in
     let fits = opens_fits (files_now h) secret repo opens in
@@ -138,6 +141,8 @@ store_opened secret store h g opens empty begins clears counts e kept =
       under_way = begins counts (Some entries) (begun_of counts h secret repo opens e kept);
       repo = subst (FitsRepo (files_now g) repo) (sym empty)
           (record { log = cleared_fit repo.log h g opens.opens.unlocks.reads.learnt clears fits.log; cached = tt });
+      below = omega (arith, ap behind after);
+      there = λ id apart known. absurd (nothing_known store id opens.opens.unlocks.reads.learnt none apart known);
     }
 
 -- ---- the steps
@@ -188,12 +193,13 @@ with_clear after x b c m k clears p = record {
 }
 
 pub open_begun : (secret : Secret) (store : Store) (a b c : Option Told) (n m k : ℕ) → KeepsTold {F = RepoFault} repo_failed a b (Ok store.repo) → m ≡ n
-    → IfSome a (λ t. OpensFilesTo (told_files t) secret (repo_view store.repo)) → cached_in store.repo ≡ [] → Between b c SettlesFirst
+    → IfSome a (λ t. OpensFilesTo (told_files t) secret (repo_view store.repo)) → cached_in store.repo ≡ []
+    → store.session.after ≡ Some (repo_view store.repo).log.transaction → store.opened.keys ≡ [] → Between b c SettlesFirst
     → Between b c (ClearsAll (Some (repo_view store.repo).log.transaction))
     → Did {T = Counter × Session} (BeginsSound (Some (repo_view store.repo).log.transaction))
     (λ x. Begins (Some (repo_view store.repo).log.transaction) x.0 x.1) b c m k (Ok (store.counter, store.session))
     → Did {T = Store} OpenEach InitFits a c n k (Ok store)
-open_begun secret store a b c n m k same caused opens empty first clears p =
+open_begun secret store a b c n m k same caused opens empty behind_log none first clears p =
     let repo = repo_view store.repo in
     let after = Some repo.log.transaction in
     did_as OpenEach (λ (y : Counter × Session) h g. InitFits store h g) OpenEach InitFits a c n k (store.counter, store.session) store (λ h g e. e) (λ h g e. e)
@@ -202,7 +208,7 @@ open_begun secret store a b c n m k same caused opens empty first clears p =
     (λ y h g. InitFits store h g) a b c n m k store.repo (Ok (store.counter, store.session))
     (λ h g i e d q f. open_step secret repo h g i q f)
     (λ y h g i q f. store_opened secret store h i q.0 empty (subst (λ (x : History). Begins after store.counter store.session x i) q.1 f.1)
-    (subst (λ (x : History). ClearsAll after x i) q.1 f.0))
+    (subst (λ (x : History). ClearsAll after x i) q.1 f.0) behind_log none)
     (opened_read secret store.repo a b n m same caused opens)
     (with_clear after (store.counter, store.session) b c m k clears
     (did_also {T = Counter × Session} (BeginsSound after) SettlesFirst (λ x. Begins after x.0 x.1) b c m k (Ok (store.counter, store.session)) first p)))

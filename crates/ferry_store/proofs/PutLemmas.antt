@@ -125,3 +125,33 @@ manifest_put basis timestamp salt buffer session now counter drawn a b n m r is 
           (unexhausted r (IsExhausted counter (blocks (length bytes))) spent);
       refused = refused_first session counter (length bytes) (41 + length buffer) r more refused spent;
     }
+
+-- ---- an object's place is of no use
+
+abbrev pub untold : {T : Type 0} → Result T StoreRefusal → Result (Unit {0}) StoreRefusal
+untold (Ok x) = Ok tt
+untold (Err f) = Err f
+
+pub did_untold : {T : Type 0} (E Q : History → History → Type 0) (a b : Option Told) (n m : ℕ) (r : Result T StoreRefusal)
+    → Did E (λ _. Q) a b n m r → Did E (λ _. Q) a b n m (untold r)
+did_untold E Q a b n m (Ok x) p = record { each = p.each; end = p.end; ends = p.ends; cause = p.cause }
+did_untold E Q a b n m (Err f) p = record { each = p.each; end = tt; ends = p.ends; cause = p.cause }
+
+pub ok_untold : {T : Type 0} (P : Type 0) (r : Result T StoreRefusal) → OnOk r P → OnOk (untold r) P
+ok_untold P (Ok x) p = p
+ok_untold P (Err f) p = tt
+
+pub err_untold : {T : Type 0} (P : StoreRefusal → Type 0) (r : Result T StoreRefusal) → IfErr r P → IfErr (untold r) P
+err_untold P (Ok x) p = tt
+err_untold P (Err f) p = p
+
+same_err : {T : Type 0} (f e : StoreRefusal) → IsErrOf {T = T} (Err f) e → f ≡ e
+same_err f e same = cc
+
+abbrev pub err_of : {T : Type 0} → StoreRefusal → Result T StoreRefusal
+err_of f = Err f
+
+pub exactly_untold : {T : Type 0} (e : StoreRefusal) (P : Type 0) (r : Result T StoreRefusal) → (IsErrOf r e ↔ P) → (IsErrOf (untold r) e ↔ P)
+exactly_untold e P (Ok x) is = (λ bad. let no : ⊥ = cc in absurd no, λ p. let bad = is.1 p in let no : ⊥ = cc in absurd no)
+exactly_untold {T} e P (Err f) is =
+    (λ same. is.0 (ap (err_of {T = T}) (same_err {T = Unit {0}} f e same)), λ p. ap (err_of {T = Unit {0}}) (same_err {T = T} f e (is.1 p)))

@@ -26,6 +26,7 @@ use Rattle.ferry_stops.specs.Chance.{EachStop}
 use Rattle.ferry_stops.specs.Counters.{IsKept}
 use Rattle.ferry_stops.specs.Entries.{ShowsSomething}
 use Rattle.ferry_store.proofs.CallLemmas.{first_here, read_refused}
+use Rattle.ferry_store.proofs.KnownLemmas.{below_commit, nothing_known}
 use Rattle.ferry_store.proofs.NewLemmas.{opens_new}
 use Rattle.ferry_store.proofs.SoundLemmas.{traced_begun, image_begun}
 use Rattle.ferry_store.proofs.StepLemmas.{Reads, before_same, did_as, did_front, did_known, did_then, moments_here, moments_map, read_did, same_told}
@@ -121,11 +122,13 @@ makes_files secret iterations timestamp bytes counter session h g none made e =
 
 pub store_fits : (secret : Secret) (iterations : ℕ) (timestamp bytes : List ℕ) (store : Store) (h g : History) → IsUncommitted (files_now h)
     → IsMadeBy secret iterations timestamp bytes store.counter store.session h g → OpensFilesTo (files_now g) secret (repo_view store.repo)
-    → cached_in store.repo ≡ [] → InitFits store h g
-store_fits secret iterations timestamp bytes store h g none made opens empty counts e kept = record {
+    → cached_in store.repo ≡ [] → store.opened.keys ≡ [] → InitFits store h g
+store_fits secret iterations timestamp bytes store h g none made opens empty unopened counts e kept = record {
   written = first_written made.basis.config _;
   under_way = made.makes counts (begun_by counts h e none kept);
   repo = subst (FitsRepo (files_now g) (repo_view store.repo)) (sym empty) (opens_fits (files_now g) secret (repo_view store.repo) opens);
+  below = below_commit store.session _ _ g (repo_view store.repo).log (made.makes counts (begun_by counts h e none kept)).fits opens.opens.unlocks.reads;
+  there = λ id apart known. absurd (nothing_known store id opens.opens.unlocks.reads.learnt unopened apart known);
 }
 
 -- ---- the steps of `init`
@@ -229,14 +232,14 @@ init_unopened secret iterations timestamp bytes x fault a c d n k j p same cause
 pub init_opened : (secret : Secret) (iterations : ℕ) (timestamp bytes : List ℕ) (store : Store) (a c d : Option Told) (n k j : ℕ)
     → Did (InitEach secret) (MadeOf secret iterations timestamp bytes) a c n k (Ok (store.counter, store.session))
     → KeepsTold {F = RepoFault} repo_failed c d (Ok store.repo) → j ≡ k → IfSome c (λ t. OpensFilesTo (told_files t) secret (repo_view store.repo))
-    → cached_in store.repo ≡ [] → Did (InitEach secret) InitFits a d n j (Ok store)
-init_opened secret iterations timestamp bytes store a c d n k j p same caused opens empty =
+    → cached_in store.repo ≡ [] → store.opened.keys ≡ [] → Did (InitEach secret) InitFits a d n j (Ok store)
+init_opened secret iterations timestamp bytes store a c d n k j p same caused opens empty unopened =
     did_then (InitEach secret) (MadeOf secret iterations timestamp bytes) Reads
     (λ (s : Store) h g. OpensFilesTo (files_now h) secret (repo_view store.repo) × ((s ≡ store) × Reads h g)) (InitEach secret) InitFits a c d n k j
     (store.counter, store.session) (Ok store)
     (λ h g i e q m f. each_read secret h g i e f)
     (λ y h g i made f. subst (λ (s : Store). InitFits s h i) (sym f.1.0)
-    (subst (InitFits store h) (sym f.1.1) (store_fits secret iterations timestamp bytes store h g made.0 made.1 f.0 empty)))
+    (subst (InitFits store h) (sym f.1.1) (store_fits secret iterations timestamp bytes store h g made.0 made.1 f.0 empty unopened)))
     p (did_known {T = Store} (λ h. OpensFilesTo (files_now h) secret (repo_view store.repo)) Reads (λ s h g. (s ≡ store) × Reads h g) c d k j store opens
     (did_as Reads (λ _. Reads) Reads (λ s h g. (s ≡ store) × Reads h g) c d k j store.repo store (λ h g e. e) (λ h g e. (refl, e))
     (read_did {T = Repo} repo_failed c d k j store.repo same caused)))

@@ -71,3 +71,10 @@ depot_failed refusal = false
 abbrev pub source_failed : StoreRefusal → Bool
 source_failed Entropy = true
 source_failed refusal = false
+
+-- whether a store that answers this is spent: the target failed, memory was refused, or the numbers of segments are used up
+abbrev pub spends : StoreRefusal → Bool
+spends (Write fault) = true
+spends (Nonce Nonces.Device) = true
+spends Memory = true
+spends refusal = false

@@ -6,7 +6,6 @@ use Rattle.ferry_base.specs.Limits.{zero_id}
 use Rattle.ferry_disk.specs.Act.{History, files_now}
 use Rattle.ferry_disk.specs.Files.{Files}
 use Rattle.ferry_disk.specs.Moments.{Moments}
-use Rattle.ferry_repo.specs.Objects.{HoldsChunk}
 use Rattle.ferry_repo.specs.Opening.{RepoState, OpensFilesTo, repo_view}
 use Rattle.ferry_repo.specs.Whole.{WholeArchive, HasWhole}
 use Rattle.ferry_repo.specs.declared.secret.Secret.{Secret}
@@ -14,6 +13,7 @@ use Rattle.ferry_nonce.specs.declared.counter.Counter.{Counter}
 use Rattle.ferry_segment.specs.Entry.{PutEntry}
 use Rattle.ferry_stops.specs.Chance.{EachStop}
 use Rattle.ferry_store.specs.State.{KeepsSound, CommitsSound, TakesEntry, TakesCommit}
+use Rattle.ferry_store.specs.Content.{IsThere}
 use Rattle.ferry_store.specs.Store.{StoreFits}
 use Rattle.ferry_store.specs.declared.store.Store.{Store}
 use Rattle.ferry_write.specs.declared.session.Session.{Session}
@@ -42,11 +42,8 @@ TransferShows secret chosen told before now =
 
 -- ---- what a flight carries
 
--- A content that an archive under way needs is there: it was live at opening and opens, or it was put in this run and is learnt. Nothing is dropped.
-abbrev pub IsThere : Files → RepoState → List ℕ → Type 0
-IsThere files repo id = (content : List ℕ) × HoldsChunk files repo.log repo.keys id content
-
--- The store fits, and each id in the lists of the archive under way is there.
+-- The store fits, and each id in the lists of the archive under way is there: it was live at opening and opens, or it was put in this run and is
+-- learnt. Nothing is dropped.
 pub record CarriesFlight (counts : Bool) (store : Store) (ids : List (List ℕ)) (history : History) : Type 0 where
   pub fits : StoreFits counts store history
   pub there : AllByRecursion (IsThere (files_now history) (repo_view store.repo)) ids

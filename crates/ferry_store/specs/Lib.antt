@@ -3,5 +3,7 @@ pub mod Key
 pub mod State
 pub mod New
 pub mod Init
+pub mod Content
 pub mod Store
+pub mod Adding
 pub mod Flight

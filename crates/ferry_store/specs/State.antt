@@ -4,13 +4,15 @@ use Rattle.ferry_base.specs.Limits.{content_limit}
 use Rattle.ferry_config.specs.Text.{config_text}
 use Rattle.ferry_config.specs.declared.config.Config.{Config}
 use Rattle.ferry_disk.specs.Act.{Step, History, files_now, with_act}
-use Rattle.ferry_disk.specs.Files.{Files, file_at}
+use Rattle.ferry_disk.specs.Files.{Files, file_at, segment_bytes}
 use Rattle.ferry_disk.specs.Image.{plain_in}
 use Rattle.ferry_disk.specs.Device.{Told, HasCause}
 use Rattle.ferry_disk.specs.Faults.{EndsAtFault}
 use Rattle.ferry_disk.specs.Moments.{Between, Moments}
 use Rattle.ferry_disk.specs.declared.name.Name.TheVariants.{Config as ConfigFile, Nonce as NonceFile, Readme}
 use Rattle.ferry_log.specs.Log.{IsUncommitted}
+use Rattle.ferry_log.specs.State.{IsBlobAt}
+use Rattle.ferry_log.specs.declared.place.Place.{Place}
 use Rattle.ferry_nonce.specs.Counter.{CounterFits, HasNoNumber}
 use Rattle.ferry_nonce.specs.declared.counter.Counter.{Counter}
 use Rattle.ferry_nonce.specs.declared.fault.NonceFault.TheVariants as Nonces
@@ -26,7 +28,7 @@ use Rattle.ferry_store.specs.declared.fault.StoreRefusal.TheVariants.{Repo, Writ
 use Rattle.ferry_write.specs.Room.{must_begin, AreUsedUp}
 use Rattle.ferry_write.specs.Rows.{SessionRows}
 use Rattle.ferry_write.specs.Script.{AllDone}
-use Rattle.ferry_write.specs.Session.{CommittedUpTo, SessionFits, rests_at, with_commit}
+use Rattle.ferry_write.specs.Session.{CommittedUpTo, SessionFits, Stays, rests_at, with_commit}
 use Rattle.ferry_write.specs.declared.fault.WriteFault.TheVariants as Writes
 use Rattle.ferry_write.specs.declared.session.Session.{Session}
 
@@ -87,6 +89,15 @@ KeepsSound session counter before now = (counts : Bool) (written : Written) → 
 abbrev pub TakesEntry : Session → Counter → LogEntry → Session → Counter → History → History → Type 0
 TakesEntry session counter entry session_now counter_now before now = (counts : Bool) (written : Written)
     → IsUnderWay counts session counter written before → IsUnderWay counts session_now counter_now (with_entry written entry) now
+
+-- A blob was put: it lies at a place, each segment has what it had and perhaps more behind it, and those up to the last commit are as they were.
+pub record HasPlaced (session : Session) (blob : List ℕ) (place : Place) (before now : History) : Type 0 where
+  pub lies : IsBlobAt (segment_bytes (files_now now) place.segment) place.at place.size blob
+  pub stays : Stays session.after before now
+
+abbrev pub IsPlaced : Session → Counter → List ℕ → Place → History → History → Type 0
+IsPlaced session counter blob place before now = (counts : Bool) (written : Written) → IsUnderWay counts session counter written before
+    → HasPlaced session blob place before now
 
 -- ---- the begin of a run
 
@@ -173,6 +184,13 @@ abbrev pub IsTarget : StoreRefusal → Type 0
 IsTarget (Write Writes.Device) = Unit {0}
 IsTarget Memory = Unit {0}
 IsTarget refusal = ⊥
+
+-- Why what was put isn't committed: the numbers of segments are used up, or the device failed or memory was refused.
+abbrev pub RefusesCommit : Session → StoreRefusal → Type 0
+RefusesCommit session (Write Writes.Device) = Unit {0}
+RefusesCommit session (Write Writes.Numbers) = AreUsedUp session.last
+RefusesCommit session Memory = Unit {0}
+RefusesCommit session refusal = ⊥
 
 -- Why an object isn't put that takes an entry of this size: no blocks are left, the numbers of segments are used up, or the device failed or
 -- memory was refused.

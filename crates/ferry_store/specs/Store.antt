@@ -1,9 +1,13 @@
 -- What a store stands on, and what `init` and `open` leave, whatever a stop does.
-use Rattle.std.specs.Prelude.{◌≡◌, ℕ, Bool, true, List, [], Some}
+use Rattle.std.specs.Prelude.{◌≡◌, ◌≢◌, ◌⊎◌, ◌<◌, ℕ, Bool, true, false, List, [], Some, IsSome}
+use Rattle.std.specs.BTreeSet.{contains}
+use Rattle.std.specs.FinMap.{get}
+use Rattle.ferry_base.specs.Limits.{zero_id}
 use Rattle.ferry_disk.specs.Act.{History, files_now}
 use Rattle.ferry_disk.specs.Files.{Files, file_at}
 use Rattle.ferry_disk.specs.Moments.{Moments}
 use Rattle.ferry_disk.specs.declared.name.Name.TheVariants.{Nonce as NonceFile}
+use Rattle.ferry_log.specs.Live.{key_cmp}
 use Rattle.ferry_log.specs.Log.{IsUncommitted}
 use Rattle.ferry_nonce.specs.declared.fault.NonceFault.TheVariants as Nonces
 use Rattle.ferry_repo.specs.Opening.{FitsRepo, OpensFilesTo, RefusesRepo, RepoState, cached_in, repo_view}
@@ -14,6 +18,7 @@ use Rattle.ferry_stops.specs.Chance.{EachStop}
 use Rattle.ferry_segment.specs.Entry.{LogEntry}
 use Rattle.ferry_stops.specs.Counters.{IsKept, IsNonce}
 use Rattle.ferry_stops.specs.Entries.{Shows}
+use Rattle.ferry_store.specs.Content.{IsThere}
 use Rattle.ferry_store.specs.Init.{RefusesMaking}
 use Rattle.ferry_store.specs.Key.{RefusesGiven}
 use Rattle.ferry_store.specs.New.{IsMade, IsNothingOrNew, OpensNew}
@@ -21,15 +26,28 @@ use Rattle.ferry_store.specs.State.{IsUnderWay, RefusesBegin, Written}
 use Rattle.ferry_store.specs.declared.fault.StoreRefusal.{StoreRefusal}
 use Rattle.ferry_store.specs.declared.fault.StoreRefusal.TheVariants.{Repo, Write, Nonce, Committed, TooLarge, Entropy, Memory}
 use Rattle.ferry_store.specs.declared.store.Store.{Store}
+use Rattle.ferry_write.specs.Room.{behind}
 use Rattle.ferry_write.specs.Session.{SettlesFirst}
 use Rattle.ferry_write.specs.declared.fault.WriteFault.TheVariants as Writes
 
--- A store fits what its depot told: what was written stands, and the repository fits the files. With `counts` each counter block that was taken
--- is below the store's counter.
+-- An id's content is known to be there: the store has put it, or has opened it before, or the id is the manifest's.
+abbrev pub IsKnown : Store → List ℕ → Type 0
+IsKnown store id = (id ≡ zero_id) ⊎ (IsSome (get (repo_view store.repo).log.learnt id) ⊎ (contains key_cmp store.opened id ≡ true))
+
+-- A store fits what its depot told: what was written stands, the repository fits the files and is that of a commit below those of the session,
+-- and each chunk that the store knows is there. With `counts` each counter block that was taken is below the store's counter.
 pub record StoreFits (counts : Bool) (store : Store) (history : History) : Type 0 where
   pub written : Written
   pub under_way : IsUnderWay counts store.session store.counter written history
   pub repo : FitsRepo (files_now history) (repo_view store.repo) (cached_in store.repo)
+  pub below : (repo_view store.repo).log.transaction < behind store.session.after
+  pub there : (id : List ℕ) → id ≢ zero_id → IsKnown store id → IsThere (files_now history) (repo_view store.repo) id
+
+-- No call on the store answered that it is spent.
+pub record IsUnspent (store : Store) : Type 0 where
+  pub session : store.session.spent ≡ false
+  pub counter : store.counter.spent ≡ false
+  pub itself : store.spent ≡ false
 
 -- ---- `init`
 

@@ -1,7 +1,7 @@
 //! Why a store can't be made, opened or written.
 ghost use Rattle.std.specs.Prelude.{◌≡◌};
 ghost use Rattle.ferry_store.specs.Fault.{entropy_refusal, key_file_refusal, key_refusal, nonce_refusal, number_of_refusal};
-ghost use Rattle.ferry_store.specs.Fault.{repo_refusal, store_refusal, write_refusal};
+ghost use Rattle.ferry_store.specs.Fault.{repo_refusal, spends, store_refusal, write_refusal};
 
 use ferry_disk::{EntropyFault, StoreFault};
 use ferry_keyblob::KeyFault;
@@ -52,6 +52,17 @@ impl StoreRefusal {
             StoreRefusal::TooLarge => 5,
             StoreRefusal::Entropy => 6,
             StoreRefusal::Memory => 7,
+        }
+    }
+
+    /// Whether a store that answers it is spent.
+    pub(crate) fn spends(&self) -> bool
+        ensures { result ≡ spends self.now }
+    {
+        match self {
+            StoreRefusal::Memory | StoreRefusal::Write(_) => true,
+            StoreRefusal::Nonce(fault) => *fault == NonceFault::Device,
+            _ => false,
         }
     }
 }

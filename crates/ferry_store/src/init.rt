@@ -13,23 +13,23 @@ ghost use Rattle.ferry_write.specs.Room.{behind};
 use crate::fault::StoreRefusal;
 use crate::key::{Basis, LIMIT, new_basis};
 use crate::put::put_manifest;
-use crate::state::{begin_at, replace_settings};
+use crate::state::{begin_at, commit, replace_settings};
 use ferry_disk::{Depot, Entropy};
 use ferry_nonce::Counter;
 use ferry_repo::Secret;
 use ferry_write::Session;
 use std::alloc::Global;
 
-/// Commits what was put.
-fn commit<D: Depot>(depot: &mut D, session: &mut Session) -> Result<(), StoreRefusal>
+/// Commits what was put, in one of the first segments.
+fn commit_first<D: Depot>(depot: &mut D, session: &mut Session) -> Result<(), StoreRefusal>
     requires session { session.old.spent ≡ false }
     requires few { behind session.old.last ≤ 1 }
     ensures did { (counter : Counter) → Did (CommitsSound session.old counter) (λ _. TakesCommit session.old counter session.new)
         (D.told depot.old) (D.told depot.new) (D.faults depot.old) (D.faults depot.new) result }
+    ensures unspent { OnOk result (session.new.spent ≡ false) }
     ensures refused { IfErr result IsTarget }
 {
-    session.commit(depot)?;
-    Ok(())
+    commit(depot, session)
 }
 
 /// Writes the settings and the manifest of a new repository, and commits them.
@@ -48,11 +48,12 @@ fn write_first<D: Depot, E: Entropy>(
     ensures made { (salt : List ℕ) × ((length salt ≡ 64) × OnOk result (E.drawn entropy.new ≡ option_map (λ d. d ++ salt) (E.drawn entropy.old))
         × MakesFirst basis.now timestamp.now salt session.old counter.old session.new counter.new (D.told depot.old) (D.told depot.new)
         (D.faults depot.old) (D.faults depot.new) result) }
+    ensures unspent { OnOk result ((session.new.spent ≡ false) × (counter.new.spent ≡ false)) }
     ensures cause { HasCause source_failed (E.faults entropy.old) (E.faults entropy.new) result }
 {
     replace_settings(alloc, depot, &basis.config)?;
     put_manifest(alloc, depot, entropy, basis, timestamp, counter, session)?;
-    commit(depot, session)
+    commit_first(depot, session)
 }
 
 /// The settings and the key of a new repository: those of a key file where there is one, and else new ones.
@@ -95,6 +96,7 @@ pub(crate) fn make_repository<D: Depot, E: Entropy>(
     ensures made { (bytes : List ℕ) × (OnOk result (E.drawn entropy.new ≡ option_map (λ d. d ++ bytes) (E.drawn entropy.old))
         × Did (MakesSound secret.now) (λ b. MakesOf secret.now iterations timestamp.now bytes b.0 b.1)
         (D.told depot.old) (D.told depot.new) (D.faults depot.old) (D.faults depot.new) result) }
+    ensures unspent { IfOk result (λ b. (b.1.spent ≡ false) × (b.0.spent ≡ false)) }
     ensures refused { IfErr result (λ refusal. IfSome (D.told depot.old) (λ t. RefusesMaking timestamp.now (told_files t) refusal)) }
     ensures cause { HasCause source_failed (E.faults entropy.old) (E.faults entropy.new) result }
 {

@@ -5,6 +5,7 @@
 //! The formats are those of BorgBackup 1.2 (Internals, "Data structures and file formats").
 #![tactic(auto)]
 
+mod content;
 mod fault;
 mod init;
 mod key;
@@ -12,6 +13,7 @@ mod put;
 mod state;
 mod store;
 
+pub use content::Added;
 pub use fault::StoreRefusal;
 pub use key::make_key;
 pub use store::Store;

@@ -1,9 +1,11 @@
 //! Objects sealed and put.
-ghost use Rattle.std.specs.Prelude.{◌≡◌, ◌<◌, ◌≤◌, ◌+◌, ◌-◌, ◌++◌, ◌↔◌, ℕ, List, true, false, Ok, drop, length, IfOk, IfErr, IfSome, OnOk, IsErrOf, option_map};
+ghost use Rattle.std.specs.Prelude.{◌≡◌, ◌⊎◌, ◌<◌, ◌≤◌, ◌+◌, ◌-◌, ◌++◌, ◌↔◌, ℕ, List, true, false, drop, length, option_map};
+ghost use Rattle.std.specs.Prelude.{Ok, IfOk, IfErr, IfSome, OnOk, IsErrOf};
 ghost use Rattle.ferry_base.specs.Limits.{blob_limit, content_limit, zero_id};
-ghost use Rattle.ferry_blob.specs.Blob.{blocks, sealed};
+ghost use Rattle.ferry_blob.specs.Blob.{OpensTo, blocks, content_id, sealed};
 ghost use Rattle.ferry_disk.specs.Device.{HasCause};
 ghost use Rattle.ferry_disk.specs.Image.{settled};
+ghost use Rattle.ferry_disk.specs.Moments.{Between};
 ghost use Rattle.ferry_manifest.specs.Manifest.Text.{manifest_of, manifest_view};
 ghost use Rattle.ferry_manifest.specs.Manifest.Writing.{manifest_text};
 ghost use Rattle.ferry_nonce.specs.Counter.{IsExhausted};
@@ -12,7 +14,7 @@ ghost use Rattle.ferry_repo.specs.Opening.{mode_of};
 ghost use Rattle.ferry_segment.specs.Entry.{PutEntry};
 ghost use Rattle.ferry_store.specs.Fault.{source_failed};
 ghost use Rattle.ferry_store.specs.New.{PutsManifest, first_manifest};
-ghost use Rattle.ferry_store.specs.State.{Did, KeepsSound, RefusesManifest, RefusesPut, TakesEntry};
+ghost use Rattle.ferry_store.specs.State.{Did, IsPlaced, KeepsSound, RefusesManifest, RefusesPut, TakesEntry};
 ghost use Rattle.ferry_store.specs.declared.fault.StoreRefusal.TheVariants as Refusal;
 ghost use Rattle.ferry_write.specs.Room.{after_entry};
 
@@ -22,6 +24,7 @@ use ferry_base::{Bytes, Id, ZERO_ID};
 use ferry_blob::{Mode, blocks_of, seal};
 use ferry_config::Config;
 use ferry_disk::{Depot, Entropy};
+use ferry_log::Place;
 use ferry_mac::Keys;
 use ferry_manifest::{ArchiveRefs, Manifest, MetaFault, Names, write_manifest};
 use ferry_msgpack::Value;
@@ -32,7 +35,7 @@ use std::alloc::Global;
 /// How many bytes of a blob stand before its content.
 const HEAD: usize = 43;
 
-/// Seals the content at `buffer[43..]` with the next counter blocks, and puts the blob under an id.
+/// Seals the content at `buffer[43..]` with the next counter blocks, puts the blob under an id, and answers where the blob lies.
 pub(crate) fn put_object<D: Depot>(
     depot: &mut D,
     keys: &Keys,
@@ -41,7 +44,7 @@ pub(crate) fn put_object<D: Depot>(
     counter: &mut Counter,
     id: &Id,
     buffer: &mut [u8],
-) -> Result<(), StoreRefusal>
+) -> Result<Place, StoreRefusal>
     requires session { session.old.spent ≡ false }
     requires counter { counter.old.spent ≡ false }
     requires head { 43 ≤ length buffer.old }
@@ -50,6 +53,10 @@ pub(crate) fn put_object<D: Depot>(
     ensures did { Did (KeepsSound session.old counter.old)
         (λ _. TakesEntry session.old counter.old (PutEntry id.now (sealed keys.now mode counter.old.free (drop 43 buffer.old))) session.new counter.new)
         (D.told depot.old) (D.told depot.new) (D.faults depot.old) (D.faults depot.new) result }
+    ensures placed { IfOk result (λ place. Between (D.told depot.old) (D.told depot.new)
+        (IsPlaced session.old counter.old (sealed keys.now mode counter.old.free (drop 43 buffer.old)) place)) }
+    ensures opens { OnOk result ((name : List ℕ) → (name ≡ zero_id) ⊎ (name ≡ content_id keys.now (drop 43 buffer.old))
+        → OpensTo keys.now name (sealed keys.now mode counter.old.free (drop 43 buffer.old)) (drop 43 buffer.old)) }
     ensures session { OnOk result (session.new ≡ after_entry session.old (41 + length buffer.old)) }
     ensures counter { OnOk result (counter.new.spent ≡ false) }
     ensures refused { IfErr result (RefusesPut session.old (41 + length buffer.old)) }
@@ -58,8 +65,8 @@ pub(crate) fn put_object<D: Depot>(
     let blocks = blocks_of((buffer.len() - HEAD) as u64);
     let first = counter.draw(depot, blocks)?;
     seal(keys, mode, first, buffer);
-    session.put(depot, id, buffer)?;
-    Ok(())
+    let place = session.put(depot, id, buffer)?;
+    Ok(place)
 }
 
 /// A manifest without archives.
@@ -102,7 +109,7 @@ fn first_manifest<E: Entropy>(
 }
 
 /// A content behind room for the head of its blob.
-fn behind_head(alloc: Global, content: &[u8]) -> Result<Vec<u8>, StoreRefusal>
+pub(crate) fn behind_head(alloc: Global, content: &[u8]) -> Result<Vec<u8>, StoreRefusal>
     ensures buffer { IfOk result (λ buffer. (drop 43 buffer.items ≡ content.now) × (length buffer.items ≡ 43 + length content.now)) }
     ensures refused { IfErr result (λ refusal. refusal ≡ Refusal.Memory) }
 {
@@ -138,6 +145,7 @@ pub(crate) fn put_manifest<D: Depot, E: Entropy>(
     ensures put { (salt : List ℕ) × ((length salt ≡ 64) × OnOk result (E.drawn entropy.new ≡ option_map (λ d. d ++ salt) (E.drawn entropy.old))
         × PutsManifest basis.now timestamp.now salt session.old counter.old session.new counter.new (D.told depot.old) (D.told depot.new)
         (D.faults depot.old) (D.faults depot.new) result) }
+    ensures unspent { OnOk result ((session.new.spent ≡ false) × (counter.new.spent ≡ false)) }
     ensures cause { HasCause source_failed (E.faults entropy.old) (E.faults entropy.new) result }
 {
     let mut buffer = first_manifest(alloc, entropy, &basis.keys, timestamp)?;
@@ -150,5 +158,6 @@ pub(crate) fn put_manifest<D: Depot, E: Entropy>(
         counter,
         &ZERO_ID,
         &mut buffer,
-    )
+    )?;
+    Ok(())
 }

@@ -1,5 +1,5 @@
 //! The first steps of a repository that is made: what is there already, and the files beside the segments.
-ghost use Rattle.std.specs.Prelude.{◌≡◌, ℕ, true, false, Ok, IfOk, IfErr, IfSome, OnOk};
+ghost use Rattle.std.specs.Prelude.{◌≡◌, ◌↔◌, ℕ, true, false, Ok, IfOk, IfErr, IfSome, IsErrOf, OnOk};
 ghost use Rattle.ferry_config.specs.Config.{config_of};
 ghost use Rattle.ferry_config.specs.Text.{config_text};
 ghost use Rattle.ferry_disk.specs.Act.{IsPlain, ReplaceBy, with_act};
@@ -11,8 +11,13 @@ ghost use Rattle.ferry_disk.specs.declared.name.Name.TheVariants as FileName;
 ghost use Rattle.ferry_log.specs.Log.{IsUncommitted};
 ghost use Rattle.ferry_stops.specs.Counters.{IsNonce};
 ghost use Rattle.ferry_store.specs.Fault.{depot_failed, source_failed};
-ghost use Rattle.ferry_store.specs.State.{Begins, BeginsSound, Did, IsFirst, IsStep, IsTarget, RefusesBegin, RefusesLog, SettingsSound, TakesSettings};
-ghost use Rattle.ferry_write.specs.Session.{ClearsAll, SettlesFirst};
+ghost use Rattle.ferry_store.specs.State.{Begins, BeginsSound, CommitsSound, Did, IsFirst, IsStep, IsTarget};
+ghost use Rattle.ferry_store.specs.State.{RefusesBegin, RefusesCommit, RefusesLog, SettingsSound, TakesCommit, TakesSettings};
+ghost use Rattle.ferry_nonce.specs.declared.counter.Counter.{Counter};
+ghost use Rattle.ferry_store.specs.declared.fault.StoreRefusal.TheVariants as Refusal;
+ghost use Rattle.ferry_write.specs.Room.{AreUsedUp, after_commit};
+ghost use Rattle.ferry_write.specs.Session.{ClearsAll, OnlyAppends, SettlesFirst};
+ghost use Rattle.ferry_write.specs.declared.fault.WriteFault.TheVariants as Writes;
 
 use crate::fault::StoreRefusal;
 use ferry_config::{Config, print_config};
@@ -93,4 +98,18 @@ pub(crate) fn replace_settings<D: Depot>(
     let text = print_config(alloc, config)?;
     replace(depot, Name::Readme, README)?;
     replace(depot, Name::Config, &text)
+}
+
+/// Commits what was put.
+pub(crate) fn commit<D: Depot>(depot: &mut D, session: &mut Session) -> Result<(), StoreRefusal>
+    requires session { session.old.spent ≡ false }
+    ensures did { (counter : Counter) → Did (CommitsSound session.old counter)
+        (λ _ h g. TakesCommit session.old counter session.new h g × OnlyAppends session.old h g)
+        (D.told depot.old) (D.told depot.new) (D.faults depot.old) (D.faults depot.new) result }
+    ensures session { OnOk result (session.new ≡ after_commit session.old) }
+    ensures refused { IfErr result (RefusesCommit session.old) }
+    ensures numbers { IsErrOf result (Refusal.Write Writes.Numbers) ↔ AreUsedUp session.old.last }
+{
+    session.commit(depot)?;
+    Ok(())
 }

@@ -1,36 +1,53 @@
 //! A repository that is written.
-ghost use Rattle.std.specs.Prelude.{◌≡◌, ◌≤◌, ◌++◌, ℕ, List, [], IfOk, IfErr, IfSome, OnOk, IsTrue, is_some, option_map};
+ghost use Rattle.std.specs.Prelude.{◌≡◌, ◌≢◌, ◌↔◌, ◌≤◌, ◌++◌, ◌||◌, ℕ, List, [], true, false, length, is_some, option_map};
+ghost use Rattle.std.specs.Prelude.{Ok, IfOk, IfErr, IfSome, IsErrOf, OnOk, OnErr, IsTrue};
+ghost use Rattle.std.specs.Borrow.{Lends, sem};
+ghost use Rattle.ferry_base.specs.Limits.{content_limit, zero_id};
 ghost use Rattle.ferry_disk.specs.Device.{HasCause, told_files};
 ghost use Rattle.ferry_disk.specs.Moments.{Between};
-ghost use Rattle.ferry_store.specs.Fault.{source_failed};
-ghost use Rattle.ferry_store.specs.State.{Did};
-ghost use Rattle.ferry_store.specs.Store.{InitEach, InitFits, InitMakes, OpenEach, RefusesInit, RefusesOpen};
 ghost use Rattle.ferry_repo.specs.Archives.{archive_named};
+ghost use Rattle.ferry_repo.specs.Objects.{IsMissing};
 ghost use Rattle.ferry_repo.specs.Opening.{OpensFilesTo, cached_in, repo_view};
-ghost use Rattle.std.specs.Borrow.{Lends, sem};
 ghost use Rattle.ferry_repo.specs.contracts.repo.Repo.{the_row as row_of_repo};
+ghost use Rattle.ferry_store.specs.Adding.{Adds, Checkpoints, RefusesAdd, id_under, pending_after};
+ghost use Rattle.ferry_store.specs.Content.{IsNew, Learns, RefusesNew, RefusesOld};
+ghost use Rattle.ferry_store.specs.Fault.{source_failed, spends};
+ghost use Rattle.ferry_store.specs.State.{CommitsSound, Did, KeepsSound, RefusesCommit};
+ghost use Rattle.ferry_store.specs.Store.{InitEach, InitFits, InitMakes, IsKnown, IsUnspent, OpenEach, RefusesInit, RefusesOpen, StoreFits};
 ghost use Rattle.ferry_store.specs.contracts.store.Store.{the_row};
+ghost use Rattle.ferry_store.specs.declared.fault.StoreRefusal.TheVariants as Refusal;
+ghost use Rattle.ferry_write.specs.Room.{AreUsedUp};
+ghost use Rattle.ferry_write.specs.declared.fault.WriteFault.TheVariants as Writes;
 
+use crate::content::{Added, open_content, put_content};
 use crate::fault::StoreRefusal;
 use crate::init::make_repository;
 use crate::key::given_basis;
-use crate::state::{begin_at, expect_no_commit};
+use crate::state::{begin_at, commit, expect_no_commit};
+use ferry_base::{Id, ZERO_ID};
+use ferry_blob::id_of;
 use ferry_disk::{Depot, Entropy};
 use ferry_nonce::Counter;
 use ferry_repo::{Repo, Secret};
 use ferry_write::Session;
 use std::alloc::Global;
+use std::collections::BTreeSet;
 
-/// A repository that is written: the repository as it was read, the session and the counter with which it is written, and how many
-/// entries were put since the last commit.
+/// A repository that is written: the repository as it was read, the session and the counter with which it is written, how many
+/// entries were put since the last commit, and the ids that were live at opening and whose contents were opened since.
 ///
-/// It owns them all, and is used with the depot on which it was opened. There is no `Debug`, so that no message can show a key.
+/// It owns them all, and is used with the depot on which it was opened. There is no `Debug`, so that no message can show a key. After a
+/// refusal that is want of memory or a failed target, or where the numbers of segments are used up, it is spent, and no further call with
+/// the depot may be made.
 #[derive(Drop)]
 pub struct Store {
+    alloc: Global,
     repo: Repo,
     session: Session,
     counter: Counter,
     pending: u64,
+    opened: BTreeSet<Id>,
+    spent: bool,
 }
 
 impl Store {
@@ -57,6 +74,7 @@ impl Store {
         ensures refused { IfErr result (λ refusal. IfSome (D.told depot.old) (λ t. RefusesInit secret.now timestamp.now t.history refusal)) }
         ensures entropy { HasCause source_failed (E.faults entropy.old) (E.faults entropy.new) result }
         ensures fresh { IfOk result (λ store. (cached_in store.repo ≡ []) × (store.pending ≡ 0)) }
+        ensures unspent { IfOk result IsUnspent }
     {
         expect_no_commit(alloc, depot)?;
         let given = given_basis(alloc, secret)?;
@@ -65,10 +83,13 @@ impl Store {
         )?;
         let repo = Repo::open(alloc, depot, secret)?;
         Ok(Store {
+            alloc,
             repo,
             session,
             counter,
             pending: 0,
+            opened: BTreeSet::new(alloc),
+            spent: false,
         })
     }
 
@@ -85,16 +106,20 @@ impl Store {
         ensures did { Did OpenEach InitFits (D.told depot.old) (D.told depot.new) (D.faults depot.old) (D.faults depot.new) result }
         ensures refused { IfErr result (λ refusal. IfSome (D.told depot.old) (λ t. RefusesOpen secret.now (told_files t) refusal)) }
         ensures fresh { IfOk result (λ store. (cached_in store.repo ≡ []) × (store.pending ≡ 0)) }
+        ensures unspent { IfOk result IsUnspent }
     {
         let repo = Repo::open(alloc, depot, secret)?;
         let transaction = repo.log().transaction();
         let limit = repo.config().limit;
         let (counter, session) = begin_at(alloc, depot, true, Some(transaction), limit)?;
         Ok(Store {
+            alloc,
             repo,
             session,
             counter,
             pending: 0,
+            opened: BTreeSet::new(alloc),
+            spent: false,
         })
     }
 
@@ -103,6 +128,150 @@ impl Store {
         ensures* { sem 𝓛 (Lends the_row row_of_repo self.entry result (λ w. record self.old { repo = w })) }
     {
         &mut self.repo
+    }
+
+    /// Whether `add` of a content would put it: its id was neither live when the store was opened, nor was it put since.
+    pub fn would_put(&self, content: &[u8]) -> bool
+        ensures new { IsTrue result ↔ IsNew (repo_view self.now.repo) (id_under self.now content.now) }
+    {
+        self.is_new(&id_of(self.repo.keys(), content))
+    }
+
+    /// Adds a content of at most 20971436 bytes: it is sealed and put where its id isn't live, and else it is opened, once for a store. A
+    /// content that the store knows is answered without a call of the depot.
+    pub fn add<D: Depot>(&mut self, depot: &mut D, content: &[u8]) -> Result<Added, StoreRefusal>
+        requires size { length content.now ≤ content_limit }
+        requires unspent { IsUnspent self.old }
+        requires fits { IfSome (D.told depot.old) (λ t. StoreFits false self.old t.history) }
+        ensures did { Did (KeepsSound self.old.session self.old.counter) (Adds self.old content.now self.new)
+            (D.told depot.old) (D.told depot.new) (D.faults depot.old) (D.faults depot.new) result }
+        ensures id { IfOk result (λ added. added.id ≡ id_under self.old content.now) }
+        ensures new { IfOk result (λ added. IsTrue added.new ↔ IsNew (repo_view self.old.repo) (id_under self.old content.now)) }
+        ensures known { OnOk result (IsKnown self.new (id_under self.old content.now)) }
+        ensures answered { IsKnown self.old (id_under self.old content.now) → IfSome (D.told depot.old) (λ t. (depot.new ≡ depot.old)
+            × (result ≡ Ok (record { id = id_under self.old content.now; new = false }))) }
+        ensures repo { IfOk result (λ added. Learns (repo_view self.old.repo) added.id added.new (repo_view self.new.repo)) }
+        ensures pending { IfOk result (λ added. self.new.pending ≡ pending_after self.old.pending added.new) }
+        ensures refused { IfErr result (λ refusal. IfSome (D.told depot.old) (λ t. RefusesAdd self.old content.now (told_files t) refusal)) }
+        ensures unspent { OnOk result (IsUnspent self.new) }
+        ensures spent { IfErr result (λ refusal. self.new.spent ≡ spends refusal) }
+    {
+        let id = id_of(self.repo.keys(), content);
+        if self.is_new(&id) {
+            return self.add_new(depot, id, content);
+        }
+        if self.is_known(&id) {
+            return Ok(Added { id, new: false });
+        }
+        self.add_old(depot, id)
+    }
+
+    /// Adds a content whose id isn't live.
+    fn add_new<D: Depot>(
+        &mut self,
+        depot: &mut D,
+        id: Id,
+        content: &[u8],
+    ) -> Result<Added, StoreRefusal>
+        requires size { length content.now ≤ content_limit }
+        requires unspent { IsUnspent self.old }
+        requires named { id ≡ id_under self.old content.now }
+        requires new { IsNew (repo_view self.old.repo) id }
+        requires fits { IfSome (D.told depot.old) (λ t. StoreFits false self.old t.history) }
+        ensures did { Did (KeepsSound self.old.session self.old.counter) (Adds self.old content.now self.new)
+            (D.told depot.old) (D.told depot.new) (D.faults depot.old) (D.faults depot.new) result }
+        ensures added { IfOk result (λ added. added ≡ record { id = id; new = true }) }
+        ensures known { OnOk result (IsKnown self.new id) }
+        ensures repo { OnOk result (Learns (repo_view self.old.repo) id true (repo_view self.new.repo)) }
+        ensures pending { OnOk result (self.new.pending ≡ pending_after self.old.pending true) }
+        ensures refused { IfErr result (RefusesNew self.old.session self.old.counter content.now) }
+        ensures unspent { OnOk result (IsUnspent self.new) }
+        ensures spent { IfErr result (λ refusal. self.new.spent ≡ spends refusal) }
+    {
+        let put = put_content(
+            self.alloc,
+            depot,
+            &mut self.repo,
+            &mut self.session,
+            &mut self.counter,
+            &id,
+            content,
+        );
+        match put {
+            Ok(()) => {
+                self.pending = self.pending.saturating_add(1);
+                Ok(Added { id, new: true })
+            }
+            Err(refusal) => Err(self.spend(refusal)),
+        }
+    }
+
+    /// Adds a content whose id was live at opening and wasn't opened since.
+    fn add_old<D: Depot>(&mut self, depot: &mut D, id: Id) -> Result<Added, StoreRefusal>
+        requires unspent { IsUnspent self.old }
+        requires chunk { id ≢ zero_id }
+        requires live { IsMissing (repo_view self.old.repo).log id → ⊥ }
+        requires fits { IfSome (D.told depot.old) (λ t. StoreFits false self.old t.history) }
+        ensures did { (content : List ℕ) → Did (KeepsSound self.old.session self.old.counter) (Adds self.old content self.new)
+            (D.told depot.old) (D.told depot.new) (D.faults depot.old) (D.faults depot.new) result }
+        ensures added { IfOk result (λ added. added ≡ record { id = id; new = false }) }
+        ensures known { OnOk result (IsKnown self.new id) }
+        ensures repo { repo_view self.new.repo ≡ repo_view self.old.repo }
+        ensures pending { self.new.pending ≡ self.old.pending }
+        ensures refused { IfErr result (λ refusal. IfSome (D.told depot.old) (λ t. RefusesOld (told_files t) (repo_view self.old.repo) id refusal)) }
+        ensures unspent { OnOk result (IsUnspent self.new) }
+        ensures spent { IfErr result (λ refusal. self.new.spent ≡ spends refusal) }
+    {
+        match open_content(depot, &mut self.repo, &mut self.opened, id) {
+            Ok(()) => Ok(Added { id, new: false }),
+            Err(refusal) => Err(self.spend(refusal)),
+        }
+    }
+
+    /// Commits what was put. The manifest is the one that was committed, so that no archive is new.
+    pub fn checkpoint<D: Depot>(&mut self, depot: &mut D) -> Result<(), StoreRefusal>
+        requires unspent { IsUnspent self.old }
+        ensures did { Did (CommitsSound self.old.session self.old.counter) (λ _. Checkpoints self.old self.new)
+            (D.told depot.old) (D.told depot.new) (D.faults depot.old) (D.faults depot.new) result }
+        ensures repo { self.new.repo ≡ self.old.repo }
+        ensures pending { OnOk result (self.new.pending ≡ 0) }
+        ensures refused { IfErr result (RefusesCommit self.old.session) }
+        ensures numbers { IsErrOf result (Refusal.Write Writes.Numbers) ↔ AreUsedUp self.old.session.last }
+        ensures unspent { OnOk result (IsUnspent self.new) }
+        ensures spent { OnErr result (self.new.spent ≡ true) }
+    {
+        match commit(depot, &mut self.session) {
+            Ok(()) => {
+                self.pending = 0;
+                Ok(())
+            }
+            Err(refusal) => Err(self.spend(refusal)),
+        }
+    }
+
+    /// Whether a content of this id would be put.
+    fn is_new(&self, id: &Id) -> bool
+        ensures { IsTrue result ↔ IsNew (repo_view self.now.repo) id.now }
+    {
+        *id != ZERO_ID && self.repo.log().find(id).is_none()
+    }
+
+    /// Whether the content of an id is known to be there.
+    fn is_known(&self, id: &Id) -> bool
+        ensures { IsTrue result ↔ IsKnown self.now id.now }
+    {
+        *id == ZERO_ID || self.repo.log().has_learnt(id) || self.opened.contains(id)
+    }
+
+    /// Takes note of a refusal that spends the store.
+    fn spend(&mut self, refusal: StoreRefusal) -> StoreRefusal
+        ensures same { result ≡ refusal }
+        ensures spent { self.new ≡ record self.old { spent = spends refusal || self.old.spent } }
+    {
+        if refusal.spends() {
+            self.spent = true;
+        }
+        refusal
     }
 
     /// Whether the manifest has an archive of this name.

@@ -1,3 +1,6 @@
+ghost use Rattle.std.specs.Prelude.{◌≡◌, [], false, IfSome};
+ghost use Rattle.ferry_store.specs.Store.{IsUnspent, StoreFits};
+
 use crate::{Store, StoreRefusal, make_key};
 use ferry_base::Bytes;
 use ferry_blob::Mode;
@@ -175,6 +178,59 @@ fn an_init_that_was_stopped_can_be_done_again(rt: HostRuntime) -> Result<(), Fai
     assert_eq!(rt;
         init_on(alloc, &mut depot, b"", 7),
         Err(StoreRefusal::Entropy)
+    );
+    Ok(())
+}
+
+/// Whether two contents, of which the second is the first again, are new, the first of them before it is added too, how many entries were
+/// put then, and how many after a checkpoint.
+fn add_twice<D: Depot>(
+    store: &mut Store,
+    depot: &mut D,
+) -> Result<([bool; 3], [u64; 2]), StoreRefusal>
+    requires unspent { IsUnspent store.old }
+    requires fits { IfSome (D.told depot.old) (λ t. StoreFits false store.old t.history) }
+{
+    let would = store.would_put(b"abc");
+    let first = store.add(depot, b"abc")?;
+    let second = store.add(depot, b"abc")?;
+    let put = store.pending();
+    store.checkpoint(depot)?;
+    Ok(([would, first.new, second.new], [put, store.pending()]))
+}
+
+/// The same of a store that is made on a depot without files.
+fn add_made<D: Depot>(alloc: Global, depot: &mut D) -> Result<([bool; 3], [u64; 2]), StoreRefusal>
+    requires begun { IfSome (D.told depot.old) (λ t. t.history.acts ≡ []) }
+{
+    let mut entropy = source_of(alloc, 0)?;
+    let secret = secret_of(alloc, b"")?;
+    let mut store = Store::init(alloc, depot, &mut entropy, &secret, 1, b"now")?;
+    add_twice(&mut store, depot)
+}
+
+/// The same of a store that is opened.
+fn add_opened<D: Depot>(alloc: Global, depot: &mut D) -> Result<([bool; 3], [u64; 2]), StoreRefusal>
+    requires begun { IfSome (D.told depot.old) (λ t. t.history.acts ≡ []) }
+{
+    let secret = secret_of(alloc, b"")?;
+    let mut store = Store::open(alloc, depot, &secret)?;
+    add_twice(&mut store, depot)
+}
+
+#[test]
+fn a_content_is_put_once(rt: HostRuntime) -> Result<(), Fail> {
+    let alloc = rt.alloc();
+    let mut depot = MemoryDepot::new(alloc, Vec::new(alloc), Vec::new(alloc))?;
+    assert_eq!(rt;
+        add_made(alloc, &mut depot),
+        Ok(([true, true, false], [1, 0]))
+    );
+    assert_eq!(rt; sizes(&mut depot), [695u64, 34, 16, 316, 17, 95]);
+    let mut next = depot.again()?;
+    assert_eq!(rt;
+        add_opened(alloc, &mut next),
+        Ok(([false, false, false], [0, 0]))
     );
     Ok(())
 }

@@ -137,33 +137,42 @@ fn a_key_that_is_made_serves_a_new_repository(rt: HostRuntime) -> Result<(), Fai
     Ok(())
 }
 
-/// Each call of the target fails in turn; the next run makes the repository or finds it. Then each call of the source of random bytes.
+/// Whether an `init` of which this call of the target fails says so, and the next run makes the repository or finds it.
+fn goes_on(alloc: Global, call: u64) -> Result<bool, AllocError> {
+    let words = ["init", "--iterations", "1"];
+    let mut target = depot(alloc, &[], &[call])?;
+    let told = inits(alloc, b"", &mut target, 5, "target device failed\n")?;
+    let mut next = target.again()?;
+    let (then, _) = run_over(alloc, &words, b"", &mut next, 0)?;
+    Ok(told && (then == 0 || then == 9))
+}
+
+/// Whether an `init` of which this call of the source of random bytes fails says so.
+fn tells_of_entropy(alloc: Global, call: u64) -> Result<bool, AllocError> {
+    let words = ["init", "--iterations", "1"];
+    let mut target = depot(alloc, &[], &[])?;
+    let (status, printed) = run_over(alloc, &words, b"", &mut target, call)?;
+    Ok(status == 6 && printed.as_slice() == b"entropy failed\n".as_slice())
+}
+
+/// How many calls of the target an `init` makes that ends well, 0 where it doesn't.
+fn calls_made(alloc: Global) -> Result<u64, AllocError> {
+    let mut target = depot(alloc, &[], &[])?;
+    let made = inits(alloc, b"", &mut target, 0, "")?;
+    Ok(if made { target.count() } else { 0 })
+}
+
+/// Each call of the target fails in turn, and then each call of the source of random bytes.
 #[test]
 fn a_failing_device_of_init_is_told_by_its_status(rt: HostRuntime) -> Result<(), Fail> {
     let alloc = rt.alloc();
-    let words = ["init", "--iterations", "1"];
-    let mut whole = depot(alloc, &[], &[])?;
-    assert!(rt; inits(alloc, b"", &mut whole, 0, "")?);
-    let count = whole.count();
+    let count = calls_made(alloc)?;
     assert!(rt; count > 20);
     for call in 0..count {
-        let call = call.wrapping_add(1);
-        let mut target = depot(alloc, &[], &[call])?;
-        assert!(rt;
-            inits(alloc, b"", &mut target, 5, "target device failed\n")?,
-            "{call}"
-        );
-        let mut next = target.again()?;
-        let (then, _) = run_over(alloc, &words, b"", &mut next, 0)?;
-        assert!(rt; then == 0 || then == 9, "{call}");
+        assert!(rt; goes_on(alloc, call.wrapping_add(1))?, "{call}");
     }
-    for draw in 1..8u64 {
-        let mut target = depot(alloc, &[], &[])?;
-        let (status, printed) = run_over(alloc, &words, b"", &mut target, draw)?;
-        assert!(rt;
-            status == 6 && printed.as_slice() == b"entropy failed\n".as_slice(),
-            "{draw}"
-        );
+    for call in 1..8u64 {
+        assert!(rt; tells_of_entropy(alloc, call)?, "{call}");
     }
     Ok(())
 }

@@ -2,6 +2,7 @@ use crate::{RepoFault, Secret, Secrets, Status, places_fit, run};
 use ferry_base::{BLOB_LIMIT, Bytes, Id};
 use ferry_disk::{MemoryDepot, MemoryEntropy, MemoryShelf, MemorySink, Name, Shelf, StoreFault};
 use ferry_item::ChunkRef;
+use ferry_log::Place;
 use ferry_repo::Repo;
 use ferry_segment::{COMMIT, COMMIT_SEGMENT, MAGIC, delete_entry, put_head};
 use std::alloc::{AllocError, Global};
@@ -630,6 +631,21 @@ fn a_chunk_opens_under_its_id(rt: HostRuntime) -> Result<(), Fail> {
         let missing = repo.chunk(&mut source, &other);
         assert!(rt; missing.is_err_and(|fault| fault == RepoFault::Missing(other)));
     }
+    // A blob that a writer puts behind the log is read once it is learnt.
+    let (digits, blob) = SMALL[0];
+    let put = self::id(alloc, digits)?;
+    let place = Place {
+        segment: 2,
+        at: 0,
+        size: 44,
+    };
+    let files = vec![in alloc; (Name::Segment(2), hex::decode(alloc, blob)?)]?;
+    source.shelf = MemoryShelf::new(alloc, files, Vec::new(alloc))?;
+    if repo.log().find(&put).is_none() {
+        repo.learn(&put, place)?;
+    }
+    let content = repo.chunk(&mut source, &put)?;
+    assert_eq!(rt; content.as_slice(), [0].as_slice());
     Ok(())
 }
 

@@ -72,16 +72,16 @@ pub returns-clause-made : goal.returns-clause-made
 returns-clause-made g c =
     let puts = c.in_ok-put_manifest.ensures.put in
     let salt = puts.0 in
-    let r = c.commit.result in (
+    let r = c.commit_first.result in (
       salt,
       (
         puts.1.0,
         always (g.E.Entropy.drawn c.put_manifest.new.entropy ≡ option_map (λ (x : List ℕ). x ++ salt) (g.E.Entropy.drawn c.args.entropy.now)) r puts.1.1,
-        first_committed c.args.basis.now c.args.timestamp.now salt c.args.session.now c.put_manifest.new.session c.commit.new.session c.args.counter.now
+        first_committed c.args.basis.now c.args.timestamp.now salt c.args.session.now c.put_manifest.new.session c.commit_first.new.session c.args.counter.now
             c.put_manifest.new.counter (g.D.Shelf.told c.args.depot.now) (g.D.Shelf.told c.replace_settings.new.depot) (g.D.Shelf.told c.put_manifest.new.depot)
-            (g.D.Shelf.told c.commit.new.depot) (g.D.Shelf.faults c.args.depot.now) (g.D.Shelf.faults c.replace_settings.new.depot)
-            (g.D.Shelf.faults c.put_manifest.new.depot) (g.D.Shelf.faults c.commit.new.depot) r c.requires.first.reserved
-            c.in_ok-replace_settings.ensures.read_again c.in_ok-replace_settings.ensures.did puts.1.2 (c.commit.ensures.did c.put_manifest.new.counter)
-            c.commit.ensures.refused,
+            (g.D.Shelf.told c.commit_first.new.depot) (g.D.Shelf.faults c.args.depot.now) (g.D.Shelf.faults c.replace_settings.new.depot)
+            (g.D.Shelf.faults c.put_manifest.new.depot) (g.D.Shelf.faults c.commit_first.new.depot) r c.requires.first.reserved
+            c.in_ok-replace_settings.ensures.read_again c.in_ok-replace_settings.ensures.did puts.1.2 (c.commit_first.ensures.did c.put_manifest.new.counter)
+            c.commit_first.ensures.refused,
       ),
     )

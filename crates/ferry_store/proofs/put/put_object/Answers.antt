@@ -1,13 +1,15 @@
 use Rattle.std.proofs.Common.{rules, List, ◌≡◌, ◌+◌, ◌-◌, ◌≤◌, ◌<◌, ◌^◌, ℕ, Ok, Err, Result, drop, length, sym, ap, ◌∙◌, subst, arith}
 use Rattle.ferry_blob.proofs.CallerLemmas.{blocks_from, blocks_most}
-use Rattle.ferry_blob.specs.Blob.{sealed}
+use Rattle.ferry_blob.specs.Blob.{OpensTo, sealed}
+use Rattle.ferry_disk.specs.Moments.{Between}
+use Rattle.ferry_log.specs.declared.place.Place.{Place}
 use Rattle.ferry_nonce.specs.Counter.{reserved_for}
 use Rattle.ferry_segment.specs.Entry.{PutEntry}
-use Rattle.ferry_store.proofs.CallLemmas.{HasPut, draw_err, draw_ok, object_blocks, object_both, put_err, put_ok}
+use Rattle.ferry_store.proofs.CallLemmas.{HasPut, draw_err, draw_ok, object_blocks, object_both, object_placed, put_err, put_ok}
 use Rattle.ferry_store.proofs.StepLemmas.{err_is}
 use Rattle.ferry_store.proofs.put.put_object.Goals as goal
 use Rattle.ferry_store.specs.Fault.{nonce_refusal, write_refusal}
-use Rattle.ferry_store.specs.State.{Did, KeepsSound, TakesEntry}
+use Rattle.ferry_store.specs.State.{Did, IsPlaced, KeepsSound, TakesEntry}
 use Rattle.ferry_store.specs.declared.fault.StoreRefusal.{StoreRefusal}
 
 pub draw-requires-clause-some : goal.draw-requires-clause-some
@@ -30,9 +32,9 @@ returns-in_err-first-clause-did g c =
     let counter = c.args.counter.now in
     let entry = PutEntry c.args.id.now (sealed c.args.keys.now c.args.mode counter.free (drop 43 c.args.buffer.now)) in
     err_is c.from_residual.result (nonce_refusal fault)
-    (λ (r : Result (Unit {0}) StoreRefusal). Did (KeepsSound session counter) (λ _. TakesEntry session counter entry session c.draw.new.self) a b n m r)
+    (λ (r : Result Place StoreRefusal). Did (KeepsSound session counter) (λ _. TakesEntry session counter entry session c.draw.new.self) a b n m r)
     c.from_residual.ensures.1
-    (draw_err {T = Unit {0}} session counter (λ _. TakesEntry session counter entry session c.draw.new.self) c.blocks_of-blocks.result fault a b n m
+    (draw_err {T = Place} session counter (λ _. TakesEntry session counter entry session c.draw.new.self) c.blocks_of-blocks.result fault a b n m
     (λ fit. ap g.D.Shelf.told (c.in_err-first.ensures.kept fit).1) c.in_err-first.ensures.replaced c.in_err-first.ensures.moments
     c.in_err-first.ensures.cause c.in_err-first.ensures.ends)
 
@@ -40,8 +42,8 @@ pub seal-requires-clause-blocks : goal.seal-requires-clause-blocks
 seal-requires-clause-blocks g c =
     subst (λ (n : ℕ). c.in_ok-first.first + n ≤ 18446744073709551615) c.blocks_of-blocks.ensures.blocks c.in_ok-first.ensures.within
 
-pub returns-in_err-put-clause-did : goal.returns-in_err-put-clause-did
-returns-in_err-put-clause-did g c =
+pub returns-in_err-place-clause-did : goal.returns-in_err-place-clause-did
+returns-in_err-place-clause-did g c =
     let a = g.D.Shelf.told c.args.depot.now in
     let b = g.D.Shelf.told c.draw.new.depot in
     let d = g.D.Shelf.told c.put.new.depot in
@@ -62,17 +64,17 @@ returns-in_err-put-clause-did g c =
     let fits : first < 2 ^ 64 = search rules in
     let taken = object_blocks c.args.keys.now c.args.mode counter drawn blocks first id c.args.buffer.now blob c.in_ok-first.ensures.drawn.0 fits
     c.seal.ensures.blob c.blocks_of-blocks.ensures.blocks c.in_ok-first.ensures.drawn.1 in
-    let fault = c.in_err-put.field-0.0 in
-    err_is c.from_residual-in_err-put.result (write_refusal fault)
-    (λ (r : Result (Unit {0}) StoreRefusal). Did (KeepsSound session counter) (λ _. TakesEntry session counter (PutEntry id whole) now drawn) a d n k r)
-    c.from_residual-in_err-put.ensures.1
-    (subst (λ (x : List ℕ). Did {T = Unit {0}} (KeepsSound session counter) (λ _. TakesEntry session counter (PutEntry id x) now drawn) a d n k
+    let fault = c.in_err-place.field-0.0 in
+    err_is c.from_residual-in_err-place.result (write_refusal fault)
+    (λ (r : Result Place StoreRefusal). Did (KeepsSound session counter) (λ _. TakesEntry session counter (PutEntry id whole) now drawn) a d n k r)
+    c.from_residual-in_err-place.ensures.1
+    (subst (λ (x : List ℕ). Did {T = Place} (KeepsSound session counter) (λ _. TakesEntry session counter (PutEntry id x) now drawn) a d n k
     (Err (write_refusal fault))) same
     (object_both session now counter drawn (PutEntry id blob) (reserved_for counter blocks) first a b d n m k (Err (write_refusal fault)) taken.0 taken.1
     (draw_ok counter drawn blocks first a b n m (λ fit. ap g.D.Shelf.told (c.in_ok-first.ensures.kept fit).1) c.in_ok-first.ensures.replaced
     c.in_ok-first.ensures.moments c.in_ok-first.ensures.fits c.in_ok-first.ensures.cause c.in_ok-first.ensures.ends)
-    (put_err {T = Unit {0}} session (PutEntry id blob) (λ _. HasPut session (PutEntry id blob) now) fault b d m k c.in_err-put.ensures.moments
-    c.in_err-put.ensures.gains c.in_err-put.ensures.beside c.in_err-put.ensures.cause c.in_err-put.ensures.ends)))
+    (put_err {T = Place} session (PutEntry id blob) (λ _. HasPut session (PutEntry id blob) now) fault b d m k c.in_err-place.ensures.moments
+    c.in_err-place.ensures.gains c.in_err-place.ensures.beside c.in_err-place.ensures.cause c.in_err-place.ensures.ends)))
 
 pub returns-clause-did : goal.returns-clause-did
 returns-clause-did g c =
@@ -86,6 +88,7 @@ returns-clause-did g c =
     let counter = c.args.counter.now in
     let first = c.in_ok-first.first in
     let id = c.args.id.now in
+    let place = c.in_ok-place.place in
     let now = c.put.new.self in
     let drawn = c.draw.new.self in
     let blob = c.seal.new.buffer in
@@ -96,9 +99,42 @@ returns-clause-did g c =
     let fits : first < 2 ^ 64 = search rules in
     let taken = object_blocks c.args.keys.now c.args.mode counter drawn blocks first id c.args.buffer.now blob c.in_ok-first.ensures.drawn.0 fits
     c.seal.ensures.blob c.blocks_of-blocks.ensures.blocks c.in_ok-first.ensures.drawn.1 in
-    subst (λ (x : List ℕ). Did {T = Unit {0}} (KeepsSound session counter) (λ _. TakesEntry session counter (PutEntry id x) now drawn) a d n k (Ok tt)) same
-    (object_both session now counter drawn (PutEntry id blob) (reserved_for counter blocks) first a b d n m k (Ok tt) taken.0 taken.1
+    subst (λ (x : List ℕ). Did {T = Place} (KeepsSound session counter) (λ _. TakesEntry session counter (PutEntry id x) now drawn) a d n k (Ok place)) same
+    (object_both session now counter drawn (PutEntry id blob) (reserved_for counter blocks) first a b d n m k (Ok place) taken.0 taken.1
     (draw_ok counter drawn blocks first a b n m (λ fit. ap g.D.Shelf.told (c.in_ok-first.ensures.kept fit).1) c.in_ok-first.ensures.replaced
     c.in_ok-first.ensures.moments c.in_ok-first.ensures.fits c.in_ok-first.ensures.cause c.in_ok-first.ensures.ends)
-    (put_ok {T = Unit {0}} session now (PutEntry id blob) tt b d m k c.in_ok-put.ensures.moments c.in_ok-put.ensures.put c.in_ok-put.ensures.gains
-    c.in_ok-put.ensures.rows c.in_ok-put.ensures.beside c.in_ok-put.ensures.done c.in_ok-put.ensures.cause c.in_ok-put.ensures.ends))
+    (put_ok {T = Place} session now (PutEntry id blob) place b d m k c.in_ok-place.ensures.moments c.in_ok-place.ensures.put c.in_ok-place.ensures.gains
+    c.in_ok-place.ensures.rows c.in_ok-place.ensures.beside c.in_ok-place.ensures.done c.in_ok-place.ensures.cause c.in_ok-place.ensures.ends))
+
+pub returns-clause-placed : goal.returns-clause-placed
+returns-clause-placed g c =
+    let a = g.D.Shelf.told c.args.depot.now in
+    let b = g.D.Shelf.told c.draw.new.depot in
+    let d = g.D.Shelf.told c.put.new.depot in
+    let n = g.D.Shelf.faults c.args.depot.now in
+    let m = g.D.Shelf.faults c.draw.new.depot in
+    let session = c.args.session.now in
+    let counter = c.args.counter.now in
+    let drawn = c.draw.new.self in
+    let first = c.in_ok-first.first in
+    let place = c.in_ok-place.place in
+    let blob = c.seal.new.buffer in
+    let blocks = c.blocks_of-blocks.result in
+    let whole = sealed c.args.keys.now c.args.mode counter.free (drop 43 c.args.buffer.now) in
+    let same : blob ≡ whole =
+    c.seal.ensures.blob ∙ ap (λ (f : ℕ). sealed c.args.keys.now c.args.mode f (drop 43 c.args.buffer.now)) c.in_ok-first.ensures.drawn.0 in
+    let fits : first < 2 ^ 64 = search rules in
+    let taken = object_blocks c.args.keys.now c.args.mode counter drawn blocks first c.args.id.now c.args.buffer.now blob c.in_ok-first.ensures.drawn.0 fits
+    c.seal.ensures.blob c.blocks_of-blocks.ensures.blocks c.in_ok-first.ensures.drawn.1 in
+    subst (λ (x : List ℕ). Between a d (IsPlaced session counter x place)) same
+    (object_placed session counter drawn (reserved_for counter blocks) blob place first a b d n m taken.1
+    (draw_ok counter drawn blocks first a b n m (λ fit. ap g.D.Shelf.told (c.in_ok-first.ensures.kept fit).1) c.in_ok-first.ensures.replaced
+    c.in_ok-first.ensures.moments c.in_ok-first.ensures.fits c.in_ok-first.ensures.cause c.in_ok-first.ensures.ends)
+    c.in_ok-place.ensures.place c.in_ok-place.ensures.stays)
+
+pub returns-clause-opens : goal.returns-clause-opens
+returns-clause-opens g c = λ name named.
+    let content = drop 43 c.args.buffer.now in
+    let same : c.seal.new.buffer ≡ sealed c.args.keys.now c.args.mode c.args.counter.now.free content =
+    c.seal.ensures.blob ∙ ap (λ (f : ℕ). sealed c.args.keys.now c.args.mode f content) c.in_ok-first.ensures.drawn.0 in
+    subst (λ (x : List ℕ). OpensTo c.args.keys.now name x content) same (c.seal.ensures.opens name named)

@@ -1,4 +1,4 @@
-use Rattle.std.proofs.Common.{Ok, Err, Result, IfErr, IfSome}
+use Rattle.std.proofs.Common.{false, Ok, Err, Result, IfErr, IfSome}
 use Rattle.ferry_disk.specs.Device.{HasCause}
 use Rattle.ferry_repo.specs.Fault.{repo_failed}
 use Rattle.ferry_store.proofs.InitLemmas.{still_cause}
@@ -131,7 +131,15 @@ returns-clause-did g c =
     let secret = c.args.secret.now in
     let made = c.in_ok-counter.ensures.made in
     init_opened secret c.args.iterations c.args.timestamp.now made.0
-    (record { repo = c.in_ok-repo.repo; session = c.in_ok-counter.session; counter = c.in_ok-counter.counter; pending = 0 }) a d e n k j
+    (record {
+      alloc = c.args.alloc;
+      repo = c.in_ok-repo.repo;
+      session = c.in_ok-counter.session;
+      counter = c.in_ok-counter.counter;
+      pending = 0;
+      opened = c.new.result;
+      spent = false;
+    }) a d e n k j
     (init_made secret c.args.iterations c.args.timestamp.now made.0 a b d n m k (Ok (c.in_ok-counter.counter, c.in_ok-counter.session))
     c.in_ok-expect_no_commit.ensures.none c.in_ok-expect_no_commit.ensures.same c.in_ok-expect_no_commit.ensures.cause made.1.1)
-    c.in_ok-repo.ensures.same c.in_ok-repo.ensures.cause c.in_ok-repo.ensures.repository c.in_ok-repo.ensures.cached
+    c.in_ok-repo.ensures.same c.in_ok-repo.ensures.cause c.in_ok-repo.ensures.repository c.in_ok-repo.ensures.cached c.new.ensures.empty

@@ -1,4 +1,4 @@
-use Rattle.std.proofs.Common.{rules, ◌≡◌, ℕ, Some, Ok, Err, Result, IfErr, IfSome, subst}
+use Rattle.std.proofs.Common.{rules, ◌≡◌, ℕ, false, ap, ◌∙◌, Some, Ok, Err, Result, IfErr, IfSome, subst}
 use Rattle.ferry_disk.specs.Device.{told_files}
 use Rattle.ferry_disk.specs.Moments.{Between}
 use Rattle.ferry_nonce.specs.declared.counter.Counter.{Counter}
@@ -67,8 +67,18 @@ returns-clause-did g c =
     let counter = c.in_ok-counter.counter in
     let session = c.in_ok-counter.session in
     let is : c.transaction-transaction.result ≡ (repo_view repo).log.transaction = search rules in
-    open_begun c.args.secret.now (record { repo = repo; session = session; counter = counter; pending = 0 }) a b d n m k c.in_ok-repo.ensures.same
-    c.in_ok-repo.ensures.cause c.in_ok-repo.ensures.repository c.in_ok-repo.ensures.cached c.in_ok-counter.ensures.first
+    open_begun c.args.secret.now
+    (record {
+      alloc = c.args.alloc;
+      repo = repo;
+      session = session;
+      counter = counter;
+      pending = 0;
+      opened = c.new.result;
+      spent = false;
+    }) a b d n m k c.in_ok-repo.ensures.same
+    c.in_ok-repo.ensures.cause c.in_ok-repo.ensures.repository c.in_ok-repo.ensures.cached
+    (ap (λ (s : Session). s.after) c.in_ok-counter.ensures.fresh.session_is ∙ ap (λ (t : ℕ). Some t) is) c.new.ensures.empty c.in_ok-counter.ensures.first
     (subst (λ (t : ℕ). Between b d (ClearsAll (Some t))) is c.in_ok-counter.ensures.clears)
     (subst (λ (t : ℕ). Did {T = Counter × Session} (BeginsSound (Some t)) (λ x. Begins (Some t) x.0 x.1) b d m k (Ok (counter, session))) is
     c.in_ok-counter.ensures.did)

@@ -1,0 +1,27 @@
+-- A store fits from call to call.
+use Rattle.std.proofs.Common.{◌≡◌, ℕ, false, List, [], Option, Ok, IfSome}
+use Rattle.ferry_disk.specs.Act.{History}
+use Rattle.ferry_disk.specs.Device.{Told}
+use Rattle.ferry_store.proofs.StepLemmas.{known_end, known_then}
+use Rattle.ferry_store.specs.Adding.{Adds}
+use Rattle.ferry_store.specs.State.{Did, KeepsSound}
+use Rattle.ferry_store.specs.Store.{InitFits, StoreFits}
+use Rattle.ferry_store.specs.declared.content.Added.{Added}
+use Rattle.ferry_store.specs.declared.store.Store.{Store}
+use Rattle.ferry_write.specs.Script.{AllDone}
+
+-- a store that was made or opened by a run that had made no act
+pub fits_begun : (E : History → History → Type 0) (store : Store) (a b : Option Told) (n m : ℕ) → IfSome a (λ t. t.history.acts ≡ [])
+    → Did E InitFits a b n m (Ok store) → IfSome b (λ t. StoreFits false store t.history)
+fits_begun E store a b n m begun p =
+    known_end (λ h. StoreFits false store h) (λ h g. (h.acts ≡ []) × (AllDone h g × InitFits store h g)) a b p.ends
+    (λ h g e. e.1.1 false e.0 (λ c. absurd (let no : ⊥ = cc in no)))
+    (known_then (λ h. h.acts ≡ []) (λ h g. AllDone h g × InitFits store h g) a b begun p.end)
+
+-- a store with a content added
+pub fits_added : (store now : Store) (content : List ℕ) (added : Added) (a b : Option Told) (n m : ℕ) → IfSome a (λ t. StoreFits false store t.history)
+    → Did {T = Added} (KeepsSound store.session store.counter) (Adds store content now) a b n m (Ok added) → IfSome b (λ t. StoreFits false now t.history)
+fits_added store now content added a b n m fits p =
+    known_end (λ h. StoreFits false now h) (λ h g. StoreFits false store h × (AllDone h g × Adds store content now added h g)) a b p.ends
+    (λ h g e. (e.1.1 false e.0).0)
+    (known_then (λ h. StoreFits false store h) (λ h g. AllDone h g × Adds store content now added h g) a b fits p.end)

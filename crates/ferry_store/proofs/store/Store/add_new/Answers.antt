@@ -1,0 +1,33 @@
+use Rattle.std.proofs.Common.{◌≡◌, inl, inr, true, OnOk, Result, subst}
+use Rattle.ferry_repo.specs.Opening.{repo_view}
+use Rattle.ferry_store.proofs.AddLemmas.{learnt_known, put_did}
+use Rattle.ferry_store.proofs.store.Store.add_new.Goals as goal
+use Rattle.ferry_store.specs.Content.{HasPut, Learns}
+use Rattle.ferry_store.specs.State.{Did, KeepsSound}
+use Rattle.ferry_store.specs.declared.fault.StoreRefusal.{StoreRefusal}
+
+pub returns-in-Ok-clause-did : goal.returns-in-Ok-clause-did
+returns-in-Ok-clause-did g c =
+    let a = g.D.Shelf.told c.args.depot.now in
+    let b = g.D.Shelf.told c.put_content-put.new.depot in
+    let n = g.D.Shelf.faults c.args.depot.now in
+    let m = g.D.Shelf.faults c.put_content-put.new.depot in
+    let store = c.args.self.now in
+    let repo = c.put_content-put.new.repo in
+    let session = c.put_content-put.new.session in
+    let counter = c.put_content-put.new.counter in
+    let content = c.args.content.now in
+    put_did store repo session counter c.saturating_add-self.result content c.args.id a b n m c.in-Ok.field-0 c.requires.named c.requires.new
+    c.put_content-put.ensures.cached
+    (subst (λ (r : Result (Unit {0}) StoreRefusal). OnOk r (session.after ≡ store.session.after)) c.in-Ok.is c.put_content-put.ensures.after)
+    (subst (λ (r : Result (Unit {0}) StoreRefusal). Did (KeepsSound store.session store.counter)
+    (λ _. HasPut (repo_view store.repo) store.session store.counter c.args.id content (repo_view repo) session counter) a b n m r) c.in-Ok.is
+    c.put_content-put.ensures.did)
+
+pub returns-in-Ok-clause-known : goal.returns-in-Ok-clause-known
+returns-in-Ok-clause-known g c =
+    let store = c.args.self.now in
+    let repo = c.put_content-put.new.repo in
+    inr (inl (learnt_known (repo_view store.repo) (repo_view repo) c.args.id
+    (subst (λ (r : Result (Unit {0}) StoreRefusal). OnOk r (Learns (repo_view store.repo) c.args.id true (repo_view repo))) c.in-Ok.is
+    c.put_content-put.ensures.learns)))

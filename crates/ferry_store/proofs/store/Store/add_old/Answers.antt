@@ -1,0 +1,48 @@
+use Rattle.std.proofs.Common.{IfSome, OnOk, Result, Err, refl, sym, subst}
+use Rattle.std.proofs.Common.{true}
+use Rattle.std.specs.BTreeSet.{Updates}
+use Rattle.ferry_disk.specs.Device.{HasCause, KeepsTold, told_files}
+use Rattle.ferry_log.specs.Live.{key_cmp}
+use Rattle.ferry_repo.specs.Opening.{repo_view}
+use Rattle.ferry_store.proofs.AddLemmas.{opened_did}
+use Rattle.ferry_store.proofs.CallLemmas.{read_refused}
+use Rattle.ferry_store.proofs.PutLemmas.{keeps_here}
+use Rattle.ferry_store.proofs.store.Store.add_old.Goals as goal
+use Rattle.ferry_store.specs.Adding.{Adds}
+use Rattle.ferry_store.specs.Content.{IsThere}
+use Rattle.ferry_store.specs.Fault.{depot_failed}
+use Rattle.ferry_store.specs.State.{Did, KeepsSound}
+use Rattle.ferry_store.specs.declared.content.Added.{Added}
+use Rattle.ferry_store.specs.declared.fault.StoreRefusal.{StoreRefusal}
+
+pub returns-in-Ok-clause-did : goal.returns-in-Ok-clause-did
+returns-in-Ok-clause-did g c = λ content.
+    let a = g.D.Shelf.told c.args.depot.now in
+    let b = g.D.Shelf.told c.open_content.new.depot in
+    let n = g.D.Shelf.faults c.args.depot.now in
+    let m = g.D.Shelf.faults c.open_content.new.depot in
+    let store = c.args.self.now in
+    let repo = c.open_content.new.repo in
+    let opened = c.open_content.new.opened in
+    let id = c.args.id in
+    opened_did store repo opened content id a b n m c.open_content.ensures.kept
+    (subst (λ (r : Result (Unit {0}) StoreRefusal). OnOk r (Updates key_cmp store.opened opened id true)) c.in-Ok.is c.open_content.ensures.noted)
+    (subst (λ (r : Result (Unit {0}) StoreRefusal). OnOk r (IfSome a (λ t. IsThere (told_files t) (repo_view store.repo) id))) c.in-Ok.is
+    c.open_content.ensures.there)
+    c.open_content.ensures.fits
+    (subst (λ (r : Result (Unit {0}) StoreRefusal). KeepsTold depot_failed a b r) c.in-Ok.is c.open_content.ensures.same)
+    (subst (λ (r : Result (Unit {0}) StoreRefusal). HasCause depot_failed n m r) c.in-Ok.is c.open_content.ensures.cause)
+
+pub returns-in-Err-clause-did : goal.returns-in-Err-clause-did
+returns-in-Err-clause-did g c = λ content.
+    let a = g.D.Shelf.told c.args.depot.now in
+    let b = g.D.Shelf.told c.open_content.new.depot in
+    let n = g.D.Shelf.faults c.args.depot.now in
+    let m = g.D.Shelf.faults c.open_content.new.depot in
+    let store = c.args.self.now in
+    let refusal = c.in-Err.refusal in
+    let E = KeepsSound store.session store.counter in
+    subst (λ (r : StoreRefusal). Did {T = Added} E (Adds store content c.spend.new.self) a b n m (Err r)) (sym c.spend.ensures.same)
+    (read_refused {T = Added} depot_failed refusal refusal E (Adds store content c.spend.new.self) a b n m refl (keeps_here store.session store.counter)
+    (subst (λ (r : Result (Unit {0}) StoreRefusal). KeepsTold depot_failed a b r) c.in-Err.is c.open_content.ensures.same)
+    (subst (λ (r : Result (Unit {0}) StoreRefusal). HasCause depot_failed n m r) c.in-Err.is c.open_content.ensures.cause))

@@ -1,0 +1,96 @@
+//! Contents that are added: put where they are new, and opened where they are live.
+ghost use Rattle.std.specs.Prelude.{◌≡◌, ◌≢◌, ◌≤◌, length, true, false, IfErr, IfSome, OnOk, OnErr};
+ghost use Rattle.std.specs.BTreeSet.{IsUnchanged, Updates};
+ghost use Rattle.ferry_base.specs.Limits.{content_limit, zero_id};
+ghost use Rattle.ferry_blob.specs.Blob.{content_id};
+ghost use Rattle.ferry_disk.specs.Device.{HasCause, KeepsTold, told_files};
+ghost use Rattle.ferry_disk.specs.Image.{settled};
+ghost use Rattle.ferry_log.specs.Live.{key_cmp};
+ghost use Rattle.ferry_repo.specs.Objects.{IsMissing};
+ghost use Rattle.ferry_repo.specs.Opening.{FitsRepo, cached_in, repo_view};
+ghost use Rattle.ferry_store.specs.Content.{HasPut, IsThere, Learns, RefusesNew, RefusesOld};
+ghost use Rattle.ferry_store.specs.Fault.{depot_failed};
+ghost use Rattle.ferry_store.specs.State.{Did, KeepsSound};
+
+use crate::fault::StoreRefusal;
+use crate::put::{behind_head, put_object};
+use ferry_base::Id;
+use ferry_disk::Depot;
+use ferry_nonce::Counter;
+use ferry_repo::Repo;
+use ferry_write::Session;
+use std::alloc::{AllocError, Global};
+use std::collections::BTreeSet;
+
+/// What adding a content answers: the id of the content, and whether it was put.
+#[derive(Clone, Copy, Debug, PartialEq, Eq)]
+pub struct Added {
+    pub id: Id,
+    pub new: bool,
+}
+
+/// Puts a content that isn't live under its id, and learns where its blob lies.
+pub(crate) fn put_content<D: Depot>(
+    alloc: Global,
+    depot: &mut D,
+    repo: &mut Repo,
+    session: &mut Session,
+    counter: &mut Counter,
+    id: &Id,
+    content: &[u8],
+) -> Result<(), StoreRefusal>
+    requires session { session.old.spent ≡ false }
+    requires counter { counter.old.spent ≡ false }
+    requires size { length content.now ≤ content_limit }
+    requires new { IsMissing (repo_view repo.old).log id.now }
+    requires named { id.now ≡ content_id (repo_view repo.old).keys content.now }
+    requires settled { IfSome (D.told depot.old) (λ t. settled t.history.acts ≡ true) }
+    ensures did { Did (KeepsSound session.old counter.old)
+        (λ _. HasPut (repo_view repo.old) session.old counter.old id.now content.now (repo_view repo.new) session.new counter.new)
+        (D.told depot.old) (D.told depot.new) (D.faults depot.old) (D.faults depot.new) result }
+    ensures cached { cached_in repo.new ≡ cached_in repo.old }
+    ensures learns { OnOk result (Learns (repo_view repo.old) id.now true (repo_view repo.new)) }
+    ensures session { OnOk result (session.new.spent ≡ false) }
+    ensures after { OnOk result (session.new.after ≡ session.old.after) }
+    ensures counter { OnOk result (counter.new.spent ≡ false) }
+    ensures refused { IfErr result (RefusesNew session.old counter.old content.now) }
+{
+    let mut buffer = behind_head(alloc, content)?;
+    let mode = repo.mode();
+    let place = put_object(depot, repo.keys(), mode, session, counter, id, &mut buffer)?;
+    repo.learn(id, place)?;
+    Ok(())
+}
+
+/// Opens the content of an id that is live, and notes the id.
+pub(crate) fn open_content<D: Depot>(
+    depot: &mut D,
+    repo: &mut Repo,
+    opened: &mut BTreeSet<Id>,
+    id: Id,
+) -> Result<(), StoreRefusal>
+    requires fits { IfSome (D.told depot.old) (λ t. FitsRepo (told_files t) (repo_view repo.old) (cached_in repo.old)) }
+    requires chunk { id ≢ zero_id }
+    requires live { IsMissing (repo_view repo.old).log id → ⊥ }
+    ensures there { OnOk result (IfSome (D.told depot.old) (λ t. IsThere (told_files t) (repo_view repo.old) id)) }
+    ensures fits { IfSome (D.told depot.new) (λ t. FitsRepo (told_files t) (repo_view repo.new) (cached_in repo.new)) }
+    ensures kept { repo_view repo.new ≡ repo_view repo.old }
+    ensures noted { OnOk result (Updates key_cmp opened.old opened.new id true) }
+    ensures unnoted { OnErr result (IsUnchanged opened.old opened.new) }
+    ensures refused { IfErr result (λ refusal. IfSome (D.told depot.old) (λ t. RefusesOld (told_files t) (repo_view repo.old) id refusal)) }
+    ensures same { KeepsTold depot_failed (D.told depot.old) (D.told depot.new) result }
+    ensures cause { HasCause depot_failed (D.faults depot.old) (D.faults depot.new) result }
+{
+    repo.chunk(depot, &id)?;
+    note(opened, id)?;
+    Ok(())
+}
+
+/// Takes an id in. A refused call leaves the ids as they were.
+fn note(ids: &mut BTreeSet<Id>, id: Id) -> Result<(), AllocError>
+    ensures noted { OnOk result (Updates key_cmp ids.old ids.new id true) }
+    ensures unnoted { OnErr result (IsUnchanged ids.old ids.new) }
+{
+    ids.insert(id)?;
+    Ok(())
+}
