@@ -4,6 +4,7 @@ ghost use Rattle.ferry_disk.specs.Files.{contents_at};
 ghost use Rattle.ferry_disk.specs.Device.{KeepsTold, HasCause, told_files};
 ghost use Rattle.ferry_disk.specs.declared.name.Name.TheVariants as FileName;
 ghost use Rattle.ferry_keyblob.specs.Opening.{key_view};
+ghost use Rattle.ferry_manifest.specs.Manifest.Writing.{IsPackable};
 ghost use Rattle.ferry_manifest.specs.Manifest.Text.{manifest_of, manifest_view};
 ghost use Rattle.ferry_repo.specs.Fault.{repo_failed};
 ghost use Rattle.ferry_repo.specs.Opening.{UnlocksTo, OpensKeyTo, RefusesKey, IsRefusal, IsNoManifest, key_text, mode_of, opened_key, opened_text, text_in};
@@ -134,6 +135,7 @@ fn open_text(alloc: Global, text: &[u8], passphrase: &[u8]) -> Result<(u32, KeyT
 /// The manifest that a content is.
 pub(crate) fn manifest(alloc: Global, keys: &Keys, content: &[u8]) -> Result<Manifest, RepoFault>
     ensures manifest { IfOk result (λ manifest. manifest_of keys.now content.now ≡ Ok (manifest_view manifest)) }
+    ensures packable { IfOk result (λ manifest. IsPackable (manifest_view manifest)) }
     ensures refused { IfErr result (IsNoManifest keys.now content.now) }
     ensures still { IfErr result (λ fault. repo_failed fault ≡ false) }
 {

@@ -54,6 +54,7 @@ impl Repo {
     pub fn open<S: Shelf>(alloc: Global, shelf: &mut S, secret: &Secret) -> Result<Repo, RepoFault>
         ensures repository { IfOk result (λ repo. IfSome (S.told shelf.old) (λ t.
             OpensFilesTo (told_files t) secret.now (repo_view repo))) }
+        ensures packable { IfOk result (λ repo. IsPackable (repo_view repo).manifest) }
         ensures cached { IfOk result (λ repo. cached_in repo ≡ []) }
         ensures refused { IfErr result (λ fault. IfSome (S.told shelf.old) (λ t.
             RefusesRepo (told_files t) secret.now fault)) }

@@ -14,3 +14,4 @@ pub mod ContentLemmas
 pub mod AddLemmas
 pub mod CommitLemmas
 pub mod UseLemmas
+pub mod RenewLemmas

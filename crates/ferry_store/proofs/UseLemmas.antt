@@ -1,5 +1,5 @@
 -- A store fits from call to call.
-use Rattle.std.proofs.Common.{◌≡◌, ℕ, false, List, [], Option, Ok, IfSome}
+use Rattle.std.proofs.Common.{◌≡◌, ℕ, false, List, [], Option, Some, None, Ok, IfSome, sym, subst}
 use Rattle.ferry_disk.specs.Act.{History}
 use Rattle.ferry_disk.specs.Device.{Told}
 use Rattle.ferry_store.proofs.StepLemmas.{known_end, known_then}
@@ -25,3 +25,11 @@ fits_added store now content added a b n m fits p =
     known_end (λ h. StoreFits false now h) (λ h g. StoreFits false store h × (AllDone h g × Adds store content now added h g)) a b p.ends
     (λ h g e. (e.1.1 false e.0).0)
     (known_then (λ h. StoreFits false store h) (λ h g. AllDone h g × Adds store content now added h g) a b fits p.end)
+
+-- a store with an archive accepted
+pub fits_named : (store now : Store) (a : Option Told) → now ≡ record store { accepted = now.accepted } → IfSome a (λ t. StoreFits false store t.history)
+    → IfSome a (λ t. StoreFits false now t.history)
+fits_named store now None same fits = tt
+fits_named store now (Some t) same fits =
+    subst (λ (s : Store). StoreFits false s t.history) (sym same)
+    (record { written = fits.written; under_way = fits.under_way; repo = fits.repo; below = fits.below; there = fits.there })

@@ -6,4 +6,5 @@ pub mod Init
 pub mod Content
 pub mod Store
 pub mod Adding
+pub mod Commit
 pub mod Flight

@@ -1,5 +1,5 @@
 -- What a new repository is: its settings, its key and one object, a manifest without archives.
-use Rattle.std.specs.Prelude.{◌≡◌, ◌⊎◌, ℕ, Bool, List, [], ◌∷◌, ◌++◌, ◌+◌, ◌<◌, ◌≤◌, length, Option, Some, None, Result, Ok, OnOk, IfErr}
+use Rattle.std.specs.Prelude.{◌≡◌, ◌⊎◌, ℕ, Bool, List, [], ◌∷◌, ◌++◌, ◌+◌, ◌<◌, ◌≤◌, drop, length, Option, Some, None, Result, Ok, OnOk, IfErr}
 use Rattle.ferry_base.specs.Limits.{content_limit, zero_id}
 use Rattle.ferry_blob.specs.Blob.{OpensTo, blocks, sealed}
 use Rattle.ferry_config.specs.Config.{config_of}
@@ -13,6 +13,7 @@ use Rattle.ferry_keyblob.specs.Opening.{Opened}
 use Rattle.ferry_log.specs.Log.{IsUncommitted}
 use Rattle.ferry_log.specs.State.{place_in}
 use Rattle.ferry_log.specs.declared.place.Place.{Place}
+use Rattle.ferry_mac.specs.declared.keys.Keys.{Keys}
 use Rattle.ferry_manifest.specs.Manifest.Text.{ManifestText, manifest_of}
 use Rattle.ferry_manifest.specs.Manifest.Writing.{manifest_text}
 use Rattle.ferry_msgpack.specs.Tree.{table, no_pairs}
@@ -43,6 +44,13 @@ first_manifest timestamp = record {
   archives = [];
   more = table no_pairs;
 }
+
+-- A buffer has the packed bytes of a manifest, whose tag has this salt, behind room for the head of a blob; they read as that manifest, and
+-- aren't longer than a content may be.
+abbrev pub IsPacked : Keys → List ℕ → ManifestText → List ℕ → Type 0
+IsPacked keys salt manifest buffer = (drop 43 buffer ≡ manifest_text keys salt manifest)
+    × (length buffer ≡ 43 + length (manifest_text keys salt manifest)) × (manifest_of keys (manifest_text keys salt manifest) ≡ Ok manifest)
+    × (length (manifest_text keys salt manifest) ≤ content_limit)
 
 -- the entries of a new repository, committed
 abbrev pub new_entries : List ℕ → List LogEntry

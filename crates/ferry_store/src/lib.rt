@@ -5,6 +5,7 @@
 //! The formats are those of BorgBackup 1.2 (Internals, "Data structures and file formats").
 #![tactic(auto)]
 
+mod commit;
 mod content;
 mod fault;
 mod init;

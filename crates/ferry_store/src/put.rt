@@ -7,13 +7,13 @@ ghost use Rattle.ferry_disk.specs.Device.{HasCause};
 ghost use Rattle.ferry_disk.specs.Image.{settled};
 ghost use Rattle.ferry_disk.specs.Moments.{Between};
 ghost use Rattle.ferry_manifest.specs.Manifest.Text.{manifest_of, manifest_view};
-ghost use Rattle.ferry_manifest.specs.Manifest.Writing.{manifest_text};
+ghost use Rattle.ferry_manifest.specs.Manifest.Writing.{IsPackable, manifest_text};
 ghost use Rattle.ferry_nonce.specs.Counter.{IsExhausted};
 ghost use Rattle.ferry_nonce.specs.declared.fault.NonceFault.TheVariants as Nonces;
 ghost use Rattle.ferry_repo.specs.Opening.{mode_of};
 ghost use Rattle.ferry_segment.specs.Entry.{PutEntry};
 ghost use Rattle.ferry_store.specs.Fault.{source_failed};
-ghost use Rattle.ferry_store.specs.New.{PutsManifest, first_manifest};
+ghost use Rattle.ferry_store.specs.New.{IsPacked, PutsManifest, first_manifest};
 ghost use Rattle.ferry_store.specs.State.{Did, IsPlaced, KeepsSound, RefusesManifest, RefusesPut, TakesEntry};
 ghost use Rattle.ferry_store.specs.declared.fault.StoreRefusal.TheVariants as Refusal;
 ghost use Rattle.ferry_write.specs.Room.{after_entry};
@@ -91,17 +91,30 @@ fn first_manifest<E: Entropy>(
     timestamp: &[u8],
 ) -> Result<Vec<u8>, StoreRefusal>
     ensures made { (salt : List ℕ) × ((length salt ≡ 64) × OnOk result (E.drawn entropy.new ≡ option_map (λ d. d ++ salt) (E.drawn entropy.old))
-        × IfOk result (λ buffer. (drop 43 buffer.items ≡ manifest_text keys.now salt (first_manifest timestamp.now))
-        × (length buffer.items ≡ 43 + length (manifest_text keys.now salt (first_manifest timestamp.now)))
-        × (manifest_of keys.now (manifest_text keys.now salt (first_manifest timestamp.now)) ≡ Ok (first_manifest timestamp.now))
-        × (length (manifest_text keys.now salt (first_manifest timestamp.now)) ≤ content_limit))
+        × IfOk result (λ buffer. IsPacked keys.now salt (first_manifest timestamp.now) buffer.items)
         × IfErr result (RefusesManifest (length (manifest_text keys.now salt (first_manifest timestamp.now))))) }
+    ensures cause { HasCause source_failed (E.faults entropy.old) (E.faults entropy.new) result }
+{
+    let manifest = no_archives(alloc, timestamp)?;
+    packed(alloc, entropy, keys, &manifest)
+}
+
+/// The packed bytes of a manifest, behind room for the head of a blob. It takes 64 random bytes.
+pub(crate) fn packed<E: Entropy>(
+    alloc: Global,
+    entropy: &mut E,
+    keys: &Keys,
+    manifest: &Manifest,
+) -> Result<Vec<u8>, StoreRefusal>
+    requires packable { IsPackable (manifest_view manifest.now) }
+    ensures made { (salt : List ℕ) × ((length salt ≡ 64) × OnOk result (E.drawn entropy.new ≡ option_map (λ d. d ++ salt) (E.drawn entropy.old))
+        × IfOk result (λ buffer. IsPacked keys.now salt (manifest_view manifest.now) buffer.items)
+        × IfErr result (RefusesManifest (length (manifest_text keys.now salt (manifest_view manifest.now))))) }
     ensures cause { HasCause source_failed (E.faults entropy.old) (E.faults entropy.new) result }
 {
     let mut salt = [0u8; 64];
     entropy.fill(&mut salt)?;
-    let manifest = no_archives(alloc, timestamp)?;
-    match write_manifest(alloc, keys, &manifest, &salt) {
+    match write_manifest(alloc, keys, manifest, &salt) {
         Ok(text) => behind_head(alloc, &text),
         Err(MetaFault::TooLarge) => Err(StoreRefusal::TooLarge),
         Err(_) => Err(StoreRefusal::Memory),

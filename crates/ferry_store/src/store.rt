@@ -1,15 +1,19 @@
 //! A repository that is written.
-ghost use Rattle.std.specs.Prelude.{◌≡◌, ◌≢◌, ◌↔◌, ◌≤◌, ◌++◌, ◌||◌, ℕ, List, [], true, false, length, is_some, option_map};
+ghost use Rattle.std.specs.Prelude.{◌≡◌, ◌≢◌, ◌↔◌, ◌≤◌, ◌++◌, ◌||◌, ℕ, List, [], true, false, None, length, is_some, map, option_map};
 ghost use Rattle.std.specs.Prelude.{Ok, IfOk, IfErr, IfSome, IsErrOf, OnOk, OnErr, IsTrue};
 ghost use Rattle.std.specs.Borrow.{Lends, sem};
 ghost use Rattle.ferry_base.specs.Limits.{content_limit, zero_id};
 ghost use Rattle.ferry_disk.specs.Device.{HasCause, told_files};
 ghost use Rattle.ferry_disk.specs.Moments.{Between};
+ghost use Rattle.ferry_manifest.specs.Manifest.Text.{manifest_view};
+ghost use Rattle.ferry_manifest.specs.Manifest.Writing.{IsPackable, manifest_text};
+ghost use Rattle.ferry_next.specs.Next.{next_manifest, written_at};
 ghost use Rattle.ferry_repo.specs.Archives.{archive_named};
 ghost use Rattle.ferry_repo.specs.Objects.{IsMissing};
 ghost use Rattle.ferry_repo.specs.Opening.{OpensFilesTo, cached_in, repo_view};
 ghost use Rattle.ferry_repo.specs.contracts.repo.Repo.{the_row as row_of_repo};
 ghost use Rattle.ferry_store.specs.Adding.{Adds, Checkpoints, RefusesAdd, id_under, pending_after};
+ghost use Rattle.ferry_store.specs.Commit.{Commits, CommitsEntry, HasCommitted, RefusesManifestOf, accepted_in, manifest_entry};
 ghost use Rattle.ferry_store.specs.Content.{IsNew, Learns, RefusesNew, RefusesOld};
 ghost use Rattle.ferry_store.specs.Fault.{source_failed, spends};
 ghost use Rattle.ferry_store.specs.State.{CommitsSound, Did, KeepsSound, RefusesCommit};
@@ -19,14 +23,17 @@ ghost use Rattle.ferry_store.specs.declared.fault.StoreRefusal.TheVariants as Re
 ghost use Rattle.ferry_write.specs.Room.{AreUsedUp};
 ghost use Rattle.ferry_write.specs.declared.fault.WriteFault.TheVariants as Writes;
 
+use crate::commit::commit_manifest;
 use crate::content::{Added, open_content, put_content};
 use crate::fault::StoreRefusal;
 use crate::init::make_repository;
 use crate::key::given_basis;
 use crate::state::{begin_at, commit, expect_no_commit};
-use ferry_base::{Id, ZERO_ID};
+use ferry_base::{Bytes, Id, ZERO_ID};
 use ferry_blob::id_of;
 use ferry_disk::{Depot, Entropy};
+use ferry_manifest::{ArchiveRef, Manifest};
+use ferry_next::{copy_manifest, has_archive, name_archive, next_manifest, set_timestamp};
 use ferry_nonce::Counter;
 use ferry_repo::{Repo, Secret};
 use ferry_write::Session;
@@ -47,6 +54,7 @@ pub struct Store {
     counter: Counter,
     pending: u64,
     opened: BTreeSet<Id>,
+    accepted: Option<Manifest>,
     spent: bool,
 }
 
@@ -75,6 +83,7 @@ impl Store {
         ensures entropy { HasCause source_failed (E.faults entropy.old) (E.faults entropy.new) result }
         ensures fresh { IfOk result (λ store. (cached_in store.repo ≡ []) × (store.pending ≡ 0)) }
         ensures unspent { IfOk result IsUnspent }
+        ensures packable { IfOk result (λ store. IsPackable (accepted_in store)) }
     {
         expect_no_commit(alloc, depot)?;
         let given = given_basis(alloc, secret)?;
@@ -89,6 +98,7 @@ impl Store {
             counter,
             pending: 0,
             opened: BTreeSet::new(alloc),
+            accepted: None,
             spent: false,
         })
     }
@@ -107,6 +117,7 @@ impl Store {
         ensures refused { IfErr result (λ refusal. IfSome (D.told depot.old) (λ t. RefusesOpen secret.now (told_files t) refusal)) }
         ensures fresh { IfOk result (λ store. (cached_in store.repo ≡ []) × (store.pending ≡ 0)) }
         ensures unspent { IfOk result IsUnspent }
+        ensures packable { IfOk result (λ store. IsPackable (accepted_in store)) }
     {
         let repo = Repo::open(alloc, depot, secret)?;
         let transaction = repo.log().transaction();
@@ -119,6 +130,7 @@ impl Store {
             counter,
             pending: 0,
             opened: BTreeSet::new(alloc),
+            accepted: None,
             spent: false,
         })
     }
@@ -249,6 +261,72 @@ impl Store {
         }
     }
 
+    /// Takes a manifest that was committed.
+    fn take_manifest(&mut self, manifest: Manifest)
+        requires packable { IsPackable (manifest_view manifest) }
+        ensures taken { self.new ≡ record self.old { repo = self.new.repo; accepted = None; pending = 0 } }
+        ensures repo { repo_view self.new.repo ≡ record (repo_view self.old.repo) { manifest = manifest_view manifest } }
+        ensures cached { cached_in self.new.repo ≡ cached_in self.old.repo }
+    {
+        self.repo.renew(manifest);
+        self.accepted = None;
+        self.pending = 0;
+    }
+
+    /// Commits a copy of the manifest with the archives that were accepted, and answers it.
+    fn commit_accepted<D: Depot, E: Entropy>(
+        &mut self,
+        depot: &mut D,
+        entropy: &mut E,
+        timestamp: &[u8],
+    ) -> Result<Manifest, StoreRefusal>
+        requires unspent { IsUnspent self.old }
+        requires packable { IsPackable (accepted_in self.old) }
+        requires fits { IfSome (D.told depot.old) (λ t. StoreFits false self.old t.history) }
+        ensures committed { (salt : List ℕ) × ((length salt ≡ 64) × OnOk result (E.drawn entropy.new ≡ option_map (λ d. d ++ salt) (E.drawn entropy.old))
+            × Did (CommitsEntry self.old.session self.old.counter
+            (manifest_entry (repo_view self.old.repo) self.old.counter (written_at (accepted_in self.old) timestamp.now) salt))
+            (λ _. HasCommitted self.old.session self.old.counter
+            (manifest_entry (repo_view self.old.repo) self.old.counter (written_at (accepted_in self.old) timestamp.now) salt)
+            self.new.session self.new.counter) (D.told depot.old) (D.told depot.new) (D.faults depot.old) (D.faults depot.new) result
+            × IfErr result (RefusesManifestOf self.old.counter
+            (length (manifest_text (repo_view self.old.repo).keys salt (written_at (accepted_in self.old) timestamp.now))))) }
+        ensures manifest { IfOk result (λ manifest. manifest_view manifest ≡ written_at (accepted_in self.old) timestamp.now) }
+        ensures packable { IfOk result (λ manifest. IsPackable (manifest_view manifest)) }
+        ensures rest { self.new ≡ record self.old { session = self.new.session; counter = self.new.counter } }
+        ensures session { OnOk result (self.new.session.spent ≡ false) }
+        ensures counter { OnOk result (self.new.counter.spent ≡ false) }
+        ensures entropy { HasCause source_failed (E.faults entropy.old) (E.faults entropy.new) result }
+    {
+        let manifest = self.accepted_at(timestamp)?;
+        commit_manifest(
+            self.alloc,
+            depot,
+            entropy,
+            &self.repo,
+            &mut self.session,
+            &mut self.counter,
+            &manifest,
+        )?;
+        Ok(manifest)
+    }
+
+    /// A copy of the manifest with the archives that were accepted, written at this time.
+    fn accepted_at(&self, timestamp: &[u8]) -> Result<Manifest, StoreRefusal>
+        requires packable { IsPackable (accepted_in self.now) }
+        ensures manifest { IfOk result (λ manifest. manifest_view manifest ≡ written_at (accepted_in self.now) timestamp.now) }
+        ensures packable { IfOk result (λ manifest. IsPackable (manifest_view manifest)) }
+        ensures refused { IfErr result (λ refusal. refusal ≡ Refusal.Memory) }
+    {
+        let mut manifest = match &self.accepted {
+            Some(accepted) => copy_manifest(self.alloc, accepted)?,
+            None => copy_manifest(self.alloc, self.repo.manifest())?,
+        };
+        let timestamp = Vec::from_slice(self.alloc, timestamp)?;
+        set_timestamp(&mut manifest, Bytes::new(timestamp));
+        Ok(manifest)
+    }
+
     /// Whether a content of this id would be put.
     fn is_new(&self, id: &Id) -> bool
         ensures { IsTrue result ↔ IsNew (repo_view self.now.repo) id.now }
@@ -274,11 +352,74 @@ impl Store {
         refusal
     }
 
-    /// Whether the manifest has an archive of this name.
+    /// Whether an archive of this name is in the manifest, or was accepted since the last commit.
     pub fn has(&self, name: &[u8]) -> bool
-        ensures has { result ≡ is_some (archive_named name.now (repo_view self.now.repo).manifest.archives) }
+        ensures has { result ≡ is_some (archive_named name.now (accepted_in self.now).archives) }
     {
-        self.repo.record_id(name).is_some()
+        match &self.accepted {
+            Some(manifest) => has_archive(manifest, name),
+            None => self.repo.record_id(name).is_some(),
+        }
+    }
+
+    /// Accepts an archive, whose record has the entry's id, with the names that its items have: it comes into the manifest by the next
+    /// commit. A refused call leaves the store as it was.
+    pub fn name_archive(
+        &mut self,
+        entry: ArchiveRef,
+        item_keys: &[Vec<u8>],
+    ) -> Result<(), StoreRefusal>
+        requires packable { IsPackable (accepted_in self.old) }
+        requires unnamed { archive_named entry.name (accepted_in self.old).archives ≡ None }
+        ensures named { OnOk result (accepted_in self.new ≡ next_manifest (accepted_in self.old) entry (map (λ name. name.items) item_keys.now)) }
+        ensures packable { IsPackable (accepted_in self.new) }
+        ensures rest { self.new ≡ record self.old { accepted = self.new.accepted } }
+        ensures err { OnErr result (accepted_in self.new ≡ accepted_in self.old) }
+        ensures refused { IfErr result (λ refusal. refusal ≡ Refusal.Memory) }
+    {
+        match &mut self.accepted {
+            Some(manifest) => name_archive(self.alloc, manifest, entry, item_keys)?,
+            None => {
+                let next = next_manifest(self.alloc, self.repo.manifest(), entry, item_keys)?;
+                self.accepted = Some(next);
+            }
+        }
+        Ok(())
+    }
+
+    /// Puts the manifest with the archives that were accepted, written at this time, and commits all that was put.
+    pub fn commit<D: Depot, E: Entropy>(
+        &mut self,
+        depot: &mut D,
+        entropy: &mut E,
+        timestamp: &[u8],
+    ) -> Result<(), StoreRefusal>
+        requires unspent { IsUnspent self.old }
+        requires packable { IsPackable (accepted_in self.old) }
+        requires fits { IfSome (D.told depot.old) (λ t. StoreFits false self.old t.history) }
+        ensures committed { (salt : List ℕ) × ((length salt ≡ 64) × OnOk result (E.drawn entropy.new ≡ option_map (λ d. d ++ salt) (E.drawn entropy.old))
+            × Did (CommitsEntry self.old.session self.old.counter
+            (manifest_entry (repo_view self.old.repo) self.old.counter (written_at (accepted_in self.old) timestamp.now) salt))
+            (λ _. Commits self.old (manifest_entry (repo_view self.old.repo) self.old.counter (written_at (accepted_in self.old) timestamp.now) salt)
+            self.new) (D.told depot.old) (D.told depot.new) (D.faults depot.old) (D.faults depot.new) result
+            × IfErr result (RefusesManifestOf self.old.counter
+            (length (manifest_text (repo_view self.old.repo).keys salt (written_at (accepted_in self.old) timestamp.now))))) }
+        ensures repo { OnOk result (repo_view self.new.repo
+            ≡ record (repo_view self.old.repo) { manifest = written_at (accepted_in self.old) timestamp.now }) }
+        ensures accepted { OnOk result (accepted_in self.new ≡ written_at (accepted_in self.old) timestamp.now) }
+        ensures packable { IsPackable (accepted_in self.new) }
+        ensures pending { OnOk result (self.new.pending ≡ 0) }
+        ensures unspent { OnOk result (IsUnspent self.new) }
+        ensures spent { IfErr result (λ refusal. self.new.spent ≡ spends refusal) }
+        ensures entropy { HasCause source_failed (E.faults entropy.old) (E.faults entropy.new) result }
+    {
+        match self.commit_accepted(depot, entropy, timestamp) {
+            Ok(manifest) => {
+                self.take_manifest(manifest);
+                Ok(())
+            }
+            Err(refusal) => Err(self.spend(refusal)),
+        }
     }
 
     /// How many entries were put since the last commit.

@@ -1,10 +1,13 @@
 ghost use Rattle.std.specs.Prelude.{◌≡◌, [], false, IfSome};
+ghost use Rattle.ferry_manifest.specs.Manifest.Writing.{IsPackable};
+ghost use Rattle.ferry_store.specs.Commit.{accepted_in};
 ghost use Rattle.ferry_store.specs.Store.{IsUnspent, StoreFits};
 
 use crate::{Store, StoreRefusal, make_key};
 use ferry_base::Bytes;
 use ferry_blob::Mode;
 use ferry_disk::{Depot, MemoryDepot, MemoryEntropy, Name, Shelf};
+use ferry_manifest::ArchiveRef;
 use ferry_nonce::NonceFault;
 use ferry_repo::Secret;
 use std::alloc::{AllocError, Global};
@@ -216,6 +219,58 @@ fn add_opened<D: Depot>(alloc: Global, depot: &mut D) -> Result<([bool; 3], [u64
     let secret = secret_of(alloc, b"")?;
     let mut store = Store::open(alloc, depot, &secret)?;
     add_twice(&mut store, depot)
+}
+
+/// The name of a field.
+fn one_name(alloc: Global) -> Result<Vec<Vec<u8>>, AllocError> {
+    let mut names = Vec::new(alloc);
+    names.push(Vec::from_slice(alloc, b"path")?)?;
+    Ok(names)
+}
+
+/// Accepts an archive `a`, whose items have the field `path`, and commits it; answers whether it was there before and is there now.
+fn name_one<D: Depot>(
+    alloc: Global,
+    store: &mut Store,
+    depot: &mut D,
+) -> Result<[bool; 2], StoreRefusal>
+    requires unspent { IsUnspent store.old }
+    requires packable { IsPackable (accepted_in store.old) }
+    requires fits { IfSome (D.told depot.old) (λ t. StoreFits false store.old t.history) }
+{
+    if store.has(b"a") {
+        return Ok([true, true]);
+    }
+    let mut entropy = source_of(alloc, 0)?;
+    let names = one_name(alloc)?;
+    let entry = ArchiveRef {
+        name: Bytes::new(Vec::from_slice(alloc, b"a")?),
+        id: [7; 32],
+        time: Bytes::new(Vec::from_slice(alloc, b"then")?),
+    };
+    store.name_archive(entry, &names)?;
+    store.commit(depot, &mut entropy, b"later")?;
+    Ok([false, store.has(b"a")])
+}
+
+/// The same of a store that is made on a depot without files.
+fn name_made<D: Depot>(alloc: Global, depot: &mut D) -> Result<[bool; 2], StoreRefusal>
+    requires begun { IfSome (D.told depot.old) (λ t. t.history.acts ≡ []) }
+{
+    let mut entropy = source_of(alloc, 0)?;
+    let secret = secret_of(alloc, b"")?;
+    let mut store = Store::init(alloc, depot, &mut entropy, &secret, 1, b"now")?;
+    name_one(alloc, &mut store, depot)
+}
+
+#[test]
+fn an_archive_that_was_accepted_is_committed(rt: HostRuntime) -> Result<(), Fail> {
+    let alloc = rt.alloc();
+    let mut depot = MemoryDepot::new(alloc, Vec::new(alloc), Vec::new(alloc))?;
+    assert_eq!(rt; name_made(alloc, &mut depot), Ok([false, true]));
+    let mut next = depot.again()?;
+    assert_eq!(rt; open_on(alloc, &mut next), Ok((0, true, false)));
+    Ok(())
 }
 
 #[test]

@@ -1,4 +1,4 @@
-use Rattle.std.proofs.Common.{false, Ok, Err, Result, IfErr, IfSome}
+use Rattle.std.proofs.Common.{false, None, Ok, Err, Result, IfErr, IfSome}
 use Rattle.ferry_disk.specs.Device.{HasCause}
 use Rattle.ferry_repo.specs.Fault.{repo_failed}
 use Rattle.ferry_store.proofs.InitLemmas.{still_cause}
@@ -138,6 +138,7 @@ returns-clause-did g c =
       counter = c.in_ok-counter.counter;
       pending = 0;
       opened = c.new.result;
+      accepted = None;
       spent = false;
     }) a d e n k j
     (init_made secret c.args.iterations c.args.timestamp.now made.0 a b d n m k (Ok (c.in_ok-counter.counter, c.in_ok-counter.session))

@@ -1,4 +1,4 @@
-use Rattle.std.proofs.Common.{rules, ◌≡◌, ℕ, false, ap, ◌∙◌, Some, Ok, Err, Result, IfErr, IfSome, subst}
+use Rattle.std.proofs.Common.{rules, ◌≡◌, ℕ, false, ap, ◌∙◌, None, Some, Ok, Err, Result, IfErr, IfSome, subst}
 use Rattle.ferry_disk.specs.Device.{told_files}
 use Rattle.ferry_disk.specs.Moments.{Between}
 use Rattle.ferry_nonce.specs.declared.counter.Counter.{Counter}
@@ -75,6 +75,7 @@ returns-clause-did g c =
       counter = counter;
       pending = 0;
       opened = c.new.result;
+      accepted = None;
       spent = false;
     }) a b d n m k c.in_ok-repo.ensures.same
     c.in_ok-repo.ensures.cause c.in_ok-repo.ensures.repository c.in_ok-repo.ensures.cached

@@ -1,0 +1,47 @@
+use Rattle.std.proofs.Common.{◌≡◌, None, sym, ap, ◌∙◌, subst}
+use Rattle.ferry_manifest.specs.Manifest.Text.{ManifestText, manifest_view}
+use Rattle.ferry_next.specs.Next.{written_at}
+use Rattle.ferry_repo.specs.Opening.{cached_in, repo_view}
+use Rattle.ferry_repo.specs.declared.repo.Repo.{Repo}
+use Rattle.ferry_store.proofs.RenewLemmas.{store_committed, with_commit}
+use Rattle.ferry_store.proofs.StepLemmas.{did_as}
+use Rattle.ferry_store.proofs.store.Store.commit.Goals as goal
+use Rattle.ferry_store.specs.Commit.{Commits, CommitsEntry, HasCommitted, accepted_in, manifest_entry}
+use Rattle.ferry_store.specs.declared.store.Store.{Store}
+
+pub returns-in-Ok-clause-committed : goal.returns-in-Ok-clause-committed
+returns-in-Ok-clause-committed g c =
+    let a = g.D.Shelf.told c.args.depot.now in
+    let b = g.D.Shelf.told c.commit_accepted.new.depot in
+    let n = g.D.Shelf.faults c.args.depot.now in
+    let m = g.D.Shelf.faults c.commit_accepted.new.depot in
+    let store = c.args.self.now in
+    let middle = c.commit_accepted.new.self in
+    let now = c.take_manifest.new.self in
+    let made = c.in-Ok.ensures.committed in
+    let salt = made.0 in
+    let text = written_at (accepted_in store) c.args.timestamp.now in
+    let entry = manifest_entry (repo_view store.repo) store.counter text salt in
+    let E = CommitsEntry store.session store.counter entry in
+    let rest = c.in-Ok.ensures.rest in
+    let same : middle.repo ≡ store.repo = ap (λ (s : Store). s.repo) rest in
+    let view : repo_view now.repo ≡ record (repo_view store.repo) { manifest = text } =
+    c.take_manifest.ensures.repo
+    ∙ (ap (λ (r : Repo). record (repo_view r) { manifest = manifest_view c.in-Ok.manifest }) same
+    ∙ ap (λ (t : ManifestText). record (repo_view store.repo) { manifest = t }) c.in-Ok.ensures.manifest) in
+    let cached : cached_in now.repo ≡ cached_in store.repo = c.take_manifest.ensures.cached ∙ ap cached_in same in
+    let is : now ≡ with_commit store now.repo middle.session middle.counter =
+    c.take_manifest.ensures.taken ∙ ap (λ (s : Store). record s { repo = now.repo; accepted = None; pending = 0 }) rest in (
+      salt,
+      (
+        made.1.0,
+        made.1.1,
+        did_as E (λ _. HasCommitted store.session store.counter entry middle.session middle.counter) E (λ _. Commits store entry now) a b n m c.in-Ok.manifest
+            tt (λ h k e. e)
+            (λ h k done.
+            subst (λ (s : Store). Commits store entry s h k) (sym is)
+            (store_committed store now.repo middle.session middle.counter entry text h k view cached done))
+            made.1.2,
+        tt,
+      ),
+    )

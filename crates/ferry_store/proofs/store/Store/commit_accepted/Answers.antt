@@ -1,0 +1,69 @@
+use Rattle.std.proofs.Common.{◌≡◌, ◌++◌, ℕ, List, Ok, Result, replicate, length, IfErr, OnOk, option_map, refl, sym, ap, subst}
+use Rattle.ferry_disk.specs.Act.{History}
+use Rattle.ferry_manifest.specs.Manifest.Text.{ManifestText}
+use Rattle.ferry_manifest.specs.Manifest.Writing.{manifest_text}
+use Rattle.ferry_manifest.specs.declared.manifest.Manifest.{Manifest}
+use Rattle.ferry_next.specs.Next.{written_at}
+use Rattle.ferry_repo.specs.Opening.{repo_view}
+use Rattle.ferry_store.proofs.RenewLemmas.{nothing_committed}
+use Rattle.ferry_store.proofs.StepLemmas.{did_as, err_is}
+use Rattle.ferry_store.proofs.store.Store.commit_accepted.Goals as goal
+use Rattle.ferry_store.specs.Commit.{CommitsEntry, HasCommitted, RefusesManifestOf, accepted_in, manifest_entry}
+use Rattle.ferry_store.specs.Fault.{depot_failed}
+use Rattle.ferry_store.specs.State.{Did}
+use Rattle.ferry_store.specs.declared.fault.StoreRefusal.{StoreRefusal}
+
+pub returns-in_err-manifest-clause-committed : goal.returns-in_err-manifest-clause-committed
+returns-in_err-manifest-clause-committed g c =
+    let a = g.D.Shelf.told c.args.depot.now in
+    let n = g.D.Shelf.faults c.args.depot.now in
+    let store = c.args.self.now in
+    let salt = replicate 64 0 in
+    let f = c.in_err-manifest.field-0.0 in
+    let repo = repo_view store.repo in
+    let manifest = written_at (accepted_in store) c.args.timestamp.now in
+    let entry = manifest_entry repo store.counter manifest salt in
+    let size = length (manifest_text repo.keys salt manifest) in
+    let E = CommitsEntry store.session store.counter entry in
+    let R : Manifest → History → History → Type 0 = λ _. HasCommitted store.session store.counter entry store.session store.counter in (
+      salt,
+      (
+        refl,
+        err_is c.from_residual.result f
+            (λ (r : Result Manifest StoreRefusal). OnOk r
+            (g.E.Entropy.drawn c.args.entropy.now ≡ option_map (λ (d : List ℕ). d ++ salt) (g.E.Entropy.drawn c.args.entropy.now)))
+            c.from_residual.ensures.1 tt,
+        err_is c.from_residual.result f (λ (r : Result Manifest StoreRefusal). Did E R a a n n r) c.from_residual.ensures.1
+            (nothing_committed {T = Manifest} store.session store.counter entry R a n f (ap depot_failed c.in_err-manifest.ensures.refused)),
+        err_is c.from_residual.result f (λ (r : Result Manifest StoreRefusal). IfErr r (RefusesManifestOf store.counter size)) c.from_residual.ensures.1
+            (subst (RefusesManifestOf store.counter size) (sym c.in_err-manifest.ensures.refused) tt),
+      ),
+    )
+
+pub returns-clause-committed : goal.returns-clause-committed
+returns-clause-committed g c =
+    let a = g.D.Shelf.told c.args.depot.now in
+    let b = g.D.Shelf.told c.commit_manifest.new.depot in
+    let n = g.D.Shelf.faults c.args.depot.now in
+    let m = g.D.Shelf.faults c.commit_manifest.new.depot in
+    let store = c.args.self.now in
+    let repo = repo_view store.repo in
+    let made = c.in_ok-commit_manifest.ensures.committed in
+    let salt = made.0 in
+    let session = c.commit_manifest.new.session in
+    let counter = c.commit_manifest.new.counter in
+    let E : ManifestText → History → History → Type 0 = λ x. CommitsEntry store.session store.counter (manifest_entry repo store.counter x salt) in
+    let R : ManifestText → History → History → Type 0 =
+    λ x. HasCommitted store.session store.counter (manifest_entry repo store.counter x salt) session counter in
+    let written = written_at (accepted_in store) c.args.timestamp.now in (
+      salt,
+      (
+        made.1.0,
+        made.1.1,
+        did_as (E written) (λ _. R written) (E written) (λ _. R written) a b n m c.in_ok-commit_manifest.field-0 c.in_ok-manifest.manifest (λ h k e. e)
+            (λ h k e. e)
+            (subst (λ (x : ManifestText). Did {T = Unit {0}} (E x) (λ _. R x) a b n m (Ok c.in_ok-commit_manifest.field-0)) c.in_ok-manifest.ensures.manifest
+            made.1.2),
+        tt,
+      ),
+    )

@@ -1,0 +1,58 @@
+//! A manifest that is put and committed.
+ghost use Rattle.std.specs.Prelude.{◌≡◌, ◌++◌, ℕ, List, false, true, length, option_map, IfErr, IfSome, OnOk};
+ghost use Rattle.ferry_disk.specs.Device.{HasCause};
+ghost use Rattle.ferry_disk.specs.Image.{settled};
+ghost use Rattle.ferry_manifest.specs.Manifest.Text.{manifest_view};
+ghost use Rattle.ferry_manifest.specs.Manifest.Writing.{IsPackable, manifest_text};
+ghost use Rattle.ferry_repo.specs.Opening.{repo_view};
+ghost use Rattle.ferry_store.specs.Commit.{CommitsEntry, HasCommitted, RefusesManifestOf, manifest_entry};
+ghost use Rattle.ferry_store.specs.Fault.{source_failed};
+ghost use Rattle.ferry_store.specs.State.{Did};
+
+use crate::fault::StoreRefusal;
+use crate::put::{packed, put_object};
+use crate::state::commit;
+use ferry_base::ZERO_ID;
+use ferry_disk::{Depot, Entropy};
+use ferry_manifest::Manifest;
+use ferry_nonce::Counter;
+use ferry_repo::Repo;
+use ferry_write::Session;
+use std::alloc::Global;
+
+/// Puts a manifest under the zero id, and commits it with all that was put.
+pub(crate) fn commit_manifest<D: Depot, E: Entropy>(
+    alloc: Global,
+    depot: &mut D,
+    entropy: &mut E,
+    repo: &Repo,
+    session: &mut Session,
+    counter: &mut Counter,
+    manifest: &Manifest,
+) -> Result<(), StoreRefusal>
+    requires session { session.old.spent ≡ false }
+    requires counter { counter.old.spent ≡ false }
+    requires packable { IsPackable (manifest_view manifest.now) }
+    requires settled { IfSome (D.told depot.old) (λ t. settled t.history.acts ≡ true) }
+    ensures committed { (salt : List ℕ) × ((length salt ≡ 64) × OnOk result (E.drawn entropy.new ≡ option_map (λ d. d ++ salt) (E.drawn entropy.old))
+        × Did (CommitsEntry session.old counter.old (manifest_entry (repo_view repo.now) counter.old (manifest_view manifest.now) salt))
+        (λ _. HasCommitted session.old counter.old (manifest_entry (repo_view repo.now) counter.old (manifest_view manifest.now) salt)
+        session.new counter.new) (D.told depot.old) (D.told depot.new) (D.faults depot.old) (D.faults depot.new) result
+        × IfErr result (RefusesManifestOf counter.old (length (manifest_text (repo_view repo.now).keys salt (manifest_view manifest.now))))) }
+    ensures session { OnOk result (session.new.spent ≡ false) }
+    ensures counter { OnOk result (counter.new.spent ≡ false) }
+    ensures cause { HasCause source_failed (E.faults entropy.old) (E.faults entropy.new) result }
+{
+    let mut buffer = packed(alloc, entropy, repo.keys(), manifest)?;
+    let mode = repo.mode();
+    put_object(
+        depot,
+        repo.keys(),
+        mode,
+        session,
+        counter,
+        &ZERO_ID,
+        &mut buffer,
+    )?;
+    commit(depot, session)
+}
