@@ -2,7 +2,7 @@
 """Holds the papers of the repository to it: docs.py [--write] [CRATE ..]
 
 Each public definition of a crate's specs/ stands in docs/DEFINITIONS.md with its sentence and its file; each named clause of a
-public call stands in the README.md of its crate beside the call, and each that the front page names is one; crates.txt is the
+public call stands in the README.md of its crate beside the call, and each that the front page or docs/PROVED.md names is one; crates.txt is the
 table of docs/ARCHITECTURE.md; the links of the papers, and the files, wrong bodies and tests that they name, are there; no line
 of code or proofs has more than 160 columns, texts in quotes apart. One line for each thing that is missing, and at the end 'N passed, M failed';
 status 1 where M isn't 0. With names of crates, those alone are looked at. With --write the rows of definitions that are missing
@@ -214,15 +214,19 @@ def look_at_clauses(crate):
 
 
 def look_at_front_page(crates):
-    """Each clause that README.md names `of` a call or a type is one of its clauses."""
+    """Each clause that the front page or docs/PROVED.md names `of` a call or a type is one of its clauses, and that page has each crate."""
     there = {}
     for crate in crates:
         for call, clause in clauses(crate):
             for name in {call, *call.split("::")}:
                 there.setdefault(name, set()).add(clause)
-    for names, call in re.findall(r"((?:`\w+`(?:, )?)+) of `([\w:]+)`", re.sub(r"\s+", " ", read("README.md"))):
-        for name in TICKED.findall(names):
-            judge(name in there.get(call, ()), f"README.md: `{call}` has no clause `{name}`")
+    for path in ("README.md", "docs/PROVED.md"):
+        for names, call in re.findall(r"((?:`\w+`(?:, )?)+) of `([\w:]+)`", re.sub(r"\s+", " ", read(path))):
+            for name in TICKED.findall(names):
+                judge(name in there.get(call, ()), f"{path}: `{call}` has no clause `{name}`")
+    proved = {re.match(r"\[?(\w*)", row[0])[1] for row in rows_of(read("docs/PROVED.md"))}
+    for name in crates:
+        judge(name in proved, f"docs/PROVED.md: no row of {name}")
 
 
 def look_at_architecture(crates):

@@ -119,14 +119,14 @@ def row_of(words, cwd, status, out):
         return ("none", "standard output failed, status 7") if status else None
     if status == 1:
         return "bad REASON", ""
-    told = re.search(r"(source refused: |target refused: |not found: |usage|memory$|key file unreadable$|source device failed$|target device failed$|BORG_)[^\n]*\n?$", out.decode("utf-8", "replace"))
-    line = re.sub(r"^not found: .*", "not found: NAME", re.sub(r"\b[0-9a-f]{64}$", "ID", told[0].rstrip("\n") if told else ""))
+    told = re.search(r"(source refused: |target refused: |name taken: |not found: |usage|memory$|key file unreadable$|source device failed$|target device failed$|BORG_)[^\n]*\n?$", out.decode("utf-8", "replace"))
+    line = re.sub(r"^(name taken|not found): .*", r"\1: NAME", re.sub(r"\b[0-9a-f]{64}$", "ID", told[0].rstrip("\n") if told else ""))
     line = re.sub(r"segment \d+ at \d+$", "segment S at A", re.sub(r"^usage: word \d+$", "usage: word N", line))
     where, source = "", os.fsdecode(words[0]) if words else ""
     if line == "usage":
         where = "no two places and a command"
     elif line == "usage: word N":
-        where = f"the command {words[2]}" if words[2] in ("keys", "key", "list", "extract", "check", "init", "make-key") else "another word"
+        where = f"the command {words[2]}" if words[2] in ("keys", "key", "list", "extract", "check", "init", "make-key", "transfer") else "another word"
     elif line in ("source refused: no commit", "source refused: config 1") and source in ("-", ""):
         where = "`-` or an empty word"
     elif line in ("source refused: no commit", "source refused: config 1") and not os.path.exists(os.path.join(cwd, source)):
@@ -682,6 +682,34 @@ def targets():
         case(f"{command}: a wrong word", None, wrong_word(2 if command == "make-key" else 3), ("-", "target", command, *bad))
 
 
+def transfers():
+    """What `transfer` says where it copies nothing: of wrong words, of names that the source lacks or the target has, and of a target that doesn't open."""
+    keys, others = Keys(), Keys(b"other")
+
+    def made(keys, content):
+        """A repository with one archive, a file of this content."""
+        archive = Archive(keys, b"a", [Item(b"f", [content])])
+        return repository(keys, PASSPHRASE, keys.blob(keys.tagged(fields(archive.named(b"a")))), *archive.chunks())
+
+    def told(name, want, target, *words, **changed):
+        """A run over this target, with a file `nonce` above all its blocks."""
+        files = {**target, "nonce": b"00000000000003e8", **changed}
+        beside = inside("target", {name: content for name, content in files.items() if content is not None})
+        how = {**OPEN, b"BORG_PASSPHRASE": PASSPHRASE}
+        case(f"transfer: {name}", made(keys, b"hello"), want, ("source", "target", "transfer", *words), beside=beside, variables=how)
+
+    same, another = made(others, b"hello"), made(others, b"hullo")
+    total = b"total 0 transferred %d present 0 chunks 0 bytes 0 meta\n"
+    told("an archive that is there", (0, b"present a\n" + total % 1), same)
+    told("a name that stands twice", (0, b"present a\npresent a\n" + total % 2), same, "a", "a")
+    told("a name that is taken", (10, b"name taken: a\n"), another)
+    told("a name that the source lacks", (11, b"not found: b\n"), same, "a", "b")
+    told("a target without a nonce", (9, b"target refused: nonce 1\n"), same, nonce=None)
+    told("a nonce that is no number", (9, b"target refused: nonce 2\n"), same, nonce=b"12")
+    for words, number in [(("--block", "63"), 3), (("--checkpoint", "0", "a"), 3), (("--block", "64", "--block", "64"), 4), (("--x",), 2)]:
+        told("a wrong word", wrong_word(number), same, *words)
+
+
 def variables():
     good = log(segment(put(K, b"abc")), COMMIT_SEGMENT)
     bad, text = b"\xff\xfe", "gr\u00fc\u00df e".encode()
@@ -802,7 +830,7 @@ def rows():
 
 
 reading = (folders, logs, damage, memory, names, words, keys_of_configs, listings, archives, checked, every_byte)
-for cases in (*reading, key_files, targets, variables, outputs, progress, rows):
+for cases in (*reading, key_files, targets, transfers, variables, outputs, progress, rows):
     cases()
 print(f"{passed} passed, {failed} failed")
 sys.exit(1 if failed or not passed else 0)

@@ -38,6 +38,9 @@ pub const OUTPUT: &str =
 const MISSING: &str =
     "no archive of SOURCE has this name, or no file in it has this path: list prints the names, and list NAME the paths";
 
+const TAKEN: &str =
+    "TARGET has another archive of this name: choose other names, or another target; nothing of this archive was committed";
+
 const DEVICE: &str =
     "the files of SOURCE can't be read: see that it is a folder, that you may read all of it and that its disk answers";
 
@@ -62,6 +65,7 @@ pub fn advice(status: &Status, command: &str, source: Presence) -> Option<&'stat
         Status::OutputDevice => Some(OUTPUT),
         Status::SourceRefused(refusal) => Some(of_source(refusal, source)),
         Status::TargetRefused(refusal) => Some(of_target(refusal)),
+        Status::Taken(_) => Some(TAKEN),
         Status::NotFound(_) => Some(MISSING),
         Status::Limit(limit) => Some(of_limit(*limit)),
     }
@@ -82,11 +86,14 @@ fn form_of(command: &str) -> &'static str {
         "init" => {
             "the form is borgferry SOURCE TARGET init, with --iterations N, from 1 to 10000000, and --timestamp T behind it, or without"
         }
+        "transfer" => {
+            "the form is borgferry SOURCE TARGET transfer, with --block B, --checkpoint N and --timestamp T behind it, or without, and then the names, none for all; names that begin with -- stand behind --"
+        }
         "make-key" => {
             "the form is borgferry SOURCE TARGET make-key, with --iterations N, from 1 to 10000000, behind it, or without"
         }
         _ => {
-            "the form is borgferry SOURCE TARGET COMMAND, and the commands are keys, key, list, extract, check, init and make-key; borgferry --help says what they do"
+            "the form is borgferry SOURCE TARGET COMMAND, and the commands are keys, key, list, extract, check, init, make-key and transfer; borgferry --help says what they do"
         }
     }
 }

@@ -5,7 +5,7 @@ pub const VERSION: &str = "borgferry 0.1.0\n";
 
 /// The help, which names every command that is built.
 pub const HELP: &str = "\
-borgferry reads a BorgBackup 1.2 repository, the source, and makes another, the target. init alone writes the target.
+borgferry reads a BorgBackup 1.2 repository, the source, and makes another, the target, or copies archives into it. Only init and transfer write the target.
 
 usage: borgferry SOURCE TARGET COMMAND ..
        borgferry --help
@@ -24,10 +24,15 @@ commands:
   check   opens every live chunk and reads every archive, and prints their numbers or the first fault
   init [--iterations N] [--timestamp T]
           makes a repository in the target, with the key of the target's key file where there is one, and prints its id
+  transfer [--block B] [--checkpoint C] [--timestamp T] [NAME ..]
+          copies these archives of the source, or all, into the target, compares those that it has, and prints a line for each and one of
+          the numbers of all
   make-key [--iterations N]
           prints the text of a new key file, sealed with the target's passphrase
 
 N is the iterations that seal a key, 1 to 10000000, and 100000 where none are given; T is the timestamp of the new manifest.
+B is the length in bytes of the pieces that contents are cut into, 64 to 8388608, and 2097152 where none is given; C is how many chunks are put
+before what is done is committed, 1 to 1000000, and 1024 where none is given.
 
 variables:
   BORG_OTHER_PASSPHRASE    the source's passphrase, empty where the variable is absent
@@ -48,6 +53,7 @@ status:
   7    standard output can't be written
   8    the source is refused
   9    the target is refused
+  10   the target has another archive of the name
   11   no archive has the name, or no item with content has the path
   12   a limit of the target is met
   16   a key file can't be read

@@ -29,11 +29,14 @@ use Rattle.ferry_repo.specs.Cached.{Contents}
 use Rattle.ferry_repo.specs.Objects.{HoldsChunk, IsMissing, KeepsBlobs}
 use Rattle.ferry_repo.specs.Opening.{FitsRepo, RepoState, cached_in, repo_view}
 use Rattle.ferry_repo.specs.declared.repo.Repo.{Repo}
+use Rattle.ferry_segment.specs.Entry.{PutEntry}
 use Rattle.ferry_store.proofs.PutLemmas.{keeps_here}
+use Rattle.ferry_store.proofs.StandingLemmas.{entries_put, holds_put, keeps_more, manifest_learnt, missing_unlive}
 use Rattle.ferry_store.proofs.StepLemmas.{Reads, did_as, known_then, same_told}
 use Rattle.ferry_store.specs.Adding.{Adds, entry_of, id_under}
 use Rattle.ferry_store.specs.Content.{HasPut, IsNew, IsThere, Learns, blob_for, with_place}
 use Rattle.ferry_store.specs.Fault.{depot_failed}
+use Rattle.ferry_store.specs.Standing.{CommitsManifest, HoldsLive, entries_of}
 use Rattle.ferry_store.specs.State.{Did, HasPlaced, KeepsSound, with_entry}
 use Rattle.ferry_store.specs.Store.{IsKnown, StoreFits}
 use Rattle.ferry_store.specs.declared.content.Added.{Added}
@@ -128,6 +131,9 @@ opened_added store repo opened content id h same noted there repo_fits counts fi
     there = λ other apart known.
         subst (λ (r : RepoState). IsThere (files_now h) r other) (sym same)
         (there_noted store (files_now h) id other there (fits.there other apart) (known_noted store repo opened id other same noted known));
+    holds = subst (λ (r : RepoState). HoldsLive (files_now h) r.log (entries_of fits.written)) (sym same) fits.holds;
+    manifest = subst (λ (r : RepoState). CommitsManifest r fits.written.committed) (sym same) fits.manifest;
+    keeps = fits.keeps;
   },
   refl,
 )
@@ -200,6 +206,14 @@ put_added store repo session counter pending content h g chunk missing cached af
             subst (λ (r : RepoState). IsThere (files_now g) r other) (sym put.learnt)
             (there_put counts store id content blob place h g fits chunk missing placed put.opens other apart
             (known_put store repo session counter pending id other place put.learnt known));
+        holds = subst (λ (r : RepoState). HoldsLive (files_now g) r.log (entries_of (with_entry fits.written (PutEntry id blob)))) (sym put.learnt)
+            (subst (HoldsLive (files_now g) (with_learnt before.log id place)) (sym (entries_put fits.written (PutEntry id blob)))
+            (holds_put (files_now h) (files_now g) before.log (entries_of fits.written) id blob place fits.repo.log missing
+            (blobs_stay store.session.after before.log h g placed.stays) placed.lies fits.holds));
+        manifest = subst (λ (r : RepoState). CommitsManifest r fits.written.committed) (sym put.learnt)
+            (manifest_learnt before (with_place before id place) fits.written.committed refl refl fits.manifest);
+        keeps = keeps_more fits.written id blob
+            (missing_unlive (files_now h) before.log (entries_of fits.written) id chunk missing fits.holds) fits.keeps;
       },
       refl,
     )

@@ -36,8 +36,9 @@ use Rattle.ferry_config.specs.declared.config.Config.{Config}
 use Rattle.ferry_mac.specs.declared.keys.Keys.{Keys}
 use Rattle.ferry_segment.specs.Entry.{LogEntry, PutEntry}
 use Rattle.ferry_stops.specs.Entries.{Shows}
-use Rattle.ferry_store.proofs.SoundLemmas.{begin_sound, begin_stands, shows_begun, traced_begun, sound_now, replace_moments, readme_stands, config_stands}
+use Rattle.ferry_store.proofs.SoundLemmas.{begin_sound, begin_stands, stands_begun, traced_begun, sound_now, replace_moments, readme_stands, config_stands}
 use Rattle.ferry_store.proofs.SoundLemmas.{TakesBlocks, put_same, put_sound, put_stands, draw_sound, draw_stands, commit_sound, commit_stands}
+use Rattle.ferry_store.proofs.SoundLemmas.{standing_shown}
 use Rattle.ferry_store.proofs.StepLemmas.{after_same, known_then, same_told, acts_step, acts_done, acted_step, called_step, same_step, step_done}
 use Rattle.ferry_store.proofs.StepLemmas.{did_then, did_front, did_as, known_end, first_kept, settle_settled, steps_settled, moments_map}
 use Rattle.ferry_store.proofs.StepLemmas.{moments_then, moments_here}
@@ -47,7 +48,7 @@ use Rattle.ferry_store.proofs.NewLemmas.{opens_new}
 use Rattle.ferry_store.specs.New.{FirstSound, IsOpenable, Makes, MakesSound, ShowsNew, TakesFirst, new_entries, nothing_written}
 use Rattle.ferry_store.specs.Fault.{depot_failed, nonce_refusal, write_refusal, store_refusal}
 use Rattle.ferry_store.specs.State.{Begins, BeginsSound, CommitsSound, Did, IsSound, IsStep, IsUnderWay, KeepsSound, SettingsSound, ShowsEither}
-use Rattle.ferry_store.specs.State.{IsPlaced, TakesCommit, TakesEntry, TakesSettings, Written}
+use Rattle.ferry_store.specs.State.{IsPlaced, ShowsStanding, TakesCommit, TakesEntry, TakesSettings, Written, found}
 use Rattle.ferry_store.specs.State.{RefusesLog, readme_text, with_settings}
 use Rattle.ferry_store.specs.declared.fault.StoreRefusal.{StoreRefusal}
 use Rattle.ferry_write.specs.Fault.{write_failed}
@@ -224,8 +225,8 @@ pub begun_settled : (after : Option ℕ) (session : Session) (b c : Option Told)
 begun_settled after session b c acts ends = known_end (λ h. settled h.acts ≡ true) (ClearsAll after) b c ends (settled_clear after) acts
 
 pub begins_here : (after : Option ℕ) (h : History) → BeginsSound after h h
-begins_here after h counts committed begun = moments_here (IsSound (λ image. Shows image committed) counts) h (record {
-  shows = shows_begun after committed h begun.no_acts begun.shown;
+begins_here after h counts committed begun = moments_here (IsSound (ShowsStanding (found committed (files_now h))) counts) h (record {
+  shows = stands_begun committed h begun.no_acts (behind after, begun.shown);
   traced = traced_begun h begun.no_acts;
   fresh = λ e. (begun.kept e).fresh;
 })
@@ -432,7 +433,7 @@ object_both session now counter drawn entry number first a b c n m k result bloc
     did_then (Draws counter number) (λ _. HasNumbers counter drawn number) (PutsAt session entry) (λ _. HasPut session entry now)
     (KeepsSound session counter) (λ _. TakesEntry session counter entry now drawn) a b c n m k first result
     (λ h g i e d numbers f counts written u.
-    moments_then (IsSound (λ image. Shows image written.committed) counts) h g i (draw_keeps session counter number h g e counts written u) d
+    moments_then (IsSound (ShowsStanding written) counts) h g i (draw_keeps session counter number h g e counts written u) d
     (put_sound counts session counter.free drawn written entry g i blocks
     (draw_stands counts session counter drawn written number h g u numbers.0 order numbers.1) f.0 f.1.0 f.1.1))
     (λ y h g i numbers f counts written u.
@@ -560,14 +561,15 @@ first_both secret settings session now counter drawn entry a b c n m k result p 
     (λ h g i e d takes f counts config readme u.
     none_new_shown secret counts h i (moments_then (IsSound (λ image. Shows image None) counts) h g i
     (e session counter counts (nothing_written config readme) u) d
-    (f counts (with_settings (nothing_written config readme) (config_text settings)) (takes session counter counts (nothing_written config readme) u))))
+    (standing_shown counts (with_settings (nothing_written config readme) (config_text settings)) g i
+    (f counts (with_settings (nothing_written config readme) (config_text settings)) (takes session counter counts (nothing_written config readme) u)))))
     (λ y h g i takes f counts config readme u.
     f counts (with_settings (nothing_written config readme) (config_text settings)) (takes session counter counts (nothing_written config readme) u))
     p q
 
 new_shown : (secret : Secret) (text blob : List ℕ) (image : Files) → IsOpenable secret text blob
-    → Shows image None ⊎ (Shows image (Some (new_entries blob)) × (image.config ≡ Some text)) → ShowsNew secret image
-new_shown secret text blob image opens (inl none) = inl none
+    → (Shows image None × (image.config ≡ Some text)) ⊎ (Shows image (Some (new_entries blob)) × (image.config ≡ Some text)) → ShowsNew secret image
+new_shown secret text blob image opens (inl none) = inl none.0
 new_shown secret text blob image opens (inr new) = inr (opens_new secret image text blob opens new.1 new.0, (_, new.0))
 
 -- of a commit that ends, or is stopped, is shown nothing or the new repository
@@ -601,7 +603,8 @@ abbrev pub BeginsFirst : History → History → Type 0
 BeginsFirst h g = BeginsSound None h g × SettlesFirst h g
 
 begins_new : (secret : Secret) (h g : History) → BeginsFirst h g → MakesSound secret h g
-begins_new secret h g e counts begun = (none_new_shown secret counts h g (e.0 counts None begun), e.1 begun.no_acts)
+begins_new secret h g e counts begun =
+    (none_new_shown secret counts h g (standing_shown counts (found None (files_now h)) h g (e.0 counts None begun)), e.1 begun.no_acts)
 
 pub makes_front : {T : Type 0} (secret : Secret) (Q : T → History → History → Type 0) (a b : Option Told) (n m : ℕ) (refusal : StoreRefusal)
     → Did {T = Counter × Session} BeginsFirst (λ x. Begins None x.0 x.1) a b n m (Err refusal) → Did {T = T} (MakesSound secret) Q a b n m (Err refusal)

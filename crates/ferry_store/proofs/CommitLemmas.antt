@@ -6,7 +6,10 @@ use Rattle.ferry_disk.specs.Device.{Told}
 use Rattle.ferry_disk.specs.Moments.{Between}
 use Rattle.ferry_repo.specs.Opening.{cached_in, repo_view}
 use Rattle.ferry_store.proofs.AddLemmas.{blobs_stay, repo_stays, there_kept}
+use Rattle.ferry_store.proofs.LiveLemmas.{keeps_nil}
+use Rattle.ferry_store.proofs.StandingLemmas.{holds_later, live_committed, manifest_later}
 use Rattle.ferry_store.specs.Adding.{Checkpoints}
+use Rattle.ferry_store.specs.Standing.{entries_committed, entries_of}
 use Rattle.ferry_store.specs.State.{Did, IsTarget, RefusesCommit, TakesCommit, all_committed}
 use Rattle.ferry_store.specs.declared.fault.StoreRefusal.{StoreRefusal}
 use Rattle.ferry_store.specs.declared.fault.StoreRefusal.TheVariants.{Repo, Write, Nonce, Committed, TooLarge, Entropy, Memory}
@@ -84,6 +87,10 @@ checkpointed store session h g is takes stays counts fits =
         repo = repo_stays after repo (cached_in store.repo) h g fits.below kept fits.repo;
         below = let order = u.fits.order in omega (arith, fits.below, order, behind_last);
         there = λ id apart known. there_kept (files_now h) (files_now g) repo repo id refl (blobs_stay after repo.log h g kept) (fits.there id apart known);
+        holds = holds_later (files_now h) (files_now g) repo.log (entries_of fits.written) (entries_of (all_committed fits.written)) fits.repo.log
+            (blobs_stay after repo.log h g kept) (λ id apart. live_committed fits.written id) fits.holds;
+        manifest = manifest_later repo fits.written fits.keeps fits.manifest;
+        keeps = keeps_nil (entries_committed fits.written);
       },
       refl,
     )

@@ -2,6 +2,8 @@ pub mod StepLemmas
 pub mod KeyLemmas
 pub mod BasisLemmas
 pub mod ManifestLemmas
+pub mod LiveLemmas
+pub mod StandingLemmas
 pub mod NewLemmas
 pub mod KnownLemmas
 pub mod SoundLemmas

@@ -28,18 +28,21 @@ use Rattle.ferry_stops.proofs.EntryLemmas.{log_shown, one_shown}
 use Rattle.ferry_stops.specs.Chance.{EachStop}
 use Rattle.ferry_stops.specs.Counters.{IsKept}
 use Rattle.ferry_stops.specs.Blobs.{AllTraced}
-use Rattle.ferry_stops.specs.Entries.{Shows, ShowsAt}
+use Rattle.ferry_stops.specs.Entries.{ShowsAt}
 use Rattle.ferry_store.proofs.CallLemmas.{first_here, read_refused}
 use Rattle.ferry_store.proofs.KnownLemmas.{nothing_known}
-use Rattle.ferry_store.proofs.SoundLemmas.{image_begun}
+use Rattle.ferry_store.proofs.LiveLemmas.{keeps_nil}
+use Rattle.ferry_store.proofs.SoundLemmas.{stands_begun}
+use Rattle.ferry_store.proofs.StandingLemmas.{fits_state, holds_opened, opened_manifest}
 use Rattle.ferry_store.proofs.StepLemmas.{Reads, did_also, did_as, did_front, did_known, did_then, moments_here, moments_map, read_did}
 use Rattle.ferry_store.proofs.StoreLemmas.{keeps_here, repo_is}
 use Rattle.ferry_store.specs.Fault.{repo_refusal}
-use Rattle.ferry_store.specs.State.{Begins, BeginsSound, Did, IsBegun, IsSound, RefusesBegin, found}
-use Rattle.ferry_store.specs.Store.{InitFits, InitKeeps, OpenEach, OpenShows, RefusesOpen}
+use Rattle.ferry_store.specs.State.{Begins, BeginsSound, Did, IsBegun, IsSound, RefusesBegin, ShowsStanding, found}
+use Rattle.ferry_store.specs.Store.{InitKeeps, OpenEach, OpenFits, OpenShows, RefusesOpen}
 use Rattle.ferry_store.specs.declared.fault.StoreRefusal.{StoreRefusal}
 use Rattle.ferry_store.specs.declared.fault.StoreRefusal.TheVariants.{Repo as RepoRefusal, Write, Nonce, Committed, TooLarge, Entropy, Memory}
 use Rattle.ferry_store.specs.declared.store.Store.{Store}
+use Rattle.ferry_write.proofs.LawLemmas.{fits_now}
 use Rattle.ferry_write.specs.Room.{behind}
 use Rattle.ferry_write.specs.Script.{AllDone, numbers_from}
 use Rattle.ferry_write.specs.Session.{ClearsAll, SettlesFirst}
@@ -48,16 +51,16 @@ use Rattle.ferry_write.specs.declared.session.Session.{Session}
 
 -- ---- what is committed
 
-entries_of : (files : Files) (secret : Secret) (repo : RepoState) → OpensFilesTo files secret repo → List LogEntry
-entries_of files secret repo opens = map (λ (e : Located). e.entry) opens.opens.unlocks.reads.log
+entries_shown : (files : Files) (secret : Secret) (repo : RepoState) → OpensFilesTo files secret repo → List LogEntry
+entries_shown files secret repo opens = map (λ (e : Located). e.entry) opens.opens.unlocks.reads.log
 
 shown_of : (files : Files) (secret : Secret) (repo : RepoState) (opens : OpensFilesTo files secret repo)
-    → ShowsAt files (suc repo.log.transaction) (Some (entries_of files secret repo opens))
-unfolding entries_of
+    → ShowsAt files (suc repo.log.transaction) (Some (entries_shown files secret repo opens))
+unfolding entries_shown
 shown_of files secret repo opens = log_shown files repo.log.transaction opens.opens.unlocks.reads.log opens.opens.unlocks.reads.is
 
 begun_of : (counts : Bool) (h : History) (secret : Secret) (repo : RepoState) (opens : OpensFilesTo (files_now h) secret repo) → h.acts ≡ []
-    → (counts ≡ true → IsKept h) → IsBegun counts (Some repo.log.transaction) (Some (entries_of (files_now h) secret repo opens)) h
+    → (counts ≡ true → IsKept h) → IsBegun counts (Some repo.log.transaction) (Some (entries_shown (files_now h) secret repo opens)) h
 begun_of counts h secret repo opens e kept = record { no_acts = e; shown = shown_of (files_now h) secret repo opens; kept = kept }
 
 -- ---- each moment
@@ -65,28 +68,27 @@ begun_of counts h secret repo opens e kept = record { no_acts = e; shown = shown
 shows_of : (secret : Secret) (repo : RepoState) (h g : History) → OpensFilesTo (files_now h) secret repo → BeginsSound (Some repo.log.transaction) h g
     → OpenShows h g
 shows_of secret repo h g opens sound committed e shown =
-    let entries = entries_of (files_now h) secret repo opens in
+    let entries = entries_shown (files_now h) secret repo opens in
     let same : Some entries ≡ Some committed =
     one_shown (files_now h) (Some entries) (Some committed) (suc repo.log.transaction, shown_of (files_now h) secret repo opens) shown in
-    subst (λ (c : Option (List LogEntry)). Moments (EachStop (λ image. Shows image c)) h g) same
-    (moments_map (IsSound (λ image. Shows image (Some entries)) false) (EachStop (λ image. Shows image (Some entries))) h g (λ k s. s.shows)
+    let written = found (Some entries) (files_now h) in
+    subst (λ (c : Option (List LogEntry)). Moments (EachStop (ShowsStanding (found c (files_now h)))) h g) same
+    (moments_map (IsSound (ShowsStanding written) false) (EachStop (ShowsStanding written)) h g (λ k s. s.shows)
     (sound false (Some entries) (begun_of false h secret repo opens e (λ c. absurd (let no : ⊥ = cc in no)))))
 
 keeps_of : (secret : Secret) (repo : RepoState) (h g : History) → OpensFilesTo (files_now h) secret repo → BeginsSound (Some repo.log.transaction) h g
     → InitKeeps h g
 keeps_of secret repo h g opens sound e kept =
-    let entries = entries_of (files_now h) secret repo opens in
-    moments_map (IsSound (λ image. Shows image (Some entries)) true) (λ k. IsKept k × AllTraced k) h g
-    (λ k s. (record { fresh = s.fresh refl; shows = λ image left. (Some entries, s.shows image left) }, s.traced))
+    let entries = entries_shown (files_now h) secret repo opens in
+    moments_map (IsSound (ShowsStanding (found (Some entries) (files_now h))) true) (λ k. IsKept k × AllTraced k) h g
+    (λ k s. (record { fresh = s.fresh refl; shows = λ image left. (Some entries, (s.shows image left).0) }, s.traced))
     (sound true (Some entries) (begun_of true h secret repo opens e (λ c. kept)))
 
-stops_here : (h : History) → h.acts ≡ [] → (c : List LogEntry) → Shows (files_now h) (Some c) → EachStop (λ image. Shows image (Some c)) h
-stops_here h e c shown image left = subst (λ (f : Files). Shows f (Some c)) (sym (image_begun h image e left.image_is)) shown
-
 opens_here : (h : History) → OpenShows h h
-opens_here h committed e shown = moments_here (EachStop (λ image. Shows image (Some committed))) h (stops_here h e committed shown)
+opens_here h committed e shown =
+    moments_here (EachStop (ShowsStanding (found (Some committed) (files_now h)))) h (stands_begun (Some committed) h e shown)
 
-each_here : (h : History) → OpenEach h h
+pub each_here : (h : History) → OpenEach h h
 each_here h = (opens_here h, (keeps_here h, first_here h))
 
 -- ---- the repository fits once segments behind its commit are removed
@@ -131,26 +133,44 @@ cleared_fit state h g e clears fits =
 store_opened : (secret : Secret) (store : Store) (h g : History) → OpensFilesTo (files_now h) secret (repo_view store.repo) → cached_in store.repo ≡ []
     → Begins (Some (repo_view store.repo).log.transaction) store.counter store.session h g
     → ClearsAll (Some (repo_view store.repo).log.transaction) h g → store.session.after ≡ Some (repo_view store.repo).log.transaction
-    → store.opened.keys ≡ [] → InitFits store h g
+    → store.opened.keys ≡ [] → OpenFits store h g
 store_opened secret store h g opens empty begins clears after none counts e kept =
     let repo = repo_view store.repo in
-    let entries = entries_of (files_now h) secret repo opens in
-    let fits = opens_fits (files_now h) secret repo opens in
+    let files = files_now g in
+    let entries = entries_shown (files_now h) secret repo opens in
+    let before = shown_of (files_now h) secret repo opens in
+    let none_learnt = opens.opens.unlocks.reads.learnt in
+    let fits = cleared_fit repo.log h g none_learnt clears (opens_fits (files_now h) secret repo opens).log in
+    let u = begins counts (Some entries) (begun_of counts h secret repo opens e kept) in
+    let now = fits_now store.session (Some entries) [] g u.fits in
+    let at : ShowsAt files (suc repo.log.transaction) (Some entries) =
+    subst (λ (end : ℕ). ShowsAt files end (Some entries)) (ap behind after) now in
     record {
-      written = found (Some entries) (files_now h);
-      under_way = begins counts (Some entries) (begun_of counts h secret repo opens e kept);
-      repo = subst (FitsRepo (files_now g) repo) (sym empty)
-          (record { log = cleared_fit repo.log h g opens.opens.unlocks.reads.learnt clears fits.log; cached = tt });
-      below = omega (arith, ap behind after);
-      there = λ id apart known. absurd (nothing_known store id opens.opens.unlocks.reads.learnt none apart known);
+      committed = entries;
+      shown = (suc repo.log.transaction, before);
+      fits = record {
+        written = found (Some entries) (files_now h);
+        under_way = u;
+        repo = subst (FitsRepo files repo) (sym empty) (record { log = fits; cached = tt });
+        below = omega (arith, ap behind after);
+        there = λ id apart known. absurd (nothing_known store id none_learnt none apart known);
+        holds = holds_opened files repo.log entries (fits_state files repo.log entries fits none_learnt at) (suc repo.log.transaction, at);
+        manifest = record {
+          entries = entries;
+          is = refl;
+          holds = opened_manifest (files_now h) secret repo entries opens (suc repo.log.transaction, before);
+        };
+        keeps = keeps_nil entries;
+      };
+      found_is = refl;
     }
 
 -- ---- the steps
 
 pub open_unread : (fault : RepoFault) (a b : Option Told) (n m : ℕ) → KeepsTold {T = Repo} repo_failed a b (Err fault) → RoseWhere (repo_failed fault) n m
-    → Did {T = Store} OpenEach InitFits a b n m (Err (repo_refusal fault))
+    → Did {T = Store} OpenEach OpenFits a b n m (Err (repo_refusal fault))
 open_unread fault a b n m same caused =
-    read_refused {T = Store} repo_failed fault (repo_refusal fault) OpenEach InitFits a b n m (repo_is fault) each_here same caused
+    read_refused {T = Store} repo_failed fault (repo_refusal fault) OpenEach OpenFits a b n m (repo_is fault) each_here same caused
 
 open_step : (secret : Secret) (repo : RepoState) (h g i : History) → OpensFilesTo (files_now h) secret repo × Reads h g
     → BeginsSound (Some repo.log.transaction) g i × SettlesFirst g i → OpenEach h i
@@ -170,10 +190,10 @@ pub open_unbegun : (secret : Secret) (repo : Repo) (refusal : StoreRefusal) (a b
     → KeepsTold {F = RepoFault} repo_failed a b (Ok repo) → m ≡ n → IfSome a (λ t. OpensFilesTo (told_files t) secret (repo_view repo))
     → Between b c SettlesFirst
     → Did {T = Counter × Session} (BeginsSound (Some (repo_view repo).log.transaction)) (λ x. Begins (Some (repo_view repo).log.transaction) x.0 x.1) b c m k
-    (Err refusal) → Did {T = Store} OpenEach InitFits a c n k (Err refusal)
+    (Err refusal) → Did {T = Store} OpenEach OpenFits a c n k (Err refusal)
 open_unbegun secret repo refusal a b c n m k same caused opens first p =
     let after = Some (repo_view repo).log.transaction in
-    did_front OpenEach (λ (y : Counter × Session) h g. Unit {0}) OpenEach InitFits a c n k refusal (λ h g e. e)
+    did_front OpenEach (λ (y : Counter × Session) h g. Unit {0}) OpenEach OpenFits a c n k refusal (λ h g e. e)
     (did_then {T = Repo} {U = Counter × Session} Reads (λ _ h g. OpensFilesTo (files_now h) secret (repo_view repo) × Reads h g)
     (λ h g. BeginsSound after h g × SettlesFirst h g) (λ x. Begins after x.0 x.1) OpenEach (λ y h g. Unit {0}) a b c n m k repo (Err refusal)
     (λ h g i e d q f. open_step secret (repo_view repo) h g i q f) (λ y h g i q f. tt)
@@ -198,14 +218,14 @@ pub open_begun : (secret : Secret) (store : Store) (a b c : Option Told) (n m k 
     → Between b c (ClearsAll (Some (repo_view store.repo).log.transaction))
     → Did {T = Counter × Session} (BeginsSound (Some (repo_view store.repo).log.transaction))
     (λ x. Begins (Some (repo_view store.repo).log.transaction) x.0 x.1) b c m k (Ok (store.counter, store.session))
-    → Did {T = Store} OpenEach InitFits a c n k (Ok store)
+    → Did {T = Store} OpenEach OpenFits a c n k (Ok store)
 open_begun secret store a b c n m k same caused opens empty behind_log none first clears p =
     let repo = repo_view store.repo in
     let after = Some repo.log.transaction in
-    did_as OpenEach (λ (y : Counter × Session) h g. InitFits store h g) OpenEach InitFits a c n k (store.counter, store.session) store (λ h g e. e) (λ h g e. e)
+    did_as OpenEach (λ (y : Counter × Session) h g. OpenFits store h g) OpenEach OpenFits a c n k (store.counter, store.session) store (λ h g e. e) (λ h g e. e)
     (did_then {T = Repo} {U = Counter × Session} Reads (λ _ h g. OpensFilesTo (files_now h) secret repo × Reads h g)
     (λ h g. BeginsSound after h g × SettlesFirst h g) (λ _ h g. ClearsAll after h g × Begins after store.counter store.session h g) OpenEach
-    (λ y h g. InitFits store h g) a b c n m k store.repo (Ok (store.counter, store.session))
+    (λ y h g. OpenFits store h g) a b c n m k store.repo (Ok (store.counter, store.session))
     (λ h g i e d q f. open_step secret repo h g i q f)
     (λ y h g i q f. store_opened secret store h i q.0 empty (subst (λ (x : History). Begins after store.counter store.session x i) q.1 f.1)
     (subst (λ (x : History). ClearsAll after x i) q.1 f.0) behind_log none)

@@ -11,12 +11,11 @@ use Rattle.ferry_nonce.specs.declared.counter.Counter.{Counter}
 use Rattle.ferry_nonce.specs.declared.fault.NonceFault.TheVariants as Nonces
 use Rattle.ferry_repo.specs.Opening.{mode_of}
 use Rattle.ferry_segment.specs.Entry.{PutEntry}
-use Rattle.ferry_store.proofs.SoundLemmas.{sound_now}
+use Rattle.ferry_store.proofs.SoundLemmas.{stands_now}
 use Rattle.ferry_store.proofs.StepLemmas.{did_nothing, moments_here}
-use Rattle.ferry_stops.specs.Entries.{Shows}
 use Rattle.ferry_store.specs.Fault.{depot_failed}
 use Rattle.ferry_store.specs.New.{PutsManifest, RefusesFirst, first_manifest, manifest_blob, manifest_bytes}
-use Rattle.ferry_store.specs.State.{Did, IsSound, KeepsSound, RefusesManifest, RefusesPut, TakesEntry}
+use Rattle.ferry_store.specs.State.{Did, IsSound, KeepsSound, RefusesManifest, RefusesPut, ShowsStanding, TakesEntry}
 use Rattle.ferry_store.specs.declared.fault.StoreRefusal.{StoreRefusal}
 use Rattle.ferry_store.specs.declared.fault.StoreRefusal.TheVariants.{Repo, Write, Nonce, Committed, TooLarge, Entropy, Memory}
 use Rattle.ferry_store.specs.declared.key.Basis.{Basis}
@@ -46,7 +45,7 @@ manifest_still size Committed is = absurd is
 
 pub keeps_here : (session : Session) (counter : Counter) (h : History) → KeepsSound session counter h h
 keeps_here session counter h counts written u =
-    moments_here (IsSound (λ image. Shows image written.committed) counts) h (sound_now counts session counter written h u)
+    moments_here (IsSound (ShowsStanding written) counts) h (stands_now counts session counter written h u)
 
 pub manifest_unput : (basis : Basis) (timestamp salt : List ℕ) (session : Session) (counter : Counter) (a : Option Told) (n : ℕ) (refusal : StoreRefusal)
     → RefusesManifest (length (manifest_bytes basis timestamp salt)) refusal

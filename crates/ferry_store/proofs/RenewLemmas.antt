@@ -2,31 +2,35 @@
 use Rattle.std.proofs.Common.{◌≡◌, ◌↔◌, ◌<◌, ◌+◌, ◌-◌, inl, inr, ℕ, false, List, [], ◌∷◌, ◌++◌, OnOk, Option, None, Result, Ok, Err}
 use Rattle.std.proofs.Common.{IfErr, IsErrOf, IsSome, refl, sym, ◌∙◌, ap, subst, arith, append_assoc}
 use Rattle.std.specs.FinMap.{get}
-use Rattle.ferry_blob.specs.Blob.{blocks}
+use Rattle.ferry_base.specs.Limits.{zero_id}
+use Rattle.ferry_blob.specs.Blob.{OpensTo, blocks}
 use Rattle.ferry_disk.specs.Act.{History, files_now}
 use Rattle.ferry_disk.specs.Device.{Told}
-use Rattle.ferry_disk.specs.Files.{segment_bytes}
+use Rattle.ferry_disk.specs.Files.{Files, segment_bytes}
 use Rattle.ferry_disk.specs.Moments.{Between}
 use Rattle.ferry_log.specs.State.{LogState}
 use Rattle.ferry_log.specs.declared.place.Place.{Place}
-use Rattle.ferry_manifest.specs.Manifest.Text.{ManifestText}
+use Rattle.ferry_manifest.specs.Manifest.Text.{ManifestText, manifest_of}
+use Rattle.ferry_manifest.specs.Manifest.Writing.{manifest_text}
 use Rattle.ferry_nonce.specs.Counter.{IsExhausted}
 use Rattle.ferry_nonce.specs.declared.counter.Counter.{Counter}
 use Rattle.ferry_nonce.specs.declared.fault.NonceFault.TheVariants as Nonces
 use Rattle.ferry_repo.proofs.LearnLemmas.{renew_fits}
 use Rattle.ferry_repo.specs.Opening.{FitsRepo, RepoState, cached_in, repo_view}
 use Rattle.ferry_repo.specs.declared.repo.Repo.{Repo}
-use Rattle.ferry_segment.specs.Entry.{LogEntry}
-use Rattle.ferry_stops.specs.Entries.{Shows}
+use Rattle.ferry_segment.specs.Entry.{LogEntry, PutEntry}
 use Rattle.ferry_store.proofs.AddLemmas.{blobs_stay, repo_stays, there_kept}
 use Rattle.ferry_store.proofs.CommitLemmas.{did_beside}
+use Rattle.ferry_store.proofs.LiveLemmas.{keeps_nil}
 use Rattle.ferry_store.proofs.PutLemmas.{err_of, keeps_here}
+use Rattle.ferry_store.proofs.StandingLemmas.{holds_later, live_renewed, manifest_renewed}
 use Rattle.ferry_store.proofs.StepLemmas.{did_front, did_nothing, did_then, moments_map, moments_then}
-use Rattle.ferry_store.specs.Commit.{Commits, CommitsEntry, HasCommitted, RefusesManifestOf}
-use Rattle.ferry_store.specs.Content.{IsThere}
+use Rattle.ferry_store.specs.Commit.{Commits, CommitsEntry, HasCommitted, HoldsEntry, RefusesManifestOf, ShowsManifest, manifest_entry}
+use Rattle.ferry_store.specs.Content.{IsThere, blob_for}
 use Rattle.ferry_store.specs.Fault.{depot_failed}
+use Rattle.ferry_store.specs.Standing.{CommitsManifest, HoldsLive, HoldsManifest, entries_committed, entries_of, with_manifest}
 use Rattle.ferry_store.specs.State.{CommitsSound, Did, IsPlaced, IsSound, KeepsSound, RefusesCommit, RefusesManifest, RefusesPut, ShowsEither, TakesCommit}
-use Rattle.ferry_store.specs.State.{TakesEntry, all_committed, with_entry}
+use Rattle.ferry_store.specs.State.{ShowsStanding, TakesEntry, Written, all_committed, with_entry}
 use Rattle.ferry_store.specs.Store.{IsKnown}
 use Rattle.ferry_store.specs.declared.fault.StoreRefusal.{StoreRefusal}
 use Rattle.ferry_store.specs.declared.fault.StoreRefusal.TheVariants.{Repo as RepoRefusal, Write, Nonce, Committed, TooLarge, Entropy, Memory}
@@ -47,13 +51,30 @@ stays_then after now h g i same a b = record {
       (p.0 ++ q.0, q.1 ∙ (ap (λ (x : List ℕ). x ++ q.0) p.1 ∙ append_assoc (segment_bytes (files_now h) n) p.0 q.0));
 }
 
-entry_sound : (session put : Session) (counter drawn : Counter) (entry : LogEntry) (h g i : History) → KeepsSound session counter h g → AllDone h g
-    → TakesEntry session counter entry put drawn h g → CommitsSound put drawn g i → CommitsEntry session counter entry h i
-entry_sound session put counter drawn entry h g i keeps done takes commits counts written u =
-    moments_then (IsSound (ShowsEither (with_entry written entry)) counts) h g i
-    (moments_map (IsSound (λ image. Shows image written.committed) counts) (IsSound (ShowsEither (with_entry written entry)) counts) h g
-    (λ k s. record { shows = λ image left. inl (s.shows image left); traced = s.traced; fresh = s.fresh }) (keeps counts written u)) done
-    (commits counts (with_entry written entry) (takes counts written u))
+-- where the manifest is held once all is committed, it is held where that is shown
+with_held : (next : RepoState) (written : Written) (image : Files) → HoldsManifest next (entries_committed written) → ShowsEither written image
+    → ShowsManifest next written image
+with_held next written image held (inl before) = inl before
+with_held next written image held (inr all) = inr (all, held)
+
+keeps_entry : (next : RepoState) (session : Session) (counter : Counter) (entry : LogEntry) (h g : History) → KeepsSound session counter h g
+    → CommitsEntry next session counter entry h g
+keeps_entry next session counter entry h g keeps counts written u =
+    moments_map (IsSound (ShowsStanding written) counts) (IsSound (ShowsManifest next (with_entry written entry)) counts) h g
+    (λ k s. record { shows = λ image left. inl (s.shows image left); traced = s.traced; fresh = s.fresh }) (keeps counts written u)
+
+entry_sound : (next : RepoState) (session put : Session) (counter drawn : Counter) (entry : LogEntry) (h g i : History)
+    → HoldsEntry next entry → KeepsSound session counter h g → AllDone h g
+    → TakesEntry session counter entry put drawn h g → CommitsSound put drawn g i → CommitsEntry next session counter entry h i
+entry_sound next session put counter drawn entry h g i held keeps done takes commits counts written u =
+    moments_then (IsSound (ShowsManifest next (with_entry written entry)) counts) h g i (keeps_entry next session counter entry h g keeps counts written u) done
+    (moments_map (IsSound (ShowsEither (with_entry written entry)) counts) (IsSound (ShowsManifest next (with_entry written entry)) counts) g i
+    (λ k s. record {
+      shows = λ image left. with_held next (with_entry written entry) image (held written) (s.shows image left);
+      traced = s.traced;
+      fresh = s.fresh;
+    })
+    (commits counts (with_entry written entry) (takes counts written u)))
 
 abbrev pub Puts : Session → Counter → LogEntry → List ℕ → Session → Counter → Place → History → History → Type 0
 Puts session counter entry blob put drawn place h g = TakesEntry session counter entry put drawn h g × IsPlaced session counter blob place h g
@@ -61,13 +82,15 @@ Puts session counter entry blob put drawn place h g = TakesEntry session counter
 abbrev pub CommitsAll : Session → Counter → Session → Unit {0} → History → History → Type 0
 CommitsAll put drawn done x h g = TakesCommit put drawn done h g × OnlyAppends put h g
 
-entry_committed : (session put done : Session) (counter drawn : Counter) (entry : LogEntry) (blob : List ℕ) (place : Place) (more : ℕ) (h g i : History)
-    → put ≡ after_entry session more → done ≡ after_commit put → Puts session counter entry blob put drawn place h g → CommitsAll put drawn done tt g i
-    → HasCommitted session counter entry done drawn h i
-entry_committed session put done counter drawn entry blob place more h g i put_is done_is puts commits =
+entry_committed : (next : RepoState) (session put done : Session) (counter drawn : Counter) (entry : LogEntry) (blob : List ℕ) (place : Place) (more : ℕ)
+    (h g i : History) → HoldsEntry next entry → put ≡ after_entry session more → done ≡ after_commit put
+    → Puts session counter entry blob put drawn place h g → CommitsAll put drawn done tt g i
+    → HasCommitted next session counter entry done drawn h i
+entry_committed next session put done counter drawn entry blob place more h g i held put_is done_is puts commits =
     let same = ap (λ (s : Session). s.after) put_is in
     record {
       takes = λ counts written u. commits.0 counts (with_entry written entry) (puts.0 counts written u);
+      holds = held;
       stays = λ counts written u.
           stays_then session.after put.after h g i same (puts.1 counts written u).stays
           (commits.1 written.committed (written.pending ++ entry ∷ []) (puts.0 counts written u).fits);
@@ -78,45 +101,49 @@ entry_committed session put done counter drawn entry blob place more h g i put_i
           omega (arith, order, was, is);
     }
 
-pub put_commits : (session put done : Session) (counter drawn : Counter) (entry : LogEntry) (blob : List ℕ) (place : Place) (more : ℕ) (a b c : Option Told)
-    (n m k : ℕ) (r : Result (Unit {0}) StoreRefusal) → put ≡ after_entry session more → OnOk r (done ≡ after_commit put)
+pub put_commits : (next : RepoState) (session put done : Session) (counter drawn : Counter) (entry : LogEntry) (blob : List ℕ) (place : Place) (more : ℕ)
+    (a b c : Option Told) (n m k : ℕ) (r : Result (Unit {0}) StoreRefusal) → HoldsEntry next entry → put ≡ after_entry session more
+    → OnOk r (done ≡ after_commit put)
     → Did {T = Place} (KeepsSound session counter) (λ _. TakesEntry session counter entry put drawn) a b n m (Ok place)
     → Between a b (IsPlaced session counter blob place) → Did {T = Unit {0}} (CommitsSound put drawn) (CommitsAll put drawn done) b c m k r
-    → Did {T = Unit {0}} (CommitsEntry session counter entry) (λ _. HasCommitted session counter entry done drawn) a c n k r
-put_commits session put done counter drawn entry blob place more a b c n m k (Ok y) put_is done_is p placed q =
+    → Did {T = Unit {0}} (CommitsEntry next session counter entry) (λ _. HasCommitted next session counter entry done drawn) a c n k r
+put_commits next session put done counter drawn entry blob place more a b c n m k (Ok y) held put_is done_is p placed q =
     did_then {T = Place} {U = Unit {0}} (KeepsSound session counter) (λ _. Puts session counter entry blob put drawn place) (CommitsSound put drawn)
-    (CommitsAll put drawn done) (CommitsEntry session counter entry) (λ _. HasCommitted session counter entry done drawn) a b c n m k place (Ok y)
-    (λ h g i e d puts f. entry_sound session put counter drawn entry h g i e d puts.0 f)
-    (λ z h g i puts f. entry_committed session put done counter drawn entry blob place more h g i put_is done_is puts f)
+    (CommitsAll put drawn done) (CommitsEntry next session counter entry) (λ _. HasCommitted next session counter entry done drawn) a b c n m k place (Ok y)
+    (λ h g i e d puts f. entry_sound next session put counter drawn entry h g i held e d puts.0 f)
+    (λ z h g i puts f. entry_committed next session put done counter drawn entry blob place more h g i held put_is done_is puts f)
     (did_beside {T = Place} (KeepsSound session counter) (λ _. TakesEntry session counter entry put drawn) (IsPlaced session counter blob place) a b n m place
     placed p) q
-put_commits session put done counter drawn entry blob place more a b c n m k (Err f) put_is done_is p placed q =
-    did_front {T = Unit {0}} {U = Unit {0}} (CommitsEntry session counter entry) (λ _ h g. Unit {0}) (CommitsEntry session counter entry)
-    (λ _. HasCommitted session counter entry done drawn) a c n k f (λ h g e. e)
+put_commits next session put done counter drawn entry blob place more a b c n m k (Err f) held put_is done_is p placed q =
+    did_front {T = Unit {0}} {U = Unit {0}} (CommitsEntry next session counter entry) (λ _ h g. Unit {0}) (CommitsEntry next session counter entry)
+    (λ _. HasCommitted next session counter entry done drawn) a c n k f (λ h g e. e)
     (did_then {T = Place} {U = Unit {0}} (KeepsSound session counter) (λ _. Puts session counter entry blob put drawn place)
-    (CommitsSound put drawn) (CommitsAll put drawn done) (CommitsEntry session counter entry) (λ _ h g. Unit {0}) a b c n m k place (Err f)
-    (λ h g i e d puts s. entry_sound session put counter drawn entry h g i e d puts.0 s) (λ z h g i puts s. tt)
+    (CommitsSound put drawn) (CommitsAll put drawn done) (CommitsEntry next session counter entry) (λ _ h g. Unit {0}) a b c n m k place (Err f)
+    (λ h g i e d puts s. entry_sound next session put counter drawn entry h g i held e d puts.0 s) (λ z h g i puts s. tt)
     (did_beside {T = Place} (KeepsSound session counter) (λ _. TakesEntry session counter entry put drawn) (IsPlaced session counter blob place) a b n m place
     placed p) q)
 
 -- a front of it, where the put was refused or no call was made
-keeps_entry : (session : Session) (counter : Counter) (entry : LogEntry) (h g : History) → KeepsSound session counter h g
-    → CommitsEntry session counter entry h g
-keeps_entry session counter entry h g keeps counts written u =
-    moments_map (IsSound (λ image. Shows image written.committed) counts) (IsSound (ShowsEither (with_entry written entry)) counts) h g
-    (λ k s. record { shows = λ image left. inl (s.shows image left); traced = s.traced; fresh = s.fresh }) (keeps counts written u)
-
-pub put_refused : (session : Session) (counter : Counter) (entry : LogEntry) (Q : Place → History → History → Type 0)
+pub put_refused : (next : RepoState) (session : Session) (counter : Counter) (entry : LogEntry) (Q : Place → History → History → Type 0)
     (R : Unit {0} → History → History → Type 0)
     (a b : Option Told) (n m : ℕ) (f : StoreRefusal) → Did {T = Place} (KeepsSound session counter) Q a b n m (Err f)
-    → Did {T = Unit {0}} (CommitsEntry session counter entry) R a b n m (Err f)
-put_refused session counter entry Q R a b n m f p =
-    did_front (KeepsSound session counter) Q (CommitsEntry session counter entry) R a b n m f (keeps_entry session counter entry) p
+    → Did {T = Unit {0}} (CommitsEntry next session counter entry) R a b n m (Err f)
+put_refused next session counter entry Q R a b n m f p =
+    did_front (KeepsSound session counter) Q (CommitsEntry next session counter entry) R a b n m f (keeps_entry next session counter entry) p
 
-pub nothing_committed : {T : Type 0} (session : Session) (counter : Counter) (entry : LogEntry) (R : T → History → History → Type 0) (a : Option Told) (n : ℕ)
-    (f : StoreRefusal) → depot_failed f ≡ false → Did {T = T} (CommitsEntry session counter entry) R a a n n (Err f)
-nothing_committed session counter entry R a n f still =
-    did_nothing (CommitsEntry session counter entry) R a n f still (λ h. keeps_entry session counter entry h h (keeps_here session counter h))
+pub nothing_committed : {T : Type 0} (next : RepoState) (session : Session) (counter : Counter) (entry : LogEntry) (R : T → History → History → Type 0)
+    (a : Option Told) (n : ℕ) (f : StoreRefusal) → depot_failed f ≡ false → Did {T = T} (CommitsEntry next session counter entry) R a a n n (Err f)
+nothing_committed next session counter entry R a n f still =
+    did_nothing (CommitsEntry next session counter entry) R a n f still
+    (λ h. keeps_entry next session counter entry h h (keeps_here session counter h))
+
+-- a manifest whose blob opens to bytes that read as it is held once it is put and committed
+pub manifest_held : (repo : RepoState) (counter : Counter) (manifest : ManifestText) (salt : List ℕ)
+    → OpensTo repo.keys zero_id (blob_for repo counter (manifest_text repo.keys salt manifest)) (manifest_text repo.keys salt manifest)
+    → manifest_of repo.keys (manifest_text repo.keys salt manifest) ≡ Ok manifest
+    → HoldsEntry (with_manifest repo manifest) (manifest_entry repo counter manifest salt)
+manifest_held repo counter manifest salt opens reads written =
+    manifest_renewed repo manifest (blob_for repo counter (manifest_text repo.keys salt manifest)) (manifest_text repo.keys salt manifest) written opens reads
 
 -- why it isn't committed
 pub packed_refused : (counter : Counter) (size : ℕ) (f : StoreRefusal) → RefusesManifest size f → RefusesManifestOf counter size f
@@ -185,16 +212,19 @@ known_committed store repo session counter id same (inl zero) = inl zero
 known_committed store repo session counter id same (inr (inl put)) = inr (inl (subst (λ (l : LogState). IsSome (get l.learnt id)) same put))
 known_committed store repo session counter id same (inr (inr has)) = inr (inr has)
 
-pub store_committed : (store : Store) (repo : Repo) (session : Session) (counter : Counter) (entry : LogEntry) (manifest : ManifestText) (h g : History)
-    → repo_view repo ≡ record (repo_view store.repo) { manifest = manifest } → cached_in repo ≡ cached_in store.repo
-    → HasCommitted store.session store.counter entry session counter h g → Commits store entry (with_commit store repo session counter) h g
-store_committed store repo session counter entry manifest h g view cached done counts fits =
+pub store_committed : (store : Store) (repo : Repo) (session : Session) (counter : Counter) (blob : List ℕ) (manifest : ManifestText) (h g : History)
+    → repo_view repo ≡ with_manifest (repo_view store.repo) manifest → cached_in repo ≡ cached_in store.repo
+    → HasCommitted (with_manifest (repo_view store.repo) manifest) store.session store.counter (PutEntry zero_id blob) session counter h g
+    → Commits store (PutEntry zero_id blob) (with_commit store repo session counter) h g
+store_committed store repo session counter blob manifest h g view cached done counts fits =
     let u = fits.under_way in
     let before = repo_view store.repo in
     let kept = done.stays counts fits.written u in
-    let after = store.session.after in (
+    let after = store.session.after in
+    let next = with_entry fits.written (PutEntry zero_id blob) in
+    let stay = blobs_stay after before.log h g kept in (
       record {
-        written = all_committed (with_entry fits.written entry);
+        written = all_committed next;
         under_way = done.takes counts fits.written u;
         repo = subst (FitsRepo (files_now g) (repo_view repo)) (sym cached)
             (subst (λ (r : RepoState). FitsRepo (files_now g) r (cached_in store.repo)) (sym view)
@@ -204,8 +234,14 @@ store_committed store repo session counter entry manifest h g view cached done c
             (let more = done.behind_it counts fits.written u in omega (arith, fits.below, more));
         there = λ id apart known.
             subst (λ (r : RepoState). IsThere (files_now g) r id) (sym view)
-            (there_kept (files_now h) (files_now g) before (record before { manifest = manifest }) id refl (blobs_stay after before.log h g kept)
+            (there_kept (files_now h) (files_now g) before (with_manifest before manifest) id refl stay
             (fits.there id apart (known_committed store repo session counter id (ap (λ (r : RepoState). r.log) view) known)));
+        holds = subst (λ (r : RepoState). HoldsLive (files_now g) r.log (entries_of (all_committed next))) (sym view)
+            (holds_later (files_now h) (files_now g) before.log (entries_of fits.written) (entries_of (all_committed next)) fits.repo.log stay
+            (λ id apart. live_renewed fits.written blob id apart) fits.holds);
+        manifest = subst (λ (r : RepoState). CommitsManifest r (all_committed next).committed) (sym view)
+            (record { entries = entries_committed next; is = refl; holds = done.holds fits.written });
+        keeps = keeps_nil (entries_committed next);
       },
       refl,
     )

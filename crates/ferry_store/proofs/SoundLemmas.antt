@@ -22,6 +22,7 @@ use Rattle.ferry_stops.specs.Counters.{IsNonce, AreApart, TakenBelow, IsAbove, I
 use Rattle.ferry_stops.specs.Entries.{Shows}
 use Rattle.ferry_store.proofs.StepLemmas.{moments_map, moments_both, moments_start, moments_settled, step_moments}
 use Rattle.ferry_store.specs.State.{AreTaken, IsUnderWay, IsSound, Written, BeginsSound, Begins, with_entry, all_committed, IsStep, ShowsEither}
+use Rattle.ferry_store.specs.State.{ShowsStanding, found}
 use Rattle.ferry_write.proofs.LawLemmas.{beside_fits, beside_rows, beside_blobs}
 use Rattle.ferry_write.specs.Room.{behind}
 use Rattle.ferry_write.specs.Rows.{SessionRows, BeginBrings, BringsNone, BeginsRows, Brings, KeepsRows, IsPutOf}
@@ -48,6 +49,17 @@ fresh_by free h is_settled counts taken = record {
 
 -- ---- a moment as it stands
 
+-- where nothing of a file is in doubt, a stop leaves what a read gives
+rest_stands : (file image : Option (List ℕ)) (fate : PlainFate) → fate ≡ rests_at file → MayStand fate image → image ≡ file
+rest_stands file image fate e (inl is) = is ∙ ap (λ (f : PlainFate). f.read) e
+rest_stands file image fate e (inr is) =
+    let none : fate.perhaps ≡ None = ap (λ (f : PlainFate). f.perhaps) e in
+    let both : None ≡ Some is.0 = sym none ∙ is.1 in absurd (let no : ⊥ = cc in no)
+
+config_left : (h : History) (config : Option (List ℕ)) (image : Files) → plain_in h ConfigFile ≡ rests_at config → settled h.acts ≡ true → ImageOf h image
+    → image.config ≡ config
+config_left h config image rest is_settled is = rest_stands config image.config (plain_in h ConfigFile) rest (is.after is_settled).config
+
 pub sound_now : (counts : Bool) (session : Session) (counter : Counter) (written : Written) (h : History)
     → IsUnderWay counts session counter written h → IsSound (λ image. Shows image written.committed) counts h
 sound_now counts session counter written h u = record {
@@ -55,6 +67,24 @@ sound_now counts session counter written h u = record {
   traced = u.rows.traced;
   fresh = λ e. fresh_by counter.free h u.fits.own.safe.settled_is u.counter_fits.free (u.taken e);
 }
+
+-- the same, with the settings
+pub stands_now : (counts : Bool) (session : Session) (counter : Counter) (written : Written) (h : History)
+    → IsUnderWay counts session counter written h → IsSound (ShowsStanding written) counts h
+stands_now counts session counter written h u =
+    let is_settled = u.fits.own.safe.settled_is in
+    record {
+      shows = λ image left. ((_, own_shows _ written.committed h u.fits.own image left), config_left h written.config image u.config is_settled left.image_is);
+      traced = u.rows.traced;
+      fresh = λ e. fresh_by counter.free h is_settled u.counter_fits.free (u.taken e);
+    }
+
+-- what is committed is shown where it is shown with the settings
+pub standing_shown : (counts : Bool) (written : Written) (h g : History) → Moments (IsSound (ShowsStanding written) counts) h g
+    → Moments (IsSound (λ image. Shows image written.committed) counts) h g
+standing_shown counts written h g m =
+    moments_map (IsSound (ShowsStanding written) counts) (IsSound (λ image. Shows image written.committed) counts) h g
+    (λ k s. record { shows = λ image left. (s.shows image left).0; traced = s.traced; fresh = s.fresh }) m
 
 -- ---- the begin of a run
 
@@ -73,27 +103,39 @@ unsettled_begun h e = ap settled e
 pub image_begun : (h : History) (image : Files) → h.acts ≡ [] → ImageOf h image → image ≡ files_now h
 image_begun h image e is = (unsettled_image h.start h.acts image (unsettled_begun h e)).0 is ∙ sym (files_begun h e)
 
-pub shows_begun : (after : Option ℕ) (committed : Option (List LogEntry)) (h : History) → h.acts ≡ [] → CommittedUpTo after committed (files_now h)
+shows_begun : (after : Option ℕ) (committed : Option (List LogEntry)) (h : History) → h.acts ≡ [] → CommittedUpTo after committed (files_now h)
     → EachStop (λ image. Shows image committed) h
 shows_begun after committed h e shown image left =
     subst (λ (f : Files). Shows f committed) (sym (image_begun h image e left.image_is)) (behind after, shown)
 
+-- with the settings that stand there
+pub stands_begun : (committed : Option (List LogEntry)) (h : History) → h.acts ≡ [] → Shows (files_now h) committed
+    → EachStop (ShowsStanding (found committed (files_now h))) h
+stands_begun committed h e shown image left =
+    subst (ShowsStanding (found committed (files_now h))) (sym (image_begun h image e left.image_is)) (shown, refl)
+
 pub traced_begun : (h : History) → h.acts ≡ [] → AllTraced h
 traced_begun h e = subst AllTraced (ap (λ (acts : List Act). record { start = h.start; past = h.past; acts = acts }) (sym e)) (begin_traced h.start h.past)
 
--- where nothing of a file is in doubt, a stop leaves what a read gives
-rest_stands : (file image : Option (List ℕ)) (fate : PlainFate) → fate ≡ rests_at file → MayStand fate image → image ≡ file
-rest_stands file image fate e (inl is) = is ∙ ap (λ (f : PlainFate). f.read) e
-rest_stands file image fate e (inr is) =
-    let none : fate.perhaps ≡ None = ap (λ (f : PlainFate). f.perhaps) e in
-    let both : None ≡ Some is.0 = sym none ∙ is.1 in absurd (let no : ⊥ = cc in no)
+-- a file that a stop leaves, where nothing of it is in doubt and the run began with it
+start_left : (file : Files → Option (List ℕ)) (fate : PlainFate) (h : History) (image : Files) → fate ≡ rests_at (file h.start)
+    → (settled h.acts ≡ true → MayStand fate (file image)) → ImageOf h image → file image ≡ file h.start
+start_left file fate h image rest stands is = by_settled (settled h.acts) refl where
+  by_settled : (b : Bool) → settled h.acts ≡ b → file image ≡ file h.start
+  by_settled true e = rest_stands (file h.start) (file image) fate rest (stands e)
+  by_settled false e = ap file (is.before e)
 
--- the file `nonce` that a stop leaves, where nothing of it is in doubt and the run began with it
 nonce_left : (h : History) (image : Files) → plain_in h NonceFile ≡ rests_at h.start.nonce → ImageOf h image → image.nonce ≡ h.start.nonce
-nonce_left h image rest is = by_settled (settled h.acts) refl where
-  by_settled : (b : Bool) → settled h.acts ≡ b → image.nonce ≡ h.start.nonce
-  by_settled true e = rest_stands h.start.nonce image.nonce (plain_in h NonceFile) rest (is.after e).nonce
-  by_settled false e = ap (λ (f : Files). f.nonce) (is.before e)
+nonce_left h image rest is = start_left (λ (f : Files). f.nonce) (plain_in h NonceFile) h image rest (λ e. (is.after e).nonce) is
+
+-- the settings that a stop leaves at a moment at which they are those of the begin
+config_later : (h g : History) → h.acts ≡ [] → g.start ≡ h.start → plain_in g ConfigFile ≡ rests_at h.start.config → (image : Files) → ImageOf g image
+    → image.config ≡ (files_now h).config
+config_later h g e start rest image is =
+    let same : g.start.config ≡ h.start.config = ap (λ (f : Files). f.config) start in
+    let left : image.config ≡ g.start.config =
+    start_left (λ (f : Files). f.config) (plain_in g ConfigFile) g image (rest ∙ ap rests_at (sym same)) (λ s. (is.after s).config) is in
+    left ∙ (same ∙ ap (λ (f : Files). f.config) (sym (files_begun h e)))
 
 -- what was kept at the begin is above, at each moment at which the file is as it was
 above_later : (h g : History) → h.acts ≡ [] → IsKept h → g.start ≡ h.start → plain_in g NonceFile ≡ rests_at h.start.nonce
@@ -119,18 +161,19 @@ pub begin_sound : (after : Option ℕ) (h g : History) → BeginKeeps after h g 
 begin_sound after h g keeps brings plain counts committed begun =
     let rest = plain_begun h NonceFile begun.no_acts in
     let nonce = plain NonceFile (file_at h.start NonceFile) rest in
+    let config = plain ConfigFile (file_at h.start ConfigFile) (plain_begun h ConfigFile begun.no_acts) in
     let shows = keeps committed begun.shown (shows_begun after committed h begun.no_acts begun.shown) in
     let gains = brings begun.no_acts in
     let start = moments_start _ h g gains in
-    moments_map _ (IsSound (λ image. Shows image committed) counts) h g (λ m all. record {
-      shows = all.0.0;
+    moments_map _ (IsSound (ShowsStanding (found committed (files_now h))) counts) h g (λ m all. record {
+      shows = λ image left. (all.0.0 image left, config_later h m begun.no_acts all.1.1 all.1.0.1 image left.image_is);
       traced = all.0.1.traced;
       fresh = λ e. record {
         apart = apart_as h m (none_new h m all.0.1) (begun.kept e).fresh.apart;
-        above = above_later h m begun.no_acts (begun.kept e) all.1.1 all.1.0 (none_new h m all.0.1);
+        above = above_later h m begun.no_acts (begun.kept e) all.1.1 all.1.0.0 (none_new h m all.0.1);
       };
     })
-    (moments_both _ _ h g (moments_both _ _ h g shows gains) (moments_both _ _ h g nonce start))
+    (moments_both _ _ h g (moments_both _ _ h g shows gains) (moments_both _ _ h g (moments_both _ _ h g nonce config) start))
 
 -- a counter's file is as it was
 counts_kept : (n : ℕ) (h g : History) → KeepsPlain h g → Counts n h → Counts n g
@@ -219,26 +262,27 @@ pub record HasDrawn (counts : Bool) (session : Session) (first : ℕ) (counter :
 
 pub put_sound : (counts : Bool) (session : Session) (first : ℕ) (counter : Counter) (written : Written) (entry : LogEntry) (h g : History)
     → TakesBlocks entry first counter.free → HasDrawn counts session first counter written h → Keeps session h g → Brings session entry h g
-    → KeepsPlain h g → Moments (IsSound (λ image. Shows image written.committed) counts) h g
+    → KeepsPlain h g → Moments (IsSound (ShowsStanding written) counts) h g
 put_sound counts session first counter written entry h g blocks u keeps brings plain =
     let shows = keeps written.committed written.pending u.fits in
     let gains = brings written.committed written.pending u.fits u.rows in
     let nonce = plain NonceFile u.counter_fits.free.file u.counter_fits.free.at_rest in
+    let config = plain ConfigFile written.config u.config in
     let is_settled = moments_settled _ h g u.fits.own.safe.settled_is gains in
-    moments_map _ (IsSound (λ image. Shows image written.committed) counts) h g (λ m all. record {
-      shows = all.0.0;
+    moments_map _ (IsSound (ShowsStanding written) counts) h g (λ m all. record {
+      shows = λ image left. (all.0.0 image left, config_left m written.config image all.1.0.1 all.1.1 left.image_is);
       traced = all.0.1.traced;
       fresh = λ e. fresh_by counter.free m all.1.1
           (record {
             file = u.counter_fits.free.file;
-            at_rest = all.1.0;
+            at_rest = all.1.0.0;
             value = u.counter_fits.free.value;
             nonce = u.counter_fits.free.nonce;
             within = u.counter_fits.free.within;
           })
           (gained_taken first counter.free entry h m u.order blocks all.0.1 (u.taken e));
     })
-    (moments_both _ _ h g (moments_both _ _ h g shows gains) (moments_both _ _ h g nonce is_settled))
+    (moments_both _ _ h g (moments_both _ _ h g shows gains) (moments_both _ _ h g (moments_both _ _ h g nonce config) is_settled))
 
 pub put_stands : (counts : Bool) (session now : Session) (first : ℕ) (counter : Counter) (written : Written) (entry : LogEntry) (h g : History)
     → TakesBlocks entry first counter.free → HasDrawn counts session first counter written h → Puts session now entry h g → KeepsRows session now h g
@@ -305,37 +349,44 @@ config_stands counts session counter written bytes h u =
 -- ---- a draw
 
 abbrev quiet : (session : Session) (counter : Counter) (written : Written) (h : History) → Type 0
-quiet session counter written h = SessionFits session written.committed written.pending h × SessionRows session h
+quiet session counter written h = SessionFits session written.committed written.pending h
+    × (SessionRows session h × (plain_in h ConfigFile ≡ rests_at written.config))
 
 draw_base : (counts : Bool) (session : Session) (counter : Counter) (written : Written) (number : ℕ) (h g : History)
     → IsUnderWay counts session counter written h
     → IsStep (reserves number) h g → Moments (λ m. quiet session counter written m × ((blob : List ℕ) → BlobOf m blob → BlobOf h blob)) h g
 draw_base counts session counter written number h g u is =
     step_moments (λ m. quiet session counter written m × ((blob : List ℕ) → BlobOf m blob → BlobOf h blob)) (reserves number) h g
-    ((u.fits, u.rows), λ blob x. x)
+    ((u.fits, (u.rows, u.config)), λ blob x. x)
     (λ done. (
-      (beside_fits session written.committed written.pending h (reserves number) done tt u.fits, beside_rows session h (reserves number) done tt u.rows),
+      (
+        beside_fits session written.committed written.pending h (reserves number) done tt u.fits,
+        (beside_rows session h (reserves number) done tt u.rows, plain_next h (reserves number) done ConfigFile ∙ u.config),
+      ),
       λ blob. (beside_blobs h (reserves number) done blob tt).0,
     )) is
 
 quiet_sound : (counts : Bool) (session : Session) (counter : Counter) (written : Written) (m : History) → quiet session counter written m
-    → (counts ≡ true → IsFresh m) → IsSound (λ image. Shows image written.committed) counts m
+    → (counts ≡ true → IsFresh m) → IsSound (ShowsStanding written) counts m
 quiet_sound counts session counter written m q fresh = record {
-  shows = λ image left. (_, own_shows _ written.committed m q.0.own image left);
-  traced = q.1.traced;
+  shows = λ image left. (
+    (_, own_shows _ written.committed m q.0.own image left),
+    config_left m written.config image q.1.1 q.0.own.safe.settled_is left.image_is,
+  );
+  traced = q.1.0.traced;
   fresh = fresh;
 }
 
 pub draw_sound : (counts : Bool) (session : Session) (counter : Counter) (written : Written) (number : ℕ) (h g : History)
     → IsUnderWay counts session counter written h → IsStep (reserves number) h g → KeepsAbove counter.free h g
-    → Moments (IsSound (λ image. Shows image written.committed) counts) h g
+    → Moments (IsSound (ShowsStanding written) counts) h g
 draw_sound false session counter written number h g u is keeps =
-    moments_map _ (IsSound (λ image. Shows image written.committed) false) h g
+    moments_map _ (IsSound (ShowsStanding written) false) h g
     (λ m q. quiet_sound false session counter written m q.0 (λ e. absurd (let no : ⊥ = cc in no))) (draw_base false session counter written number h g u is)
 draw_sound true session counter written number h g u is keeps =
     let taken = u.taken refl in
     let above = keeps u.counter_fits.free taken.below in
-    moments_map _ (IsSound (λ image. Shows image written.committed) true) h g
+    moments_map _ (IsSound (ShowsStanding written) true) h g
     (λ m q. quiet_sound true session counter written m q.0.0 (λ e. record { apart = apart_as h m q.0.1 taken.apart; above = q.1.above }))
     (moments_both _ _ h g (draw_base true session counter written number h g u is) above)
 
@@ -367,13 +418,9 @@ draw_stands counts session counter drawn written number h g u (inr e) order fits
 
 -- ---- a commit
 
-config_left : (h : History) (config : Option (List ℕ)) (image : Files) → plain_in h ConfigFile ≡ rests_at config → settled h.acts ≡ true → ImageOf h image
-    → image.config ≡ config
-config_left h config image rest is_settled is = rest_stands config image.config (plain_in h ConfigFile) rest (is.after is_settled).config
-
 either_shown : (written : Written) (image : Files) → image.config ≡ written.config
     → Shows image written.committed ⊎ Shows image (with_commit written.committed written.pending) → ShowsEither written image
-either_shown written image config (inl shown) = inl shown
+either_shown written image config (inl shown) = inl (shown, config)
 either_shown written image config (inr shown) = inr (shown, config)
 
 pub commit_sound : (counts : Bool) (session : Session) (counter : Counter) (written : Written) (h g : History) → IsUnderWay counts session counter written h

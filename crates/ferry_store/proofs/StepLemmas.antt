@@ -263,7 +263,7 @@ err_is (Err y) refusal P e p = subst (λ (f : StoreRefusal). P (Err f)) (sym e) 
 
 -- ---- steps
 
-failed_then : (d : Bool) (a b c : Option Told) → failed_told b ≡ failed_told a → FailedWhere d b c → FailedWhere d a c
+pub failed_then : (d : Bool) (a b c : Option Told) → failed_told b ≡ failed_told a → FailedWhere d b c → FailedWhere d a c
 failed_then false a b c e f = f ∙ e
 failed_then true None b None e f = refl
 failed_then true (Some a) None None e f = absurd (let no : ⊥ = cc in no)
@@ -273,7 +273,7 @@ failed_then true (Some a) None (Some c) e f = absurd (let no : ⊥ = cc in no)
 failed_then true None (Some b) (Some c) e f = absurd (let no : ⊥ = cc in no)
 failed_then true (Some a) (Some b) (Some c) e f = f ∙ ap (option_map (λ (n : Option ℕ). first_failed n c.calls)) e
 
-rose_then : (d : Bool) (n m k : ℕ) → m ≡ n → RoseWhere d m k → RoseWhere d n k
+pub rose_then : (d : Bool) (n m k : ℕ) → m ≡ n → RoseWhere d m k → RoseWhere d n k
 rose_then d n m k e r = subst (λ (x : ℕ). RoseWhere d x k) e r
 
 -- one step behind another that was `Ok`
@@ -352,7 +352,7 @@ did_as E1 Q1 E Q a b n m x y step last p = record {
 }
 
 -- where no call of the depot was made
-here_each : (E : History → History → Type 0) (a : Option Told) → ((h : History) → E h h) → Between a a E
+pub here_each : (E : History → History → Type 0) (a : Option Told) → ((h : History) → E h h) → Between a a E
 here_each E None here = tt
 here_each E (Some told) here = (told, refl, here told.history)
 

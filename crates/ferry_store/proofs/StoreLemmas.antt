@@ -24,22 +24,25 @@ use Rattle.ferry_stops.proofs.EntryLemmas.{uncommitted_shown, unshown_uncommitte
 use Rattle.ferry_stops.specs.Blobs.{AllTraced}
 use Rattle.ferry_stops.specs.Chance.{EachStop}
 use Rattle.ferry_stops.specs.Counters.{IsKept}
-use Rattle.ferry_stops.specs.Entries.{ShowsSomething}
+use Rattle.ferry_stops.specs.Entries.{Shows, ShowsSomething}
 use Rattle.ferry_store.proofs.CallLemmas.{first_here, read_refused}
 use Rattle.ferry_store.proofs.KnownLemmas.{below_commit, nothing_known}
+use Rattle.ferry_store.proofs.LiveLemmas.{keeps_nil}
 use Rattle.ferry_store.proofs.NewLemmas.{opens_new}
 use Rattle.ferry_store.proofs.SoundLemmas.{traced_begun, image_begun}
+use Rattle.ferry_store.proofs.StandingLemmas.{holds_opened, opened_manifest}
 use Rattle.ferry_store.proofs.StepLemmas.{Reads, before_same, did_as, did_front, did_known, did_then, moments_here, moments_map, read_did, same_told}
 use Rattle.ferry_store.specs.Init.{IsMadeBy, MakesOf}
 use Rattle.ferry_store.specs.Fault.{depot_failed, repo_refusal}
 use Rattle.ferry_store.specs.Key.{RefusesGiven}
 use Rattle.ferry_store.specs.declared.fault.StoreRefusal.{StoreRefusal}
 use Rattle.ferry_store.specs.declared.fault.StoreRefusal.TheVariants.{Repo as RepoRefusal, Write, Nonce, Committed, TooLarge, Entropy, Memory}
-use Rattle.ferry_store.specs.New.{IsNothingOrNew, MakesSound, OpensNew, ShowsNew, first_written}
+use Rattle.ferry_store.specs.New.{IsNothingOrNew, MakesSound, OpensNew, ShowsNew, first_written, manifest_blob, new_entries}
 use Rattle.ferry_store.specs.State.{Did, IsBegun, IsSound}
 use Rattle.ferry_store.specs.Store.{InitEach, InitFits, InitKeeps, InitMakes, InitShows, RefusesFiles, RefusesInit}
 use Rattle.ferry_store.specs.declared.store.Store.{Store}
 use Rattle.ferry_write.proofs.LawLemmas.{fits_now}
+use Rattle.ferry_write.specs.Room.{behind}
 use Rattle.ferry_write.specs.Script.{AllDone}
 use Rattle.ferry_write.specs.Session.{SettlesFirst, rests_at}
 use Rattle.ferry_write.specs.declared.session.Session.{Session}
@@ -123,13 +126,23 @@ makes_files secret iterations timestamp bytes counter session h g none made e =
 pub store_fits : (secret : Secret) (iterations : ℕ) (timestamp bytes : List ℕ) (store : Store) (h g : History) → IsUncommitted (files_now h)
     → IsMadeBy secret iterations timestamp bytes store.counter store.session h g → OpensFilesTo (files_now g) secret (repo_view store.repo)
     → cached_in store.repo ≡ [] → store.opened.keys ≡ [] → InitFits store h g
-store_fits secret iterations timestamp bytes store h g none made opens empty unopened counts e kept = record {
-  written = first_written made.basis.config _;
-  under_way = made.makes counts (begun_by counts h e none kept);
-  repo = subst (FitsRepo (files_now g) (repo_view store.repo)) (sym empty) (opens_fits (files_now g) secret (repo_view store.repo) opens);
-  below = below_commit store.session _ _ g (repo_view store.repo).log (made.makes counts (begun_by counts h e none kept)).fits opens.opens.unlocks.reads;
-  there = λ id apart known. absurd (nothing_known store id opens.opens.unlocks.reads.learnt unopened apart known);
-}
+store_fits secret iterations timestamp bytes store h g none made opens empty unopened counts e kept =
+    let repo = repo_view store.repo in
+    let files = files_now g in
+    let blob = manifest_blob made.basis timestamp made.salt made.free in
+    let entries = new_entries blob in
+    let u = made.makes counts (begun_by counts h e none kept) in
+    let shows : Shows files (Some entries) = (behind store.session.after, fits_now store.session (Some entries) [] g u.fits) in
+    record {
+      written = first_written made.basis.config blob;
+      under_way = u;
+      repo = subst (FitsRepo files repo) (sym empty) (opens_fits files secret repo opens);
+      below = below_commit store.session entries [] g repo.log u.fits opens.opens.unlocks.reads;
+      there = λ id apart known. absurd (nothing_known store id opens.opens.unlocks.reads.learnt unopened apart known);
+      holds = holds_opened files repo.log entries opens.opens.unlocks.reads shows;
+      manifest = record { entries = entries; is = refl; holds = opened_manifest files secret repo entries opens shows };
+      keeps = keeps_nil entries;
+    }
 
 -- ---- the steps of `init`
 

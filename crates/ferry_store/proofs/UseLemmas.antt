@@ -5,18 +5,26 @@ use Rattle.ferry_disk.specs.Device.{Told}
 use Rattle.ferry_store.proofs.StepLemmas.{known_end, known_then}
 use Rattle.ferry_store.specs.Adding.{Adds}
 use Rattle.ferry_store.specs.State.{Did, KeepsSound}
-use Rattle.ferry_store.specs.Store.{InitFits, StoreFits}
+use Rattle.ferry_store.specs.Store.{InitFits, OpenFits, StoreFits}
 use Rattle.ferry_store.specs.declared.content.Added.{Added}
 use Rattle.ferry_store.specs.declared.store.Store.{Store}
 use Rattle.ferry_write.specs.Script.{AllDone}
 
--- a store that was made or opened by a run that had made no act
+-- a store that was made by a run that had made no act
 pub fits_begun : (E : History → History → Type 0) (store : Store) (a b : Option Told) (n m : ℕ) → IfSome a (λ t. t.history.acts ≡ [])
     → Did E InitFits a b n m (Ok store) → IfSome b (λ t. StoreFits false store t.history)
 fits_begun E store a b n m begun p =
     known_end (λ h. StoreFits false store h) (λ h g. (h.acts ≡ []) × (AllDone h g × InitFits store h g)) a b p.ends
     (λ h g e. e.1.1 false e.0 (λ c. absurd (let no : ⊥ = cc in no)))
     (known_then (λ h. h.acts ≡ []) (λ h g. AllDone h g × InitFits store h g) a b begun p.end)
+
+-- a store that was opened by one
+pub fits_opened : (E : History → History → Type 0) (store : Store) (a b : Option Told) (n m : ℕ) → IfSome a (λ t. t.history.acts ≡ [])
+    → Did E OpenFits a b n m (Ok store) → IfSome b (λ t. StoreFits false store t.history)
+fits_opened E store a b n m begun p =
+    known_end (λ h. StoreFits false store h) (λ h g. (h.acts ≡ []) × (AllDone h g × OpenFits store h g)) a b p.ends
+    (λ h g e. (e.1.1 false e.0 (λ c. absurd (let no : ⊥ = cc in no))).fits)
+    (known_then (λ h. h.acts ≡ []) (λ h g. AllDone h g × OpenFits store h g) a b begun p.end)
 
 -- a store with a content added
 pub fits_added : (store now : Store) (content : List ℕ) (added : Added) (a b : Option Told) (n m : ℕ) → IfSome a (λ t. StoreFits false store t.history)
@@ -32,4 +40,13 @@ pub fits_named : (store now : Store) (a : Option Told) → now ≡ record store 
 fits_named store now None same fits = tt
 fits_named store now (Some t) same fits =
     subst (λ (s : Store). StoreFits false s t.history) (sym same)
-    (record { written = fits.written; under_way = fits.under_way; repo = fits.repo; below = fits.below; there = fits.there })
+    (record {
+      written = fits.written;
+      under_way = fits.under_way;
+      repo = fits.repo;
+      below = fits.below;
+      there = fits.there;
+      holds = fits.holds;
+      manifest = fits.manifest;
+      keeps = fits.keeps;
+    })

@@ -1,8 +1,9 @@
 -- Archives that a store accepts, and the manifest that it commits with them.
-use Rattle.std.specs.Prelude.{◌≡◌, ◌<◌, ◌≤◌, ℕ, Bool, List, Option, Some, None}
+use Rattle.std.specs.Prelude.{◌≡◌, ◌⊎◌, ◌<◌, ◌≤◌, ℕ, Bool, List, Option, Some, None}
 use Rattle.ferry_base.specs.Limits.{content_limit, zero_id}
 use Rattle.ferry_blob.specs.Blob.{blocks}
 use Rattle.ferry_disk.specs.Act.{History}
+use Rattle.ferry_disk.specs.Files.{Files}
 use Rattle.ferry_disk.specs.Moments.{Moments}
 use Rattle.ferry_manifest.specs.Manifest.Text.{ManifestText, manifest_view}
 use Rattle.ferry_manifest.specs.Manifest.Writing.{manifest_text}
@@ -13,7 +14,8 @@ use Rattle.ferry_nonce.specs.declared.fault.NonceFault.TheVariants as Nonces
 use Rattle.ferry_repo.specs.Opening.{RepoState, repo_view}
 use Rattle.ferry_segment.specs.Entry.{LogEntry, PutEntry}
 use Rattle.ferry_store.specs.Content.{blob_for}
-use Rattle.ferry_store.specs.State.{IsSound, IsUnderWay, ShowsEither, Written, all_committed, with_entry}
+use Rattle.ferry_store.specs.Standing.{HoldsManifest, entries_committed}
+use Rattle.ferry_store.specs.State.{IsSound, IsUnderWay, ShowsStanding, Written, all_committed, with_entry}
 use Rattle.ferry_store.specs.Store.{StoreFits}
 use Rattle.ferry_store.specs.declared.fault.StoreRefusal.{StoreRefusal}
 use Rattle.ferry_store.specs.declared.fault.StoreRefusal.TheVariants.{Write, Nonce, TooLarge, Entropy, Memory}
@@ -38,17 +40,27 @@ accepted_in store = accepted_or (repo_view store.repo).manifest store.accepted
 abbrev pub manifest_entry : RepoState → Counter → ManifestText → List ℕ → LogEntry
 manifest_entry repo counter manifest salt = PutEntry zero_id (blob_for repo counter (manifest_text repo.keys salt manifest))
 
--- At each moment each stop shows what was committed, or that and what was put, with this entry, with the settings as they are.
-abbrev pub CommitsEntry : Session → Counter → LogEntry → History → History → Type 0
-CommitsEntry session counter entry before now = (counts : Bool) (written : Written) → IsUnderWay counts session counter written before
-    → Moments (IsSound (ShowsEither (with_entry written entry)) counts) before now
+-- What was committed before is shown, or that and what was put, which hold the manifest of this repository; with the settings as they are.
+abbrev pub ShowsManifest : RepoState → Written → Files → Type 0
+ShowsManifest next written image = ShowsStanding written image
+    ⊎ (ShowsStanding (all_committed written) image × HoldsManifest next (entries_committed written))
 
--- An entry was put, and all is committed that was put. Segments have what they had, those up to the commit before are as they were, and the
--- new commit is behind it.
-pub record HasCommitted (session : Session) (counter : Counter) (entry : LogEntry) (session_now : Session) (counter_now : Counter)
-    (before now : History) : Type 0 where
+-- At each moment each stop shows what was committed, or that and what was put, with this entry, which is the manifest of the repository.
+abbrev pub CommitsEntry : RepoState → Session → Counter → LogEntry → History → History → Type 0
+CommitsEntry next session counter entry before now = (counts : Bool) (written : Written) → IsUnderWay counts session counter written before
+    → Moments (IsSound (ShowsManifest next (with_entry written entry)) counts) before now
+
+-- Whatever is written, the manifest of this repository is held once this entry is put and committed.
+abbrev pub HoldsEntry : RepoState → LogEntry → Type 0
+HoldsEntry next entry = (written : Written) → HoldsManifest next (entries_committed (with_entry written entry))
+
+-- An entry was put, which is the manifest of a repository, and all is committed that was put. Segments have what they had, those up to the
+-- commit before are as they were, and the new commit is behind it.
+pub record HasCommitted (next : RepoState) (session : Session) (counter : Counter) (entry : LogEntry) (session_now : Session)
+    (counter_now : Counter) (before now : History) : Type 0 where
   pub takes : (counts : Bool) (written : Written) → IsUnderWay counts session counter written before
       → IsUnderWay counts session_now counter_now (all_committed (with_entry written entry)) now
+  pub holds : HoldsEntry next entry
   pub stays : (counts : Bool) (written : Written) → IsUnderWay counts session counter written before → Stays session.after before now
   pub behind_it : (counts : Bool) (written : Written) → IsUnderWay counts session counter written before
       → behind session.after ≤ behind session_now.after

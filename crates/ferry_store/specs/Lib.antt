@@ -1,6 +1,7 @@
 pub mod Fault
 pub mod Key
 pub mod State
+pub mod Standing
 pub mod New
 pub mod Init
 pub mod Content

@@ -80,10 +80,14 @@ pub record IsSound (Show : Files → Type 0) (counts : Bool) (history : History)
   pub traced : AllTraced history
   pub fresh : counts ≡ true → IsFresh history
 
--- At each moment each stop shows what is committed, whatever was put since.
+-- what is committed is shown, with the settings as they are
+abbrev pub ShowsStanding : Written → Files → Type 0
+ShowsStanding written image = Shows image written.committed × (image.config ≡ written.config)
+
+-- At each moment each stop shows what is committed, whatever was put since, with the settings as they are.
 abbrev pub KeepsSound : Session → Counter → History → History → Type 0
 KeepsSound session counter before now = (counts : Bool) (written : Written) → IsUnderWay counts session counter written before
-    → Moments (IsSound (λ image. Shows image written.committed) counts) before now
+    → Moments (IsSound (ShowsStanding written) counts) before now
 
 -- An entry was put.
 abbrev pub TakesEntry : Session → Counter → LogEntry → Session → Counter → History → History → Type 0
@@ -111,9 +115,10 @@ pub record IsBegun (counts : Bool) (after : Option ℕ) (committed : Option (Lis
   pub shown : CommittedUpTo after committed (files_now history)
   pub kept : counts ≡ true → IsKept history
 
+-- At each moment each stop shows what is committed, with the settings as they are.
 abbrev pub BeginsSound : Option ℕ → History → History → Type 0
 BeginsSound after before now = (counts : Bool) (committed : Option (List LogEntry)) → IsBegun counts after committed before
-    → Moments (IsSound (λ image. Shows image committed) counts) before now
+    → Moments (IsSound (ShowsStanding (found committed (files_now before))) counts) before now
 
 abbrev pub Begins : Option ℕ → Counter → Session → History → History → Type 0
 Begins after counter session before now = (counts : Bool) (committed : Option (List LogEntry)) → IsBegun counts after committed before
@@ -127,18 +132,18 @@ pub record IsFirst (after : Option ℕ) (limit : ℕ) (counter : Counter) (sessi
 
 -- ---- a commit
 
+-- the same with all committed that was put
+abbrev pub all_committed : Written → Written
+all_committed written = record written { committed = with_commit written.committed written.pending; pending = [] }
+
 -- what is shown by each stop while all is committed that was put: what was committed before, or that and what was put, with the settings
 -- as they are
 abbrev pub ShowsEither : Written → Files → Type 0
-ShowsEither written image = Shows image written.committed ⊎ (Shows image (with_commit written.committed written.pending) × (image.config ≡ written.config))
+ShowsEither written image = ShowsStanding written image ⊎ ShowsStanding (all_committed written) image
 
 abbrev pub CommitsSound : Session → Counter → History → History → Type 0
 CommitsSound session counter before now = (counts : Bool) (written : Written) → IsUnderWay counts session counter written before
     → Moments (IsSound (ShowsEither written) counts) before now
-
--- the same with all committed that was put
-abbrev pub all_committed : Written → Written
-all_committed written = record written { committed = with_commit written.committed written.pending; pending = [] }
 
 abbrev pub TakesCommit : Session → Counter → Session → History → History → Type 0
 TakesCommit session counter session_now before now = (counts : Bool) (written : Written) → IsUnderWay counts session counter written before
@@ -154,8 +159,10 @@ readme_text = codes "This is a Borg Backup repository." ++ 10 ∷ []
 abbrev pub with_settings : Written → List ℕ → Written
 with_settings written config = record written { config = Some config; readme = Some readme_text }
 
+-- At each moment each stop shows what is committed, while the settings are replaced.
 abbrev pub SettingsSound : History → History → Type 0
-SettingsSound before now = (session : Session) (counter : Counter) → KeepsSound session counter before now
+SettingsSound before now = (session : Session) (counter : Counter) (counts : Bool) (written : Written)
+    → IsUnderWay counts session counter written before → Moments (IsSound (λ image. Shows image written.committed) counts) before now
 
 abbrev pub TakesSettings : Config → History → History → Type 0
 TakesSettings config before now = (session : Session) (counter : Counter) (counts : Bool) (written : Written)

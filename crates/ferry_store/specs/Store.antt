@@ -22,7 +22,8 @@ use Rattle.ferry_store.specs.Content.{IsThere}
 use Rattle.ferry_store.specs.Init.{RefusesMaking}
 use Rattle.ferry_store.specs.Key.{RefusesGiven}
 use Rattle.ferry_store.specs.New.{IsMade, IsNothingOrNew, OpensNew}
-use Rattle.ferry_store.specs.State.{IsUnderWay, RefusesBegin, Written}
+use Rattle.ferry_store.specs.Standing.{CommitsManifest, HoldsLive, Keeps, committed_of, entries_of}
+use Rattle.ferry_store.specs.State.{IsUnderWay, RefusesBegin, ShowsStanding, Written, found}
 use Rattle.ferry_store.specs.declared.fault.StoreRefusal.{StoreRefusal}
 use Rattle.ferry_store.specs.declared.fault.StoreRefusal.TheVariants.{Repo, Write, Nonce, Committed, TooLarge, Entropy, Memory}
 use Rattle.ferry_store.specs.declared.store.Store.{Store}
@@ -35,13 +36,17 @@ abbrev pub IsKnown : Store → List ℕ → Type 0
 IsKnown store id = (id ≡ zero_id) ⊎ (IsSome (get (repo_view store.repo).log.learnt id) ⊎ (contains key_cmp store.opened id ≡ true))
 
 -- A store fits what its depot told: what was written stands, the repository fits the files and is that of a commit below those of the session,
--- and each chunk that the store knows is there. With `counts` each counter block that was taken is below the store's counter.
+-- and each chunk that the store knows is there. The repository's chunks are those of the entries that are written, what is committed holds its
+-- manifest, and what was put since keeps all that is live. With `counts` each counter block that was taken is below the store's counter.
 pub record StoreFits (counts : Bool) (store : Store) (history : History) : Type 0 where
   pub written : Written
   pub under_way : IsUnderWay counts store.session store.counter written history
   pub repo : FitsRepo (files_now history) (repo_view store.repo) (cached_in store.repo)
   pub below : (repo_view store.repo).log.transaction < behind store.session.after
   pub there : (id : List ℕ) → id ≢ zero_id → IsKnown store id → IsThere (files_now history) (repo_view store.repo) id
+  pub holds : HoldsLive (files_now history) (repo_view store.repo).log (entries_of written)
+  pub manifest : CommitsManifest (repo_view store.repo) written.committed
+  pub keeps : Keeps (committed_of written) (entries_of written)
 
 -- No call on the store answered that it is spent.
 pub record IsUnspent (store : Store) : Type 0 where
@@ -100,10 +105,21 @@ RefusesInit secret timestamp history refusal = history.acts ≡ [] → RefusesFi
 
 -- ---- `open`
 
--- Each stop at each moment shows what is committed.
+-- Each stop at each moment shows what is committed, with the settings as they are.
 abbrev pub OpenShows : History → History → Type 0
 OpenShows before now = (committed : List LogEntry) → before.acts ≡ [] → Shows (files_now before) (Some committed)
-    → Moments (EachStop (λ image. Shows image (Some committed))) before now
+    → Moments (EachStop (ShowsStanding (found (Some committed) (files_now before)))) before now
+
+-- The opened store fits with what was committed and with the settings that were there, and where the blocks of the runs before are kept, so
+-- are those that are taken now.
+pub record OpensFound (counts : Bool) (store : Store) (before now : History) : Type 0 where
+  pub committed : List LogEntry
+  pub shown : Shows (files_now before) (Some committed)
+  pub fits : StoreFits counts store now
+  pub found_is : fits.written ≡ found (Some committed) (files_now before)
+
+abbrev pub OpenFits : Store → History → History → Type 0
+OpenFits store before now = (counts : Bool) → before.acts ≡ [] → (counts ≡ true → IsKept before) → OpensFound counts store before now
 
 -- At each moment of `open`, and at its end.
 abbrev pub OpenEach : History → History → Type 0

@@ -7,6 +7,7 @@ ghost use Rattle.ferry_manifest.specs.Manifest.Writing.{IsPackable, manifest_tex
 ghost use Rattle.ferry_repo.specs.Opening.{repo_view};
 ghost use Rattle.ferry_store.specs.Commit.{CommitsEntry, HasCommitted, RefusesManifestOf, manifest_entry};
 ghost use Rattle.ferry_store.specs.Fault.{source_failed};
+ghost use Rattle.ferry_store.specs.Standing.{with_manifest};
 ghost use Rattle.ferry_store.specs.State.{Did};
 
 use crate::fault::StoreRefusal;
@@ -35,8 +36,10 @@ pub(crate) fn commit_manifest<D: Depot, E: Entropy>(
     requires packable { IsPackable (manifest_view manifest.now) }
     requires settled { IfSome (D.told depot.old) (λ t. settled t.history.acts ≡ true) }
     ensures committed { (salt : List ℕ) × ((length salt ≡ 64) × OnOk result (E.drawn entropy.new ≡ option_map (λ d. d ++ salt) (E.drawn entropy.old))
-        × Did (CommitsEntry session.old counter.old (manifest_entry (repo_view repo.now) counter.old (manifest_view manifest.now) salt))
-        (λ _. HasCommitted session.old counter.old (manifest_entry (repo_view repo.now) counter.old (manifest_view manifest.now) salt)
+        × Did (CommitsEntry (with_manifest (repo_view repo.now) (manifest_view manifest.now)) session.old counter.old
+        (manifest_entry (repo_view repo.now) counter.old (manifest_view manifest.now) salt))
+        (λ _. HasCommitted (with_manifest (repo_view repo.now) (manifest_view manifest.now)) session.old counter.old
+        (manifest_entry (repo_view repo.now) counter.old (manifest_view manifest.now) salt)
         session.new counter.new) (D.told depot.old) (D.told depot.new) (D.faults depot.old) (D.faults depot.new) result
         × IfErr result (RefusesManifestOf counter.old (length (manifest_text (repo_view repo.now).keys salt (manifest_view manifest.now))))) }
     ensures session { OnOk result (session.new.spent ≡ false) }

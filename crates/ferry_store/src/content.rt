@@ -2,14 +2,14 @@
 ghost use Rattle.std.specs.Prelude.{◌≡◌, ◌≢◌, ◌≤◌, length, true, false, IfErr, IfSome, OnOk, OnErr};
 ghost use Rattle.std.specs.BTreeSet.{IsUnchanged, Updates};
 ghost use Rattle.ferry_base.specs.Limits.{content_limit, zero_id};
-ghost use Rattle.ferry_blob.specs.Blob.{content_id};
+ghost use Rattle.ferry_blob.specs.Blob.{OpensTo, content_id};
 ghost use Rattle.ferry_disk.specs.Device.{HasCause, KeepsTold, told_files};
 ghost use Rattle.ferry_disk.specs.Image.{settled};
 ghost use Rattle.ferry_log.specs.Live.{key_cmp};
 ghost use Rattle.ferry_repo.specs.Objects.{IsMissing};
 ghost use Rattle.ferry_repo.specs.Opening.{FitsRepo, cached_in, repo_view};
-ghost use Rattle.ferry_store.specs.Content.{HasPut, IsThere, Learns, RefusesNew, RefusesOld};
-ghost use Rattle.ferry_store.specs.Fault.{depot_failed};
+ghost use Rattle.ferry_store.specs.Content.{blob_for, HasPut, IsThere, Learns, RefusesNew, RefusesOld};
+ghost use Rattle.ferry_store.specs.Fault.{depot_failed, source_failed};
 ghost use Rattle.ferry_store.specs.State.{Did, KeepsSound};
 
 use crate::fault::StoreRefusal;
@@ -50,6 +50,7 @@ pub(crate) fn put_content<D: Depot>(
         (D.told depot.old) (D.told depot.new) (D.faults depot.old) (D.faults depot.new) result }
     ensures cached { cached_in repo.new ≡ cached_in repo.old }
     ensures learns { OnOk result (Learns (repo_view repo.old) id.now true (repo_view repo.new)) }
+    ensures opens { OnOk result (OpensTo (repo_view repo.old).keys id.now (blob_for (repo_view repo.old) counter.old content.now) content.now) }
     ensures session { OnOk result (session.new.spent ≡ false) }
     ensures after { OnOk result (session.new.after ≡ session.old.after) }
     ensures counter { OnOk result (counter.new.spent ≡ false) }
@@ -78,6 +79,7 @@ pub(crate) fn open_content<D: Depot>(
     ensures noted { OnOk result (Updates key_cmp opened.old opened.new id true) }
     ensures unnoted { OnErr result (IsUnchanged opened.old opened.new) }
     ensures refused { IfErr result (λ refusal. IfSome (D.told depot.old) (λ t. RefusesOld (told_files t) (repo_view repo.old) id refusal)) }
+    ensures drawn { IfErr result (λ refusal. source_failed refusal ≡ false) }
     ensures same { KeepsTold depot_failed (D.told depot.old) (D.told depot.new) result }
     ensures cause { HasCause depot_failed (D.faults depot.old) (D.faults depot.new) result }
 {

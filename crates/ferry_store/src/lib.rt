@@ -10,6 +10,7 @@ mod content;
 mod fault;
 mod init;
 mod key;
+mod laws;
 mod put;
 mod state;
 mod store;
@@ -17,6 +18,7 @@ mod store;
 pub use content::Added;
 pub use fault::StoreRefusal;
 pub use key::make_key;
+pub use laws::{keeps_laws, live_laws, store_laws};
 pub use store::Store;
 
 #[cfg(test)]

@@ -14,10 +14,12 @@ ghost use Rattle.ferry_repo.specs.Opening.{OpensFilesTo, cached_in, repo_view};
 ghost use Rattle.ferry_repo.specs.contracts.repo.Repo.{the_row as row_of_repo};
 ghost use Rattle.ferry_store.specs.Adding.{Adds, Checkpoints, RefusesAdd, id_under, pending_after};
 ghost use Rattle.ferry_store.specs.Commit.{Commits, CommitsEntry, HasCommitted, RefusesManifestOf, accepted_in, manifest_entry};
-ghost use Rattle.ferry_store.specs.Content.{IsNew, Learns, RefusesNew, RefusesOld};
+ghost use Rattle.ferry_blob.specs.Blob.{OpensTo};
+ghost use Rattle.ferry_store.specs.Content.{IsNew, Learns, RefusesNew, RefusesOld, blob_for};
 ghost use Rattle.ferry_store.specs.Fault.{source_failed, spends};
+ghost use Rattle.ferry_store.specs.Standing.{with_manifest};
 ghost use Rattle.ferry_store.specs.State.{CommitsSound, Did, KeepsSound, RefusesCommit};
-ghost use Rattle.ferry_store.specs.Store.{InitEach, InitFits, InitMakes, IsKnown, IsUnspent, OpenEach, RefusesInit, RefusesOpen, StoreFits};
+ghost use Rattle.ferry_store.specs.Store.{InitEach, InitFits, InitMakes, IsKnown, IsUnspent, OpenEach, OpenFits, RefusesInit, RefusesOpen, StoreFits};
 ghost use Rattle.ferry_store.specs.contracts.store.Store.{the_row};
 ghost use Rattle.ferry_store.specs.declared.fault.StoreRefusal.TheVariants as Refusal;
 ghost use Rattle.ferry_write.specs.Room.{AreUsedUp};
@@ -32,6 +34,7 @@ use crate::state::{begin_at, commit, expect_no_commit};
 use ferry_base::{Bytes, Id, ZERO_ID};
 use ferry_blob::id_of;
 use ferry_disk::{Depot, Entropy};
+use ferry_mac::Keys;
 use ferry_manifest::{ArchiveRef, Manifest};
 use ferry_next::{copy_manifest, has_archive, name_archive, next_manifest, set_timestamp};
 use ferry_nonce::Counter;
@@ -113,9 +116,11 @@ impl Store {
         secret: &Secret,
     ) -> Result<Store, StoreRefusal>
         ensures opened { IfOk result (λ store. IfSome (D.told depot.old) (λ t. OpensFilesTo (told_files t) secret.now (repo_view store.repo))) }
-        ensures did { Did OpenEach InitFits (D.told depot.old) (D.told depot.new) (D.faults depot.old) (D.faults depot.new) result }
+        ensures did { Did OpenEach OpenFits (D.told depot.old) (D.told depot.new) (D.faults depot.old) (D.faults depot.new) result }
         ensures refused { IfErr result (λ refusal. IfSome (D.told depot.old) (λ t. RefusesOpen secret.now (told_files t) refusal)) }
         ensures fresh { IfOk result (λ store. (cached_in store.repo ≡ []) × (store.pending ≡ 0)) }
+        ensures accepted { IfOk result (λ store. store.accepted ≡ None) }
+        ensures drawn { IfErr result (λ refusal. source_failed refusal ≡ false) }
         ensures unspent { IfOk result IsUnspent }
         ensures packable { IfOk result (λ store. IsPackable (accepted_in store)) }
     {
@@ -137,9 +142,24 @@ impl Store {
 
     /// Lends the repository. What stands there when the loan ends is the store's repository from then on.
     pub fn repo(&mut self) -> &mut Repo
-        ensures* { sem 𝓛 (Lends the_row row_of_repo self.entry result (λ w. record self.old { repo = w })) }
+        ensures* lends { sem 𝓛 (Lends the_row row_of_repo self.entry result (λ w. record self.old { repo = w })) }
+        ensures repo { result.now ≡ self.old.repo }
     {
         &mut self.repo
+    }
+
+    /// The secrets of the repository.
+    pub fn keys(&self) -> &Keys
+        ensures keys { result.now ≡ (repo_view self.now.repo).keys }
+    {
+        self.repo.keys()
+    }
+
+    /// The manifest that was committed last.
+    pub fn manifest(&self) -> &Manifest
+        ensures manifest { manifest_view result.now ≡ (repo_view self.now.repo).manifest }
+    {
+        self.repo.manifest()
     }
 
     /// Whether `add` of a content would put it: its id was neither live when the store was opened, nor was it put since.
@@ -163,8 +183,13 @@ impl Store {
         ensures answered { IsKnown self.old (id_under self.old content.now) → IfSome (D.told depot.old) (λ t. (depot.new ≡ depot.old)
             × (result ≡ Ok (record { id = id_under self.old content.now; new = false }))) }
         ensures repo { IfOk result (λ added. Learns (repo_view self.old.repo) added.id added.new (repo_view self.new.repo)) }
+        // What is put opens to the content.
+        ensures opens { IfOk result (λ added. IsTrue added.new → OpensTo (repo_view self.old.repo).keys (id_under self.old content.now)
+            (blob_for (repo_view self.old.repo) self.old.counter content.now) content.now) }
+        ensures accepted { self.new.accepted ≡ self.old.accepted }
         ensures pending { IfOk result (λ added. self.new.pending ≡ pending_after self.old.pending added.new) }
         ensures refused { IfErr result (λ refusal. IfSome (D.told depot.old) (λ t. RefusesAdd self.old content.now (told_files t) refusal)) }
+        ensures drawn { IfErr result (λ refusal. source_failed refusal ≡ false) }
         ensures unspent { OnOk result (IsUnspent self.new) }
         ensures spent { IfErr result (λ refusal. self.new.spent ≡ spends refusal) }
     {
@@ -195,6 +220,8 @@ impl Store {
         ensures added { IfOk result (λ added. added ≡ record { id = id; new = true }) }
         ensures known { OnOk result (IsKnown self.new id) }
         ensures repo { OnOk result (Learns (repo_view self.old.repo) id true (repo_view self.new.repo)) }
+        ensures opens { OnOk result (OpensTo (repo_view self.old.repo).keys id (blob_for (repo_view self.old.repo) self.old.counter content.now) content.now) }
+        ensures accepted { self.new.accepted ≡ self.old.accepted }
         ensures pending { OnOk result (self.new.pending ≡ pending_after self.old.pending true) }
         ensures refused { IfErr result (RefusesNew self.old.session self.old.counter content.now) }
         ensures unspent { OnOk result (IsUnspent self.new) }
@@ -229,8 +256,10 @@ impl Store {
         ensures added { IfOk result (λ added. added ≡ record { id = id; new = false }) }
         ensures known { OnOk result (IsKnown self.new id) }
         ensures repo { repo_view self.new.repo ≡ repo_view self.old.repo }
+        ensures accepted { self.new.accepted ≡ self.old.accepted }
         ensures pending { self.new.pending ≡ self.old.pending }
         ensures refused { IfErr result (λ refusal. IfSome (D.told depot.old) (λ t. RefusesOld (told_files t) (repo_view self.old.repo) id refusal)) }
+        ensures drawn { IfErr result (λ refusal. source_failed refusal ≡ false) }
         ensures unspent { OnOk result (IsUnspent self.new) }
         ensures spent { IfErr result (λ refusal. self.new.spent ≡ spends refusal) }
     {
@@ -246,6 +275,7 @@ impl Store {
         ensures did { Did (CommitsSound self.old.session self.old.counter) (λ _. Checkpoints self.old self.new)
             (D.told depot.old) (D.told depot.new) (D.faults depot.old) (D.faults depot.new) result }
         ensures repo { self.new.repo ≡ self.old.repo }
+        ensures accepted { self.new.accepted ≡ self.old.accepted }
         ensures pending { OnOk result (self.new.pending ≡ 0) }
         ensures refused { IfErr result (RefusesCommit self.old.session) }
         ensures numbers { IsErrOf result (Refusal.Write Writes.Numbers) ↔ AreUsedUp self.old.session.last }
@@ -284,9 +314,9 @@ impl Store {
         requires packable { IsPackable (accepted_in self.old) }
         requires fits { IfSome (D.told depot.old) (λ t. StoreFits false self.old t.history) }
         ensures committed { (salt : List ℕ) × ((length salt ≡ 64) × OnOk result (E.drawn entropy.new ≡ option_map (λ d. d ++ salt) (E.drawn entropy.old))
-            × Did (CommitsEntry self.old.session self.old.counter
+            × Did (CommitsEntry (with_manifest (repo_view self.old.repo) (written_at (accepted_in self.old) timestamp.now)) self.old.session self.old.counter
             (manifest_entry (repo_view self.old.repo) self.old.counter (written_at (accepted_in self.old) timestamp.now) salt))
-            (λ _. HasCommitted self.old.session self.old.counter
+            (λ _. HasCommitted (with_manifest (repo_view self.old.repo) (written_at (accepted_in self.old) timestamp.now)) self.old.session self.old.counter
             (manifest_entry (repo_view self.old.repo) self.old.counter (written_at (accepted_in self.old) timestamp.now) salt)
             self.new.session self.new.counter) (D.told depot.old) (D.told depot.new) (D.faults depot.old) (D.faults depot.new) result
             × IfErr result (RefusesManifestOf self.old.counter
@@ -398,14 +428,14 @@ impl Store {
         requires packable { IsPackable (accepted_in self.old) }
         requires fits { IfSome (D.told depot.old) (λ t. StoreFits false self.old t.history) }
         ensures committed { (salt : List ℕ) × ((length salt ≡ 64) × OnOk result (E.drawn entropy.new ≡ option_map (λ d. d ++ salt) (E.drawn entropy.old))
-            × Did (CommitsEntry self.old.session self.old.counter
+            × Did (CommitsEntry (with_manifest (repo_view self.old.repo) (written_at (accepted_in self.old) timestamp.now)) self.old.session self.old.counter
             (manifest_entry (repo_view self.old.repo) self.old.counter (written_at (accepted_in self.old) timestamp.now) salt))
             (λ _. Commits self.old (manifest_entry (repo_view self.old.repo) self.old.counter (written_at (accepted_in self.old) timestamp.now) salt)
             self.new) (D.told depot.old) (D.told depot.new) (D.faults depot.old) (D.faults depot.new) result
             × IfErr result (RefusesManifestOf self.old.counter
             (length (manifest_text (repo_view self.old.repo).keys salt (written_at (accepted_in self.old) timestamp.now))))) }
         ensures repo { OnOk result (repo_view self.new.repo
-            ≡ record (repo_view self.old.repo) { manifest = written_at (accepted_in self.old) timestamp.now }) }
+            ≡ with_manifest (repo_view self.old.repo) (written_at (accepted_in self.old) timestamp.now)) }
         ensures accepted { OnOk result (accepted_in self.new ≡ written_at (accepted_in self.old) timestamp.now) }
         ensures packable { IsPackable (accepted_in self.new) }
         ensures pending { OnOk result (self.new.pending ≡ 0) }

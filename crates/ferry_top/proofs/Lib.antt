@@ -5,3 +5,4 @@ pub mod ItemsLemmas
 pub mod CheckLemmas
 pub mod InitLemmas
 pub mod RunLemmas
+pub mod TransferLemmas

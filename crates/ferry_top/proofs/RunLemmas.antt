@@ -6,6 +6,7 @@ use Rattle.ferry_disk.specs.Moments.{Between}
 use Rattle.ferry_repo.specs.declared.secret.Secret.{Secret}
 use Rattle.ferry_top.proofs.InitLemmas.{each_command}
 use Rattle.ferry_top.proofs.StatusLemmas.{IsOfStore, of_store}
+use Rattle.ferry_top.proofs.TransferLemmas.{each_untouched}
 use Rattle.ferry_top.specs.Check.{Checks}
 use Rattle.ferry_top.specs.Devices.{Devices, HasCauses, Written}
 use Rattle.ferry_store.proofs.StoreLemmas.{each_here}
@@ -15,13 +16,14 @@ use Rattle.ferry_top.specs.Init.{CommandEach, IsRefused, time_or}
 use Rattle.ferry_top.specs.MakeKey.{PrintsKey}
 use Rattle.ferry_top.specs.Run.{DoesCommand, Prints, PrintsAsRead, Reports, Runs}
 use Rattle.ferry_top.specs.Status.{source_failed, target_failed, entropy_failed, output_failed}
+use Rattle.ferry_top.specs.Transfer.{TransferEach}
 use Rattle.ferry_top.specs.declared.status.Refusal.{Refusal}
 use Rattle.ferry_top.specs.declared.status.Secrets.{Secrets}
 use Rattle.ferry_top.specs.declared.status.Status.{Status}
 use Rattle.ferry_top.specs.declared.status.Status.TheVariants.{Done, No, Usage, Memory, SourceDevice, TargetDevice, EntropyDevice, OutputDevice}
-use Rattle.ferry_top.specs.declared.status.Status.TheVariants.{SourceRefused, TargetRefused, NotFound, Limit}
+use Rattle.ferry_top.specs.declared.status.Status.TheVariants.{SourceRefused, TargetRefused, Taken, NotFound, Limit}
 use Rattle.ferry_words.specs.declared.command.Command.{Command}
-use Rattle.ferry_words.specs.declared.command.Command.TheVariants.{Keys, Key, List as ListArchives, ListItems, Extract, Check, Init, MakeKey}
+use Rattle.ferry_words.specs.declared.command.Command.TheVariants.{Keys, Key, List as ListArchives, ListItems, Extract, Check, Init, MakeKey, Transfer}
 
 -- ---- a command of the source
 
@@ -38,6 +40,7 @@ Ends before (Usage n) after = ⊥
 Ends before TargetDevice after = ⊥
 Ends before EntropyDevice after = ⊥
 Ends before (TargetRefused refusal) after = ⊥
+Ends before (Taken name) after = ⊥
 Ends before (Limit limit) after = ⊥
 Ends before OutputDevice after = Rose before.faults after.faults
 Ends before status after = Unit {0}
@@ -72,6 +75,7 @@ of_ends before after (NotFound what) e = record {
       (let no : ⊥ = cc in no);
   used = λ n o. let no : ⊥ = cc in no;
 }
+of_ends before after (Taken name) e = absurd e
 of_ends before after (Limit limit) e = absurd e
 
 prints_ends : (IsText : Files → List ℕ → Type 0) (Refuses : Files → Refusal → Type 0) (source : Option Told) (before after : Written) (status : Status)
@@ -87,6 +91,7 @@ prints_ends IsText Refuses source before after OutputDevice p = p.3
 prints_ends IsText Refuses source before after (SourceRefused r) p = tt
 prints_ends IsText Refuses source before after (TargetRefused r) p = absurd p
 prints_ends IsText Refuses source before after (NotFound what) p = tt
+prints_ends IsText Refuses source before after (Taken name) p = absurd p
 prints_ends IsText Refuses source before after (Limit limit) p = absurd p
 
 shows_ends : (IsText IsFront : Files → List ℕ → Type 0) (Refuses : Files → Refusal → Type 0) (Lacks : Files → List ℕ → Type 0) (source : Option Told)
@@ -102,6 +107,7 @@ shows_ends IsText IsFront Refuses Lacks source before after OutputDevice p = p.3
 shows_ends IsText IsFront Refuses Lacks source before after (SourceRefused r) p = tt
 shows_ends IsText IsFront Refuses Lacks source before after (TargetRefused r) p = absurd p
 shows_ends IsText IsFront Refuses Lacks source before after (NotFound what) p = tt
+shows_ends IsText IsFront Refuses Lacks source before after (Taken name) p = absurd p
 shows_ends IsText IsFront Refuses Lacks source before after (Limit limit) p = absurd p
 
 checks_ends : (secret : Secret) (source : Option Told) (before after : Written) (status : Status) → Checks secret source before status after
@@ -117,6 +123,7 @@ checks_ends secret source before after OutputDevice p = p.3.1
 checks_ends secret source before after (SourceRefused r) p = tt
 checks_ends secret source before after (TargetRefused r) p = absurd p
 checks_ends secret source before after (NotFound what) p = tt
+checks_ends secret source before after (Taken name) p = absurd p
 checks_ends secret source before after (Limit limit) p = absurd p
 
 pub of_prints : (IsText : Files → List ℕ → Type 0) (Refuses : Files → Refusal → Type 0) (source : Option Told) (before after : Written) (status : Status)
@@ -159,6 +166,7 @@ of_key IsText before after OutputDevice p = record { source = refl; target = ref
 of_key IsText before after (SourceRefused r) p = absurd p
 of_key IsText before after (TargetRefused r) p = absurd p
 of_key IsText before after (NotFound what) p = absurd p
+of_key IsText before after (Taken name) p = absurd p
 of_key IsText before after (Limit limit) p = absurd p
 
 -- ---- `init`
@@ -195,6 +203,7 @@ reported OutputDevice n between after rose r e = subst (λ (w : Written). Rose n
 reported (SourceRefused refusal) n between after rose r e = absurd (let no : ⊥ = cc in no)
 reported (TargetRefused refusal) n between after rose r e = absurd (let no : ⊥ = cc in no)
 reported (NotFound what) n between after rose r e = absurd (let no : ⊥ = cc in no)
+reported (Taken name) n between after rose r e = absurd (let no : ⊥ = cc in no)
 reported (Limit limit) n between after rose r e = absurd (let no : ⊥ = cc in no)
 
 pub runs_reported : (words : Result Command ℕ) (secrets : Secrets) (before after : Devices) (between : Written) (status : Status)
@@ -224,6 +233,10 @@ memory_told : (secret : Secret) (timestamp : List ℕ) (told : Option Told) → 
 memory_told secret timestamp None = tt
 memory_told secret timestamp (Some t) = λ e. tt
 
+transfer_told : (secret : Secret) (told : Option Told) → Between told told (TransferEach secret)
+transfer_told secret None = tt
+transfer_told secret (Some t) = (t, refl, each_untouched secret t.history)
+
 pub does_nothing : (words : Result Command ℕ) (secrets : Secrets) (all : Devices) → DoesCommand words secrets all Memory all
 does_nothing (Ok Keys) secrets all = record { shows = inl refl; target = refl; entropy = refl }
 does_nothing (Ok Key) secrets all = record { shows = inl refl; target = refl; entropy = refl }
@@ -239,4 +252,6 @@ does_nothing (Ok (Init iterations timestamp)) secrets all = record {
   refused = inr (record { refusal = Store.Memory; status_is = refl; refuses = memory_told secrets.target (time_or timestamp) all.target.told });
 }
 does_nothing (Ok (MakeKey iterations)) secrets all = record { source = refl; target = refl; prints = inl refl }
+does_nothing (Ok (Transfer block checkpoint timestamp names)) secrets all =
+    record { output = refl; each = transfer_told secrets.target all.target.told }
 does_nothing (Err word) secrets all = refl

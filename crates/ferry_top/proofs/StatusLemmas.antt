@@ -1,5 +1,8 @@
 -- Lemmas on specs/Status.antt and specs/Run.antt: what a fault says, its status says.
 use Rattle.std.proofs.Common.{◌≡◌, ℕ, false, List, Option, IfSome, refl, sym, ◌∙◌, inr}
+use Rattle.ferry_carry.specs.Fault.{random_failed as carried_random, shelf_failed as carried_source, target_failed as carried_target}
+use Rattle.ferry_carry.specs.declared.fault.CarryFault.{CarryFault}
+use Rattle.ferry_carry.specs.declared.fault.CarryFault.TheVariants as Carry
 use Rattle.ferry_disk.specs.Files.{Files}
 use Rattle.ferry_disk.specs.Device.{Told, told_files, WritesSome, RoseWhere}
 use Rattle.ferry_log.specs.Fault.{log_failed}
@@ -17,7 +20,7 @@ use Rattle.ferry_nonce.specs.declared.fault.NonceFault.TheVariants as Nonces
 use Rattle.ferry_store.specs.Fault.{depot_failed, source_failed as drawing_failed}
 use Rattle.ferry_store.specs.declared.fault.StoreRefusal.{StoreRefusal}
 use Rattle.ferry_store.specs.declared.fault.StoreRefusal.TheVariants as Store
-use Rattle.ferry_top.specs.Status.{log_status, output_status, repo_status, store_status, target_status, view_status}
+use Rattle.ferry_top.specs.Status.{carry_status, log_status, output_status, repo_status, store_status, target_status, view_status}
 use Rattle.ferry_top.specs.Status.{source_failed, target_failed, entropy_failed, output_failed}
 use Rattle.ferry_top.specs.declared.status.Limit.{Limit}
 use Rattle.ferry_top.specs.declared.status.Refusal.{Refusal}
@@ -204,6 +207,123 @@ entropy_of_output (View.Repo fault) = refl
 entropy_of_output View.NotFound = refl
 entropy_of_output View.Output = refl
 entropy_of_output View.Memory = refl
+
+-- of a transfer
+
+quiet_of_repo : (fault : RepoFault) → output_failed (repo_status fault) ≡ false
+quiet_of_repo Repo.NoCommit = refl
+quiet_of_repo (Repo.Damaged segment at) = refl
+quiet_of_repo (Repo.Config fault) = refl
+quiet_of_repo (Repo.Key fault) = refl
+quiet_of_repo (Repo.Missing id) = refl
+quiet_of_repo (Repo.Blob id fault) = refl
+quiet_of_repo (Repo.Manifest fault) = refl
+quiet_of_repo (Repo.Archive id fault) = refl
+quiet_of_repo (Repo.Item id fault) = refl
+quiet_of_repo (Repo.Size id) = refl
+quiet_of_repo (Repo.KeyFile fault) = refl
+quiet_of_repo (Repo.Other file config) = refl
+quiet_of_repo Repo.NoKey = refl
+quiet_of_repo Repo.Device = refl
+quiet_of_repo Repo.Memory = refl
+
+target_of_source : (fault : RepoFault) → target_failed (repo_status fault) ≡ false
+target_of_source Repo.NoCommit = refl
+target_of_source (Repo.Damaged segment at) = refl
+target_of_source (Repo.Config fault) = refl
+target_of_source (Repo.Key fault) = refl
+target_of_source (Repo.Missing id) = refl
+target_of_source (Repo.Blob id fault) = refl
+target_of_source (Repo.Manifest fault) = refl
+target_of_source (Repo.Archive id fault) = refl
+target_of_source (Repo.Item id fault) = refl
+target_of_source (Repo.Size id) = refl
+target_of_source (Repo.KeyFile fault) = refl
+target_of_source (Repo.Other file config) = refl
+target_of_source Repo.NoKey = refl
+target_of_source Repo.Device = refl
+target_of_source Repo.Memory = refl
+
+entropy_of_source : (fault : RepoFault) → entropy_failed (repo_status fault) ≡ false
+entropy_of_source Repo.NoCommit = refl
+entropy_of_source (Repo.Damaged segment at) = refl
+entropy_of_source (Repo.Config fault) = refl
+entropy_of_source (Repo.Key fault) = refl
+entropy_of_source (Repo.Missing id) = refl
+entropy_of_source (Repo.Blob id fault) = refl
+entropy_of_source (Repo.Manifest fault) = refl
+entropy_of_source (Repo.Archive id fault) = refl
+entropy_of_source (Repo.Item id fault) = refl
+entropy_of_source (Repo.Size id) = refl
+entropy_of_source (Repo.KeyFile fault) = refl
+entropy_of_source (Repo.Other file config) = refl
+entropy_of_source Repo.NoKey = refl
+entropy_of_source Repo.Device = refl
+entropy_of_source Repo.Memory = refl
+
+used_of_repo : (fault : RepoFault) (n : ℕ) → repo_status fault ≡ TheStatus.Usage n → ⊥
+used_of_repo Repo.NoCommit n e = let no : ⊥ = cc in no
+used_of_repo (Repo.Damaged segment at) n e = let no : ⊥ = cc in no
+used_of_repo (Repo.Config fault) n e = let no : ⊥ = cc in no
+used_of_repo (Repo.Key fault) n e = let no : ⊥ = cc in no
+used_of_repo (Repo.Missing id) n e = let no : ⊥ = cc in no
+used_of_repo (Repo.Blob id fault) n e = let no : ⊥ = cc in no
+used_of_repo (Repo.Manifest fault) n e = let no : ⊥ = cc in no
+used_of_repo (Repo.Archive id fault) n e = let no : ⊥ = cc in no
+used_of_repo (Repo.Item id fault) n e = let no : ⊥ = cc in no
+used_of_repo (Repo.Size id) n e = let no : ⊥ = cc in no
+used_of_repo (Repo.KeyFile fault) n e = let no : ⊥ = cc in no
+used_of_repo (Repo.Other file config) n e = let no : ⊥ = cc in no
+used_of_repo Repo.NoKey n e = let no : ⊥ = cc in no
+used_of_repo Repo.Device n e = let no : ⊥ = cc in no
+used_of_repo Repo.Memory n e = let no : ⊥ = cc in no
+
+pub source_of_carry : (fault : CarryFault) → source_failed (carry_status fault) ≡ carried_source fault
+source_of_carry (Carry.Source fault) = failed_of_repo fault
+source_of_carry (Carry.Target refusal) = (of_store refusal).source
+source_of_carry (Carry.Taken name) = refl
+source_of_carry (Carry.NotFound name) = refl
+source_of_carry Carry.Pieces = refl
+source_of_carry Carry.Memory = refl
+source_of_carry Carry.Record = refl
+
+pub target_of_carry : (fault : CarryFault) → target_failed (carry_status fault) ≡ carried_target fault
+target_of_carry (Carry.Source fault) = target_of_source fault
+target_of_carry (Carry.Target refusal) = target_of_store refusal
+target_of_carry (Carry.Taken name) = refl
+target_of_carry (Carry.NotFound name) = refl
+target_of_carry Carry.Pieces = refl
+target_of_carry Carry.Memory = refl
+target_of_carry Carry.Record = refl
+
+pub entropy_of_carry : (fault : CarryFault) → entropy_failed (carry_status fault) ≡ carried_random fault
+entropy_of_carry (Carry.Source fault) = entropy_of_source fault
+entropy_of_carry (Carry.Target refusal) = entropy_of_store refusal
+entropy_of_carry (Carry.Taken name) = refl
+entropy_of_carry (Carry.NotFound name) = refl
+entropy_of_carry Carry.Pieces = refl
+entropy_of_carry Carry.Memory = refl
+entropy_of_carry Carry.Record = refl
+
+pub quiet_of_carry : (fault : CarryFault) → output_failed (carry_status fault) ≡ false
+quiet_of_carry (Carry.Source fault) = quiet_of_repo fault
+quiet_of_carry (Carry.Target refusal) = (of_store refusal).output
+quiet_of_carry (Carry.Taken name) = refl
+quiet_of_carry (Carry.NotFound name) = refl
+quiet_of_carry Carry.Pieces = refl
+quiet_of_carry Carry.Memory = refl
+quiet_of_carry Carry.Record = refl
+
+pub used_of_carry : (fault : CarryFault) (n : ℕ) → carry_status fault ≡ TheStatus.Usage n → ⊥
+used_of_carry (Carry.Source fault) n e = used_of_repo fault n e
+used_of_carry (Carry.Target refusal) n e = (of_store refusal).used n e
+used_of_carry (Carry.Taken name) n e = let no : ⊥ = cc in no
+used_of_carry (Carry.NotFound name) n e = let no : ⊥ = cc in no
+used_of_carry Carry.Pieces n e = let no : ⊥ = cc in no
+used_of_carry Carry.Memory n e = let no : ⊥ = cc in no
+used_of_carry Carry.Record n e = let no : ⊥ = cc in no
+
+pub ruleset carried = (source_of_carry, target_of_carry, entropy_of_carry, quiet_of_carry, used_of_carry)
 
 pub ruleset causes = (failed_of_log, failed_of_repo, failed_of_output, failed_of_view, target_of_store, entropy_of_store, entropy_of_output)
 

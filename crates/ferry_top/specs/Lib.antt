@@ -9,3 +9,4 @@ pub mod Items
 pub mod Run
 pub mod Status
 pub mod Words
+pub mod Transfer

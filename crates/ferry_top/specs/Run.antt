@@ -15,8 +15,9 @@ use Rattle.ferry_top.specs.MakeKey.{MakesKey}
 use Rattle.ferry_view.specs.Items.{RefusesItems, RefusesFile}
 use Rattle.ferry_top.specs.Items.{ShowsItems, ShowsItemsFront, ShowsFile, ShowsFileFront, RefusesShowing, LacksArchive, LacksPath}
 use Rattle.ferry_top.specs.Status.{fault_line, RefusesKeys}
+use Rattle.ferry_top.specs.Transfer.{Transfers}
 use Rattle.ferry_words.specs.declared.command.Command.{Command}
-use Rattle.ferry_words.specs.declared.command.Command.TheVariants.{Keys, Key, List as ListArchives, ListItems, Extract, Check, Init, MakeKey}
+use Rattle.ferry_words.specs.declared.command.Command.TheVariants.{Keys, Key, List as ListArchives, ListItems, Extract, Check, Init, MakeKey, Transfer}
 use Rattle.ferry_top.specs.declared.status.Refusal.{Refusal}
 use Rattle.ferry_top.specs.declared.status.Secrets.{Secrets}
 use Rattle.ferry_top.specs.declared.status.Status.{Status}
@@ -85,8 +86,8 @@ pub record ReadsSource (command : Command) (secret : Secret) (before : Devices) 
   pub target : after.target ≡ before.target
   pub entropy : after.entropy ≡ before.entropy
 
--- what each command does, before the fault line: it reads the source, makes a repository in the target, or makes a key for it; where the
--- words are no command, no device is used
+-- what each command does, before the fault line: it reads the source, makes a repository in the target, makes a key for it, or copies archives
+-- into it; where the words are no command, no device is used
 abbrev pub DoesCommand : Result Command ℕ → Secrets → Devices → Status → Devices → Type 0
 DoesCommand (Ok Keys) secrets before status after = ReadsSource Keys secrets.source before status after
 DoesCommand (Ok Key) secrets before status after = ReadsSource Key secrets.source before status after
@@ -97,6 +98,7 @@ DoesCommand (Ok Check) secrets before status after = ReadsSource Check secrets.s
 DoesCommand (Ok (Init iterations timestamp)) secrets before status after =
     MakesRepository secrets.target iterations (time_or timestamp) before status after
 DoesCommand (Ok (MakeKey iterations)) secrets before status after = MakesKey secrets.target iterations before status after
+DoesCommand (Ok (Transfer block checkpoint timestamp names)) secrets before status after = Transfers secrets names before status after
 DoesCommand (Err word) secrets before status after = after ≡ before
 
 -- A line went to the output in one write, whatever the write answered.

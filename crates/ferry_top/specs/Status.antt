@@ -1,5 +1,7 @@
 -- The numbers of the statuses, their fault lines, and what a refusal says of the source's files.
 use Rattle.std.specs.Prelude.{ℕ, Bool, true, false, List, [], ◌∷◌, ◌++◌, codes, decimal}
+use Rattle.ferry_carry.specs.declared.fault.CarryFault.{CarryFault}
+use Rattle.ferry_carry.specs.declared.fault.CarryFault.TheVariants as Carry
 use Rattle.ferry_disk.specs.Files.{Files}
 use Rattle.ferry_log.specs.Log.{IsUncommitted, IsDamaged}
 use Rattle.ferry_log.specs.declared.fault.LogFault.{LogFault}
@@ -13,7 +15,7 @@ use Rattle.ferry_top.specs.declared.status.Limit.{Limit as LimitKind}
 use Rattle.ferry_top.specs.declared.status.Limit.TheVariants as Limits
 use Rattle.ferry_top.specs.declared.status.Status.{Status}
 use Rattle.ferry_top.specs.declared.status.Status.TheVariants.{Done, No, Usage, Memory, SourceDevice, TargetDevice, EntropyDevice, OutputDevice}
-use Rattle.ferry_top.specs.declared.status.Status.TheVariants.{SourceRefused, TargetRefused, NotFound, Limit}
+use Rattle.ferry_top.specs.declared.status.Status.TheVariants.{SourceRefused, TargetRefused, Taken, NotFound, Limit}
 use Rattle.ferry_top.specs.declared.status.Refusal.{Refusal}
 use Rattle.ferry_top.specs.declared.status.Refusal.TheVariants.{Repo, Nonce, Committed}
 use Rattle.ferry_write.specs.declared.fault.WriteFault.{WriteFault}
@@ -37,6 +39,7 @@ status_number EntropyDevice = 6
 status_number OutputDevice = 7
 status_number (SourceRefused refusal) = 8
 status_number (TargetRefused refusal) = 9
+status_number (Taken name) = 10
 status_number (NotFound what) = 11
 status_number (Limit limit) = 12
 
@@ -94,6 +97,16 @@ store_status Store.TooLarge = Limit Limits.Manifest
 store_status Store.Entropy = EntropyDevice
 store_status Store.Memory = Memory
 
+-- the status where archives aren't copied
+abbrev pub carry_status : CarryFault → Status
+carry_status (Carry.Source fault) = repo_status fault
+carry_status (Carry.Target refusal) = store_status refusal
+carry_status (Carry.Taken name) = Taken name
+carry_status (Carry.NotFound name) = NotFound name
+carry_status Carry.Pieces = Limit Limits.Item
+carry_status Carry.Memory = Memory
+carry_status Carry.Record = Limit Limits.Archive
+
 -- ---- lines
 
 -- the fault line of the first wrong word
@@ -121,6 +134,10 @@ limit_line Limits.Archive = codes "limit: record\n"
 limit_line Limits.Segment = codes "limit: segment\n"
 limit_line Limits.Item = codes "limit: item\n"
 
+-- the fault line of a name that is taken
+abbrev pub taken_line : List ℕ → List ℕ
+taken_line name = codes "name taken: " ++ (escaped name ++ (10 ∷ []))
+
 -- the fault line of what isn't there
 abbrev pub missing_line : List ℕ → List ℕ
 missing_line what = codes "not found: " ++ (escaped what ++ (10 ∷ []))
@@ -137,6 +154,7 @@ fault_line EntropyDevice = codes "entropy failed\n"
 fault_line OutputDevice = []
 fault_line (SourceRefused refusal) = source_line refusal
 fault_line (TargetRefused refusal) = target_line refusal
+fault_line (Taken name) = taken_line name
 fault_line (NotFound what) = missing_line what
 fault_line (Limit limit) = limit_line limit
 

@@ -20,6 +20,9 @@ mod target_tests;
 #[cfg(test)]
 mod tests;
 mod top;
+mod transfer;
+#[cfg(test)]
+mod transfer_tests;
 mod words;
 
 pub use ferry_repo::{RepoFault, Secret};

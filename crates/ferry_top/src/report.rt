@@ -1,7 +1,7 @@
 //! The fault lines.
 ghost use Rattle.std.specs.Prelude.{◌≡◌, ◌++◌, ℕ, List, IfOk, OnOk, OnErr, codes, decimal, option_map};
 ghost use Rattle.ferry_disk.specs.Device.{WritesSome, HasCause, sink_failed};
-ghost use Rattle.ferry_top.specs.Status.{usage_line, source_line, target_line, missing_line, limit_line, refusal_reason};
+ghost use Rattle.ferry_top.specs.Status.{usage_line, source_line, taken_line, target_line, missing_line, limit_line, refusal_reason};
 ghost use Rattle.ferry_nonce.specs.Fault.{number_of_fault as nonce_number};
 ghost use Rattle.ferry_repo.specs.Reason.{reason};
 ghost use Rattle.ferry_top.specs.Devices.{written};
@@ -27,6 +27,7 @@ pub(crate) fn report<K: Sink>(alloc: Global, status: &Status, out: &mut K)
         Status::EntropyDevice => out.write(b"entropy failed\n"),
         Status::SourceRefused(refusal) => write_line(source_line(alloc, refusal), out),
         Status::TargetRefused(refusal) => write_line(target_line(alloc, refusal), out),
+        Status::Taken(name) => write_line(taken_line(alloc, name.as_slice()), out),
         Status::NotFound(what) => write_line(missing_line(alloc, what.as_slice()), out),
         Status::Limit(limit) => out.write(limit_line(*limit)),
     };
@@ -42,6 +43,16 @@ fn write_line<K: Sink>(line: Result<Vec<u8>, AllocError>, out: &mut K) -> Result
         Ok(line) => out.write(&line),
         Err(_) => Err(SinkFault::Memory),
     }
+}
+
+/// The line of a name that is taken.
+fn taken_line(alloc: Global, name: &[u8]) -> Result<Vec<u8>, AllocError>
+    ensures line { IfOk result (λ line. line.items ≡ taken_line name.now) }
+{
+    let mut line = Vec::from_slice(alloc, b"name taken: ")?;
+    write_text(name, &mut line)?;
+    line.push(b'\n')?;
+    Ok(line)
 }
 
 /// The line of a source that is refused.

@@ -1,9 +1,10 @@
 //! How a run ends.
 ghost use Rattle.std.specs.Prelude.{◌≡◌};
 ghost use Rattle.ferry_top.specs.Status.{status_number, log_status, repo_status, output_status, view_status, store_status, target_status, write_status};
-ghost use Rattle.ferry_top.specs.Status.{nonce_status};
+ghost use Rattle.ferry_top.specs.Status.{carry_status, nonce_status};
 
 use ferry_base::Bytes;
+use ferry_carry::CarryFault;
 use ferry_log::LogFault;
 use ferry_nonce::NonceFault;
 use ferry_repo::{RepoFault, Secret};
@@ -41,6 +42,8 @@ pub enum Status {
     SourceRefused(Refusal),
     /// The target's files are refused.
     TargetRefused(Refusal),
+    /// The target has another archive of this name.
+    Taken(Bytes),
     /// No archive has this name, or no item of the archive that has content has this path.
     NotFound(Bytes),
     /// A limit of the target is met.
@@ -89,6 +92,7 @@ impl Status {
             Status::OutputDevice => 7,
             Status::SourceRefused(_) => 8,
             Status::TargetRefused(_) => 9,
+            Status::Taken(_) => 10,
             Status::NotFound(_) => 11,
             Status::Limit(_) => 12,
         }
@@ -154,6 +158,21 @@ pub(crate) fn of_store(refusal: StoreRefusal) -> Status
         StoreRefusal::TooLarge => Status::Limit(Limit::Manifest),
         StoreRefusal::Entropy => Status::EntropyDevice,
         StoreRefusal::Memory => Status::Memory,
+    }
+}
+
+/// The status of a transfer that was refused.
+pub(crate) fn of_carry(fault: CarryFault) -> Status
+    ensures { result ≡ carry_status fault }
+{
+    match fault {
+        CarryFault::Source(fault) => of_repo(fault),
+        CarryFault::Target(refusal) => of_store(refusal),
+        CarryFault::Taken(name) => Status::Taken(name),
+        CarryFault::NotFound(name) => Status::NotFound(name),
+        CarryFault::Pieces => Status::Limit(Limit::Item),
+        CarryFault::Memory => Status::Memory,
+        CarryFault::Record => Status::Limit(Limit::Archive),
     }
 }
 

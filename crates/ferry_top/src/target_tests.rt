@@ -1,4 +1,5 @@
 //! `init` and `make-key` over devices in memory.
+ghost use Rattle.std.specs.Prelude.{◌≡◌, [], IfOk};
 
 use crate::tests::{PASSPHRASE, secret, strings};
 use crate::{Secrets, run};
@@ -10,11 +11,9 @@ use std::test::Fail;
 const MADE: &str = "initialized 000102030405060708090a0b0c0d0e0f101112131415161718191a1b1c1d1e1f\n";
 
 /// A depot of these files, of whose calls those listed fail.
-fn depot(
-    alloc: Global,
-    files: &[(Name, &[u8])],
-    failing: &[u64],
-) -> Result<MemoryDepot, AllocError> {
+fn depot(alloc: Global, files: &[(Name, &[u8])], failing: &[u64]) -> Result<MemoryDepot, AllocError>
+    ensures begun { IfOk result (λ depot. depot.history.acts ≡ []) }
+{
     let mut owned = Vec::new(alloc);
     for (name, bytes) in files {
         owned.push((*name, Vec::from_slice(alloc, bytes)?))?;
@@ -30,7 +29,9 @@ fn run_over(
     key_file: &[u8],
     target: &mut MemoryDepot,
     failing: u64,
-) -> Result<(u8, Vec<u8>), AllocError> {
+) -> Result<(u8, Vec<u8>), AllocError>
+    requires begun { target.old.history.acts ≡ [] }
+{
     let words = strings(alloc, words)?;
     let secrets = Secrets {
         source: secret(alloc, b"", b"")?,
@@ -58,7 +59,9 @@ fn inits(
     target: &mut MemoryDepot,
     number: u8,
     text: &str,
-) -> Result<bool, AllocError> {
+) -> Result<bool, AllocError>
+    requires begun { target.old.history.acts ≡ [] }
+{
     let words = ["init", "--iterations", "1"];
     let (status, printed) = run_over(alloc, &words, key_file, target, 0)?;
     Ok(status == number && printed.as_slice() == text.as_bytes())
@@ -212,7 +215,8 @@ fn an_init_that_was_stopped_is_done_again(rt: HostRuntime) -> Result<(), Fail> {
             took: true,
             tails: Vec::new(alloc),
         };
-        if let Some(mut next) = stopped(target, choice)? {
+        if let Some(left) = stopped(target, choice)? {
+            let mut next = left.again()?;
             let (then, _) = run_over(alloc, &words, b"", &mut next, 0)?;
             ends[acts] = then;
             higher[acts] = nonce_of(&mut next) > reserved;

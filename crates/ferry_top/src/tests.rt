@@ -21,7 +21,7 @@ const EMPTY: &str = "11111111111111111111111111111111111111111111111111111111111
 pub(crate) const PASSPHRASE: &[u8] = b"passphrase";
 
 /// The lines of a `config` before its key.
-const CONFIG: &str = "[repository]\nversion = 1\n\
+pub(crate) const CONFIG: &str = "[repository]\nversion = 1\n\
     id = 0000000000000000000000000000000000000000000000000000000000000000\n";
 
 /// A key that Python's `hashlib` and openssl sealed under the passphrase, with 100000 iterations. Its repository id is 32 bytes 22.
@@ -275,7 +275,7 @@ fn segments(alloc: Global, parts: &[Part]) -> Result<Vec<(Name, Vec<u8>)>, Alloc
 }
 
 /// A file `config` of these texts.
-fn config(alloc: Global, texts: &[&str]) -> Result<(Name, Vec<u8>), AllocError> {
+pub(crate) fn config(alloc: Global, texts: &[&str]) -> Result<(Name, Vec<u8>), AllocError> {
     let mut bytes = Vec::new(alloc);
     for text in texts {
         bytes.extend_from_slice(text.as_bytes())?;

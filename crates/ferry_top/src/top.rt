@@ -1,5 +1,5 @@
 //! The top call.
-ghost use Rattle.std.specs.Prelude.{◌≡◌, ◌⊎◌, ℕ, map, string_bytes, Ok, IfErr, MatchResult};
+ghost use Rattle.std.specs.Prelude.{◌≡◌, ◌⊎◌, ℕ, [], map, string_bytes, Ok, IfErr, IfSome, MatchResult};
 ghost use Rattle.ferry_top.specs.Devices.{HasCauses, devices, store, drawn, written};
 ghost use Rattle.ferry_top.specs.Run.{DoesCommand, Runs};
 ghost use Rattle.ferry_words.specs.Words.{IsInRange, command_of};
@@ -13,6 +13,8 @@ use crate::list::list;
 use crate::make_key::make_key;
 use crate::report::report;
 use crate::status::{Secrets, Status};
+use crate::transfer::transfer;
+use ferry_carry::Options;
 use ferry_disk::{Depot, Entropy, Shelf, Sink};
 use ferry_words::{Command, Usage, read_words};
 use std::alloc::Global;
@@ -27,8 +29,10 @@ use std::alloc::Global;
 /// archive that has content and a path. `check` opens every live chunk and reads every archive, and prints how many there are, or the first
 /// fault, with which it answers `No`. None of these uses `target` and `entropy`. `init` makes a repository in the target, with the key of the
 /// target's key file where there is one, and tells `initialized ` and its id as 64 hex digits; it uses neither `source` nor `out` but for its
-/// fault line. `make-key` draws a new key, seals it with the target's passphrase and prints the text of its key file; it uses neither `source`
-/// nor `target`.
+/// fault line. `transfer` copies the chosen archives of the source, or all, into the target, in pieces of its own length, those that the target
+/// lacks, and compares the others; it tells `transferred ` or `present ` and the name of each, and at the end a line with the numbers of all, and uses
+/// `out` for its fault line alone. `make-key` draws a new key, seals it with the target's passphrase and prints the text of its key file; it uses
+/// neither `source` nor `target`.
 pub fn run<S: Shelf, D: Depot, E: Entropy, K: Sink>(
     alloc: Global,
     words: &[String],
@@ -38,6 +42,7 @@ pub fn run<S: Shelf, D: Depot, E: Entropy, K: Sink>(
     entropy: &mut E,
     out: &mut K,
 ) -> Status
+    requires begun { IfSome (D.told target.old) (λ t. t.history.acts ≡ []) }
     ensures usage { MatchResult (command_of (map string_bytes words.now)) (λ _. (n : ℕ) → result ≡ Status.Usage n → ⊥)
         (λ n. (result ≡ Status.Usage n) ⊎ (result ≡ Status.Memory)) }
     ensures idle { IfErr (command_of (map string_bytes words.now)) (λ _. source.new ≡ source.old) }
@@ -63,6 +68,7 @@ fn answer<S: Shelf, D: Depot, E: Entropy, K: Sink>(
     entropy: &mut E,
     out: &mut K,
 ) -> Status
+    requires begun { IfSome (D.told target.old) (λ t. t.history.acts ≡ []) }
     ensures usage { MatchResult (command_of (map string_bytes words.now)) (λ _. (n : ℕ) → result ≡ Status.Usage n → ⊥)
         (λ n. (result ≡ Status.Usage n) ⊎ (result ≡ Status.Memory)) }
     ensures idle { IfErr (command_of (map string_bytes words.now)) (λ _. source.new ≡ source.old) }
@@ -96,6 +102,7 @@ fn carry_out<S: Shelf, D: Depot, E: Entropy, K: Sink>(
     out: &mut K,
 ) -> Status
     requires in_range { IsInRange command }
+    requires begun { IfSome (D.told target.old) (λ t. t.history.acts ≡ []) }
     ensures does { DoesCommand (Ok command) secrets.now
         (devices (store (S.told source.old) (S.faults source.old)) (store (D.told target.old) (D.faults target.old))
         (drawn (E.drawn entropy.old) (E.faults entropy.old)) (written (K.written out.old) (K.faults out.old)))
@@ -124,6 +131,24 @@ fn carry_out<S: Shelf, D: Depot, E: Entropy, K: Sink>(
             &secrets.target,
             iterations,
             timestamp,
+            target,
+            entropy,
+        ),
+        Command::Transfer {
+            block,
+            checkpoint,
+            timestamp,
+            names,
+        } => transfer(
+            alloc,
+            secrets,
+            &Options {
+                block,
+                checkpoint,
+                timestamp,
+            },
+            names.as_slice(),
+            source,
             target,
             entropy,
         ),

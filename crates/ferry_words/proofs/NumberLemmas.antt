@@ -7,7 +7,7 @@ use Rattle.std.specs.Option.{SomeIff, option_and_then}
 use Rattle.std.specs.Result.{OkIff, result_ok}
 use Rattle.std.specs.Str.{all_ascii_digits}
 use Rattle.std.specs.Str.Parse.{ParsesUnsigned, digits_value}
-use Rattle.ferry_words.specs.Words.{is_decimal, iterations, iterations_of, number_of, number_or, value_of}
+use Rattle.ferry_words.specs.Words.{block, block_of, checkpoint, checkpoint_of, is_decimal, iterations, iterations_of, number_of, number_or, value_of}
 
 left : (a b : Bool) → (a && b) ≡ true → a ≡ true
 left true b h = refl
@@ -38,24 +38,32 @@ decimal_parsed word read parsed first =
     (parse_plain (numerals_by_value (λ (text : List ℕ). all_ascii_digits text ≡ true) tells_all_ascii_digits) 32 word read parsed
     (λ e. omega (arith, e, first)))
 
--- ---- iterations_of
+-- ---- number_given
 
--- a number may be that of iterations
-abbrev AreIterations : ℕ → Type 0
-AreIterations number = (1 ≤ number) × (number ≤ 10000000)
+-- a number is from least to most
+abbrev IsWithin : ℕ → ℕ → ℕ → Type 0
+IsWithin least most number = (least ≤ number) × (number ≤ most)
 
-in_range_by : (number : ℕ) (written reaches within : Bool) → nat_le 1 number ≡ reaches → nat_le number 10000000 ≡ within
-    → AreIterations (number_or 100000 (if written && (reaches && within) then Some number else None))
-in_range_by number true true true r w = (leb-true _ _ r, leb-true _ _ w)
-in_range_by number true true false r w = (omega arith, omega arith)
-in_range_by number true false within r w = (omega arith, omega arith)
-in_range_by number false reaches within r w = (omega arith, omega arith)
+within_by : (least most default number : ℕ) (written reaches within : Bool) → nat_le least number ≡ reaches → nat_le number most ≡ within
+    → IsWithin least most default → IsWithin least most (number_or default (if written && (reaches && within) then Some number else None))
+within_by least most default number true true true r w h = (leb-true _ _ r, leb-true _ _ w)
+within_by least most default number true true false r w h = h
+within_by least most default number true false within r w h = h
+within_by least most default number false reaches within r w h = h
 
-number_in_range : (value : Option (List ℕ)) → AreIterations (number_or 100000 (option_and_then (number_of 1 10000000) value))
+number_within : (least most default : ℕ) (value : Option (List ℕ)) → IsWithin least most default
+    → IsWithin least most (number_or default (option_and_then (number_of least most) value))
 unfolding number_of
-number_in_range None = (omega arith, omega arith)
-number_in_range (Some word) =
-    in_range_by (digits_value 10 word) (is_decimal word) (nat_le 1 (digits_value 10 word)) (nat_le (digits_value 10 word) 10000000) refl refl
+number_within least most default None h = h
+number_within least most default (Some word) h =
+    within_by least most default (digits_value 10 word) (is_decimal word) (nat_le least (digits_value 10 word))
+    (nat_le (digits_value 10 word) most) refl refl h
 
 pub iterations_in_range : (given : List (List ℕ)) → (1 ≤ iterations_of given) × (iterations_of given ≤ 10000000)
-iterations_in_range given = number_in_range (value_of given iterations.name)
+iterations_in_range given = number_within 1 10000000 100000 (value_of given iterations.name) (omega arith, omega arith)
+
+pub block_in_range : (given : List (List ℕ)) → (64 ≤ block_of given) × (block_of given ≤ 8388608)
+block_in_range given = number_within 64 8388608 2097152 (value_of given block.name) (omega arith, omega arith)
+
+pub checkpoint_in_range : (given : List (List ℕ)) → (1 ≤ checkpoint_of given) × (checkpoint_of given ≤ 1000000)
+checkpoint_in_range given = number_within 1 1000000 1024 (value_of given checkpoint.name) (omega arith, omega arith)

@@ -2,9 +2,11 @@
 use Rattle.std.proofs.Common.{◌≡◌, ℕ, zero, suc, ◌+◌, ◌<◌, ◌≤◌, nat_lt, Bool, true, false, cond, List, [], ◌∷◌, ◌++◌, length, drop, ◌⊎◌, inl, inr}
 use Rattle.std.proofs.Common.{Option, Some, None, Result, Ok, Err, refl, ap, ◌∙◌, subst, sym, arith}
 use Rattle.std.proofs.lemmas.Bool.{cases_lt, ltb-true, ltb-false, lt-ltb, le-ltb}
-use Rattle.ferry_words.specs.Words.{Form, Parts, first_unfit, made, made_by, made_of, meaning_of, parts_of, up_to}
+use Rattle.ferry_words.specs.Words.{Form, Parts, any, block_of, checkpoint_of, first_unfit, made, made_by, made_of, meaning_of, parts_of, timestamp_of}
+use Rattle.ferry_words.specs.Words.{transfer_form, up_to}
 use Rattle.ferry_words.specs.Laws.{AreOperands}
 use Rattle.ferry_words.specs.declared.command.Command.{Command}
+use Rattle.ferry_words.specs.declared.command.Command.TheVariants.{Transfer}
 
 -- ---- AreOperands
 
@@ -110,6 +112,12 @@ up_to_over count place (word ∷ rest) within over = elim (cases place count wit
     cases : (place count : ℕ) → place ≤ count → (place < count) ⊎ (place ≡ count)
     cases place count h = elim (cases_lt place count) [ inl less ↦ inl less | inr reaches ↦ inr (omega arith) ]
 
+-- ---- any
+
+any_fits : (place : ℕ) (words : List (List ℕ)) → AreOperands any place words
+any_fits place [] = tt
+any_fits place (word ∷ rest) = (refl, any_fits (place + 1) rest)
+
 -- ---- made
 
 -- the operands fit a form, are enough, and make this command of it
@@ -195,3 +203,21 @@ few_meant form count behind parts number takes read within under numbered =
     (subst (λ (operand : ℕ → List ℕ → Bool). AreOperands operand 0 parts.operands) (sym takes) (up_to_fits count 0 parts.operands (omega (arith, within))))
     under
     ∙ ap Err (sym numbered)
+
+-- a form that takes any number of operands
+pub any_meant : (form : Form) (behind : List (List ℕ)) (parts : Parts) → form.operand ≡ any → form.least ≡ 0
+    → parts_of form.options [] behind ≡ Ok parts → meaning_of form behind ≡ Ok (form.make parts.given parts.operands)
+any_meant form behind parts takes least read =
+    ap (λ (read : Result Parts ℕ). made_of form read) read
+    ∙ make_made form parts (form.make parts.given parts.operands) record {
+      enough = omega (arith, least);
+      fitting = subst (λ (operand : ℕ → List ℕ → Bool). AreOperands operand 0 parts.operands) (sym takes) (any_fits 0 parts.operands);
+      made = refl;
+    }
+
+-- what `transfer` makes of its options and names
+pub transfer_meant : (behind : List (List ℕ)) (parts : Parts) (size count : ℕ) (text : Option (List ℕ)) (names : List (List ℕ))
+    → parts_of transfer_form.options [] behind ≡ Ok parts → size ≡ block_of parts.given → count ≡ checkpoint_of parts.given
+    → text ≡ timestamp_of parts.given → names ≡ parts.operands → meaning_of transfer_form behind ≡ Ok (Transfer size count text names)
+transfer_meant behind parts size count text names read is_size is_count is_text is_names =
+    any_meant transfer_form behind parts refl refl read ∙ sym (rw (is_size, is_count, is_text, is_names) refl)

@@ -5,9 +5,9 @@ use Rattle.std.proofs.lemmas.Slice.Eq.{bytes_eq-Decides}
 use Rattle.std.specs.List.{AllByRecursion}
 use Rattle.std.specs.Str.{IsUtf8, bytes_eq}
 use Rattle.ferry_words.specs.Words.{Form, IsInRange, OptionForm, Row, is_known, is_option, is_taken, iterations, listed, number_of, options_end, rows, row_of}
-use Rattle.ferry_words.specs.Words.{timestamp}
+use Rattle.ferry_words.specs.Words.{block, checkpoint, timestamp, transferred}
 use Rattle.ferry_words.specs.Laws.{AreOperands, IsPlainAhead}
-use Rattle.ferry_words.proofs.NumberLemmas.{iterations_in_range}
+use Rattle.ferry_words.proofs.NumberLemmas.{block_in_range, checkpoint_in_range, iterations_in_range}
 
 -- ---- options
 
@@ -26,6 +26,18 @@ utf8_one = (codes "1", (refl, refl))
 usable_iterations : IsUsable iterations
 unfolding number_of
 usable_iterations = record { value = codes "1"; utf8 = utf8_one; taken = refl; formed = refl; other = refl }
+
+utf8_block : IsUtf8 (codes "64")
+unfolding lib.Utf8.encode
+utf8_block = (codes "64", (refl, refl))
+
+usable_block : IsUsable block
+unfolding number_of
+usable_block = record { value = codes "64"; utf8 = utf8_block; taken = refl; formed = refl; other = refl }
+
+usable_checkpoint : IsUsable checkpoint
+unfolding number_of
+usable_checkpoint = record { value = codes "1"; utf8 = utf8_one; taken = refl; formed = refl; other = refl }
 
 usable_timestamp : IsUsable timestamp
 usable_timestamp = record { value = codes "1"; utf8 = utf8_one; taken = refl; formed = refl; other = refl }
@@ -82,6 +94,12 @@ listed_in_range : (given operands : List (List ℕ)) → IsInRange (listed given
 listed_in_range given [] = tt
 listed_in_range given (name ∷ rest) = tt
 
+transferred_in_range : (given operands : List (List ℕ)) → IsInRange (transferred given operands)
+transferred_in_range given operands =
+    let size = block_in_range given in
+    let count = checkpoint_in_range given in
+    (size.0, size.1, count.0, count.1)
+
 -- the table finds the row by its word; its options can be given, and so can its operands; its numbers are in range
 pub record IsFound (row : Row) : Type 0 where
   pub found : row_of row.word ≡ Some row
@@ -122,7 +140,14 @@ found_at (suc (suc (suc (suc (suc (suc zero)))))) row within e =
       filled = none _ refl;
       in_range = λ given operands. iterations_in_range given;
     }
-found_at (suc (suc (suc (suc (suc (suc (suc k))))))) row within e = absurd (omega arith)
+found_at (suc (suc (suc (suc (suc (suc (suc zero))))))) row within e =
+    subst IsFound e record {
+      found = refl;
+      usable = (usable_block, (usable_checkpoint, (usable_timestamp, tt)));
+      filled = none _ refl;
+      in_range = transferred_in_range;
+    }
+found_at (suc (suc (suc (suc (suc (suc (suc (suc k)))))))) row within e = absurd (omega arith)
 
 pub listed_found : (row : Row) → Contains rows row → IsFound row
 listed_found row h = found_at h.0 row h.1 h.2

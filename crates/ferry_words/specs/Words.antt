@@ -5,13 +5,13 @@
 -- operand. A word that begins with `--` in the place of an option's name and is none of the command's is wrong. The commands and
 -- their words are this project's own.
 use Rattle.std.specs.Prelude.{ℕ, ◌+◌, ◌≤◌, ⊤, nat_eq, nat_lt, nat_le, not, ◌&&◌, ◌||◌, Bool, if◌then◌else◌, List, [], ◌∷◌, ◌++◌, codes, length, get_or}
-use Rattle.std.specs.Prelude.{slice_index, find, is_some, Option, Some, None, Result, Ok, Err}
+use Rattle.std.specs.Prelude.{slice_index, find, is_some, true, Option, Some, None, Result, Ok, Err}
 use Rattle.std.specs.Str.{all_ascii_digits, bytes_eq}
 use Rattle.std.specs.Str.Parse.{digits_value}
 use Rattle.std.specs.List.{list_any, starts_with}
 use Rattle.std.specs.Option.{option_and_then}
 use Rattle.ferry_words.specs.declared.command.Command.{Command}
-use Rattle.ferry_words.specs.declared.command.Command.TheVariants.{Keys, Key, List as ListArchives, ListItems, Extract, Check, Init, MakeKey}
+use Rattle.ferry_words.specs.declared.command.Command.TheVariants.{Keys, Key, List as ListArchives, ListItems, Extract, Check, Init, MakeKey, Transfer}
 
 -- ---- values
 
@@ -51,6 +51,14 @@ iterations = option (codes "--iterations") (is_number 1 10000000)
 abbrev pub timestamp : OptionForm
 timestamp = option (codes "--timestamp") is_some_text
 
+-- `--block B`: the size of the pieces that contents are cut into
+abbrev pub block : OptionForm
+block = option (codes "--block") (is_number 64 8388608)
+
+-- `--checkpoint N`: how many chunks are put before what is done is committed
+abbrev pub checkpoint : OptionForm
+checkpoint = option (codes "--checkpoint") (is_number 1 1000000)
+
 -- whether one of the options has this name
 abbrev pub is_known : List OptionForm → List ℕ → Bool
 is_known options name = list_any (λ (option : OptionForm). bytes_eq name option.name) options
@@ -70,9 +78,21 @@ abbrev pub number_or : ℕ → Option ℕ → ℕ
 number_or default None = default
 number_or default (Some number) = number
 
+-- the number from least to most that the option of a name has among options that are given, or the default
+abbrev pub number_given : List (List ℕ) → List ℕ → ℕ → ℕ → ℕ → ℕ
+number_given given name least most default = number_or default (option_and_then (number_of least most) (value_of given name))
+
 -- the iterations that are given, or 100000
 abbrev pub iterations_of : List (List ℕ) → ℕ
-iterations_of given = number_or 100000 (option_and_then (number_of 1 10000000) (value_of given iterations.name))
+iterations_of given = number_given given iterations.name 1 10000000 100000
+
+-- the block size that is given, or 2097152
+abbrev pub block_of : List (List ℕ) → ℕ
+block_of given = number_given given block.name 64 8388608 2097152
+
+-- the chunks between two checkpoints that are given, or 1024
+abbrev pub checkpoint_of : List (List ℕ) → ℕ
+checkpoint_of given = number_given given checkpoint.name 1 1000000 1024
 
 -- the timestamp that is given
 abbrev pub timestamp_of : List (List ℕ) → Option (List ℕ)
@@ -96,6 +116,10 @@ pub record Row : Type 0 where
 -- up to so many operands, each of them any text
 abbrev pub up_to : ℕ → ℕ → List ℕ → Bool
 up_to count place word = nat_lt place count
+
+-- any number of operands, each of them any text
+abbrev pub any : ℕ → List ℕ → Bool
+any place word = true
 
 -- what `list` makes: without an operand it lists the archives, and with one the items of the archive of that name
 abbrev pub listed : List (List ℕ) → List (List ℕ) → Command
@@ -130,10 +154,19 @@ init_form = form (iterations ∷ timestamp ∷ []) 0 (up_to 0) (λ given operand
 abbrev pub make_key_form : Form
 make_key_form = form (iterations ∷ []) 0 (up_to 0) (λ given operands. MakeKey (iterations_of given))
 
+-- what `transfer` makes: the operands are the names of archives, in the order given
+abbrev pub transferred : List (List ℕ) → List (List ℕ) → Command
+transferred given names = Transfer (block_of given) (checkpoint_of given) (timestamp_of given) names
+
+-- the form of `transfer [--block B] [--checkpoint N] [--timestamp T] [NAME ..]`
+abbrev pub transfer_form : Form
+transfer_form = form (block ∷ checkpoint ∷ timestamp ∷ []) 0 any transferred
+
 -- the numbers of a command are in the ranges of its options
 abbrev pub IsInRange : Command → Type 0
 IsInRange (Init number text) = (1 ≤ number) × (number ≤ 10000000)
 IsInRange (MakeKey number) = (1 ≤ number) × (number ≤ 10000000)
+IsInRange (Transfer size count text names) = (64 ≤ size) × (size ≤ 8388608) × (1 ≤ count) × (count ≤ 1000000)
 IsInRange command = ⊤
 
 -- the row of a command
@@ -150,6 +183,7 @@ rows =
     ∷ row (codes "check") (alone Check)
     ∷ row (codes "init") init_form
     ∷ row (codes "make-key") make_key_form
+    ∷ row (codes "transfer") transfer_form
     ∷ []
 
 -- the row of this word

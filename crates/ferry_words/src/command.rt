@@ -1,5 +1,6 @@
 //! The commands.
 
+use crate::names::Names;
 use ferry_base::Bytes;
 
 /// A command, with its options and operands; texts are the bytes of a word in UTF-8.
@@ -36,5 +37,16 @@ pub enum Command {
     MakeKey {
         /// The iterations of PBKDF2 for the passphrase, 1 to 10000000.
         iterations: u32,
+    },
+    /// `transfer [--block B] [--checkpoint N] [--timestamp T] [NAME ..]`: copies archives of the source into the target.
+    Transfer {
+        /// The size in bytes of the pieces that contents are cut into, 64 to 8388608.
+        block: usize,
+        /// How many chunks are put before what is done is committed, 1 to 1000000.
+        checkpoint: u64,
+        /// The manifest's timestamp, where one is given.
+        timestamp: Option<Bytes>,
+        /// The archives' names, in the order given; none where no name is given.
+        names: Names,
     },
 }

@@ -7,6 +7,7 @@
 
 mod command;
 mod laws;
+mod names;
 mod number;
 mod options;
 mod reading;
@@ -16,5 +17,6 @@ mod usage;
 
 pub use command::Command;
 pub use laws::words_laws;
+pub use names::Names;
 pub use reading::read_words;
 pub use usage::Usage;

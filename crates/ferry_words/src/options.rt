@@ -5,6 +5,7 @@ ghost use Rattle.std.specs.Option.{option_map};
 ghost use Rattle.ferry_words.specs.Options.{options_of};
 ghost use Rattle.ferry_words.specs.Words as spec;
 
+use crate::names::Names;
 use crate::number::number_of;
 use crate::usage::Usage;
 use ferry_base::Bytes;
@@ -16,6 +17,21 @@ const ITERATIONS_LIMIT: u32 = 10_000_000;
 /// The iterations of PBKDF2 where none are given.
 const ITERATIONS: u32 = 100_000;
 
+/// The least size in bytes of the pieces that contents are cut into.
+const LEAST_BLOCK: u32 = 64;
+
+/// The greatest size in bytes of the pieces that contents are cut into, 8 MiB.
+const GREATEST_BLOCK: u32 = 8_388_608;
+
+/// The size in bytes of the pieces where none is given, 2 MiB.
+const BLOCK: u32 = 2_097_152;
+
+/// The most chunks that are put before what is done is committed.
+const CHECKPOINT_LIMIT: u32 = 1_000_000;
+
+/// How many chunks are put before what is done is committed, where no number is given.
+const CHECKPOINT: u32 = 1024;
+
 /// Which options a command has.
 #[derive(Clone, Copy)]
 pub(crate) enum Options {
@@ -25,6 +41,8 @@ pub(crate) enum Options {
     Init,
     /// `--iterations N`.
     MakeKey,
+    /// `--block B`, `--checkpoint N` and `--timestamp T`.
+    Transfer,
 }
 
 impl Options {
@@ -34,7 +52,8 @@ impl Options {
     {
         match (self, name) {
             (Options::Init | Options::MakeKey, "--iterations") => true,
-            (Options::Init, "--timestamp") => true,
+            (Options::Init | Options::Transfer, "--timestamp") => true,
+            (Options::Transfer, "--block" | "--checkpoint") => true,
             _ => false,
         }
     }
@@ -54,7 +73,11 @@ impl Options {
             (Options::Init | Options::MakeKey, "--iterations") => {
                 number_of(value, 1, ITERATIONS_LIMIT).is_some()
             }
-            (Options::Init, "--timestamp") => !value.is_empty(),
+            (Options::Init | Options::Transfer, "--timestamp") => !value.is_empty(),
+            (Options::Transfer, "--block") => {
+                number_of(value, LEAST_BLOCK, GREATEST_BLOCK).is_some()
+            }
+            (Options::Transfer, "--checkpoint") => number_of(value, 1, CHECKPOINT_LIMIT).is_some(),
             _ => false,
         }
     }
@@ -132,14 +155,35 @@ fn value_of<'a>(given: &'a [String], name: &str) -> Option<&'a String>
     None
 }
 
+/// The number from `least` to `most` that the option of this name has, or the default.
+fn number_given(given: &[String], name: &str, least: u32, most: u32, default: u32) -> u32
+    ensures number { result ≡ spec.number_given (map string_bytes given.now) name.now least most default }
+{
+    match value_of(given, name) {
+        Some(value) => number_of(value.as_str(), least, most).unwrap_or(default),
+        None => default,
+    }
+}
+
 /// The iterations that are given, or 100000.
 pub(crate) fn iterations_of(given: &[String]) -> u32
     ensures iterations { result ≡ spec.iterations_of (map string_bytes given.now) }
 {
-    match value_of(given, "--iterations") {
-        Some(value) => number_of(value.as_str(), 1, ITERATIONS_LIMIT).unwrap_or(ITERATIONS),
-        None => ITERATIONS,
-    }
+    number_given(given, "--iterations", 1, ITERATIONS_LIMIT, ITERATIONS)
+}
+
+/// The block size that is given, or 2097152.
+pub(crate) fn block_of(given: &[String]) -> usize
+    ensures block { result ≡ spec.block_of (map string_bytes given.now) }
+{
+    number_given(given, "--block", LEAST_BLOCK, GREATEST_BLOCK, BLOCK) as usize
+}
+
+/// The chunks between two checkpoints that are given, or 1024.
+pub(crate) fn checkpoint_of(given: &[String]) -> u64
+    ensures checkpoint { result ≡ spec.checkpoint_of (map string_bytes given.now) }
+{
+    u64::from(number_given(given, "--checkpoint", 1, CHECKPOINT_LIMIT, CHECKPOINT))
 }
 
 /// The timestamp that is given.
@@ -150,6 +194,18 @@ pub(crate) fn timestamp_of(alloc: Global, given: &[String]) -> Result<Option<Byt
         Some(value) => Ok(Some(bytes_of(alloc, value)?)),
         None => Ok(None),
     }
+}
+
+/// Copies of the words' bytes, in their order.
+pub(crate) fn names_of(alloc: Global, words: &[String]) -> Result<Names, Usage>
+    ensures names { IfOk result (λ names. names ≡ map string_bytes words.now) }
+    ensures memory { IfErr result (λ usage. usage ≡ Usage.Memory) }
+{
+    let mut names = Vec::new(alloc);
+    for word in words {
+        names.push(bytes_of(alloc, word)?)?;
+    }
+    Ok(Names::new(names))
 }
 
 /// A copy of a word's bytes.

@@ -6,7 +6,9 @@ ghost use Rattle.ferry_words.specs.Words as spec;
 ghost use Rattle.ferry_words.specs.Words.{IsInRange, command_of};
 
 use crate::command::Command;
-use crate::options::{Options, bytes_of, iterations_of, parts_of, timestamp_of};
+use crate::options::{
+    Options, block_of, bytes_of, checkpoint_of, iterations_of, names_of, parts_of, timestamp_of,
+};
 use crate::usage::Usage;
 use std::alloc::Global;
 
@@ -42,6 +44,7 @@ fn read_row(alloc: Global, words: &[String]) -> Result<Command, Usage>
         "check" => alone(behind, Command::Check),
         "init" => init(alloc, behind),
         "make-key" => make_key(behind),
+        "transfer" => transfer(alloc, behind),
         _ => Err(Usage::Word(1)),
     }
 }
@@ -117,4 +120,20 @@ fn make_key(behind: &[String]) -> Result<Command, Usage>
         }),
         [_, ..] => Err(Usage::Word(parts.first)),
     }
+}
+
+/// `transfer` with its options and the archives' names.
+#[tactic(auto, unfolding(crate::specs::Words::made, crate::specs::Words::first_unfit))]
+fn transfer(alloc: Global, behind: &[String]) -> Result<Command, Usage>
+    ensures answer { IsAnswer result (spec.meaning_of spec.transfer_form (map string_bytes behind.now)) }
+{
+    let parts = parts_of(Options::Transfer, behind)?;
+    let timestamp = timestamp_of(alloc, parts.given)?;
+    let names = names_of(alloc, parts.operands)?;
+    Ok(Command::Transfer {
+        block: block_of(parts.given),
+        checkpoint: checkpoint_of(parts.given),
+        timestamp,
+        names,
+    })
 }

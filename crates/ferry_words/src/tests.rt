@@ -1,4 +1,5 @@
 use crate::{Command, Usage, read_words, words_laws};
+use ferry_base::Bytes;
 use std::alloc::{AllocError, Global};
 use std::test::Fail;
 
@@ -30,6 +31,35 @@ fn options_of(command: &Command) -> (u32, &[u8]) {
         Command::Init { iterations, .. } | Command::MakeKey { iterations } => (*iterations, b""),
         _ => (0, b""),
     }
+}
+
+/// The numbers, the timestamp and the names of a transfer.
+fn transfer_of(command: &Command) -> (usize, u64, &[u8], &[Bytes]) {
+    match command {
+        Command::Transfer {
+            block,
+            checkpoint,
+            timestamp: Some(timestamp),
+            names,
+        } => (*block, *checkpoint, timestamp.as_slice(), names.as_slice()),
+        Command::Transfer {
+            block,
+            checkpoint,
+            names,
+            ..
+        } => (*block, *checkpoint, b"", names.as_slice()),
+        _ => (0, 0, b"", &[]),
+    }
+}
+
+/// The names, each with a space behind it.
+fn spaced(alloc: Global, names: &[Bytes]) -> Result<Vec<u8>, AllocError> {
+    let mut text = Vec::new(alloc);
+    for name in names {
+        text.extend_from_slice(name.as_slice())?;
+        text.push(b' ')?;
+    }
+    Ok(text)
 }
 
 /// The number of the word that is wrong or missing, 0 where the words are a command.
@@ -74,6 +104,44 @@ fn options_stand_in_any_order_or_are_left_out(rt: HostRuntime) -> Result<(), Fai
 }
 
 #[test]
+fn a_transfer_has_its_names_in_the_order_given(rt: HostRuntime) -> Result<(), Fail> {
+    let alloc = rt.alloc();
+    let none = b"".as_slice();
+    let table = [
+        ("transfer", 2_097_152, 1024, none, none),
+        (
+            "transfer b \u{e9} b",
+            2_097_152,
+            1024,
+            none,
+            b"b \xc3\xa9 b ".as_slice(),
+        ),
+        (
+            "transfer --block 64 --checkpoint 1 -- --block",
+            64,
+            1,
+            none,
+            b"--block ".as_slice(),
+        ),
+        (
+            "transfer --timestamp now --checkpoint 1000000 --block 8388608 a",
+            8_388_608,
+            1_000_000,
+            b"now".as_slice(),
+            b"a ".as_slice(),
+        ),
+    ];
+    for (text, block, checkpoint, timestamp, names) in table {
+        let command = read_words(alloc, &words_of(alloc, text)?)?;
+        let (size, count, stamp, given) = transfer_of(&command);
+        assert!(rt; size == block && count == checkpoint && stamp == timestamp);
+        let given = spaced(alloc, given)?;
+        assert!(rt; given.as_slice() == names);
+    }
+    Ok(())
+}
+
+#[test]
 fn the_first_wrong_word_is_told(rt: HostRuntime) -> Result<(), Fail> {
     let alloc = rt.alloc();
     let table = [
@@ -84,6 +152,13 @@ fn the_first_wrong_word_is_told(rt: HostRuntime) -> Result<(), Fail> {
         ("init --iterations 07", 3),
         ("init --iterations 7 --iterations 7", 4),
         ("make-key --timestamp now", 2),
+        ("transfer --block 63 a", 3),
+        ("transfer --block 8388609", 3),
+        ("transfer --checkpoint 0 a", 3),
+        ("transfer --checkpoint 1000001", 3),
+        ("transfer --block 64 --block 64 a", 4),
+        ("transfer --iterations 7 a", 2),
+        ("transfer a b", 0),
     ];
     for (text, number) in table {
         assert!(rt; wrong_word(alloc, text)? == number);

@@ -1,6 +1,6 @@
-use Rattle.std.proofs.Common.{rules, ◌≡◌, ◌+◌, ◌++◌, ℕ, List, Ok, Err, Result, drop, length, IfErr, OnOk, option_map, ap, ◌∙◌, subst}
+use Rattle.std.proofs.Common.{rules, inl, refl, ◌≡◌, ◌+◌, ◌++◌, ℕ, List, Ok, Err, Result, drop, length, IfErr, OnOk, option_map, ap, ◌∙◌, subst}
 use Rattle.ferry_base.specs.Limits.{zero_id}
-use Rattle.ferry_blob.specs.Blob.{sealed}
+use Rattle.ferry_blob.specs.Blob.{OpensTo, sealed}
 use Rattle.ferry_blob.specs.declared.mode.Mode.{Mode}
 use Rattle.ferry_disk.specs.Act.{History}
 use Rattle.ferry_log.specs.declared.place.Place.{Place}
@@ -9,13 +9,15 @@ use Rattle.ferry_manifest.specs.Manifest.Text.{manifest_view}
 use Rattle.ferry_manifest.specs.Manifest.Writing.{manifest_text}
 use Rattle.ferry_repo.specs.Opening.{mode_of, repo_view}
 use Rattle.ferry_segment.specs.Entry.{PutEntry}
-use Rattle.ferry_store.proofs.RenewLemmas.{nothing_committed, packed_refused, put_commits, put_refused, still_packed, uncommitted_refused, unput_refused}
+use Rattle.ferry_store.proofs.RenewLemmas.{manifest_held, nothing_committed, packed_refused, put_commits, put_refused, still_packed}
+use Rattle.ferry_store.proofs.RenewLemmas.{uncommitted_refused, unput_refused}
 use Rattle.ferry_store.proofs.StepLemmas.{err_is}
 use Rattle.ferry_store.proofs.commit.commit_manifest.Goals as goal
 use Rattle.ferry_store.specs.Commit.{CommitsEntry, HasCommitted, RefusesManifestOf, manifest_entry}
 use Rattle.ferry_store.specs.Content.{blob_for}
 use Rattle.ferry_store.proofs.PutLemmas.{always}
 use Rattle.ferry_store.specs.New.{IsPacked}
+use Rattle.ferry_store.specs.Standing.{with_manifest}
 use Rattle.ferry_store.specs.State.{Did, KeepsSound, RefusesManifest, TakesEntry}
 use Rattle.ferry_store.specs.declared.fault.StoreRefusal.{StoreRefusal}
 
@@ -31,10 +33,11 @@ returns-in_err-buffer-clause-committed g c =
     let session = c.args.session.now in
     let counter = c.args.counter.now in
     let entry = manifest_entry repo counter manifest salt in
+    let next = with_manifest repo manifest in
     let size = length (manifest_text repo.keys salt manifest) in
     let refused : RefusesManifest size f =
     subst (λ (k : Keys). RefusesManifest (length (manifest_text k salt manifest)) f) c.keys.ensures.keys made.1.3 in
-    let R : Unit {0} → History → History → Type 0 = λ _. HasCommitted session counter entry session counter in (
+    let R : Unit {0} → History → History → Type 0 = λ _. HasCommitted next session counter entry session counter in (
       salt,
       (
         made.1.0,
@@ -42,8 +45,8 @@ returns-in_err-buffer-clause-committed g c =
             (λ (r : Result (Unit {0}) StoreRefusal). OnOk r
             (g.E.Entropy.drawn c.packed.new.entropy ≡ option_map (λ (d : List ℕ). d ++ salt) (g.E.Entropy.drawn c.args.entropy.now)))
             c.from_residual.ensures.1 tt,
-        err_is c.from_residual.result f (λ (r : Result (Unit {0}) StoreRefusal). Did (CommitsEntry session counter entry) R a a n n r)
-            c.from_residual.ensures.1 (nothing_committed {T = Unit {0}} session counter entry R a n f (still_packed size f refused)),
+        err_is c.from_residual.result f (λ (r : Result (Unit {0}) StoreRefusal). Did (CommitsEntry next session counter entry) R a a n n r)
+            c.from_residual.ensures.1 (nothing_committed {T = Unit {0}} next session counter entry R a n f (still_packed size f refused)),
         err_is c.from_residual.result f (λ (r : Result (Unit {0}) StoreRefusal). IfErr r (RefusesManifestOf counter size)) c.from_residual.ensures.1
             (packed_refused counter size f refused),
       ),
@@ -66,6 +69,7 @@ returns-in_err-put_object-clause-committed g c =
     let drawn = c.put_object.new.counter in
     let text = manifest_text repo.keys salt manifest in
     let entry = manifest_entry repo counter manifest salt in
+    let next = with_manifest repo manifest in
     let buffer = c.deref_mut.result.now in
     let packed = subst (λ (k : Keys). IsPacked k salt manifest c.in_ok-buffer.buffer.items) c.keys.ensures.keys made.1.2 in
     let is : buffer ≡ c.in_ok-buffer.buffer.items = search rules in
@@ -77,7 +81,7 @@ returns-in_err-put_object-clause-committed g c =
     ap (λ (k : Keys). sealed k mode counter.free (drop 43 buffer)) c.keys-2.ensures.keys
     ∙ (ap (λ (x : Mode). sealed repo.keys x counter.free (drop 43 buffer)) c.mode-mode.ensures.mode
     ∙ ap (λ (x : List ℕ). sealed repo.keys (mode_of repo.config) counter.free x) inside) in
-    let R : Unit {0} → History → History → Type 0 = λ _. HasCommitted session counter entry put drawn in
+    let R : Unit {0} → History → History → Type 0 = λ _. HasCommitted next session counter entry put drawn in
     let Q : Place → History → History → Type 0 = λ _. TakesEntry session counter entry put drawn in
     let did : Did {T = Place} (KeepsSound session counter) Q a b n m (Err f) =
     subst (λ (x : List ℕ). Did {T = Place} (KeepsSound session counter) (λ _. TakesEntry session counter (PutEntry zero_id x) put drawn) a b n m (Err f)) same
@@ -90,8 +94,8 @@ returns-in_err-put_object-clause-committed g c =
             (g.E.Entropy.drawn c.packed.new.entropy ≡ option_map (λ (d : List ℕ). d ++ salt) (g.E.Entropy.drawn c.args.entropy.now)))
             c.from_residual-in_err-put_object.ensures.1 tt,
         err_is c.from_residual-in_err-put_object.result f
-            (λ (r : Result (Unit {0}) StoreRefusal). Did (CommitsEntry session counter entry) R a b n m r)
-            c.from_residual-in_err-put_object.ensures.1 (put_refused session counter entry Q R a b n m f did),
+            (λ (r : Result (Unit {0}) StoreRefusal). Did (CommitsEntry next session counter entry) R a b n m r)
+            c.from_residual-in_err-put_object.ensures.1 (put_refused next session counter entry Q R a b n m f did),
         err_is c.from_residual-in_err-put_object.result f
             (λ (r : Result (Unit {0}) StoreRefusal). IfErr r (RefusesManifestOf counter (length text))) c.from_residual-in_err-put_object.ensures.1
             (unput_refused session counter (length text) (length buffer) f size c.in_err-put_object.ensures.refused c.in_err-put_object.ensures.exhausted),
@@ -118,6 +122,7 @@ returns-clause-committed g c =
     let place = c.in_ok-put_object.field-0 in
     let text = manifest_text repo.keys salt manifest in
     let entry = manifest_entry repo counter manifest salt in
+    let next = with_manifest repo manifest in
     let buffer = c.deref_mut.result.now in
     let packed = subst (λ (x : Keys). IsPacked x salt manifest c.in_ok-buffer.buffer.items) c.keys.ensures.keys made.1.2 in
     let is : buffer ≡ c.in_ok-buffer.buffer.items = search rules in
@@ -131,12 +136,17 @@ returns-clause-committed g c =
     ∙ ap (λ (x : List ℕ). sealed repo.keys (mode_of repo.config) counter.free x) inside) in
     let did = subst (λ (x : List ℕ). Did {T = Place} (KeepsSound session counter) (λ _. TakesEntry session counter (PutEntry zero_id x) put drawn) a b n m
     (Ok place)) same c.in_ok-put_object.ensures.did in
+    let opens : OpensTo repo.keys zero_id (blob_for repo counter text) text =
+    subst (λ (x : List ℕ). OpensTo repo.keys zero_id x text) same
+    (subst (λ (x : List ℕ). OpensTo repo.keys zero_id blob x) inside
+    (subst (λ (x : Keys). OpensTo x zero_id blob (drop 43 buffer)) c.keys-2.ensures.keys (c.in_ok-put_object.ensures.opens zero_id (inl refl)))) in
+    let held = manifest_held repo counter manifest salt opens packed.2 in
     let r = c.commit.result in (
       salt,
       (
         made.1.0,
         always (g.E.Entropy.drawn c.packed.new.entropy ≡ option_map (λ (x : List ℕ). x ++ salt) (g.E.Entropy.drawn c.args.entropy.now)) r made.1.1,
-        put_commits session put done counter drawn entry blob place (41 + length buffer) a b d n m k r c.in_ok-put_object.ensures.session
+        put_commits next session put done counter drawn entry blob place (41 + length buffer) a b d n m k r held c.in_ok-put_object.ensures.session
             c.commit.ensures.session did c.in_ok-put_object.ensures.placed (c.commit.ensures.did drawn),
         uncommitted_refused put counter (length text) r c.commit.ensures.refused,
       ),

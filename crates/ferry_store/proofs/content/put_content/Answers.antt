@@ -53,3 +53,24 @@ returns-clause-did g c =
     (sealed keys mode counter.free (drop 43 buffer)) place a b n m same
     (subst (λ (x : List ℕ). OpensTo repo.keys id (blob_for repo counter content) x) inside at_keys)
     c.in_ok-learn.ensures.learnt c.in_ok-place.ensures.did c.in_ok-place.ensures.placed
+
+pub returns-clause-opens : goal.returns-clause-opens
+returns-clause-opens g c =
+    let repo = repo_view c.args.repo.now in
+    let counter = c.args.counter.now in
+    let id = c.args.id.now in
+    let content = c.args.content.now in
+    let buffer = c.deref_mut.result.now in
+    let keys = c.keys.result.now in
+    let mode = c.mode-mode.result in
+    let inside : drop 43 buffer ≡ content = search rules in
+    let same : sealed keys mode counter.free (drop 43 buffer) ≡ blob_for repo counter content =
+    ap (λ (k : Keys). sealed k mode counter.free (drop 43 buffer)) c.keys.ensures.keys
+    ∙ (ap (λ (m : Mode). sealed repo.keys m counter.free (drop 43 buffer)) c.mode-mode.ensures.mode
+    ∙ ap (λ (x : List ℕ). sealed repo.keys (mode_of repo.config) counter.free x) inside) in
+    let named : id ≡ content_id keys (drop 43 buffer) =
+    c.requires.named ∙ (ap (λ (k : Keys). content_id k content) (sym c.keys.ensures.keys) ∙ ap (content_id keys) (sym inside)) in
+    let opens : OpensTo keys id (blob_for repo counter content) (drop 43 buffer) =
+    subst (λ (b : List ℕ). OpensTo keys id b (drop 43 buffer)) same (c.in_ok-place.ensures.opens id (inr named)) in
+    subst (OpensTo repo.keys id (blob_for repo counter content)) inside
+    (subst (λ (k : Keys). OpensTo k id (blob_for repo counter content) (drop 43 buffer)) c.keys.ensures.keys opens)

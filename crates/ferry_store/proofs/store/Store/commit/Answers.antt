@@ -1,5 +1,6 @@
 use Rattle.std.proofs.Common.{◌≡◌, None, sym, ap, ◌∙◌, subst}
 use Rattle.ferry_manifest.specs.Manifest.Text.{ManifestText, manifest_view}
+use Rattle.ferry_manifest.specs.Manifest.Writing.{manifest_text}
 use Rattle.ferry_next.specs.Next.{written_at}
 use Rattle.ferry_repo.specs.Opening.{cached_in, repo_view}
 use Rattle.ferry_repo.specs.declared.repo.Repo.{Repo}
@@ -7,6 +8,8 @@ use Rattle.ferry_store.proofs.RenewLemmas.{store_committed, with_commit}
 use Rattle.ferry_store.proofs.StepLemmas.{did_as}
 use Rattle.ferry_store.proofs.store.Store.commit.Goals as goal
 use Rattle.ferry_store.specs.Commit.{Commits, CommitsEntry, HasCommitted, accepted_in, manifest_entry}
+use Rattle.ferry_store.specs.Content.{blob_for}
+use Rattle.ferry_store.specs.Standing.{with_manifest}
 use Rattle.ferry_store.specs.declared.store.Store.{Store}
 
 pub returns-in-Ok-clause-committed : goal.returns-in-Ok-clause-committed
@@ -21,11 +24,13 @@ returns-in-Ok-clause-committed g c =
     let made = c.in-Ok.ensures.committed in
     let salt = made.0 in
     let text = written_at (accepted_in store) c.args.timestamp.now in
+    let blob = blob_for (repo_view store.repo) store.counter (manifest_text (repo_view store.repo).keys salt text) in
     let entry = manifest_entry (repo_view store.repo) store.counter text salt in
-    let E = CommitsEntry store.session store.counter entry in
+    let next = with_manifest (repo_view store.repo) text in
+    let E = CommitsEntry next store.session store.counter entry in
     let rest = c.in-Ok.ensures.rest in
     let same : middle.repo ≡ store.repo = ap (λ (s : Store). s.repo) rest in
-    let view : repo_view now.repo ≡ record (repo_view store.repo) { manifest = text } =
+    let view : repo_view now.repo ≡ next =
     c.take_manifest.ensures.repo
     ∙ (ap (λ (r : Repo). record (repo_view r) { manifest = manifest_view c.in-Ok.manifest }) same
     ∙ ap (λ (t : ManifestText). record (repo_view store.repo) { manifest = t }) c.in-Ok.ensures.manifest) in
@@ -36,11 +41,11 @@ returns-in-Ok-clause-committed g c =
       (
         made.1.0,
         made.1.1,
-        did_as E (λ _. HasCommitted store.session store.counter entry middle.session middle.counter) E (λ _. Commits store entry now) a b n m c.in-Ok.manifest
-            tt (λ h k e. e)
+        did_as E (λ _. HasCommitted next store.session store.counter entry middle.session middle.counter) E (λ _. Commits store entry now) a b n m
+            c.in-Ok.manifest tt (λ h k e. e)
             (λ h k done.
             subst (λ (s : Store). Commits store entry s h k) (sym is)
-            (store_committed store now.repo middle.session middle.counter entry text h k view cached done))
+            (store_committed store now.repo middle.session middle.counter blob text h k view cached done))
             made.1.2,
         tt,
       ),

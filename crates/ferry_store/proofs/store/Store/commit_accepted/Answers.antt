@@ -10,6 +10,7 @@ use Rattle.ferry_store.proofs.StepLemmas.{did_as, err_is}
 use Rattle.ferry_store.proofs.store.Store.commit_accepted.Goals as goal
 use Rattle.ferry_store.specs.Commit.{CommitsEntry, HasCommitted, RefusesManifestOf, accepted_in, manifest_entry}
 use Rattle.ferry_store.specs.Fault.{depot_failed}
+use Rattle.ferry_store.specs.Standing.{with_manifest}
 use Rattle.ferry_store.specs.State.{Did}
 use Rattle.ferry_store.specs.declared.fault.StoreRefusal.{StoreRefusal}
 
@@ -24,8 +25,9 @@ returns-in_err-manifest-clause-committed g c =
     let manifest = written_at (accepted_in store) c.args.timestamp.now in
     let entry = manifest_entry repo store.counter manifest salt in
     let size = length (manifest_text repo.keys salt manifest) in
-    let E = CommitsEntry store.session store.counter entry in
-    let R : Manifest → History → History → Type 0 = λ _. HasCommitted store.session store.counter entry store.session store.counter in (
+    let next = with_manifest repo manifest in
+    let E = CommitsEntry next store.session store.counter entry in
+    let R : Manifest → History → History → Type 0 = λ _. HasCommitted next store.session store.counter entry store.session store.counter in (
       salt,
       (
         refl,
@@ -34,7 +36,7 @@ returns-in_err-manifest-clause-committed g c =
             (g.E.Entropy.drawn c.args.entropy.now ≡ option_map (λ (d : List ℕ). d ++ salt) (g.E.Entropy.drawn c.args.entropy.now)))
             c.from_residual.ensures.1 tt,
         err_is c.from_residual.result f (λ (r : Result Manifest StoreRefusal). Did E R a a n n r) c.from_residual.ensures.1
-            (nothing_committed {T = Manifest} store.session store.counter entry R a n f (ap depot_failed c.in_err-manifest.ensures.refused)),
+            (nothing_committed {T = Manifest} next store.session store.counter entry R a n f (ap depot_failed c.in_err-manifest.ensures.refused)),
         err_is c.from_residual.result f (λ (r : Result Manifest StoreRefusal). IfErr r (RefusesManifestOf store.counter size)) c.from_residual.ensures.1
             (subst (RefusesManifestOf store.counter size) (sym c.in_err-manifest.ensures.refused) tt),
       ),
@@ -52,9 +54,10 @@ returns-clause-committed g c =
     let salt = made.0 in
     let session = c.commit_manifest.new.session in
     let counter = c.commit_manifest.new.counter in
-    let E : ManifestText → History → History → Type 0 = λ x. CommitsEntry store.session store.counter (manifest_entry repo store.counter x salt) in
+    let E : ManifestText → History → History → Type 0 = λ x. CommitsEntry (with_manifest repo x) store.session store.counter
+    (manifest_entry repo store.counter x salt) in
     let R : ManifestText → History → History → Type 0 =
-    λ x. HasCommitted store.session store.counter (manifest_entry repo store.counter x salt) session counter in
+    λ x. HasCommitted (with_manifest repo x) store.session store.counter (manifest_entry repo store.counter x salt) session counter in
     let written = written_at (accepted_in store) c.args.timestamp.now in (
       salt,
       (

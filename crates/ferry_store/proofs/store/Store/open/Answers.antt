@@ -9,7 +9,7 @@ use Rattle.ferry_store.proofs.StepLemmas.{err_is, same_told}
 use Rattle.ferry_store.proofs.store.Store.open.Goals as goal
 use Rattle.ferry_store.specs.Fault.{repo_refusal}
 use Rattle.ferry_store.specs.State.{Begins, BeginsSound, Did}
-use Rattle.ferry_store.specs.Store.{InitFits, OpenEach, RefusesOpen}
+use Rattle.ferry_store.specs.Store.{OpenEach, OpenFits, RefusesOpen}
 use Rattle.ferry_store.specs.declared.fault.StoreRefusal.{StoreRefusal}
 use Rattle.ferry_store.specs.declared.store.Store.{Store}
 use Rattle.ferry_write.specs.Session.{ClearsAll}
@@ -22,7 +22,7 @@ returns-in_err-repo-clause-did g c =
     let n = g.D.Shelf.faults c.args.depot.now in
     let m = g.D.Shelf.faults c.open.new.shelf in
     let fault = c.in_err-repo.field-0.0 in
-    err_is c.from_residual.result (repo_refusal fault) (λ (r : Result Store StoreRefusal). Did OpenEach InitFits a b n m r) c.from_residual.ensures.1
+    err_is c.from_residual.result (repo_refusal fault) (λ (r : Result Store StoreRefusal). Did OpenEach OpenFits a b n m r) c.from_residual.ensures.1
     (open_unread fault a b n m c.in_err-repo.ensures.same c.in_err-repo.ensures.cause)
 
 pub returns-in_err-counter-clause-did : goal.returns-in_err-counter-clause-did
@@ -36,7 +36,7 @@ returns-in_err-counter-clause-did g c =
     let refusal = c.in_err-counter.field-0.0 in
     let repo = c.in_ok-repo.repo in
     let is : c.transaction-transaction.result ≡ (repo_view repo).log.transaction = search rules in
-    err_is c.from_residual-in_err-counter.result refusal (λ (r : Result Store StoreRefusal). Did OpenEach InitFits a d n k r)
+    err_is c.from_residual-in_err-counter.result refusal (λ (r : Result Store StoreRefusal). Did OpenEach OpenFits a d n k r)
     c.from_residual-in_err-counter.ensures.1
     (open_unbegun c.args.secret.now repo refusal a b d n m k c.in_ok-repo.ensures.same c.in_ok-repo.ensures.cause c.in_ok-repo.ensures.repository
     c.in_err-counter.ensures.first

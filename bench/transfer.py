@@ -1,0 +1,190 @@
+#!/usr/bin/env python3
+"""Measures transfers beside Borg's own way: transfer.py [--program PATH] [--megabytes N] [--files N] [--small N] [--times N] [--block B] [--folder PATH]
+
+Borg makes a source of three archives of random bytes, of which each shares half with the one before, stored plain. Measured are the
+transfer of all three into a new target, a second one that finds all present, and, for each archive in turn, `borg export-tar` with `borg import-tar`
+behind it into a repository of Borg's; then transfers of an archive of small files, and of one that has TIMES as many. Each figure is one run:
+seconds, processor time in user and in system mode, and the peak of memory, of two processes both. The processor time is what the system tells of the
+child as it ends; the peak is the mark that it keeps of the process, asked for as long as it runs, for what it tells at the end has the peak of
+this script in it. Without Borg 1.2 it says `skipped`. The disk needs five times the megabytes.
+"""
+import argparse
+import os
+import random
+import re
+import shutil
+import subprocess
+import sys
+import tempfile
+import time
+
+TOP = os.path.join(os.path.dirname(os.path.abspath(__file__)), "..")
+ARCHIVES = ("first", "second", "third")
+PASSPHRASE = "passphrase"
+
+
+def has_borg():
+    """Whether a Borg of 1.2 is there."""
+    if not shutil.which("borg"):
+        return False
+    said = subprocess.run(["borg", "--version"], capture_output=True, text=True)
+    return said.stdout.startswith("borg 1.2.")
+
+
+def environment(root):
+    kept = {name: value for name, value in os.environ.items() if not name.startswith("BORG_")}
+    own = {"LC_ALL": "C.UTF-8", "TZ": "UTC", "BORG_BASE_DIR": os.path.join(root, "base")}
+    return {**kept, **own, "BORG_PASSPHRASE": PASSPHRASE, "BORG_OTHER_PASSPHRASE": PASSPHRASE}
+
+
+def borg(root, *words):
+    subprocess.run(["borg", *words], cwd=root, env=environment(root), check=True, capture_output=True)
+
+
+# ---- measuring
+
+
+def peak_of(process):
+    """The greatest resident size in kB that a process has had, 0 where it has ended."""
+    try:
+        with open(f"/proc/{process.pid}/status", encoding="ascii", errors="replace") as status:
+            marks = re.findall(r"VmHWM:\s*(\d+)", status.read())
+    except OSError:
+        return 0
+    return max(map(int, marks), default=0)
+
+
+def waited(processes, peaks):
+    """Waits for processes, with their peaks of memory: what the system tells of each."""
+    usages = {}
+    while len(usages) < len(processes):
+        for process in processes:
+            if process.pid not in usages:
+                peaks[process.pid] = max(peaks.get(process.pid, 0), peak_of(process))
+                ended, status, usage = os.wait4(process.pid, os.WNOHANG)
+                if ended:
+                    process.returncode = os.waitstatus_to_exitcode(status)
+                    usages[process.pid] = usage
+        time.sleep(0.002)
+    return [usages[process.pid] for process in processes]
+
+
+def measured(root, *commands):
+    """Runs commands, the output of each the input of the next: seconds, those in user and in system mode, peaks in MB, and the last one's lines."""
+    begin, processes, before = time.perf_counter(), [], subprocess.DEVNULL
+    with tempfile.TemporaryFile() as out, tempfile.TemporaryFile() as said:
+        for number, words in enumerate(commands, 1):
+            after = subprocess.PIPE if number < len(commands) else out
+            processes.append(subprocess.Popen(words, cwd=root, env=environment(root), stdin=before, stdout=after, stderr=said))
+            if before is not subprocess.DEVNULL:
+                before.close()
+            before = processes[-1].stdout
+        peaks = {}
+        usages = waited(processes, peaks)
+        seconds = time.perf_counter() - begin
+        if any(process.returncode for process in processes):
+            said.seek(0)
+            raise SystemExit(f"{commands}: {[process.returncode for process in processes]}: {said.read().decode(errors='replace')[-500:]}")
+        out.seek(0)
+        lines = out.read().decode(errors="replace").splitlines()
+    user, system = sum(usage.ru_utime for usage in usages), sum(usage.ru_stime for usage in usages)
+    return seconds, user, system, [peaks[process.pid] / 1e3 for process in processes], lines
+
+
+def told(name, run):
+    """Prints the figures of a run. Answers its processor time."""
+    seconds, user, system, peaks, lines = run
+    last, peak = f"; {lines[-1]}" if lines else "", " and ".join(f"{one:.1f}" for one in peaks)
+    print(f"{name}: {seconds:.2f} s, {user:.2f} s in user and {system:.2f} s in system mode, peak {peak} MB{last}", flush=True)
+    return user + system
+
+
+# ---- what is measured
+
+
+def make_source(root, megabytes, files):
+    """Makes the source: three archives, of which each has half of its files from the one before, by this many megabytes in sum of files that differ."""
+    numbers, tree = random.Random(1), os.path.join(root, "tree")
+    os.makedirs(tree)
+    # The first archive has two halves, and the second and third have each a new one beside the last of the one before.
+    per_half, size = max(files // 4, 1), int(megabytes * 1e6 / 4 / max(files // 4, 1))
+    borg(root, "init", "-e", "repokey", "source")
+    halves = 0
+    for name in ARCHIVES:
+        while halves < 2 + ARCHIVES.index(name):
+            for number in range(per_half):
+                with open(os.path.join(tree, f"{halves} {number:05d}"), "wb") as file:
+                    file.write(numbers.randbytes(numbers.randrange(size // 2, size * 3 // 2 + 1)))
+            halves += 1
+        for file in os.listdir(tree):
+            if int(file.split()[0]) < halves - 2:
+                os.remove(os.path.join(tree, file))
+        borg(root, "create", "--compression", "none", f"source::{name}", "tree")
+    shutil.rmtree(tree)
+
+
+def make_small(root, repository, count):
+    """Makes a repository with one archive of this many small files."""
+    numbers, tree = random.Random(2), os.path.join(root, "tree")
+    for number in range(count):
+        folder = os.path.join(tree, f"folder {number // 1000}")
+        os.makedirs(folder, exist_ok=True)
+        with open(os.path.join(folder, f"file {number:07d}"), "wb") as file:
+            file.write(numbers.randbytes(numbers.randrange(200)))
+    borg(root, "init", "-e", "repokey", repository)
+    borg(root, "create", "--compression", "none", f"{repository}::small", "tree")
+    shutil.rmtree(tree)
+
+
+def transfer(root, program, options, source, target, *names):
+    return measured(root, [program, source, target, "transfer", "--block", str(options.block), *names])
+
+
+def shared_archives(root, program, options):
+    """Three archives that share half: transferred, transferred again, and by tar streams of Borg's."""
+    make_source(root, options.megabytes, options.files)
+    told("init", measured(root, [program, "-", "target", "init"]))
+    told("transfer of three archives", transfer(root, program, options, "source", "target", *ARCHIVES))
+    told("transfer of the same, all present", transfer(root, program, options, "source", "target", *ARCHIVES))
+    borg(root, "init", "-e", "repokey", "imported")
+    total, seconds = 0.0, 0.0
+    for name in ARCHIVES:
+        # Borg cuts there into pieces of the same size.
+        cut = ("--compression", "none", "--chunker-params", f"fixed,{options.block}")
+        run = measured(root, ["borg", "export-tar", f"source::{name}", "-"], ["borg", "import-tar", *cut, f"imported::{name}", "-"])
+        total += told(f"borg export-tar | borg import-tar of {name}", run)
+        seconds += run[0]
+    print(f"borg export-tar | borg import-tar of three archives: {seconds:.2f} s, {total:.2f} s of processor time", flush=True)
+
+
+def small_files(root, program, options):
+    """The growth of the time with the number of small files."""
+    times = []
+    for count in (options.small, options.small * options.times):
+        make_small(root, f"small {count}", count)
+        measured(root, [program, "-", f"target {count}", "init"])
+        times.append(told(f"transfer of {count} small files", transfer(root, program, options, f"small {count}", f"target {count}")))
+        told(f"transfer of {count} small files, present", transfer(root, program, options, f"small {count}", f"target {count}"))
+    print(f"{options.times} times as many small files take {times[1] / max(times[0], 0.001):.1f} times the processor time", flush=True)
+
+
+def main():
+    words = argparse.ArgumentParser(description=__doc__.splitlines()[0])
+    words.add_argument("--program", default=os.path.join(TOP, "target", "borgferry"))
+    words.add_argument("--megabytes", type=float, default=300)
+    words.add_argument("--files", type=int, default=400)
+    words.add_argument("--small", type=int, default=20000)
+    words.add_argument("--times", type=int, default=10)
+    words.add_argument("--block", type=int, default=2097152)
+    words.add_argument("--folder", help="where the repositories are made, a temporary folder where it isn't given")
+    options = words.parse_args()
+    if not has_borg():
+        print("skipped: there is no borg of 1.2")
+        return 0
+    with tempfile.TemporaryDirectory(dir=options.folder) as root:
+        shared_archives(root, os.path.abspath(options.program), options)
+        small_files(root, os.path.abspath(options.program), options)
+    return 0
+
+
+sys.exit(main())

@@ -1,0 +1,237 @@
+-- Lemmas on specs/Flight.antt: a target that is only read, and what holds of a store of which nothing was named.
+use Rattle.std.proofs.Common.{◌≡◌, ◌≢◌, ◌⊎◌, inl, inr, ◌<◌, ℕ, Bool, true, false, List, [], ◌∷◌, Option, Some, None, Result, Ok, Err, IfSome, IsSome, OnOk}
+use Rattle.std.proofs.Common.{refl, sym, ◌∙◌, ap, subst}
+use Rattle.std.proofs.lemmas.Slice.Eq.{bytes_eq-Decides}
+use Rattle.std.specs.FinMap.{get}
+use Rattle.std.specs.Str.{bytes_eq}
+use Rattle.ferry_base.specs.Limits.{zero_id}
+use Rattle.ferry_compare.specs.Fault.{source_failed, target_failed as other_failed}
+use Rattle.ferry_compare.specs.declared.fault.CompareFault.{CompareFault}
+use Rattle.ferry_compare.specs.declared.fault.CompareFault.TheVariants as Compares
+use Rattle.ferry_disk.proofs.FaultLemmas.{keeps_end}
+use Rattle.ferry_disk.proofs.MomentLemmas.{between_map}
+use Rattle.ferry_disk.specs.Act.{History, files_now}
+use Rattle.ferry_disk.specs.Device.{Told, HasCause, Heard, KeepsTold, KeptWhere, RoseWhere, failed_at, heard, heard_of, told_files}
+use Rattle.ferry_disk.specs.Faults.{FailedWhere}
+use Rattle.ferry_disk.specs.Moments.{Between}
+use Rattle.ferry_manifest.specs.Manifest.Text.{ManifestText}
+use Rattle.ferry_manifest.specs.Manifest.Writing.{IsPackable}
+use Rattle.ferry_manifest.specs.declared.manifest.ArchiveRef.{ArchiveRef}
+use Rattle.ferry_repo.proofs.ArchiveLemmas.{archive_named-here, archive_named-none, archive_named-other}
+use Rattle.ferry_repo.specs.Archives.{archive_named}
+use Rattle.ferry_repo.specs.Fault.{repo_failed}
+use Rattle.ferry_repo.specs.Opening.{FitsRepo, RepoState, cached_in, repo_view}
+use Rattle.ferry_repo.specs.declared.fault.RepoFault.{RepoFault}
+use Rattle.ferry_repo.specs.declared.fault.RepoFault.TheVariants as Repos
+use Rattle.ferry_repo.specs.declared.repo.Repo.{Repo}
+use Rattle.ferry_store.proofs.StepLemmas.{done_here, same_told}
+use Rattle.ferry_store.specs.Commit.{accepted_in, accepted_or}
+use Rattle.ferry_store.specs.Content.{IsThere}
+use Rattle.ferry_store.specs.Fault.{depot_failed}
+use Rattle.ferry_store.specs.Standing.{CommitsManifest, HoldsLive, entries_of}
+use Rattle.ferry_store.specs.Store.{IsKnown, IsUnspent, StoreFits}
+use Rattle.ferry_store.specs.declared.fault.StoreRefusal.TheVariants as Stores
+use Rattle.ferry_store.specs.declared.store.Store.{Store}
+use Rattle.ferry_write.specs.Room.{behind}
+use Rattle.ferry_write.specs.Script.{AllDone}
+use Rattle.ferry_carry.proofs.GrowLemmas.{growing_here, most_from}
+use Rattle.ferry_carry.specs.Fault.{compare_fault, random_failed, shelf_failed, target_failed}
+use Rattle.ferry_carry.specs.Flight.{IsCommitted, IsSettled, ReadsStore}
+use Rattle.ferry_carry.proofs.WorkLemmas.{grown_from, grown_from_err}
+use Rattle.ferry_carry.specs.Gather.{Gathers, KeepsRest, KeepsStanding}
+use Rattle.ferry_carry.specs.Grow.{AcceptsMore, Grown, Grows, KeepsGrowing, KeepsMost, KeepsNames}
+use Rattle.ferry_carry.specs.Work.{Works}
+use Rattle.ferry_carry.specs.declared.fault.CarryFault.{CarryFault}
+
+-- ---- faults of a comparison
+
+depot_is : (fault : RepoFault) → depot_failed (Stores.Repo fault) ≡ repo_failed fault
+depot_is Repos.NoCommit = refl
+depot_is (Repos.Damaged segment at) = refl
+depot_is (Repos.Config f) = refl
+depot_is (Repos.Key f) = refl
+depot_is (Repos.Missing id) = refl
+depot_is (Repos.Blob id f) = refl
+depot_is (Repos.Manifest f) = refl
+depot_is (Repos.Archive id f) = refl
+depot_is (Repos.Item id f) = refl
+depot_is (Repos.Size id) = refl
+depot_is (Repos.KeyFile f) = refl
+depot_is (Repos.Other file config) = refl
+depot_is Repos.NoKey = refl
+depot_is Repos.Device = refl
+depot_is Repos.Memory = refl
+
+pub compared_target : (fault : CompareFault) → target_failed (compare_fault fault) ≡ other_failed fault
+compared_target (Compares.Source fault) = refl
+compared_target (Compares.Target fault) = depot_is fault
+compared_target Compares.Memory = refl
+
+-- ---- what a device told that is only read
+
+known_where : (P : History → Type 0) (failed : Bool) (a b : Option Told) → KeptWhere failed (heard a) b → IfSome a (λ t. P t.history)
+    → IfSome b (λ t. P t.history)
+known_where P failed a None kept known = tt
+known_where P false None (Some now) kept known = absurd (let no : ⊥ = cc in no)
+known_where P true None (Some now) kept known = absurd (let no : ⊥ = cc in no)
+known_where P false (Some told) (Some now) kept known =
+    let same : heard_of now ≡ heard_of told = cc in subst P (sym (ap (λ (h : Heard). h.history) same)) known
+known_where P true (Some told) (Some now) kept known =
+    let same : heard_of now ≡ failed_at now.calls (heard_of told) = cc in subst P (sym (ap (λ (h : Heard). h.history) same)) known
+
+-- what was known is known still
+pub known_read : {T F : Type 0} (P : History → Type 0) (is_device : F → Bool) (a b : Option Told) (result : Result T F) → KeepsTold is_device a b result
+    → IfSome a (λ t. P t.history) → IfSome b (λ t. P t.history)
+known_read P is_device a b (Ok x) kept known = known_where P false a b kept known
+known_read P is_device a b (Err fault) kept known = known_where P (is_device fault) a b kept known
+
+-- what is known at the end of what was done
+between_end : (P : History → Type 0) (E : History → History → Type 0) (a b : Option Told) → IfSome b (λ t. P t.history) → Between a b E
+    → Between a b (λ h g. E h g × P g)
+between_end P E None b known p = tt
+between_end P E (Some told) b known p =
+    let at : IfSome (Some p.0) (λ t. P t.history) = subst (λ (o : Option Told). IfSome o (λ t. P t.history)) p.1 known in (p.0, p.1, (p.2, at))
+
+-- ---- a store whose repository was read
+
+-- a store whose repository has kept another content
+abbrev pub with_repo : Store → Repo → Store
+with_repo store repo = record store { repo = repo }
+
+known_with : (store : Store) (repo : Repo) (id : List ℕ) → repo_view repo ≡ repo_view store.repo → IsKnown (with_repo store repo) id → IsKnown store id
+known_with store repo id same (inl zero) = inl zero
+known_with store repo id same (inr (inl put)) = inr (inl (subst (λ (r : RepoState). IsSome (get r.log.learnt id)) same put))
+known_with store repo id same (inr (inr has)) = inr (inr has)
+
+read_fits : (counts : Bool) (store : Store) (repo : Repo) (h : History) → repo_view repo ≡ repo_view store.repo
+    → FitsRepo (files_now h) (repo_view repo) (cached_in repo) → StoreFits counts store h → StoreFits counts (with_repo store repo) h
+read_fits counts store repo h same repo_fits fits = record {
+  written = fits.written;
+  under_way = fits.under_way;
+  repo = repo_fits;
+  below = subst (λ (r : RepoState). r.log.transaction < behind store.session.after) (sym same) fits.below;
+  there = λ id apart known.
+      subst (λ (r : RepoState). IsThere (files_now h) r id) (sym same) (fits.there id apart (known_with store repo id same known));
+  holds = subst (λ (r : RepoState). HoldsLive (files_now h) r.log (entries_of fits.written)) (sym same) fits.holds;
+  manifest = subst (λ (r : RepoState). CommitsManifest r fits.written.committed) (sym same) fits.manifest;
+  keeps = fits.keeps;
+}
+
+read_grows : (store : Store) (repo : Repo) (h g : History) → repo_view repo ≡ repo_view store.repo
+    → (g ≡ h) × FitsRepo (files_now g) (repo_view repo) (cached_in repo) → Grows store (with_repo store repo) h g
+read_grows store repo h g same reads counts fits =
+    subst (λ (k : History). FitsRepo (files_now k) (repo_view repo) (cached_in repo) → Grown counts store (with_repo store repo) h k fits) (sym reads.0)
+    (λ repo_fits. record {
+      fits_now = record {
+        written = fits.written;
+        under_way = fits.under_way;
+        repo = repo_fits;
+        below = subst (λ (r : RepoState). r.log.transaction < behind store.session.after) (sym same) fits.below;
+        there = λ id apart known.
+            subst (λ (r : RepoState). IsThere (files_now h) r id) (sym same) (fits.there id apart (known_with store repo id same known));
+        holds = subst (λ (r : RepoState). HoldsLive (files_now h) r.log (entries_of fits.written)) (sym same) fits.holds;
+        manifest = subst (λ (r : RepoState). CommitsManifest r fits.written.committed) (sym same) fits.manifest;
+        keeps = fits.keeps;
+      };
+      chunks = λ id blob apart live. live;
+      config = refl;
+    }) reads.1
+
+-- a store fits after a call that read its repository
+pub fits_read : {T : Type 0} (store : Store) (repo : Repo) (a b : Option Told) (result : Result T CompareFault) → repo_view repo ≡ repo_view store.repo
+    → KeepsTold other_failed a b result → IfSome b (λ t. FitsRepo (told_files t) (repo_view repo) (cached_in repo))
+    → IfSome a (λ t. StoreFits false store t.history) → IfSome b (λ t. StoreFits false (with_repo store repo) t.history)
+fits_read {T} store repo a b result same kept repo_fits fits = by_end b repo_fits (known_read (StoreFits false store) other_failed a b result kept fits) where
+  by_end : (b : Option Told) → IfSome b (λ t. FitsRepo (told_files t) (repo_view repo) (cached_in repo)) → IfSome b (λ t. StoreFits false store t.history)
+      → IfSome b (λ t. StoreFits false (with_repo store repo) t.history)
+  by_end None r f = tt
+  by_end (Some told) r f = read_fits false store repo told.history same r f
+
+-- such a call as a body of a flight
+pub works_read : {T U : Type 0} (store : Store) (repo : Repo) (a b : Option Told) (n m : ℕ) (x : T) (y : U) → repo_view repo ≡ repo_view store.repo
+    → KeepsTold {F = CompareFault} other_failed a b (Ok x) → m ≡ n → IfSome b (λ t. FitsRepo (told_files t) (repo_view repo) (cached_in repo))
+    → Works (KeepsGrowing store) (λ (_ : U). Grows store (with_repo store repo)) a b n m (Ok y)
+works_read {T} {U} store repo a b n m x y same kept caused repo_fits =
+    let reads : Between a b (λ h g. g ≡ h) = same_told {T = T} {F = CompareFault} other_failed a b (Ok x) kept in
+    record {
+      each = between_map a b (λ h g. g ≡ h) (KeepsGrowing store) (λ h g e. subst (KeepsGrowing store h) (sym e) (growing_here store h)) reads;
+      end = between_map a b (λ h g. (g ≡ h) × FitsRepo (files_now g) (repo_view repo) (cached_in repo))
+          (λ h g. AllDone h g × Grows store (with_repo store repo) h g)
+          (λ h g e. (subst (AllDone h) (sym e.0) (done_here h), read_grows store repo h g same e))
+          (between_end (λ h. FitsRepo (files_now h) (repo_view repo) (cached_in repo)) (λ h g. g ≡ h) a b repo_fits reads);
+      ends = keeps_end {T = T} {F = CompareFault} other_failed a b (Ok x) kept;
+      cause = caused;
+    }
+
+pub works_unread : {U : Type 0} (T : Type 0) (store now : Store) (a b : Option Told) (n m : ℕ) (fault : CompareFault)
+    → KeepsTold {T = T} other_failed a b (Err fault) → HasCause {T = T} other_failed n m (Err fault)
+    → Works (KeepsGrowing store) (λ (_ : U). Grows store now) a b n m (Err (compare_fault fault))
+works_unread {U} T store now a b n m fault kept caused =
+    let reads : Between a b (λ h g. g ≡ h) = same_told {T = T} {F = CompareFault} other_failed a b (Err fault) kept in
+    record {
+      each = between_map a b (λ h g. g ≡ h) (KeepsGrowing store) (λ h g e. subst (KeepsGrowing store h) (sym e) (growing_here store h)) reads;
+      end = tt;
+      ends = subst (λ (d : Bool). FailedWhere d a b) (sym (compared_target fault)) (keeps_end {T = T} {F = CompareFault} other_failed a b (Err fault) kept);
+      cause = subst (λ (d : Bool). RoseWhere d n m) (sym (compared_target fault)) caused;
+    }
+
+-- ---- what a store keeps that nothing was named in
+
+pub read_rest : (store now : Store) → ReadsStore store now → KeepsRest store now
+read_rest store now reads = record {
+  keys = ap (λ (r : RepoState). r.keys) reads.repo;
+  config = ap (λ (r : RepoState). r.config) reads.repo;
+  manifest = ap (λ (r : RepoState). r.manifest) reads.repo;
+  accepted = ap (λ (s : Store). accepted_in s) reads.rest ∙ ap (λ (r : RepoState). accepted_or r.manifest store.accepted) reads.repo;
+}
+
+pub read_unspent : (store now : Store) → ReadsStore store now → IsUnspent store → IsUnspent now
+read_unspent store now reads unspent = subst IsUnspent (sym reads.rest)
+    (record { session = unspent.session; counter = unspent.counter; itself = unspent.itself })
+
+pub rest_packable : (store now : Store) → KeepsRest store now → IsPackable (accepted_in store) → IsPackable (accepted_in now)
+rest_packable store now rest packable = subst IsPackable (sym rest.accepted) packable
+
+pub rest_accepts : (store now : Store) → KeepsRest store now → AcceptsMore store → AcceptsMore now
+rest_accepts store now rest accepts =
+    subst (λ (m : ManifestText). KeepsNames m (accepted_in now)) (sym rest.manifest)
+    (subst (KeepsNames (repo_view store.repo).manifest) (sym rest.accepted) accepts)
+
+pub rest_committed : (store now : Store) (name : List ℕ) → KeepsRest store now → IsCommitted store name → IsCommitted now name
+rest_committed store now name rest committed entry is =
+    ap (λ (m : ManifestText). archive_named name m.archives) rest.manifest
+    ∙ committed entry (sym (ap (λ (m : ManifestText). archive_named name m.archives) rest.accepted) ∙ is)
+
+pub rest_settled : (store now : Store) → KeepsRest store now → IsSettled store → IsSettled now
+rest_settled store now rest settled = rest.accepted ∙ (settled ∙ sym rest.manifest)
+
+-- ---- what a store is that has committed all that it accepted
+
+pub settled_committed : (store : Store) (name : List ℕ) → IsSettled store → IsCommitted store name
+settled_committed store name settled entry is = sym (ap (λ (m : ManifestText). archive_named name m.archives) settled) ∙ is
+
+-- ---- bodies that end so
+
+-- what holds of each body that is `Ok`
+pub on_ok : {T F : Type 0} {P Q : Type 0} (result : Result T F) → (P → Q) → OnOk result P → OnOk result Q
+on_ok (Ok x) step p = step p
+on_ok (Err fault) step p = tt
+
+-- contents were added, which is a way to grow
+pub grown_so : {T : Type 0} (store now : Store) (contents : List (List ℕ)) (a b : Option Told) (n m : ℕ) (result : Result T CarryFault)
+    → Works (KeepsStanding store) (λ (_ : T). Gathers store contents now) a b n m result
+    → Works (KeepsGrowing store) (λ (_ : T). Grows store now) a b n m result
+grown_so {T} store now contents a b n m (Ok x) p = grown_from {T = T} {U = T} store now contents a b n m x x p
+grown_so {T} store now contents a b n m (Err fault) p = grown_from_err {T = T} {U = T} store now now contents a b n m fault p
+
+-- ---- the archive of a name
+
+pub named_so : (name : List ℕ) (archives : List ArchiveRef) (entry : ArchiveRef) → archive_named name archives ≡ Some entry → entry.name ≡ name
+named_so name [] entry found = absurd (let e = sym (archive_named-none name) ∙ found in let no : ⊥ = cc in no)
+named_so name (archive ∷ archives) entry found = by_name (bytes_eq archive.name name) refl (named_so name archives entry) where
+  by_name : (b : Bool) → bytes_eq archive.name name ≡ b → (archive_named name archives ≡ Some entry → entry.name ≡ name) → entry.name ≡ name
+  by_name true is rest =
+      let e : Some archive ≡ Some entry = sym (archive_named-here name archive archives is) ∙ found in
+      let same : archive ≡ entry = cc in
+      ap (λ (a : ArchiveRef). a.name) (sym same) ∙ (bytes_eq-Decides archive.name name).0 is
+  by_name false is rest = rest (sym (archive_named-other name archive archives is) ∙ found)

@@ -1,0 +1,372 @@
+-- A store with contents added, one after another.
+use Rattle.std.proofs.Common.{◌≡◌, ◌≢◌, ◌⊎◌, ◌↔◌, IsTrue, inl, inr, ℕ, Bool, true, false, List, [], ◌∷◌, ◌++◌, Option, Some}
+use Rattle.std.proofs.Common.{None, unwrap_or, Ok, IfSome, refl, sym, ◌∙◌, ap, subst}
+use Rattle.std.specs.List.{AllByRecursion}
+use Rattle.ferry_base.specs.Limits.{zero_id}
+use Rattle.ferry_blob.proofs.CallerLemmas.{opened_id}
+use Rattle.ferry_blob.proofs.LawLemmas.{one_content}
+use Rattle.ferry_blob.specs.Blob.{OpensTo, content_id}
+use Rattle.ferry_disk.specs.Act.{History, files_now}
+use Rattle.ferry_disk.specs.Files.{Files}
+use Rattle.ferry_disk.specs.Device.{Told}
+use Rattle.ferry_disk.specs.Moments.{Moments}
+use Rattle.ferry_log.specs.State.{LogState}
+use Rattle.ferry_mac.specs.declared.keys.Keys.{Keys}
+use Rattle.ferry_repo.specs.Objects.{HasBlob, HoldsChunk, HoldsObject, IsMissing}
+use Rattle.ferry_manifest.specs.Manifest.Text.{ManifestText}
+use Rattle.ferry_manifest.specs.declared.manifest.Manifest.{Manifest}
+use Rattle.ferry_repo.specs.Opening.{RepoState, repo_view}
+use Rattle.ferry_repo.specs.declared.repo.Repo.{Repo}
+use Rattle.ferry_store.specs.Commit.{accepted_or}
+use Rattle.ferry_segment.specs.Entry.{LogEntry, CommitEntry}
+use Rattle.ferry_stops.specs.Entries.{Shows}
+use Rattle.ferry_store.proofs.LiveLemmas.{keeps_commit, keeps_put, keeps_same, keeps_then, live_other, live_put, same_or}
+use Rattle.ferry_store.proofs.PutLemmas.{keeps_here}
+use Rattle.ferry_store.proofs.StandingLemmas.{entries_put, live_committed, missing_unlive}
+use Rattle.ferry_store.proofs.StepLemmas.{known_end, known_then, moments_map, moments_then}
+use Rattle.ferry_store.proofs.UseLemmas.{fits_added}
+use Rattle.ferry_store.specs.Adding.{Adds, Checkpoints, entry_of, id_under}
+use Rattle.ferry_store.specs.Content.{IsNew, IsThere, Learns, blob_for, with_added}
+use Rattle.ferry_store.specs.Standing.{HoldsLive, Keeps, committed_of, entries_of, live_in}
+use Rattle.ferry_store.specs.State.{CommitsSound, Did, IsSound, KeepsSound, ShowsEither, ShowsStanding, Written}
+use Rattle.ferry_store.specs.Store.{IsKnown, StoreFits}
+use Rattle.ferry_store.specs.declared.content.Added.{Added}
+use Rattle.ferry_store.specs.declared.store.Store.{Store}
+use Rattle.ferry_write.specs.Script.{AllDone}
+use Rattle.ferry_carry.specs.Gather.{Brings, Gathered, Gathers, HoldsContents, HoldsWithin, IsAmong, KeepsRest, KeepsStanding, Moved, NoCollision, StandsFrom}
+
+-- ---- what stands
+
+-- each stop shows something that is committed
+committed_some : (counts : Bool) (store : Store) (h : History) (fits : StoreFits counts store h) → fits.written.committed ≡ Some (committed_of fits.written)
+committed_some counts store h fits = fits.manifest.is ∙ ap Some (sym (ap (λ (c : Option (List LogEntry)). unwrap_or c []) fits.manifest.is))
+
+pub standing_from : (counts : Bool) (store : Store) (h : History) (fits : StoreFits counts store h) (image : Files) → ShowsStanding fits.written image
+    → StandsFrom fits.written image
+standing_from counts store h fits image shown = (
+  committed_of fits.written,
+  (subst (Shows image) (committed_some counts store h fits) shown.0, (keeps_same (committed_of fits.written), shown.1)),
+)
+
+-- what stands from later on stands from before
+pub stands_then : (written next : Written) (image : Files) → Moved written next → StandsFrom next image → StandsFrom written image
+stands_then written next image moved stands = (
+  stands.0,
+  (
+    stands.1.0,
+    (keeps_then (committed_of written) (committed_of next) stands.0 moved.committed stands.1.1.0, stands.1.1.1 ∙ moved.config),
+  ),
+)
+
+pub moved_here : (written : Written) → Moved written written
+moved_here written = record { committed = keeps_same (committed_of written); entries = keeps_same (entries_of written); config = refl }
+
+pub moved_then : (a b c : Written) → Moved a b → Moved b c → Moved a c
+moved_then a b c p q = record {
+  committed = keeps_then (committed_of a) (committed_of b) (committed_of c) p.committed q.committed;
+  entries = keeps_then (entries_of a) (entries_of b) (entries_of c) p.entries q.entries;
+  config = q.config ∙ p.config;
+}
+
+sound_map : (P Q : Files → Type 0) (counts : Bool) (h : History) → ((image : Files) → P image → Q image) → IsSound P counts h → IsSound Q counts h
+sound_map P Q counts h step s = record { shows = λ image left. step image (s.shows image left); traced = s.traced; fresh = s.fresh }
+
+pub sound_moments : (P Q : Files → Type 0) (counts : Bool) (h g : History) → ((image : Files) → P image → Q image) → Moments (IsSound P counts) h g
+    → Moments (IsSound Q counts) h g
+sound_moments P Q counts h g step m = moments_map (IsSound P counts) (IsSound Q counts) h g (λ k s. sound_map P Q counts k step s) m
+
+-- ---- chunks
+
+-- a chunk is there as long as what is live stays
+pub chunk_on : (counts : Bool) (store now : Store) (h g : History) (fits : StoreFits counts store h) (fits_now : StoreFits counts now g)
+    → Keeps (entries_of fits.written) (entries_of fits_now.written) → (repo_view now.repo).keys ≡ (repo_view store.repo).keys → (id content : List ℕ)
+    → HoldsChunk (files_now h) (repo_view store.repo).log (repo_view store.repo).keys id content
+    → HoldsChunk (files_now g) (repo_view now.repo).log (repo_view now.repo).keys id content
+chunk_on counts store now h g fits fits_now keeps keys id content chunk =
+    let object = chunk.object in
+    let live = keeps id object.blob ((fits.holds id object.blob chunk.chunk).0 object.has) in
+    record {
+      chunk = chunk.chunk;
+      object = record {
+        blob = object.blob;
+        has = (fits_now.holds id object.blob chunk.chunk).1 live;
+        opens = subst (λ (k : Keys). OpensTo k id object.blob content) (sym keys) object.opens;
+      };
+    }
+
+all_on : (keys : Keys) (P Q : List ℕ → Type 0) (contents : List (List ℕ)) → ((content : List ℕ) → P content → Q content) → AllByRecursion P contents
+    → AllByRecursion Q contents
+all_on keys P Q [] step all = tt
+all_on keys P Q (content ∷ contents) step all = (step content all.0, all_on keys P Q contents step all.1)
+
+all_both : (P : List ℕ → Type 0) (some more : List (List ℕ)) → AllByRecursion P some → AllByRecursion P more → AllByRecursion P (some ++ more)
+all_both P [] more all others = others
+all_both P (content ∷ some) more all others = (all.0, all_both P some more all.1 others)
+
+all_front : (P : List ℕ → Type 0) (some more : List (List ℕ)) → AllByRecursion P (some ++ more) → AllByRecursion P some × AllByRecursion P more
+all_front P [] more all = (tt, all)
+all_front P (content ∷ some) more all = let rest = all_front P some more all.1 in ((all.0, rest.0), rest.1)
+
+-- ---- one after another
+
+pub gathers_here : (store : Store) (h : History) → Gathers store [] store h h
+gathers_here store h counts fits = record { fits_now = fits; moved = moved_here fits.written; brings = λ scope apart all within. (within, tt) }
+
+pub gathers_then : (store middle now : Store) (some more : List (List ℕ)) → KeepsRest store middle → KeepsRest middle now → (h g i : History)
+    → Gathers store some middle h g → Gathers middle more now g i → Gathers store (some ++ more) now h i
+gathers_then store middle now some more rest rest_now h g i p q counts fits =
+    let first = p counts fits in
+    let second = q counts first.fits_now in
+    record {
+      fits_now = second.fits_now;
+      moved = moved_then fits.written first.fits_now.written second.fits_now.written first.moved second.moved;
+      brings = λ scope apart all within.
+          let parts = all_front (IsAmong scope) some more all in
+          let one = first.brings scope apart parts.0 within in
+          let apart_then = subst (λ (k : Keys). NoCollision k scope) (sym rest.keys) apart in
+          let two = second.brings scope apart_then parts.1 one.0 in
+          (two.0, all_both _ some more (kept counts first.fits_now second.fits_now second.moved.entries one.1) two.1);
+    } where
+      kept : (counts : Bool) (fits : StoreFits counts middle g) (fits_now : StoreFits counts now i)
+          → Keeps (entries_of fits.written) (entries_of fits_now.written)
+          → HoldsContents (files_now g) (repo_view middle.repo) some → HoldsContents (files_now i) (repo_view now.repo) some
+      kept counts fits fits_now keeps all =
+          all_on (repo_view store.repo).keys _ _ some (λ content chunk.
+          subst (λ (k : Keys). HoldsChunk (files_now i) (repo_view now.repo).log (repo_view now.repo).keys (content_id k content) content) (sym rest_now.keys)
+          (chunk_on counts middle now g i fits fits_now keeps rest_now.keys (content_id (repo_view middle.repo).keys content) content chunk)) all
+
+pub each_then : (store middle : Store) (contents : List (List ℕ)) (h g i : History) → KeepsStanding store h g → AllDone h g → Gathers store contents middle h g
+    → KeepsStanding middle g i → KeepsStanding store h i
+each_then store middle contents h g i before done gathers after counts fits =
+    let first = gathers counts fits in
+    moments_then (IsSound (StandsFrom fits.written) counts) h g i (before counts fits) done
+    (sound_moments (StandsFrom first.fits_now.written) (StandsFrom fits.written) counts g i
+    (λ image stands. stands_then fits.written first.fits_now.written image first.moved stands) (after counts first.fits_now))
+
+-- where nothing is done, what stands is what a sound moment shows
+pub stands_here : (store : Store) (h : History) → KeepsStanding store h h
+stands_here store h counts fits =
+    sound_moments (ShowsStanding fits.written) (StandsFrom fits.written) counts h h (λ image shown. standing_from counts store h fits image shown)
+    (keeps_here store.session store.counter h counts fits.written fits.under_way)
+
+pub rest_here : (store : Store) → KeepsRest store store
+rest_here store = record { keys = refl; config = refl; manifest = refl; accepted = refl }
+
+pub rest_then : (a b c : Store) → KeepsRest a b → KeepsRest b c → KeepsRest a c
+rest_then a b c p q = record { keys = q.keys ∙ p.keys; config = q.config ∙ p.config; manifest = q.manifest ∙ p.manifest; accepted = q.accepted ∙ p.accepted }
+
+-- ---- a content is added
+
+-- what a clause of `add` says of a content that was put, or that was live
+pub record AddedSo (store : Store) (content : List ℕ) (store_now : Store) (added : Added) : Type 0 where
+  pub id : added.id ≡ id_under store content
+  pub new : IsTrue added.new ↔ IsNew (repo_view store.repo) (id_under store content)
+  pub known : IsKnown store_now (id_under store content)
+  pub repo : Learns (repo_view store.repo) added.id added.new (repo_view store_now.repo)
+  pub opens : IsTrue added.new
+      → OpensTo (repo_view store.repo).keys (id_under store content) (blob_for (repo_view store.repo) store.counter content) content
+  pub accepted : store_now.accepted ≡ store.accepted
+
+learns_keys : (repo : RepoState) (id : List ℕ) (new : Bool) (now : RepoState) → Learns repo id new now → now.keys ≡ repo.keys
+learns_keys repo id false now same = ap (λ (r : RepoState). r.keys) same
+learns_keys repo id true now learnt = ap (λ (r : RepoState). r.keys) learnt.1
+
+learns_config : (repo : RepoState) (id : List ℕ) (new : Bool) (now : RepoState) → Learns repo id new now → now.config ≡ repo.config
+learns_config repo id false now same = ap (λ (r : RepoState). r.config) same
+learns_config repo id true now learnt = ap (λ (r : RepoState). r.config) learnt.1
+
+learns_manifest : (repo : RepoState) (id : List ℕ) (new : Bool) (now : RepoState) → Learns repo id new now → now.manifest ≡ repo.manifest
+learns_manifest repo id false now same = ap (λ (r : RepoState). r.manifest) same
+learns_manifest repo id true now learnt = ap (λ (r : RepoState). r.manifest) learnt.1
+
+rest_by : (store now : Store) → (repo_view now.repo).keys ≡ (repo_view store.repo).keys → (repo_view now.repo).config ≡ (repo_view store.repo).config
+    → (repo_view now.repo).manifest ≡ (repo_view store.repo).manifest → now.accepted ≡ store.accepted → KeepsRest store now
+rest_by store now keys config manifest accepted = record {
+  keys = keys;
+  config = config;
+  manifest = manifest;
+  accepted = ap (λ (a : Option Manifest). accepted_or (repo_view now.repo).manifest a) accepted
+      ∙ ap (λ (m : ManifestText). accepted_or m store.accepted) manifest;
+}
+
+pub added_rest : (store now : Store) (content : List ℕ) (added : Added) → AddedSo store content now added → KeepsRest store now
+added_rest store now content added so =
+    rest_by store now (learns_keys (repo_view store.repo) added.id added.new (repo_view now.repo) so.repo)
+    (learns_config (repo_view store.repo) added.id added.new (repo_view now.repo) so.repo)
+    (learns_manifest (repo_view store.repo) added.id added.new (repo_view now.repo) so.repo) so.accepted
+
+-- where a content was put, its chunk has it, and each other chunk is what it was
+brings_new : (counts : Bool) (store now : Store) (content : List ℕ) (h g : History) (fits : StoreFits counts store h) (fits_now : StoreFits counts now g)
+    → (repo_view now.repo).keys ≡ (repo_view store.repo).keys → id_under store content ≢ zero_id
+    → OpensTo (repo_view store.repo).keys (id_under store content) (blob_for (repo_view store.repo) store.counter content) content
+    → entries_of fits_now.written ≡ entries_of fits.written ++ entry_of store content ∷ []
+    → Brings (repo_view store.repo) (content ∷ []) (repo_view now.repo) h g
+brings_new counts store now content h g fits fits_now keys chunk opens entries scope apart all within = (
+  λ other found holds. by_id other found holds (same_or id other),
+  (subst (λ (k : Keys). HoldsChunk (files_now g) (repo_view now.repo).log (repo_view now.repo).keys (content_id k content) content) (sym keys) held, tt),
+) where
+  id : List ℕ
+  id = id_under store content
+
+  blob : List ℕ
+  blob = blob_for (repo_view store.repo) store.counter content
+
+  live : live_in id (entries_of fits_now.written) ≡ Some blob
+  live = ap (live_in id) entries ∙ live_put id blob (entries_of fits.written)
+
+  held : HoldsChunk (files_now g) (repo_view now.repo).log (repo_view now.repo).keys id content
+  held = record {
+    chunk = chunk;
+    object = record {
+      blob = blob;
+      has = (fits_now.holds id blob chunk).1 live;
+      opens = subst (λ (k : Keys). OpensTo k id blob content) (sym keys) opens;
+    };
+  }
+
+  by_id : (other found : List ℕ) → HoldsChunk (files_now g) (repo_view now.repo).log (repo_view now.repo).keys other found
+      → (other ≡ id) ⊎ (other ≢ id) → IsAmong scope found
+  by_id other found holds (inl is) =
+      let object = holds.object in
+      let there = (fits_now.holds other object.blob holds.chunk).0 object.has in
+      let same : Some object.blob ≡ Some blob = sym there ∙ (ap (λ (i : List ℕ). live_in i (entries_of fits_now.written)) is ∙ live) in
+      let blobs : object.blob ≡ blob = cc in
+      let one : OpensTo (repo_view store.repo).keys id blob found =
+      subst (λ (b : List ℕ). OpensTo (repo_view store.repo).keys id b found) blobs
+      (subst (λ (i : List ℕ). OpensTo (repo_view store.repo).keys i object.blob found) is
+      (subst (λ (k : Keys). OpensTo k other object.blob found) keys object.opens)) in
+      subst (IsAmong scope) (one_content (repo_view store.repo).keys id blob content found opens one) all.0
+  by_id other found holds (inr differ) =
+      let object = holds.object in
+      let there = (fits_now.holds other object.blob holds.chunk).0 object.has in
+      let before = sym (live_other id blob other (entries_of fits.written) differ) ∙ (ap (live_in other) (sym entries) ∙ there) in
+      within other found (record {
+        chunk = holds.chunk;
+        object = record {
+          blob = object.blob;
+          has = (fits.holds other object.blob holds.chunk).1 before;
+          opens = subst (λ (k : Keys). OpensTo k other object.blob found) keys object.opens;
+        };
+      })
+
+-- where nothing was put, each chunk is what it was, and that of the content is there
+brings_old : (counts : Bool) (store now : Store) (content : List ℕ) (h g : History) (fits : StoreFits counts store h) (fits_now : StoreFits counts now g)
+    → (repo_view now.repo).keys ≡ (repo_view store.repo).keys → IsKnown now (id_under store content)
+    → entries_of fits_now.written ≡ entries_of fits.written → Brings (repo_view store.repo) (content ∷ []) (repo_view now.repo) h g
+brings_old counts store now content h g fits fits_now keys known entries scope apart all within = (
+  within_now,
+  (subst (λ (k : Keys). HoldsChunk (files_now g) (repo_view now.repo).log (repo_view now.repo).keys (content_id k content) content) (sym keys) held, tt),
+) where
+  id : List ℕ
+  id = id_under store content
+
+  back : Keeps (entries_of fits_now.written) (entries_of fits.written)
+  back = subst (Keeps (entries_of fits_now.written)) entries (keeps_same (entries_of fits_now.written))
+
+  within_now : HoldsWithin scope (files_now g) (repo_view now.repo)
+  within_now other found holds = within other found (chunk_on counts now store g h fits_now fits back (sym keys) other found holds)
+
+  chunk : id ≢ zero_id
+  chunk = apart.chunk content all.0
+
+  held : HoldsChunk (files_now g) (repo_view now.repo).log (repo_view now.repo).keys id content
+  held =
+      let there = fits_now.there id chunk known in
+      let found = there.0 in
+      let named : id ≡ content_id (repo_view store.repo).keys found =
+      opened_id (repo_view now.repo).keys id there.1.object.blob found there.1.object.opens chunk ∙ ap (λ (k : Keys). content_id k found) keys in
+      let same : found ≡ content = apart.one found content (within_now id found there.1) all.0 (sym named) in
+      subst (HoldsChunk (files_now g) (repo_view now.repo).log (repo_view now.repo).keys id) same there.1
+
+added_by : (counts : Bool) (store now : Store) (content : List ℕ) (added : Added) (h g : History) (fits : StoreFits counts store h)
+    (fits_now : StoreFits counts now g) (new : Bool) → new ≡ added.new → AddedSo store content now added
+    → fits_now.written ≡ with_added new fits.written (entry_of store content)
+    → Moved fits.written fits_now.written × Brings (repo_view store.repo) (content ∷ []) (repo_view now.repo) h g
+added_by counts store now content added h g fits fits_now true is so e =
+    let put : IsTrue added.new = sym is in
+    let fresh = so.new.0 put in
+    let entries : entries_of fits_now.written ≡ entries_of fits.written ++ entry_of store content ∷ [] =
+    ap entries_of e ∙ entries_put fits.written (entry_of store content) in
+    let unlive = missing_unlive (files_now h) (repo_view store.repo).log (entries_of fits.written) (id_under store content) fresh.0 fresh.1 fits.holds in
+    let keys = (added_rest store now content added so).keys in (
+      record {
+        committed = subst (λ (w : Written). Keeps (committed_of fits.written) (committed_of w)) (sym e) (keeps_same (committed_of fits.written));
+        entries = subst (Keeps (entries_of fits.written)) (sym entries)
+            (keeps_put (id_under store content) (blob_for (repo_view store.repo) store.counter content) (entries_of fits.written) unlive);
+        config = ap (λ (w : Written). w.config) e;
+      },
+      brings_new counts store now content h g fits fits_now keys fresh.0 (so.opens put) entries,
+    )
+added_by counts store now content added h g fits fits_now false is so e = (
+  subst (Moved fits.written) (sym e) (moved_here fits.written),
+  brings_old counts store now content h g fits fits_now (added_rest store now content added so).keys so.known (ap entries_of e),
+)
+
+-- a content that was added is there
+pub add_gathers : (store now : Store) (content : List ℕ) (added : Added) (h g : History) → AddedSo store content now added → Adds store content now added h g
+    → Gathers store (content ∷ []) now h g
+add_gathers store now content added h g so adds counts fits =
+    let end = adds counts fits in
+    let both = added_by counts store now content added h g fits end.0 added.new refl so end.1 in
+    record { fits_now = end.0; moved = both.0; brings = both.1 }
+
+pub add_stands : (store : Store) (h g : History) → KeepsSound store.session store.counter h g → KeepsStanding store h g
+add_stands store h g keeps counts fits =
+    sound_moments (ShowsStanding fits.written) (StandsFrom fits.written) counts h g (λ image shown. standing_from counts store h fits image shown)
+    (keeps counts fits.written fits.under_way)
+
+-- ---- a checkpoint
+
+pub checkpoint_rest : (store now : Store) → now.repo ≡ store.repo → now.accepted ≡ store.accepted → KeepsRest store now
+checkpoint_rest store now repo accepted =
+    let view : repo_view now.repo ≡ repo_view store.repo = ap repo_view repo in
+    rest_by store now (ap (λ (r : RepoState). r.keys) view) (ap (λ (r : RepoState). r.config) view) (ap (λ (r : RepoState). r.manifest) view) accepted
+
+pub checkpoint_gathers : (store now : Store) (h g : History) → now.repo ≡ store.repo → Checkpoints store now h g → Gathers store [] now h g
+checkpoint_gathers store now h g repo takes counts fits =
+    let end = takes counts fits in
+    let w = fits.written in
+    let keys : (repo_view now.repo).keys ≡ (repo_view store.repo).keys = ap (λ (r : Repo). (repo_view r).keys) repo in
+    let live : (id : List ℕ) → live_in id (entries_of end.0.written) ≡ live_in id (entries_of w) =
+    λ id. ap (λ (x : Written). live_in id (entries_of x)) end.1 ∙ live_committed w id in
+    record {
+      fits_now = end.0;
+      moved = record {
+        committed = subst (λ (x : Written). Keeps (committed_of w) (committed_of x)) (sym end.1)
+            (keeps_then (committed_of w) (entries_of w) (entries_of w ++ CommitEntry ∷ []) fits.keeps (keeps_commit (entries_of w)));
+        entries = λ id blob there. live id ∙ there;
+        config = ap (λ (x : Written). x.config) end.1;
+      };
+      brings = λ scope apart all within. (
+        λ id found holds. within id found
+            (chunk_on counts now store g h end.0 fits (λ other blob there. sym (live other) ∙ there) (sym keys) id found holds),
+        tt,
+      );
+    }
+
+pub checkpoint_stands : (store : Store) (h g : History) → CommitsSound store.session store.counter h g → KeepsStanding store h g
+checkpoint_stands store h g keeps counts fits =
+    sound_moments (ShowsEither fits.written) (StandsFrom fits.written) counts h g either (keeps counts fits.written fits.under_way) where
+      either : (image : Files) → ShowsEither fits.written image → StandsFrom fits.written image
+      either image (inl shown) = standing_from counts store h fits image shown
+      either image (inr shown) =
+          let w = fits.written in (
+            entries_of w ++ CommitEntry ∷ [],
+            (
+              shown.0,
+              (keeps_then (committed_of w) (entries_of w) (entries_of w ++ CommitEntry ∷ []) fits.keeps (keeps_commit (entries_of w)), shown.1),
+            ),
+          )
+
+-- ---- from call to call
+
+pub added_fits : (store now : Store) (content : List ℕ) (added : Added) (a b : Option Told) (n m : ℕ) → IfSome a (λ t. StoreFits false store t.history)
+    → Did {T = Added} (KeepsSound store.session store.counter) (Adds store content now) a b n m (Ok added) → IfSome b (λ t. StoreFits false now t.history)
+added_fits store now content added a b n m fits p = fits_added store now content added a b n m fits p
+
+pub checkpoint_fits : (store now : Store) (a b : Option Told) (n m : ℕ) → IfSome a (λ t. StoreFits false store t.history)
+    → Did {T = Unit {0}} (CommitsSound store.session store.counter) (λ _. Checkpoints store now) a b n m (Ok tt) → IfSome b (λ t. StoreFits false now t.history)
+checkpoint_fits store now a b n m fits p =
+    known_end (λ h. StoreFits false now h) (λ h g. StoreFits false store h × (AllDone h g × Checkpoints store now h g)) a b p.ends
+    (λ h g e. (e.1.1 false e.0).0)
+    (known_then (λ h. StoreFits false store h) (λ h g. AllDone h g × Checkpoints store now h g) a b fits p.end)

@@ -1,0 +1,12 @@
+pub mod GatherLemmas
+pub mod WorkLemmas
+pub mod FaultLemmas
+pub mod WholeLemmas
+pub mod SourceLemmas
+pub mod PieceLemmas
+pub mod CopyLemmas
+pub mod GrowLemmas
+pub mod StepLemmas
+pub mod NamingLemmas
+pub mod FlightLemmas
+pub mod TellLemmas

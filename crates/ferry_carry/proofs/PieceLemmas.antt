@@ -1,0 +1,101 @@
+-- Lemmas on specs/Piece.antt: a writer of pieces from round to round, and what its last piece is.
+use Rattle.std.proofs.Common.{◌≡◌, ◌≤◌, ◌<◌, ◌-◌, ℕ, inl, inr, false, List, [], ◌∷◌, ◌++◌, Option, Some, None, IsSome, is_some}
+use Rattle.std.proofs.Common.{length, min, take, drop, refl, sym, ◌∙◌, ap, subst, arith}
+use Rattle.std.proofs.lemmas.Bool.{cases_lt}
+use Rattle.std.proofs.lemmas.List.{append-nil, append_assoc, drop_all, length-append, length-take, map-append}
+use Rattle.ferry_item.specs.declared.item.ChunkRef.{ChunkRef}
+use Rattle.ferry_mac.specs.declared.keys.Keys.{Keys}
+use Rattle.ferry_rechunk.proofs.CutLemmas.{cut_nothing}
+use Rattle.ferry_rechunk.proofs.FeedLemmas.{FedSoFar, next_round, none_yet, one_more}
+use Rattle.ferry_rechunk.specs.Cut.{cut}
+use Rattle.ferry_rechunk.specs.Cutting.{Cutting, IsFed}
+use Rattle.ferry_carry.specs.Gather.{chunk_of, chunks_of}
+use Rattle.ferry_carry.specs.Piece.{WritesOn}
+
+-- ---- the last piece
+
+pub none_there : {T : Type 0} (o : Option T) → is_some o ≡ false → IsSome o → ⊥
+none_there None none some = let no : ⊥ = cc in no
+none_there (Some x) none some = let no : ⊥ = cc in no
+
+no_bytes : (piece : List ℕ) → (1 ≤ length piece → ⊥) → piece ≡ []
+no_bytes [] none = refl
+no_bytes (byte ∷ bytes) none = absurd (none (omega arith))
+
+-- the cut of a piece that is empty
+pub cut_none : (block : ℕ) (piece : List ℕ) → 1 ≤ block → (1 ≤ length piece → ⊥) → cut block piece ≡ []
+cut_none block piece some none = ap (cut block) (no_bytes piece none) ∙ cut_nothing block some
+
+-- the chunks of no piece more
+pub none_more : (keys : Keys) (chunks : List ChunkRef) (pieces : List (List ℕ)) → pieces ≡ [] → chunks ≡ chunks ++ chunks_of keys pieces
+none_more keys chunks pieces none = sym (append-nil chunks) ∙ ap (λ (ps : List (List ℕ)). chunks ++ chunks_of keys ps) (sym none)
+
+-- the chunks of some pieces more, and of more behind them
+pub chunks_more : (keys : Keys) (chunks : List ChunkRef) (some more : List (List ℕ))
+    → (chunks ++ chunks_of keys some) ++ chunks_of keys more ≡ chunks ++ chunks_of keys (some ++ more)
+chunks_more keys chunks some more =
+    append_assoc chunks (chunks_of keys some) (chunks_of keys more)
+    ∙ ap (λ (cs : List ChunkRef). chunks ++ cs) (sym (map-append (chunk_of keys) some more))
+
+-- ---- rounds
+
+-- A front of the bytes was written: these pieces became whole.
+pub record WritesSoFar (keys : Keys) (cutter : Cutting) (chunks : List ChunkRef) (bytes rest : List ℕ) (more : List (List ℕ)) (cutter_now : Cutting)
+    (chunks_now : List ChunkRef) : Type 0 where
+  pub fed : (taken : List (List ℕ)) → FedSoFar cutter.block bytes rest taken cutter.piece (taken ++ more) cutter_now.piece
+  pub chunks_are : chunks_now ≡ chunks ++ chunks_of keys more
+
+pub none_written : (keys : Keys) (cutter : Cutting) (chunks : List ChunkRef) (bytes : List ℕ) → WritesSoFar keys cutter chunks bytes bytes [] cutter chunks
+none_written keys cutter chunks bytes = record {
+  fed = λ taken. subst (λ (ps : List (List ℕ)). FedSoFar cutter.block bytes bytes taken cutter.piece ps cutter.piece) (sym (append-nil taken))
+      (none_yet cutter.block bytes taken cutter.piece);
+  chunks_are = sym (append-nil chunks);
+}
+
+-- a round in which a piece becomes whole and is added
+pub one_written : (keys keys_now : Keys) (cutter : Cutting) (chunks : List ChunkRef) (bytes rest behind : List ℕ) (more : List (List ℕ))
+    (middle grown cleared : Cutting) (chunks_middle chunks_now : List ChunkRef) (taken : ℕ)
+    → WritesSoFar keys cutter chunks bytes rest more middle chunks_middle → keys_now ≡ keys → middle.block ≡ cutter.block → grown.block ≡ middle.block
+    → grown.piece ≡ middle.piece ++ take taken rest → length grown.piece ≡ grown.block → behind ≡ drop taken rest
+    → chunks_now ≡ chunks_middle ++ chunk_of keys_now grown.piece ∷ [] → cleared.piece ≡ []
+    → WritesSoFar keys cutter chunks bytes behind (more ++ grown.piece ∷ []) cleared chunks_now
+one_written keys keys_now cutter chunks bytes rest behind more middle grown cleared chunks_middle chunks_now taken so same block kept grows whole goes put
+    cleared_is = record {
+      fed = λ before.
+          next_round cutter.block bytes rest before cutter.piece (before ++ more) middle.piece taken grown.piece behind (before ++ (more ++ grown.piece ∷ []))
+          cleared.piece (so.fed before) grows (whole ∙ (kept ∙ block)) goes (sym (append_assoc before more (grown.piece ∷ []))) cleared_is;
+      chunks_are = put ∙ (ap (λ (k : Keys). chunks_middle ++ chunk_of k grown.piece ∷ []) same
+          ∙ (ap (λ (cs : List ChunkRef). cs ++ chunk_of keys grown.piece ∷ []) so.chunks_are ∙ chunks_more keys chunks more (grown.piece ∷ [])));
+    }
+
+-- the round in which none becomes whole is the last
+all_taken : (rest : List ℕ) (piece : List ℕ) (block taken : ℕ) → length piece < block → taken ≡ min (length rest) (block - length piece)
+    → (length (piece ++ take taken rest) ≡ block → ⊥) → length rest ≤ taken
+all_taken rest piece block taken room is part = elim (cases_lt taken (length rest)) [
+  | inl fewer ↦
+      let all : taken ≡ block - length piece = omega (arith, is, fewer) in
+      absurd (part (omega (arith, length-append piece (take taken rest), length-take taken rest)))
+  | inr fits ↦ fits
+]
+
+pub all_written : (keys : Keys) (cutter : Cutting) (chunks : List ChunkRef) (bytes rest : List ℕ) (more : List (List ℕ)) (middle grown : Cutting)
+    (chunks_now : List ChunkRef) (taken : ℕ) → WritesSoFar keys cutter chunks bytes rest more middle chunks_now → middle.block ≡ cutter.block
+    → length middle.piece < middle.block → taken ≡ min (length rest) (middle.block - length middle.piece)
+    → grown.piece ≡ middle.piece ++ take taken rest → grown.block ≡ middle.block → length grown.piece ≤ grown.block
+    → (length grown.piece ≡ grown.block → ⊥) → WritesOn keys cutter chunks bytes more grown chunks_now
+all_written keys cutter chunks bytes rest more middle grown chunks_now taken so block room is grows kept fits part = record {
+  fed = λ fed before was.
+      let whole : length rest ≤ taken =
+      all_taken rest middle.piece middle.block taken room is (λ e. part (ap length grows ∙ (e ∙ sym kept))) in
+      let within : length (middle.piece ++ take taken rest) ≤ cutter.block =
+      subst (λ (n : ℕ). length (middle.piece ++ take taken rest) ≤ n) (kept ∙ block) (subst (λ (p : List ℕ). length p ≤ grown.block) grows fits) in
+      let last = one_more cutter.block bytes rest before cutter.piece (before ++ more) middle.piece taken within (so.fed before) in
+      let front : last.front ≡ bytes =
+      sym (append-nil last.front) ∙ (ap (λ (r : List ℕ). last.front ++ r) (sym (drop_all taken rest whole)) ∙ last.split) in
+      let P : List ℕ → Type 0 = λ piece. IsFed cutter.block (fed ++ bytes) (before ++ more) piece in
+      let Q : List ℕ → Type 0 = λ f. IsFed cutter.block (fed ++ f) (before ++ more) (middle.piece ++ take taken rest) in
+      subst P (sym grows) (subst Q front (last.fed fed was));
+  chunks_are = so.chunks_are;
+  room = omega (arith, fits, part);
+  block = kept ∙ block;
+}

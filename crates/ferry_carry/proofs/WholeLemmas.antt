@@ -1,0 +1,216 @@
+-- Lemmas on specs/Copied.antt and on what is among contents: an archive that was copied is whole in its target, and stays so.
+use Rattle.std.proofs.Common.{◌≡◌, ◌≤◌, ℕ, zero, suc, List, [], ◌∷◌, ◌++◌, map, Option, Some, None, option_map, slice_get}
+use Rattle.std.proofs.Common.{refl, sym, ◌∙◌, ap, subst, arith}
+use Rattle.std.specs.List.{AllByRecursion, concat}
+use Rattle.ferry_blob.specs.Blob.{content_id}
+use Rattle.ferry_disk.specs.Files.{Files}
+use Rattle.ferry_item.specs.Item.{ItemText}
+use Rattle.ferry_item.specs.Stream.{ItemsOf, no_more_items, joined}
+use Rattle.ferry_item.specs.declared.item.ChunkRef.{ChunkRef}
+use Rattle.ferry_item.proofs.StreamLemmas.{first_item}
+use Rattle.ferry_log.specs.State.{LogState}
+use Rattle.ferry_mac.specs.declared.keys.Keys.{Keys}
+use Rattle.ferry_manifest.specs.Record.Text.{ArchiveText}
+use Rattle.ferry_manifest.specs.declared.manifest.ArchiveRef.{ArchiveRef}
+use Rattle.ferry_rechunk.specs.Cut.{cut}
+use Rattle.ferry_rechunk.proofs.CutLemmas.{cut_joined}
+use Rattle.ferry_repo.specs.Archives.{archive_named}
+use Rattle.ferry_repo.specs.Objects.{HoldsChunk}
+use Rattle.ferry_repo.specs.Walk.{HoldChunks, IsStream}
+use Rattle.ferry_repo.specs.Whole.{ContentsCome, HoldsJoined, WholesCome, WholeItem, WholeArchive, IsWhole}
+use Rattle.ferry_carry.specs.Copied.{stream_block, pieces_of, copied_item, stream_of, IsRead, HoldsPiece, HoldsCopy}
+use Rattle.ferry_carry.specs.Gather.{IsAmong, chunks_of}
+
+-- ---- IsAmong
+
+got_front : (some more : List (List ℕ)) (place : ℕ) (content : List ℕ) → slice_get some place ≡ Some content → slice_get (some ++ more) place ≡ Some content
+got_front [] more place content is = absurd cc
+got_front (s ∷ ss) more zero content is = is
+got_front (s ∷ ss) more (suc place) content is = got_front ss more place content is
+
+-- what is among the first is among both
+pub among_front : (some more : List (List ℕ)) (content : List ℕ) → IsAmong some content → IsAmong (some ++ more) content
+among_front some more content is = (is.0, got_front some more is.0 content is.1)
+
+-- what is among the last is among both
+pub among_behind : (some more : List (List ℕ)) (content : List ℕ) → IsAmong more content → IsAmong (some ++ more) content
+among_behind [] more content is = is
+among_behind (s ∷ ss) more content is = let later = among_behind ss more content is in (suc later.0, later.1)
+
+-- of each holds what follows from what holds of it
+each_to : (P Q : List ℕ → Type 0) (contents : List (List ℕ)) → ((content : List ℕ) → P content → Q content) → AllByRecursion P contents
+    → AllByRecursion Q contents
+each_to P Q [] step all = tt
+each_to P Q (c ∷ cs) step all = (step c all.0, each_to P Q cs step all.1)
+
+-- each of all is among them
+pub all_among : (contents : List (List ℕ)) → AllByRecursion (IsAmong contents) contents
+all_among [] = tt
+all_among (c ∷ cs) = ((zero, refl), each_to (IsAmong cs) (IsAmong (c ∷ cs)) cs (λ content is. (suc is.0, is.1)) (all_among cs))
+
+all_at : (P : List ℕ → Type 0) (contents : List (List ℕ)) (place : ℕ) (content : List ℕ) → AllByRecursion P contents
+    → slice_get contents place ≡ Some content → P content
+all_at P [] place content all is = absurd cc
+all_at P (c ∷ cs) zero content all is = let same : c ≡ content = cc in subst P same all.0
+all_at P (c ∷ cs) (suc place) content all is = all_at P cs place content all.1 is
+
+-- what holds of each of them holds of one that is among them
+pub among_all : (P : List ℕ → Type 0) (contents : List (List ℕ)) (content : List ℕ) → AllByRecursion P contents → IsAmong contents content → P content
+among_all P contents content all is = all_at P contents is.0 content all is.1
+
+-- and of each of some that are among them
+pub all_of_among : (P : List ℕ → Type 0) (contents some : List (List ℕ)) → AllByRecursion P contents → AllByRecursion (IsAmong contents) some
+    → AllByRecursion P some
+all_of_among P contents some all are = each_to (IsAmong contents) P some (λ content is. among_all P contents content all is) are
+
+-- ---- the pieces of a content
+
+-- both words for pieces one behind the other mean the same
+pub joined_concat : (pieces : List (List ℕ)) → joined pieces ≡ concat pieces
+joined_concat [] = refl
+joined_concat (p ∷ ps) = ap (λ (bytes : List ℕ). p ++ bytes) (joined_concat ps)
+
+-- the pieces of a cut, joined, are the content
+pub joined_cut : (block : ℕ) (content : List ℕ) → 1 ≤ block → joined (cut block content) ≡ content
+joined_cut block content some = joined_concat (cut block content) ∙ cut_joined block content some
+
+module _ (files : Files) (log : LogState) (keys : Keys) where
+  -- the chunks of pieces that are there have them as contents
+  pub pieces_come : (pieces : List (List ℕ)) → AllByRecursion (HoldsPiece files log keys) pieces
+      → ContentsCome files log keys (chunks_of keys pieces) pieces None
+  pieces_come [] all = tt
+  pieces_come (p ∷ ps) all = (record { holds = all.0; size = refl }, pieces_come ps all.1)
+
+  -- and so have their ids
+  pub pieces_hold : (pieces : List (List ℕ)) → AllByRecursion (HoldsPiece files log keys) pieces
+      → HoldChunks files log keys (map (content_id keys) pieces) pieces
+  pieces_hold [] all = tt
+  pieces_hold (p ∷ ps) all = (all.0, pieces_hold ps all.1)
+
+  -- ---- an archive that was copied
+
+  -- the content of an item is that of its chunks
+  content_copied : (block : ℕ) → 1 ≤ block → (content : Option (List ℕ)) → AllByRecursion (HoldsPiece files log keys) (pieces_of block content)
+      → HoldsJoined files log keys (option_map (λ (bytes : List ℕ). chunks_of keys (cut block bytes)) content) content
+  content_copied block some None all = tt
+  content_copied block some (Some content) all =
+      (cut block content, pieces_come (cut block content) all, sym (joined_cut block content some))
+
+  -- the items have their contents
+  pub wholes_copied : (block : ℕ) → 1 ≤ block → (wholes : List WholeItem)
+      → AllByRecursion (λ (whole : WholeItem). AllByRecursion (HoldsPiece files log keys) (pieces_of block whole.content)) wholes
+      → WholesCome files log keys (map (copied_item keys block) wholes) None wholes None
+  wholes_copied block some [] all = refl
+  wholes_copied block some (w ∷ ws) all =
+      (record { fields = refl; content = content_copied block some w.content all.0 }, wholes_copied block some ws all.1)
+
+  -- their spellings are their stream
+  pub spelled_stream : (block : ℕ) (wholes : List WholeItem) → AllByRecursion (λ (whole : WholeItem). IsRead (copied_item keys block whole)) wholes
+      → ItemsOf (stream_of (map (copied_item keys block) wholes)) (map (copied_item keys block) wholes)
+  spelled_stream block [] all = no_more_items
+  spelled_stream block (w ∷ ws) all =
+      let later = stream_of (map (copied_item keys block) ws) in
+      first_item (stream_of (map (copied_item keys block) (w ∷ ws))) later (copied_item keys block w) (map (copied_item keys block) ws) (all.0 later)
+      (spelled_stream block ws all.1)
+
+  -- the stream is that of the ids of its pieces
+  stream_copied : (block : ℕ) (wholes : List WholeItem)
+      → AllByRecursion (λ (whole : WholeItem). IsRead (copied_item keys block whole)) wholes
+      → AllByRecursion (HoldsPiece files log keys) (cut stream_block (stream_of (map (copied_item keys block) wholes)))
+      → IsStream files log keys (map (content_id keys) (cut stream_block (stream_of (map (copied_item keys block) wholes))))
+      (map (copied_item keys block) wholes)
+  stream_copied block wholes spelled there =
+      let items = map (copied_item keys block) wholes in
+      let pieces = cut stream_block (stream_of items) in
+      record {
+        contents = pieces;
+        hold = pieces_hold pieces there;
+        spelled = subst (λ (bytes : List ℕ). ItemsOf bytes items) (sym (joined_cut stream_block (stream_of items) (omega arith)))
+            (spelled_stream block wholes spelled);
+      }
+
+  -- an archive of which all is there is whole
+  pub copied_whole : (block : ℕ) (wholes : List WholeItem) (fields : ArchiveText) (text : List ℕ) (archives : List ArchiveRef) (named : ArchiveRef)
+      → 1 ≤ block → HoldsCopy files log keys block wholes fields text archives named
+      → IsWhole files log keys archives named.name (record { time = named.time; fields = fields.fields; items = wholes })
+  copied_whole block wholes fields text archives named some copy =
+      let items : List ItemText = map (copied_item keys block) wholes in
+      record {
+        named = copy.entry;
+        named_is = copy.entry_is;
+        archive = copy.copied;
+        record_is = record {
+          content = text;
+          chunk = subst (λ (id : List ℕ). HoldsChunk files log keys id text) (sym copy.id) copy.record_there;
+          record_is = copy.reads;
+        };
+        items = items;
+        stream = subst (λ (ids : List (List ℕ)). IsStream files log keys ids items) (sym copy.items)
+            (stream_copied block wholes copy.spelled copy.stream_there);
+        contents = wholes_copied block some wholes copy.contents_there;
+        time = sym copy.time;
+        fields = sym copy.same;
+      }
+
+-- ---- an archive that stays whole
+
+-- each chunk that is there in these files, by this log, is there in those by that
+abbrev pub KeepsChunks : Files → LogState → Keys → Files → LogState → Type 0
+KeepsChunks files log keys others after = (id content : List ℕ) → HoldsChunk files log keys id content → HoldsChunk others after keys id content
+
+module _ (files : Files) (log : LogState) (keys : Keys) (others : Files) (after : LogState) (keeps : KeepsChunks files log keys others after) where
+  chunks_kept : (ids contents : List (List ℕ)) → HoldChunks files log keys ids contents → HoldChunks others after keys ids contents
+  chunks_kept [] [] hold = tt
+  chunks_kept [] (c ∷ cs) hold = absurd hold
+  chunks_kept (i ∷ is) [] hold = absurd hold
+  chunks_kept (i ∷ is) (c ∷ cs) hold = (keeps i c hold.0, chunks_kept is cs hold.1)
+
+  contents_kept : (chunks : List ChunkRef) (contents : List (List ℕ)) → ContentsCome files log keys chunks contents None
+      → ContentsCome others after keys chunks contents None
+  contents_kept [] [] come = tt
+  contents_kept [] (c ∷ cs) come = absurd come
+  contents_kept (k ∷ ks) [] come = absurd come
+  contents_kept (k ∷ ks) (c ∷ cs) come = (record { holds = keeps k.id c come.0.holds; size = come.0.size }, contents_kept ks cs come.1)
+
+  joined_kept : (chunks : Option (List ChunkRef)) (content : Option (List ℕ)) → HoldsJoined files log keys chunks content
+      → HoldsJoined others after keys chunks content
+  joined_kept None None holds = tt
+  joined_kept None (Some content) holds = absurd holds
+  joined_kept (Some chunks) None holds = absurd holds
+  joined_kept (Some chunks) (Some content) holds = (holds.0, contents_kept chunks holds.0 holds.1, holds.2)
+
+  wholes_kept : (items : List ItemText) (wholes : List WholeItem) → WholesCome files log keys items None wholes None
+      → WholesCome others after keys items None wholes None
+  wholes_kept [] [] come = refl
+  wholes_kept [] (w ∷ ws) come = absurd come
+  wholes_kept (i ∷ is) [] come = absurd come
+  wholes_kept (i ∷ is) (w ∷ ws) come =
+      (record { fields = come.0.fields; content = joined_kept i.chunks w.content come.0.content }, wholes_kept is ws come.1)
+
+  is_kept : (archives more : List ArchiveRef) (name : List ℕ) (whole : WholeArchive) → IsWhole files log keys archives name whole
+      → archive_named name more ≡ archive_named name archives → IsWhole others after keys more name whole
+  is_kept archives more name whole is same = record {
+    named = is.named;
+    named_is = same ∙ is.named_is;
+    archive = is.archive;
+    record_is = record {
+      content = is.record_is.content;
+      chunk = keeps is.named.id is.record_is.content is.record_is.chunk;
+      record_is = is.record_is.record_is;
+    };
+    items = is.items;
+    stream = record {
+      contents = is.stream.contents;
+      hold = chunks_kept is.archive.items is.stream.contents is.stream.hold;
+      spelled = is.stream.spelled;
+    };
+    contents = wholes_kept is.items whole.items is.contents;
+    time = is.time;
+    fields = is.fields;
+  }
+
+-- a whole archive stays so where each chunk is there still, and the name has the archive that it had
+pub whole_kept : (files : Files) (log : LogState) (keys : Keys) (others : Files) (after : LogState) (archives more : List ArchiveRef) (name : List ℕ)
+    (whole : WholeArchive) → IsWhole files log keys archives name whole
+    → KeepsChunks files log keys others after → archive_named name more ≡ archive_named name archives → IsWhole others after keys more name whole
+whole_kept files log keys others after archives more name whole is keeps same = is_kept files log keys others after keeps archives more name whole is same

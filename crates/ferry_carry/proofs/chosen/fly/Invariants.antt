@@ -1,0 +1,28 @@
+use Rattle.std.proofs.Common.{◌≡◌, false, Ok, IfSome}
+use Rattle.ferry_carry.proofs.chosen.fly.Given as goal
+use Rattle.ferry_carry.specs.Flight.{FlightFits, IsSettled}
+use Rattle.ferry_carry.specs.Grow.{Grows, KeepsGrowing, KeepsMost}
+use Rattle.ferry_carry.specs.Work.{Works}
+use Rattle.ferry_disk.specs.Device.{heard, told_files}
+use Rattle.ferry_manifest.specs.Manifest.Writing.{IsPackable}
+use Rattle.ferry_repo.specs.Opening.{FitsRepo, cached_in, repo_view}
+use Rattle.ferry_store.specs.Commit.{accepted_in}
+use Rattle.ferry_store.specs.Store.{IsUnspent, StoreFits}
+
+-- the flight goes on, and the store fits
+abbrev pub invariant-loop : goal.invariant-loop
+invariant-loop g l = record {
+  flight : FlightFits (g.S.Shelf.told l.shelf) (repo_view l.source) (g.D.Shelf.told l.depot) l.store l.flight;
+  source_fits : IfSome (g.S.Shelf.told l.shelf) (λ t. FitsRepo (told_files t) (repo_view l.source) (cached_in l.source));
+  unspent : IsUnspent l.store;
+  fits : IfSome (g.D.Shelf.told l.depot) (λ t. StoreFits false l.store t.history);
+  packable : IsPackable (accepted_in l.store);
+  settled : IsSettled l.store;
+  repo : repo_view l.source ≡ repo_view l.fn.source;
+  alike : heard (g.S.Shelf.told l.shelf) ≡ heard (g.S.Shelf.told l.fn.shelf);
+  faults : g.S.Shelf.faults l.shelf ≡ g.S.Shelf.faults l.fn.shelf;
+  drawn : g.E.Entropy.faults l.entropy ≡ g.E.Entropy.faults l.fn.entropy;
+  most : KeepsMost l.fn.store l.store;
+  works : Works {T = Unit {0}} (KeepsGrowing l.fn.store) (λ _. Grows l.fn.store l.store) (g.D.Shelf.told l.fn.depot) (g.D.Shelf.told l.depot)
+      (g.D.Shelf.faults l.fn.depot) (g.D.Shelf.faults l.depot) (Ok tt);
+}

@@ -1,0 +1,89 @@
+use Rattle.std.proofs.Common.{◌<◌, ◌++◌, [], Result, Ok, Err, OnOk, length, refl, ◌∙◌, arith}
+use Rattle.ferry_carry.proofs.CopyLemmas.{contents_written, nothing_written}
+use Rattle.ferry_carry.proofs.GatherLemmas.{rest_here, rest_then}
+use Rattle.ferry_carry.proofs.WorkLemmas.{err_is, gathered_none, gathered_then}
+use Rattle.ferry_carry.proofs.copy.write_contents.Goals as goal
+use Rattle.ferry_carry.specs.Copying.{WritesContents}
+use Rattle.ferry_carry.specs.Gather.{Gathers, KeepsStanding}
+use Rattle.ferry_carry.specs.Work.{Works}
+use Rattle.ferry_carry.specs.declared.fault.CarryFault.{CarryFault}
+use Rattle.ferry_repo.specs.Opening.{repo_view}
+
+pub loop-place-init : goal.loop-place-init
+loop-place-init g c =
+    let store = c.args.store.now in
+    record {
+      room = c.requires.room;
+      block = refl;
+      unspent = c.requires.unspent;
+      fits = c.requires.fits;
+      rest = rest_here store;
+      source_fits = c.requires.source_fits;
+      repo = refl;
+      alike = refl;
+      faults = refl;
+      written = (
+        [],
+        gathered_none {T = Unit {0}} store (g.D.Shelf.told c.args.depot.now) (g.D.Shelf.faults c.args.depot.now) tt,
+        nothing_written (g.S.Shelf.told c.args.shelf.now) (repo_view c.args.source.now) (repo_view store.repo).keys c.args.writer.now.cutter
+            c.args.writer.now.chunks.items c.requires.room,
+      );
+    }
+
+pub returns-in_err-write_content-clause-written : goal.returns-in_err-write_content-clause-written
+returns-in_err-write_content-clause-written g c =
+    let so = c.loop-place.invariant.written in
+    let next = c.in_err-write_content.ensures.written in
+    let store = c.args.store.now in
+    let now = c.write_content.new.store in
+    let more = so.0 ++ next.0 in
+    let a = g.D.Shelf.told c.args.depot.now in
+    let b = g.D.Shelf.told c.write_content.new.depot in
+    let n = g.D.Shelf.faults c.args.depot.now in
+    let m = g.D.Shelf.faults c.write_content.new.depot in
+    let writer = c.args.writer.now in
+    let writer_now = c.write_content.new.writer in
+    let fault = c.in_err-write_content.field-0.0 in (
+      more,
+      err_is c.from_residual.result fault
+          (λ (r : Result (Unit {0}) CarryFault). Works (KeepsStanding store) (λ _. Gathers store more now) a b n m r
+          × OnOk r (WritesContents (g.S.Shelf.told c.args.shelf.now) (repo_view c.args.source.now) (repo_view store.repo).keys c.args.chunks.now
+          writer.cutter writer.chunks.items more writer_now.cutter writer_now.chunks.items)) c.from_residual.ensures.1 (
+            gathered_then {T = Unit {0}} {U = Unit {0}} store c.loop-place.store now so.0 next.0 a (g.D.Shelf.told c.loop-place.depot) b n
+                (g.D.Shelf.faults c.loop-place.depot) m tt (Err fault) c.loop-place.invariant.rest tt so.1 next.1.0,
+            tt,
+          ),
+    )
+
+pub loop-place-preserved : goal.loop-place-preserved
+loop-place-preserved g c =
+    let invariant = c.loop-place.invariant in
+    let so = invariant.written in
+    let next = c.in_ok-write_content.ensures.written in
+    let store = c.args.store.now in
+    let middle = c.loop-place.store in
+    let now = c.write_content.new.store in
+    let lt : c.loop-place.place < length c.args.chunks.now = omega arith in
+    record {
+      room = next.1.1.writes.room;
+      block = next.1.1.writes.block ∙ invariant.block;
+      unspent = c.in_ok-write_content.ensures.unspent;
+      fits = c.in_ok-write_content.ensures.fits;
+      rest = rest_then store middle now invariant.rest c.in_ok-write_content.ensures.rest;
+      source_fits = c.in_ok-write_content.ensures.source_fits;
+      repo = c.in_ok-write_content.ensures.kept ∙ invariant.repo;
+      alike = c.in_ok-write_content.ensures.same ∙ invariant.alike;
+      faults = c.in_ok-write_content.ensures.cause ∙ invariant.faults;
+      written = (
+        so.0 ++ next.0,
+        gathered_then {T = Unit {0}} {U = Unit {0}} store middle now so.0 next.0 (g.D.Shelf.told c.args.depot.now)
+            (g.D.Shelf.told c.loop-place.depot) (g.D.Shelf.told c.write_content.new.depot) (g.D.Shelf.faults c.args.depot.now)
+            (g.D.Shelf.faults c.loop-place.depot) (g.D.Shelf.faults c.write_content.new.depot) tt (Ok tt) invariant.rest
+            c.in_ok-write_content.ensures.rest so.1 next.1.0,
+        contents_written (g.S.Shelf.told c.args.shelf.now) (g.S.Shelf.told c.loop-place.shelf) (repo_view c.args.source.now)
+            (repo_view c.loop-place.source) (repo_view store.repo).keys (repo_view middle.repo).keys c.args.chunks.now c.loop-place.place _
+            c.args.writer.now.cutter c.loop-place.writer.cutter c.write_content.new.writer.cutter c.args.writer.now.chunks.items
+            c.loop-place.writer.chunks.items c.write_content.new.writer.chunks.items so.0 next.0 invariant.alike invariant.repo invariant.rest.keys lt so.2
+            next.1.1,
+      );
+    }

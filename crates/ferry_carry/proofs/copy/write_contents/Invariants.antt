@@ -1,0 +1,26 @@
+use Rattle.std.proofs.Common.{◌≡◌, ◌<◌, ℕ, false, List, Ok, IfSome, length, take}
+use Rattle.ferry_carry.proofs.copy.write_contents.Given as goal
+use Rattle.ferry_carry.specs.Copying.{WritesContents}
+use Rattle.ferry_carry.specs.Gather.{Gathers, KeepsRest, KeepsStanding}
+use Rattle.ferry_carry.specs.Work.{Works}
+use Rattle.ferry_disk.specs.Device.{heard, told_files}
+use Rattle.ferry_repo.specs.Opening.{FitsRepo, cached_in, repo_view}
+use Rattle.ferry_store.specs.Store.{IsUnspent, StoreFits}
+
+-- the contents of the chunks so far were written
+abbrev pub invariant-loop-place : goal.invariant-loop-place
+invariant-loop-place g l = record {
+  room : length l.writer.cutter.piece < l.writer.cutter.block;
+  block : l.writer.cutter.block ≡ l.fn.writer.cutter.block;
+  unspent : IsUnspent l.store;
+  fits : IfSome (g.D.Shelf.told l.depot) (λ t. StoreFits false l.store t.history);
+  rest : KeepsRest l.fn.store l.store;
+  source_fits : IfSome (g.S.Shelf.told l.shelf) (λ t. FitsRepo (told_files t) (repo_view l.source) (cached_in l.source));
+  repo : repo_view l.source ≡ repo_view l.fn.source;
+  alike : heard (g.S.Shelf.told l.shelf) ≡ heard (g.S.Shelf.told l.fn.shelf);
+  faults : g.S.Shelf.faults l.shelf ≡ g.S.Shelf.faults l.fn.shelf;
+  written : (more : List (List ℕ)) × Works {T = Unit {0}} (KeepsStanding l.fn.store) (λ _. Gathers l.fn.store more l.store)
+      (g.D.Shelf.told l.fn.depot) (g.D.Shelf.told l.depot) (g.D.Shelf.faults l.fn.depot) (g.D.Shelf.faults l.depot) (Ok tt)
+      × WritesContents (g.S.Shelf.told l.fn.shelf) (repo_view l.fn.source) (repo_view l.fn.store.repo).keys (take l.place l.chunks)
+      l.fn.writer.cutter l.fn.writer.chunks.items more l.writer.cutter l.writer.chunks.items;
+}

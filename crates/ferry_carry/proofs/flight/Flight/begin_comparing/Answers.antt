@@ -1,0 +1,42 @@
+use Rattle.std.proofs.Common.{◌≡◌, ◌∙◌, Result, IfSome, ap}
+use Rattle.ferry_carry.proofs.FlightLemmas.{fits_read, works_read, works_unread}
+use Rattle.ferry_carry.proofs.WorkLemmas.{err_is}
+use Rattle.ferry_carry.proofs.flight.Flight.begin_comparing.Goals as goal
+use Rattle.ferry_carry.specs.Fault.{compare_fault}
+use Rattle.ferry_carry.specs.Grow.{Grows, KeepsGrowing}
+use Rattle.ferry_carry.specs.Work.{Works}
+use Rattle.ferry_carry.specs.declared.fault.CarryFault.{CarryFault}
+use Rattle.ferry_compare.specs.declared.comparison.Comparison.{Comparison}
+use Rattle.ferry_repo.specs.Opening.{repo_view}
+use Rattle.ferry_store.specs.declared.store.Store.{Store}
+
+pub returns-in_err-comparison-clause-works : goal.returns-in_err-comparison-clause-works
+returns-in_err-comparison-clause-works g c =
+    let a = g.D.Shelf.told c.args.depot.now in
+    let b = g.D.Shelf.told c.begin.new.other in
+    let n = g.D.Shelf.faults c.args.depot.now in
+    let m = g.D.Shelf.faults c.begin.new.other in
+    let store = c.args.store.now in
+    let now : Store = record store { repo = c.begin.new.target } in
+    let fault = c.in_err-comparison.field-0.0 in
+    err_is c.from_residual.result (compare_fault fault)
+    (λ (r : Result Comparison CarryFault). Works (KeepsGrowing store) (λ _. Grows store now) a b n m r) c.from_residual.ensures.1
+    (works_unread {U = Comparison} Comparison store now a b n m fault c.in_err-comparison.ensures.target_same c.in_err-comparison.ensures.target_cause)
+
+pub returns-in_err-comparison-clause-fits : goal.returns-in_err-comparison-clause-fits
+returns-in_err-comparison-clause-fits g c =
+    fits_read {T = Comparison} c.args.store.now c.begin.new.target (g.D.Shelf.told c.args.depot.now) (g.D.Shelf.told c.begin.new.other) c.begin.result
+    (c.begin.ensures.target_kept ∙ ap repo_view c.repo.ensures.repo) c.begin.ensures.target_same c.begin.ensures.target_fits c.requires.fits
+
+pub returns-clause-works : goal.returns-clause-works
+returns-clause-works g c =
+    let comparison = c.in_ok-comparison.comparison in
+    works_read {T = Comparison} {U = Comparison} c.args.store.now c.begin.new.target (g.D.Shelf.told c.args.depot.now) (g.D.Shelf.told c.begin.new.other)
+    (g.D.Shelf.faults c.args.depot.now) (g.D.Shelf.faults c.begin.new.other) comparison comparison
+    (c.begin.ensures.target_kept ∙ ap repo_view c.repo.ensures.repo)
+    c.in_ok-comparison.ensures.target_same c.in_ok-comparison.ensures.target_cause c.begin.ensures.target_fits
+
+pub returns-clause-fits : goal.returns-clause-fits
+returns-clause-fits g c =
+    fits_read {T = Comparison} c.args.store.now c.begin.new.target (g.D.Shelf.told c.args.depot.now) (g.D.Shelf.told c.begin.new.other) c.begin.result
+    (c.begin.ensures.target_kept ∙ ap repo_view c.repo.ensures.repo) c.begin.ensures.target_same c.begin.ensures.target_fits c.requires.fits

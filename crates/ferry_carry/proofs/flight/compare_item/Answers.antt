@@ -1,0 +1,41 @@
+use Rattle.std.proofs.Common.{◌≡◌, ◌∙◌, Result, IfSome, ap}
+use Rattle.ferry_carry.proofs.FlightLemmas.{fits_read, works_read, works_unread}
+use Rattle.ferry_carry.proofs.WorkLemmas.{err_is}
+use Rattle.ferry_carry.proofs.flight.compare_item.Goals as goal
+use Rattle.ferry_carry.specs.Fault.{compare_fault}
+use Rattle.ferry_carry.specs.Grow.{Grows, KeepsGrowing}
+use Rattle.ferry_carry.specs.Work.{Works}
+use Rattle.ferry_carry.specs.declared.fault.CarryFault.{CarryFault}
+use Rattle.ferry_compare.specs.declared.comparison.Compared.{Compared}
+use Rattle.ferry_repo.specs.Opening.{repo_view}
+use Rattle.ferry_store.specs.declared.store.Store.{Store}
+
+pub returns-in_err-compared-clause-works : goal.returns-in_err-compared-clause-works
+returns-in_err-compared-clause-works g c =
+    let a = g.D.Shelf.told c.args.depot.now in
+    let b = g.D.Shelf.told c.step.new.other in
+    let n = g.D.Shelf.faults c.args.depot.now in
+    let m = g.D.Shelf.faults c.step.new.other in
+    let store = c.args.store.now in
+    let now : Store = record store { repo = c.step.new.target } in
+    let fault = c.in_err-compared.field-0.0 in
+    err_is c.from_residual.result (compare_fault fault)
+    (λ (r : Result Compared CarryFault). Works (KeepsGrowing store) (λ _. Grows store now) a b n m r) c.from_residual.ensures.1
+    (works_unread {U = Compared} Compared store now a b n m fault c.in_err-compared.ensures.target_same c.in_err-compared.ensures.target_cause)
+
+pub returns-in_err-compared-clause-fits : goal.returns-in_err-compared-clause-fits
+returns-in_err-compared-clause-fits g c =
+    fits_read {T = Compared} c.args.store.now c.step.new.target (g.D.Shelf.told c.args.depot.now) (g.D.Shelf.told c.step.new.other) c.step.result
+    (c.step.ensures.target_kept ∙ ap repo_view c.repo.ensures.repo) c.step.ensures.target_same c.step.ensures.target_fits c.requires.fits
+
+pub returns-clause-works : goal.returns-clause-works
+returns-clause-works g c =
+    let compared = c.in_ok-compared.compared in
+    works_read {T = Compared} {U = Compared} c.args.store.now c.step.new.target (g.D.Shelf.told c.args.depot.now) (g.D.Shelf.told c.step.new.other)
+    (g.D.Shelf.faults c.args.depot.now) (g.D.Shelf.faults c.step.new.other) compared compared (c.step.ensures.target_kept ∙ ap repo_view c.repo.ensures.repo)
+    c.in_ok-compared.ensures.target_same c.in_ok-compared.ensures.target_cause c.step.ensures.target_fits
+
+pub returns-clause-fits : goal.returns-clause-fits
+returns-clause-fits g c =
+    fits_read {T = Compared} c.args.store.now c.step.new.target (g.D.Shelf.told c.args.depot.now) (g.D.Shelf.told c.step.new.other) c.step.result
+    (c.step.ensures.target_kept ∙ ap repo_view c.repo.ensures.repo) c.step.ensures.target_same c.step.ensures.target_fits c.requires.fits

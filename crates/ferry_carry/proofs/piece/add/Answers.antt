@@ -1,0 +1,52 @@
+use Rattle.std.proofs.Common.{◌∷◌, [], Result}
+use Rattle.ferry_carry.proofs.GatherLemmas.{AddedSo, add_gathers, add_stands, added_fits}
+use Rattle.ferry_carry.proofs.WorkLemmas.{err_is, works_err, works_ok}
+use Rattle.ferry_carry.proofs.piece.add.Goals as goal
+use Rattle.ferry_carry.specs.Fault.{target_fault}
+use Rattle.ferry_carry.specs.Gather.{Gathers, KeepsStanding}
+use Rattle.ferry_carry.specs.Work.{Works}
+use Rattle.ferry_carry.specs.declared.fault.CarryFault.{CarryFault}
+use Rattle.ferry_store.specs.Adding.{Adds}
+use Rattle.ferry_store.specs.State.{KeepsSound}
+use Rattle.ferry_store.specs.declared.content.Added.{Added}
+
+pub returns-in_err-added-clause-works : goal.returns-in_err-added-clause-works
+returns-in_err-added-clause-works g c =
+    let a = g.D.Shelf.told c.args.depot.now in
+    let b = g.D.Shelf.told c.add.new.depot in
+    let n = g.D.Shelf.faults c.args.depot.now in
+    let m = g.D.Shelf.faults c.add.new.depot in
+    let store = c.args.store.now in
+    let now = c.add.new.self in
+    let content = c.args.content.now in
+    let refusal = c.in_err-added.field-0.0 in
+    err_is c.from_residual.result (target_fault refusal)
+    (λ (r : Result Added CarryFault). Works (KeepsStanding store) (λ _. Gathers store (content ∷ []) now) a b n m r) c.from_residual.ensures.1
+    (works_err {T = Added} (KeepsSound store.session store.counter) (Adds store content now) (KeepsStanding store) (λ _. Gathers store (content ∷ []) now)
+    a b n m refusal (add_stands store) c.in_err-added.ensures.did)
+
+pub returns-clause-works : goal.returns-clause-works
+returns-clause-works g c =
+    let a = g.D.Shelf.told c.args.depot.now in
+    let b = g.D.Shelf.told c.add.new.depot in
+    let n = g.D.Shelf.faults c.args.depot.now in
+    let m = g.D.Shelf.faults c.add.new.depot in
+    let store = c.args.store.now in
+    let now = c.add.new.self in
+    let content = c.args.content.now in
+    let added = c.in_ok-added.added in
+    let so : AddedSo store content now added = record {
+      id = c.in_ok-added.ensures.id;
+      new = c.in_ok-added.ensures.new;
+      known = c.in_ok-added.ensures.known;
+      repo = c.in_ok-added.ensures.repo;
+      opens = c.in_ok-added.ensures.opens;
+      accepted = c.add.ensures.accepted;
+    } in
+    works_ok (KeepsSound store.session store.counter) (Adds store content now) (KeepsStanding store) (λ _. Gathers store (content ∷ []) now) a b n m added added
+    (add_stands store) (λ h k adds. add_gathers store now content added h k so adds) c.in_ok-added.ensures.did
+
+pub returns-clause-fits : goal.returns-clause-fits
+returns-clause-fits g c =
+    added_fits c.args.store.now c.add.new.self c.args.content.now c.in_ok-added.added (g.D.Shelf.told c.args.depot.now) (g.D.Shelf.told c.add.new.depot)
+    (g.D.Shelf.faults c.args.depot.now) (g.D.Shelf.faults c.add.new.depot) c.requires.fits c.in_ok-added.ensures.did

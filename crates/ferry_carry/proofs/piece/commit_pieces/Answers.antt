@@ -1,0 +1,41 @@
+use Rattle.std.proofs.Common.{[], Result}
+use Rattle.ferry_carry.proofs.GatherLemmas.{checkpoint_fits, checkpoint_gathers, checkpoint_stands}
+use Rattle.ferry_carry.proofs.WorkLemmas.{err_is, works_err, works_ok}
+use Rattle.ferry_carry.proofs.piece.commit_pieces.Goals as goal
+use Rattle.ferry_carry.specs.Fault.{target_fault}
+use Rattle.ferry_carry.specs.Gather.{Gathers, KeepsStanding}
+use Rattle.ferry_carry.specs.Work.{Works}
+use Rattle.ferry_carry.specs.declared.fault.CarryFault.{CarryFault}
+use Rattle.ferry_store.specs.Adding.{Checkpoints}
+use Rattle.ferry_store.specs.State.{CommitsSound}
+
+pub returns-in_err-checkpoint-clause-works : goal.returns-in_err-checkpoint-clause-works
+returns-in_err-checkpoint-clause-works g c =
+    let a = g.D.Shelf.told c.args.depot.now in
+    let b = g.D.Shelf.told c.checkpoint.new.depot in
+    let n = g.D.Shelf.faults c.args.depot.now in
+    let m = g.D.Shelf.faults c.checkpoint.new.depot in
+    let store = c.args.store.now in
+    let now = c.checkpoint.new.self in
+    let refusal = c.in_err-checkpoint.field-0.0 in
+    err_is c.from_residual.result (target_fault refusal)
+    (λ (r : Result (Unit {0}) CarryFault). Works (KeepsStanding store) (λ _. Gathers store [] now) a b n m r) c.from_residual.ensures.1
+    (works_err {T = Unit {0}} (CommitsSound store.session store.counter) (λ _. Checkpoints store now) (KeepsStanding store) (λ _. Gathers store [] now)
+    a b n m refusal (checkpoint_stands store) c.in_err-checkpoint.ensures.did)
+
+pub returns-clause-works : goal.returns-clause-works
+returns-clause-works g c =
+    let a = g.D.Shelf.told c.args.depot.now in
+    let b = g.D.Shelf.told c.checkpoint.new.depot in
+    let n = g.D.Shelf.faults c.args.depot.now in
+    let m = g.D.Shelf.faults c.checkpoint.new.depot in
+    let store = c.args.store.now in
+    let now = c.checkpoint.new.self in
+    works_ok {T = Unit {0}} {U = Unit {0}} (CommitsSound store.session store.counter) (λ _. Checkpoints store now)
+    (KeepsStanding store) (λ _. Gathers store [] now) a b n m tt tt
+    (checkpoint_stands store) (λ h k takes. checkpoint_gathers store now h k c.checkpoint.ensures.repo takes) c.in_ok-checkpoint.ensures.did
+
+pub returns-clause-fits : goal.returns-clause-fits
+returns-clause-fits g c =
+    checkpoint_fits c.args.store.now c.checkpoint.new.self (g.D.Shelf.told c.args.depot.now) (g.D.Shelf.told c.checkpoint.new.depot)
+    (g.D.Shelf.faults c.args.depot.now) (g.D.Shelf.faults c.checkpoint.new.depot) c.requires.fits c.in_ok-checkpoint.ensures.did

@@ -1,0 +1,6 @@
+use Rattle.ferry_carry.proofs.WorkLemmas.{gathered_none}
+use Rattle.ferry_carry.proofs.piece.make_room.Goals as goal
+
+pub returns-then-pending-checkpoint-clause-works : goal.returns-then-pending-checkpoint-clause-works
+returns-then-pending-checkpoint-clause-works g c =
+    gathered_none {T = Unit {0}} c.args.store.now (g.D.Shelf.told c.args.depot.now) (g.D.Shelf.faults c.args.depot.now) tt

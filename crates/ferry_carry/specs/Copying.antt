@@ -1,0 +1,64 @@
+-- An archive on its way: an item that is taken, its content as it is cut, and its spelling in the stream.
+use Rattle.std.specs.Prelude.{◌≡◌, ◌≤◌, ◌<◌, ◌++◌, ℕ, List, [], ◌∷◌, length, Option, Some, None, IfSome}
+use Rattle.ferry_disk.specs.Device.{Told, told_files}
+use Rattle.ferry_disk.specs.Files.{Files}
+use Rattle.ferry_item.specs.Item.{ItemText}
+use Rattle.ferry_item.specs.Writing.{item_text}
+use Rattle.ferry_item.specs.declared.item.ChunkRef.{ChunkRef}
+use Rattle.ferry_mac.specs.declared.keys.Keys.{Keys}
+use Rattle.ferry_manifest.specs.Record.Text.{archive_view}
+use Rattle.ferry_manifest.specs.Record.Writing.{IsPackableArchive}
+use Rattle.ferry_rechunk.specs.Cut.{cut}
+use Rattle.ferry_rechunk.specs.Cutting.{Cutting}
+use Rattle.ferry_repo.specs.Opening.{RepoState}
+use Rattle.ferry_repo.specs.Walk.{LeadsOn, WalkState}
+use Rattle.ferry_repo.specs.Archives.{HoldsContent}
+use Rattle.ferry_repo.specs.Whole.{ContentsCome, HoldsJoined}
+use Rattle.std.specs.List.{concat}
+use Rattle.ferry_carry.specs.Copied.{stream_block}
+use Rattle.ferry_carry.specs.Gather.{chunks_of}
+use Rattle.ferry_carry.specs.Piece.{WritesOn}
+use Rattle.ferry_carry.specs.declared.copy.Copy.{Copy}
+
+-- No content is under way, and the block size and the record are those of an archive that can be written.
+pub record IsReady (copy : Copy) : Type 0 where
+  pub least : 64 ≤ copy.block
+  pub most : copy.block ≤ 8388608
+  pub contents_block : copy.contents.cutter.block ≡ copy.block
+  pub contents_piece : copy.contents.cutter.piece ≡ []
+  pub contents_chunks : copy.contents.chunks.items ≡ []
+  pub stream_block_is : copy.stream.cutter.block ≡ stream_block
+  pub stream_room : length copy.stream.cutter.piece < copy.stream.cutter.block
+  pub packable : IsPackableArchive (archive_view copy.archive)
+
+-- An item of the source's stream was taken.
+abbrev pub TakesItem : Files → RepoState → WalkState → ItemText → WalkState → Type 0
+TakesItem files source before item after = LeadsOn files source.log source.keys before (item ∷ []) after
+
+-- These pieces are the content of an item with these chunks in the source, cut, and its chunks in the target are theirs.
+abbrev pub CopiesContent : Option Told → RepoState → ℕ → Keys → Option (List ChunkRef) → List (List ℕ) → Option (List ChunkRef) → Type 0
+CopiesContent told source block keys None more None = more ≡ []
+CopiesContent told source block keys None more (Some copied) = ⊥
+CopiesContent told source block keys (Some chunks) more None = ⊥
+CopiesContent told source block keys (Some chunks) more (Some copied) =
+    (content : List ℕ) × ((more ≡ cut block content) × ((copied ≡ chunks_of keys (cut block content)) × ((length copied ≤ 4294967295)
+    × IfSome told (λ t. HoldsJoined (told_files t) source.log source.keys (Some chunks) (Some content)))))
+
+-- The spelling of an item was written into the stream, and is read as the item.
+pub record WritesItem (keys : Keys) (cutter : Cutting) (chunks : List ChunkRef) (item : ItemText) (more : List (List ℕ)) (cutter_now : Cutting)
+    (chunks_now : List ChunkRef) : Type 0 where
+  pub writes : WritesOn keys cutter chunks (item_text item) more cutter_now chunks_now
+
+-- Of these chunks of the source these are the contents, which were written one behind another: these pieces became whole.
+pub record WritesContents (told : Option Told) (source : RepoState) (keys : Keys) (refs : List ChunkRef) (cutter : Cutting) (chunks : List ChunkRef)
+    (more : List (List ℕ)) (cutter_now : Cutting) (chunks_now : List ChunkRef) : Type 0 where
+  pub contents : List (List ℕ)
+  pub come : IfSome told (λ t. ContentsCome (told_files t) source.log source.keys refs contents None)
+  pub writes : WritesOn keys cutter chunks (concat contents) more cutter_now chunks_now
+
+-- The content of one chunk of the source was written.
+pub record WritesContent (told : Option Told) (source : RepoState) (keys : Keys) (ref : ChunkRef) (cutter : Cutting) (chunks : List ChunkRef)
+    (more : List (List ℕ)) (cutter_now : Cutting) (chunks_now : List ChunkRef) : Type 0 where
+  pub content : List ℕ
+  pub comes : IfSome told (λ t. HoldsContent (told_files t) source.log source.keys ref content)
+  pub writes : WritesOn keys cutter chunks content more cutter_now chunks_now

@@ -1,0 +1,88 @@
+-- What a store is after contents were added, with commits between: each of them is there, and nothing that was live has changed.
+use Rattle.std.specs.Prelude.{◌≡◌, ◌≢◌, ℕ, ◌+◌, Bool, List, length, map, slice_get, Some}
+use Rattle.std.specs.List.{AllByRecursion}
+use Rattle.ferry_base.specs.Limits.{zero_id}
+use Rattle.ferry_blob.specs.Blob.{content_id}
+use Rattle.ferry_disk.specs.Act.{History, files_now}
+use Rattle.ferry_disk.specs.Files.{Files}
+use Rattle.ferry_disk.specs.Moments.{Moments}
+use Rattle.ferry_item.specs.declared.item.ChunkRef.{ChunkRef}
+use Rattle.ferry_mac.specs.declared.keys.Keys.{Keys}
+use Rattle.ferry_repo.specs.Objects.{HoldsChunk}
+use Rattle.ferry_repo.specs.Opening.{RepoState, repo_view}
+use Rattle.ferry_segment.specs.Entry.{LogEntry}
+use Rattle.ferry_stops.specs.Entries.{Shows}
+use Rattle.ferry_store.specs.Commit.{accepted_in}
+use Rattle.ferry_store.specs.Standing.{Keeps, committed_of, entries_of}
+use Rattle.ferry_store.specs.State.{IsSound, Written}
+use Rattle.ferry_store.specs.Store.{StoreFits}
+use Rattle.ferry_store.specs.declared.store.Store.{Store}
+
+-- ---- contents
+
+-- A content is one of these.
+abbrev pub IsAmong : List (List ℕ) → List ℕ → Type 0
+IsAmong contents content = (place : ℕ) × (slice_get contents place ≡ Some content)
+
+-- Among these contents equal ids mean equal contents, and none has the id of the manifest.
+pub record NoCollision (keys : Keys) (scope : List (List ℕ)) : Type 0 where
+  pub one : (a b : List ℕ) → IsAmong scope a → IsAmong scope b → content_id keys a ≡ content_id keys b → a ≡ b
+  pub chunk : (a : List ℕ) → IsAmong scope a → content_id keys a ≢ zero_id
+
+-- The content of each chunk that is live and opens is among these.
+abbrev pub HoldsWithin : List (List ℕ) → Files → RepoState → Type 0
+HoldsWithin scope files repo = (id content : List ℕ) → HoldsChunk files repo.log repo.keys id content → IsAmong scope content
+
+-- Each of these contents is that of a chunk, under its id.
+abbrev pub HoldsContents : Files → RepoState → List (List ℕ) → Type 0
+HoldsContents files repo contents =
+    AllByRecursion (λ (content : List ℕ). HoldsChunk files repo.log repo.keys (content_id repo.keys content) content) contents
+
+-- Each of these contents is there now, where no contents collide among them and those that were there.
+abbrev pub Brings : RepoState → List (List ℕ) → RepoState → History → History → Type 0
+Brings repo contents repo_now before now = (scope : List (List ℕ)) → NoCollision repo.keys scope → AllByRecursion (IsAmong scope) contents
+    → HoldsWithin scope (files_now before) repo → HoldsWithin scope (files_now now) repo_now × HoldsContents (files_now now) repo_now contents
+
+-- the chunk of a piece
+abbrev pub chunk_of : Keys → List ℕ → ChunkRef
+chunk_of keys piece = record { id = content_id keys piece; size = length piece; csize = 43 + length piece }
+
+-- those of pieces
+abbrev pub chunks_of : Keys → List (List ℕ) → List ChunkRef
+chunks_of keys pieces = map (chunk_of keys) pieces
+
+-- ---- what stands
+
+-- What is live stays, in what is committed and in what is written, and so do the settings.
+pub record Moved (written written_now : Written) : Type 0 where
+  pub committed : Keeps (committed_of written) (committed_of written_now)
+  pub entries : Keeps (entries_of written) (entries_of written_now)
+  pub config : written_now.config ≡ written.config
+
+-- Committed are entries by which all is live that was, with the settings as they were: the manifest too is the one that was.
+abbrev pub StandsFrom : Written → Files → Type 0
+StandsFrom written image = (entries : List LogEntry) × (Shows image (Some entries) × (Keeps (committed_of written) entries × (image.config ≡ written.config)))
+
+-- At each moment each stop shows so, and no counter block serves two blobs.
+abbrev pub KeepsStanding : Store → History → History → Type 0
+KeepsStanding store before now = (counts : Bool) (fits : StoreFits counts store before) → Moments (IsSound (StandsFrom fits.written) counts) before now
+
+-- ---- what was added
+
+-- A store fits with these contents added.
+pub record Gathered (counts : Bool) (store : Store) (contents : List (List ℕ)) (store_now : Store) (before now : History)
+    (fits : StoreFits counts store before) : Type 0 where
+  pub fits_now : StoreFits counts store_now now
+  pub moved : Moved fits.written fits_now.written
+  pub brings : Brings (repo_view store.repo) contents (repo_view store_now.repo) before now
+
+abbrev pub Gathers : Store → List (List ℕ) → Store → History → History → Type 0
+Gathers store contents store_now before now = (counts : Bool) (fits : StoreFits counts store before)
+    → Gathered counts store contents store_now before now fits
+
+-- Its repository has the settings, the secrets and the manifest that it had, and what was accepted is the same.
+pub record KeepsRest (store store_now : Store) : Type 0 where
+  pub keys : (repo_view store_now.repo).keys ≡ (repo_view store.repo).keys
+  pub config : (repo_view store_now.repo).config ≡ (repo_view store.repo).config
+  pub manifest : (repo_view store_now.repo).manifest ≡ (repo_view store.repo).manifest
+  pub accepted : accepted_in store_now ≡ accepted_in store

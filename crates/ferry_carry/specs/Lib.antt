@@ -1,0 +1,13 @@
+pub mod Gather
+pub mod Fault
+pub mod Work
+pub mod Lines
+pub mod Time
+pub mod Piece
+pub mod Copied
+pub mod Grow
+pub mod Copying
+pub mod Naming
+pub mod Flight
+pub mod Chosen
+pub mod Step

@@ -1,0 +1,288 @@
+//! The chosen archives, one after another.
+ghost use Rattle.std.specs.Prelude.{◌≡◌, ℕ, List, None, Some, false, slice_get, IfErr, IfSome, IsSome, OnOk};
+ghost use Rattle.ferry_carry.specs.Chosen.{IsMissingName, TellsLine};
+ghost use Rattle.ferry_carry.specs.Fault.{random_failed, shelf_failed};
+ghost use Rattle.ferry_carry.specs.Flight.{AreRight, FlightFits, IsSettled};
+ghost use Rattle.ferry_carry.specs.Grow.{Grows, KeepsGrowing, KeepsMost};
+ghost use Rattle.ferry_carry.specs.Lines.{name_line, told_of};
+ghost use Rattle.ferry_carry.specs.Work.{Works};
+ghost use Rattle.ferry_disk.specs.Device.{HasCause, KeepsTold, told_files};
+ghost use Rattle.ferry_manifest.specs.Manifest.Writing.{IsPackable};
+ghost use Rattle.ferry_repo.specs.Archives.{archive_named};
+ghost use Rattle.ferry_repo.specs.Opening.{FitsRepo, cached_in, repo_view};
+ghost use Rattle.ferry_store.specs.Commit.{accepted_in};
+ghost use Rattle.ferry_store.specs.Store.{IsUnspent, StoreFits};
+
+use crate::fault::CarryFault;
+use crate::flight::{Flight, Turn};
+use crate::lines::{name_line, total_line};
+use crate::options::{Carried, Options};
+use ferry_base::Bytes;
+use ferry_disk::{Depot, Entropy, Shelf};
+use ferry_repo::Repo;
+use ferry_store::Store;
+use std::alloc::Global;
+
+/// The place of the first of these names that no archive of the repository has.
+pub fn missing_name(repo: &Repo, names: &[Bytes]) -> Option<usize>
+    ensures missing { IfSome result (λ place. IsMissingName (repo_view repo.now).manifest names.now place) }
+    ensures found { result ≡ None → (place : ℕ) (name : List ℕ) → slice_get names.now place ≡ Some name
+        → IsSome (archive_named name (repo_view repo.now).manifest.archives) }
+{
+    for place in 0..names.len() {
+        if repo.record_id(names[place].as_slice()).is_none() {
+            return Some(place);
+        }
+    }
+    None
+}
+
+/// Copies the archives of these names, in this order, those that the target lacks, and compares the others; tells each, and at the end the
+/// numbers of all.
+///
+/// `NotFound` has the first name that the source lacks; nothing is done then. `Taken` has a name that the target has with another archive.
+pub fn carry<S: Shelf, D: Depot, E: Entropy>(
+    alloc: Global,
+    source: &mut Repo,
+    shelf: &mut S,
+    store: &mut Store,
+    depot: &mut D,
+    entropy: &mut E,
+    names: &[Bytes],
+    options: &Options,
+) -> Result<Carried, CarryFault>
+    requires options { AreRight options.now }
+    requires source_fits { IfSome (S.told shelf.old) (λ t. FitsRepo (told_files t) (repo_view source.old) (cached_in source.old)) }
+    requires unspent { IsUnspent store.old }
+    requires fits { IfSome (D.told depot.old) (λ t. StoreFits false store.old t.history) }
+    requires packable { IsPackable (accepted_in store.old) }
+    requires settled { IsSettled store.old }
+    ensures works { Works (KeepsGrowing store.old) (λ _. Grows store.old store.new)
+        (D.told depot.old) (D.told depot.new) (D.faults depot.old) (D.faults depot.new) result }
+    ensures most { OnOk result (KeepsMost store.old store.new) }
+    ensures fits { OnOk result (IfSome (D.told depot.new) (λ t. StoreFits false store.new t.history)) }
+    ensures source_fits { IfSome (S.told shelf.new) (λ t. FitsRepo (told_files t) (repo_view source.new) (cached_in source.new)) }
+    ensures kept { repo_view source.new ≡ repo_view source.old }
+    ensures same { KeepsTold shelf_failed (S.told shelf.old) (S.told shelf.new) result }
+    ensures cause { HasCause shelf_failed (S.faults shelf.old) (S.faults shelf.new) result }
+    ensures entropy { HasCause random_failed (E.faults entropy.old) (E.faults entropy.new) result }
+{
+    if let Some(place) = missing_name(source, names) {
+        let name = Vec::from_slice(alloc, names[place].as_slice())?;
+        return Err(CarryFault::NotFound(Bytes::new(name)));
+    }
+    let mut carried = Carried::nothing();
+    carry_all(
+        alloc,
+        source,
+        shelf,
+        store,
+        depot,
+        entropy,
+        names,
+        options,
+        &mut carried,
+    )?;
+    let line = total_line(alloc, &carried)?;
+    tell(store, depot, &line)?;
+    Ok(carried)
+}
+
+/// Copies or compares the archives of these names, one after another.
+fn carry_all<S: Shelf, D: Depot, E: Entropy>(
+    alloc: Global,
+    source: &mut Repo,
+    shelf: &mut S,
+    store: &mut Store,
+    depot: &mut D,
+    entropy: &mut E,
+    names: &[Bytes],
+    options: &Options,
+    carried: &mut Carried,
+) -> Result<(), CarryFault>
+    requires options { AreRight options.now }
+    requires source_fits { IfSome (S.told shelf.old) (λ t. FitsRepo (told_files t) (repo_view source.old) (cached_in source.old)) }
+    requires unspent { IsUnspent store.old }
+    requires fits { IfSome (D.told depot.old) (λ t. StoreFits false store.old t.history) }
+    requires packable { IsPackable (accepted_in store.old) }
+    requires settled { IsSettled store.old }
+    ensures settled { OnOk result (IsSettled store.new) }
+    ensures packable { OnOk result (IsPackable (accepted_in store.new)) }
+    ensures unspent { OnOk result (IsUnspent store.new) }
+    ensures works { Works (KeepsGrowing store.old) (λ _. Grows store.old store.new)
+        (D.told depot.old) (D.told depot.new) (D.faults depot.old) (D.faults depot.new) result }
+    ensures most { OnOk result (KeepsMost store.old store.new) }
+    ensures fits { OnOk result (IfSome (D.told depot.new) (λ t. StoreFits false store.new t.history)) }
+    ensures source_fits { IfSome (S.told shelf.new) (λ t. FitsRepo (told_files t) (repo_view source.new) (cached_in source.new)) }
+    ensures kept { repo_view source.new ≡ repo_view source.old }
+    ensures same { KeepsTold shelf_failed (S.told shelf.old) (S.told shelf.new) result }
+    ensures cause { HasCause shelf_failed (S.faults shelf.old) (S.faults shelf.new) result }
+    ensures entropy { HasCause random_failed (E.faults entropy.old) (E.faults entropy.new) result }
+{
+    for place in 0..names.len() {
+        let name = names[place].as_slice();
+        carry_one(
+            alloc, source, shelf, store, depot, entropy, name, options, carried,
+        )?;
+    }
+    Ok(())
+}
+
+/// Copies or compares the archive of one name, tells it, and counts what was done.
+fn carry_one<S: Shelf, D: Depot, E: Entropy>(
+    alloc: Global,
+    source: &mut Repo,
+    shelf: &mut S,
+    store: &mut Store,
+    depot: &mut D,
+    entropy: &mut E,
+    name: &[u8],
+    options: &Options,
+    carried: &mut Carried,
+) -> Result<(), CarryFault>
+    requires options { AreRight options.now }
+    requires source_fits { IfSome (S.told shelf.old) (λ t. FitsRepo (told_files t) (repo_view source.old) (cached_in source.old)) }
+    requires unspent { IsUnspent store.old }
+    requires fits { IfSome (D.told depot.old) (λ t. StoreFits false store.old t.history) }
+    requires packable { IsPackable (accepted_in store.old) }
+    requires settled { IsSettled store.old }
+    ensures settled { OnOk result (IsSettled store.new) }
+    ensures packable { OnOk result (IsPackable (accepted_in store.new)) }
+    ensures unspent { OnOk result (IsUnspent store.new) }
+    ensures works { Works (KeepsGrowing store.old) (λ _. Grows store.old store.new)
+        (D.told depot.old) (D.told depot.new) (D.faults depot.old) (D.faults depot.new) result }
+    ensures most { OnOk result (KeepsMost store.old store.new) }
+    ensures fits { OnOk result (IfSome (D.told depot.new) (λ t. StoreFits false store.new t.history)) }
+    ensures source_fits { IfSome (S.told shelf.new) (λ t. FitsRepo (told_files t) (repo_view source.new) (cached_in source.new)) }
+    ensures kept { repo_view source.new ≡ repo_view source.old }
+    ensures same { KeepsTold shelf_failed (S.told shelf.old) (S.told shelf.new) result }
+    ensures cause { HasCause shelf_failed (S.faults shelf.old) (S.faults shelf.new) result }
+    ensures entropy { HasCause random_failed (E.faults entropy.old) (E.faults entropy.new) result }
+{
+    let mut flight = Flight::begin(alloc, source, name, options)?;
+    carry_flight(
+        alloc,
+        &mut flight,
+        source,
+        shelf,
+        store,
+        depot,
+        entropy,
+        name,
+        carried,
+    )
+}
+
+/// Takes a flight to its end, tells the archive of its name, and counts what was done.
+fn carry_flight<S: Shelf, D: Depot, E: Entropy>(
+    alloc: Global,
+    flight: &mut Flight,
+    source: &mut Repo,
+    shelf: &mut S,
+    store: &mut Store,
+    depot: &mut D,
+    entropy: &mut E,
+    name: &[u8],
+    carried: &mut Carried,
+) -> Result<(), CarryFault>
+    requires flight { FlightFits (S.told shelf.old) (repo_view source.old) (D.told depot.old) store.old flight.old }
+    requires source_fits { IfSome (S.told shelf.old) (λ t. FitsRepo (told_files t) (repo_view source.old) (cached_in source.old)) }
+    requires unspent { IsUnspent store.old }
+    requires fits { IfSome (D.told depot.old) (λ t. StoreFits false store.old t.history) }
+    requires packable { IsPackable (accepted_in store.old) }
+    requires settled { IsSettled store.old }
+    ensures settled { OnOk result (IsSettled store.new) }
+    ensures packable { OnOk result (IsPackable (accepted_in store.new)) }
+    ensures unspent { OnOk result (IsUnspent store.new) }
+    ensures works { Works (KeepsGrowing store.old) (λ _. Grows store.old store.new)
+        (D.told depot.old) (D.told depot.new) (D.faults depot.old) (D.faults depot.new) result }
+    ensures most { OnOk result (KeepsMost store.old store.new) }
+    ensures fits { OnOk result (IfSome (D.told depot.new) (λ t. StoreFits false store.new t.history)) }
+    ensures source_fits { IfSome (S.told shelf.new) (λ t. FitsRepo (told_files t) (repo_view source.new) (cached_in source.new)) }
+    ensures kept { repo_view source.new ≡ repo_view source.old }
+    ensures same { KeepsTold shelf_failed (S.told shelf.old) (S.told shelf.new) result }
+    ensures cause { HasCause shelf_failed (S.faults shelf.old) (S.faults shelf.new) result }
+    ensures entropy { HasCause random_failed (E.faults entropy.old) (E.faults entropy.new) result }
+{
+    let named = fly(flight, source, shelf, store, depot, entropy)?;
+    tell_name(alloc, store, depot, named, name)?;
+    carried.count(named, &flight.put());
+    Ok(())
+}
+
+/// Takes the steps of a flight to its end, and answers whether the archive is new in the target.
+fn fly<S: Shelf, D: Depot, E: Entropy>(
+    flight: &mut Flight,
+    source: &mut Repo,
+    shelf: &mut S,
+    store: &mut Store,
+    depot: &mut D,
+    entropy: &mut E,
+) -> Result<bool, CarryFault>
+    requires flight { FlightFits (S.told shelf.old) (repo_view source.old) (D.told depot.old) store.old flight.old }
+    requires source_fits { IfSome (S.told shelf.old) (λ t. FitsRepo (told_files t) (repo_view source.old) (cached_in source.old)) }
+    requires unspent { IsUnspent store.old }
+    requires fits { IfSome (D.told depot.old) (λ t. StoreFits false store.old t.history) }
+    requires packable { IsPackable (accepted_in store.old) }
+    requires settled { IsSettled store.old }
+    ensures settled { OnOk result (IsSettled store.new) }
+    ensures packable { OnOk result (IsPackable (accepted_in store.new)) }
+    ensures unspent { OnOk result (IsUnspent store.new) }
+    ensures works { Works (KeepsGrowing store.old) (λ _. Grows store.old store.new)
+        (D.told depot.old) (D.told depot.new) (D.faults depot.old) (D.faults depot.new) result }
+    ensures most { OnOk result (KeepsMost store.old store.new) }
+    ensures fits { OnOk result (IfSome (D.told depot.new) (λ t. StoreFits false store.new t.history)) }
+    ensures source_fits { IfSome (S.told shelf.new) (λ t. FitsRepo (told_files t) (repo_view source.new) (cached_in source.new)) }
+    ensures kept { repo_view source.new ≡ repo_view source.old }
+    ensures same { KeepsTold shelf_failed (S.told shelf.old) (S.told shelf.new) result }
+    ensures cause { HasCause shelf_failed (S.faults shelf.old) (S.faults shelf.new) result }
+    ensures entropy { HasCause random_failed (E.faults entropy.old) (E.faults entropy.new) result }
+{
+    for _ in 0..u64::MAX {
+        match flight.step(source, shelf, store, depot, entropy)? {
+            Turn::More => {}
+            Turn::Named => return Ok(true),
+            Turn::Present => return Ok(false),
+        }
+    }
+    Err(CarryFault::Memory)
+}
+
+/// Tells what was done with the archive of a name.
+fn tell_name<D: Depot>(
+    alloc: Global,
+    store: &Store,
+    depot: &mut D,
+    named: bool,
+    name: &[u8],
+) -> Result<(), CarryFault>
+    requires fits { IfSome (D.told depot.old) (λ t. StoreFits false store.now t.history) }
+    ensures works { Works (KeepsGrowing store.now) (λ _ h g. TellsLine (name_line (told_of named) name.now) h g × Grows store.now store.now h g)
+        (D.told depot.old) (D.told depot.new) (D.faults depot.old) (D.faults depot.new) result }
+    ensures fits { OnOk result (IfSome (D.told depot.new) (λ t. StoreFits false store.now t.history)) }
+    ensures shelf { IfErr result (λ fault. shelf_failed fault ≡ false) }
+    ensures drawn { IfErr result (λ fault. random_failed fault ≡ false) }
+{
+    let line = name_line(alloc, what_of(named), name)?;
+    tell(store, depot, &line)
+}
+
+/// What is told of an archive that was copied, and of one that was there.
+fn what_of(copied: bool) -> &'static [u8]
+    ensures what { result.now ≡ told_of copied }
+{
+    if copied { b"transferred " } else { b"present " }
+}
+
+/// Tells a line. The store is the one that writes the depot.
+fn tell<D: Depot>(store: &Store, depot: &mut D, line: &[u8]) -> Result<(), CarryFault>
+    requires fits { IfSome (D.told depot.old) (λ t. StoreFits false store.now t.history) }
+    ensures works { Works (KeepsGrowing store.now) (λ _ h g. TellsLine line.now h g × Grows store.now store.now h g)
+        (D.told depot.old) (D.told depot.new) (D.faults depot.old) (D.faults depot.new) result }
+    ensures fits { OnOk result (IfSome (D.told depot.new) (λ t. StoreFits false store.now t.history)) }
+    ensures shelf { IfErr result (λ fault. shelf_failed fault ≡ false) }
+    ensures drawn { IfErr result (λ fault. random_failed fault ≡ false) }
+{
+    depot.tell(line)?;
+    Ok(())
+}

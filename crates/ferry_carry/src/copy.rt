@@ -1,0 +1,373 @@
+//! An archive that the target lacks.
+ghost use Rattle.std.specs.Prelude.{◌≡◌, ◌≤◌, ◌<◌, [], ℕ, List, Some, None, Ok, false, length, IfErr, IfOk, IfSome, OnOk};
+ghost use Rattle.ferry_disk.specs.Device.{HasCause, KeepsTold, told_files};
+ghost use Rattle.ferry_carry.specs.Copied.{IsRead};
+ghost use Rattle.ferry_carry.specs.Copying.{CopiesContent, IsReady, TakesItem, WritesContent, WritesContents, WritesItem};
+ghost use Rattle.ferry_carry.specs.Fault.{random_failed, shelf_failed, target_failed};
+ghost use Rattle.ferry_carry.specs.Gather.{Gathers, KeepsRest, KeepsStanding};
+ghost use Rattle.ferry_carry.specs.Step.{StepsOn};
+ghost use Rattle.ferry_carry.specs.Work.{Works};
+ghost use Rattle.ferry_item.specs.Item.{is_healed, item_view};
+ghost use Rattle.ferry_item.specs.Writing.{IsPackable as IsPackableItem, field_pairs};
+ghost use Rattle.ferry_manifest.specs.Record.Text.{archive_of, archive_view};
+ghost use Rattle.ferry_manifest.specs.Record.Writing.{IsPackableArchive};
+ghost use Rattle.ferry_repo.specs.Archives.{HoldsRecord};
+ghost use Rattle.ferry_repo.specs.Opening.{FitsRepo, cached_in, repo_view};
+ghost use Rattle.ferry_repo.specs.Walk.{FitsWalk, IsToCome, begin_walk, walk_view};
+ghost use Rattle.ferry_store.specs.Store.{IsUnspent, StoreFits};
+
+use crate::fault::CarryFault;
+use crate::options::Options;
+use crate::piece::PieceWriter;
+use ferry_base::Id;
+use ferry_disk::{Depot, Shelf};
+use ferry_item::{ChunkRef, ChunkRefs, Item, write_item};
+use ferry_mac::Keys;
+use ferry_manifest::{Archive, MetaFault, read_archive};
+use ferry_repo::{Repo, RepoFault, Walk};
+use ferry_store::Store;
+use std::alloc::Global;
+
+/// The length of the pieces of an item stream.
+const STREAM_BLOCK: usize = 131_072;
+
+/// The most pieces that an item's content may have.
+const MOST_PIECES: u128 = 4_294_967_295;
+
+/// An archive on its way: the items of the source that are to come, the record that it has there, and what is written of it.
+#[derive(Drop)]
+pub(crate) struct Copy {
+    pub(crate) alloc: Global,
+    pub(crate) block: usize,
+    pub(crate) walk: Walk,
+    pub(crate) archive: Archive,
+    pub(crate) contents: PieceWriter,
+    pub(crate) stream: PieceWriter,
+}
+
+impl Copy {
+    /// The archive whose record has this id, in front of its items.
+    #[tactic(auto, using(crate::proofs::FaultLemmas::conversions))]
+    pub(crate) fn begin<S: Shelf>(
+        alloc: Global,
+        source: &mut Repo,
+        shelf: &mut S,
+        id: &Id,
+        options: &Options,
+    ) -> Result<Copy, CarryFault>
+        requires least { 64 ≤ options.now.block }
+        requires most { options.now.block ≤ 8388608 }
+        requires fits { IfSome (S.told shelf.old) (λ t. FitsRepo (told_files t) (repo_view source.old) (cached_in source.old)) }
+        ensures ready { IfOk result (IsReady) }
+        ensures archive { IfOk result (λ copy. IfSome (S.told shelf.old) (λ t.
+            HoldsRecord (told_files t) (repo_view source.old).log (repo_view source.old).keys id.now (archive_view copy.archive))) }
+        ensures walk { IfOk result (λ copy. walk_view copy.walk ≡ begin_walk id.now (archive_view copy.archive).items) }
+        ensures stream { IfOk result (λ copy. (copy.stream.cutter.piece ≡ []) × (copy.stream.chunks.items ≡ [])) }
+        ensures walk_fits { IfOk result (λ copy. IfSome (S.told shelf.new) (λ t.
+            FitsWalk (told_files t) (repo_view source.new).log (repo_view source.new).keys (walk_view copy.walk))) }
+        ensures fits { IfSome (S.told shelf.new) (λ t. FitsRepo (told_files t) (repo_view source.new) (cached_in source.new)) }
+        ensures kept { repo_view source.new ≡ repo_view source.old }
+        ensures same { KeepsTold shelf_failed (S.told shelf.old) (S.told shelf.new) result }
+        ensures cause { HasCause shelf_failed (S.faults shelf.old) (S.faults shelf.new) result }
+        ensures still { IfErr result (λ fault. target_failed fault ≡ false) }
+        ensures drawn { IfErr result (λ fault. random_failed fault ≡ false) }
+    {
+        let archive = read_record(alloc, source, shelf, id)?;
+        let walk = source.walk(id, &archive)?;
+        Ok(Copy {
+            alloc,
+            block: options.block,
+            walk,
+            archive,
+            contents: PieceWriter::new(alloc, options.block, options.checkpoint)?,
+            stream: PieceWriter::new(alloc, STREAM_BLOCK, options.checkpoint)?,
+        })
+    }
+
+    /// Copies one further item, and answers whether there was one.
+    pub(crate) fn step<S: Shelf, D: Depot>(
+        &mut self,
+        source: &mut Repo,
+        shelf: &mut S,
+        store: &mut Store,
+        depot: &mut D,
+    ) -> Result<bool, CarryFault>
+        requires ready { IsReady self.old }
+        requires walk_fits { IfSome (S.told shelf.old) (λ t.
+            FitsWalk (told_files t) (repo_view source.old).log (repo_view source.old).keys (walk_view self.old.walk)) }
+        requires source_fits { IfSome (S.told shelf.old) (λ t. FitsRepo (told_files t) (repo_view source.old) (cached_in source.old)) }
+        requires unspent { IsUnspent store.old }
+        requires fits { IfSome (D.told depot.old) (λ t. StoreFits false store.old t.history) }
+        ensures works { (more : List (List ℕ)) × Works (KeepsStanding store.old) (λ _. Gathers store.old more store.new)
+            (D.told depot.old) (D.told depot.new) (D.faults depot.old) (D.faults depot.new) result }
+        ensures steps { (more : List (List ℕ)) × (Works (KeepsStanding store.old) (λ _. Gathers store.old more store.new)
+            (D.told depot.old) (D.told depot.new) (D.faults depot.old) (D.faults depot.new) result
+            × IfOk result (StepsOn (S.told shelf.old) (repo_view source.old) (repo_view store.old.repo).keys self.old more self.new)) }
+        ensures archive { OnOk result (self.new.archive ≡ self.old.archive) }
+        ensures block { OnOk result (self.new.block ≡ self.old.block) }
+        ensures ready { OnOk result (IsReady self.new) }
+        ensures walk_fits { OnOk result (IfSome (S.told shelf.new) (λ t.
+            FitsWalk (told_files t) (repo_view source.new).log (repo_view source.new).keys (walk_view self.new.walk))) }
+        ensures rest { OnOk result (KeepsRest store.old store.new) }
+        ensures fits { OnOk result (IfSome (D.told depot.new) (λ t. StoreFits false store.new t.history)) }
+        ensures unspent { OnOk result (IsUnspent store.new) }
+        ensures source_fits { IfSome (S.told shelf.new) (λ t. FitsRepo (told_files t) (repo_view source.new) (cached_in source.new)) }
+        ensures kept { repo_view source.new ≡ repo_view source.old }
+        ensures same { KeepsTold shelf_failed (S.told shelf.old) (S.told shelf.new) result }
+        ensures cause { HasCause shelf_failed (S.faults shelf.old) (S.faults shelf.new) result }
+        ensures drawn { IfErr result (λ fault. random_failed fault ≡ false) }
+    {
+        let Some(item) = self.next(source, shelf)? else {
+            return Ok(false);
+        };
+        let Item { fields, chunks } = item;
+        let chunks = self.copy_chunks(source, shelf, store, depot, &chunks)?;
+        self.write_item(store, depot, &Item { fields, chunks })?;
+        Ok(true)
+    }
+
+    /// The next item of the source.
+    #[tactic(auto, using(crate::proofs::FaultLemmas::conversions))]
+    fn next<S: Shelf>(
+        &mut self,
+        source: &mut Repo,
+        shelf: &mut S,
+    ) -> Result<Option<Item>, CarryFault>
+        requires walk_fits { IfSome (S.told shelf.old) (λ t.
+            FitsWalk (told_files t) (repo_view source.old).log (repo_view source.old).keys (walk_view self.old.walk)) }
+        requires fits { IfSome (S.told shelf.old) (λ t. FitsRepo (told_files t) (repo_view source.old) (cached_in source.old)) }
+        ensures item { IfOk result (λ found. IfSome found (λ item. IfSome (S.told shelf.old) (λ t.
+            TakesItem (told_files t) (repo_view source.old) (walk_view self.old.walk) (item_view item) (walk_view self.new.walk)))) }
+        ensures none { result ≡ Ok None → IfSome (S.told shelf.old) (λ t.
+            IsToCome (told_files t) (repo_view source.old).log (repo_view source.old).keys (walk_view self.old.walk) [] None) }
+        ensures packable { IfOk result (λ found. IfSome found (λ item. IsPackableItem (item_view item))) }
+        ensures walk_fits { IfSome (S.told shelf.new) (λ t.
+            FitsWalk (told_files t) (repo_view source.new).log (repo_view source.new).keys (walk_view self.new.walk)) }
+        ensures others { self.new ≡ record self.old { walk = self.new.walk } }
+        ensures fits { IfSome (S.told shelf.new) (λ t. FitsRepo (told_files t) (repo_view source.new) (cached_in source.new)) }
+        ensures kept { repo_view source.new ≡ repo_view source.old }
+        ensures same { KeepsTold shelf_failed (S.told shelf.old) (S.told shelf.new) result }
+        ensures cause { HasCause shelf_failed (S.faults shelf.old) (S.faults shelf.new) result }
+        ensures still { IfErr result (λ fault. target_failed fault ≡ false) }
+        ensures drawn { IfErr result (λ fault. random_failed fault ≡ false) }
+    {
+        let found = self.walk.step(source, shelf)?;
+        Ok(found)
+    }
+
+    /// Writes an item into the stream.
+    fn write_item<D: Depot>(
+        &mut self,
+        store: &mut Store,
+        depot: &mut D,
+        item: &Item,
+    ) -> Result<(), CarryFault>
+        requires packable { IsPackableItem (item_view item.now) }
+        requires most { self.old.stream.cutter.block ≤ 8388608 }
+        requires room { length self.old.stream.cutter.piece < self.old.stream.cutter.block }
+        requires unspent { IsUnspent store.old }
+        requires fits { IfSome (D.told depot.old) (λ t. StoreFits false store.old t.history) }
+        ensures written { (more : List (List ℕ)) × (Works (KeepsStanding store.old) (λ _. Gathers store.old more store.new)
+            (D.told depot.old) (D.told depot.new) (D.faults depot.old) (D.faults depot.new) result
+            × OnOk result (WritesItem (repo_view store.old.repo).keys self.old.stream.cutter self.old.stream.chunks.items (item_view item.now) more
+            self.new.stream.cutter self.new.stream.chunks.items)) }
+        ensures again { OnOk result (is_healed (field_pairs (item_view item.now)) ≡ false → IsRead (item_view item.now)) }
+        ensures others { OnOk result (self.new ≡ record self.old { stream = self.new.stream }) }
+        ensures rest { OnOk result (KeepsRest store.old store.new) }
+        ensures fits { OnOk result (IfSome (D.told depot.new) (λ t. StoreFits false store.new t.history)) }
+        ensures unspent { OnOk result (IsUnspent store.new) }
+        ensures shelf { IfErr result (λ fault. shelf_failed fault ≡ false) }
+        ensures drawn { IfErr result (λ fault. random_failed fault ≡ false) }
+    {
+        let mut spelling = Vec::new(self.alloc);
+        write_item(item, &mut spelling)?;
+        self.stream.write(store, depot, &spelling)
+    }
+
+    /// Copies the content of an item, where it has chunks, and answers the target's chunks.
+    fn copy_chunks<S: Shelf, D: Depot>(
+        &mut self,
+        source: &mut Repo,
+        shelf: &mut S,
+        store: &mut Store,
+        depot: &mut D,
+        chunks: &Option<ChunkRefs>,
+    ) -> Result<Option<ChunkRefs>, CarryFault>
+        requires ready { IsReady self.old }
+        requires source_fits { IfSome (S.told shelf.old) (λ t. FitsRepo (told_files t) (repo_view source.old) (cached_in source.old)) }
+        requires unspent { IsUnspent store.old }
+        requires fits { IfSome (D.told depot.old) (λ t. StoreFits false store.old t.history) }
+        ensures copied { (more : List (List ℕ)) × (Works (KeepsStanding store.old) (λ _. Gathers store.old more store.new)
+            (D.told depot.old) (D.told depot.new) (D.faults depot.old) (D.faults depot.new) result
+            × IfOk result (CopiesContent (S.told shelf.old) (repo_view source.old) self.old.block (repo_view store.old.repo).keys chunks.now more)) }
+        ensures ready { OnOk result (IsReady self.new) }
+        ensures others { OnOk result (self.new ≡ record self.old { contents = self.new.contents }) }
+        ensures rest { OnOk result (KeepsRest store.old store.new) }
+        ensures fits { OnOk result (IfSome (D.told depot.new) (λ t. StoreFits false store.new t.history)) }
+        ensures unspent { OnOk result (IsUnspent store.new) }
+        ensures source_fits { IfSome (S.told shelf.new) (λ t. FitsRepo (told_files t) (repo_view source.new) (cached_in source.new)) }
+        ensures kept { repo_view source.new ≡ repo_view source.old }
+        ensures same { KeepsTold shelf_failed (S.told shelf.old) (S.told shelf.new) result }
+        ensures cause { HasCause shelf_failed (S.faults shelf.old) (S.faults shelf.new) result }
+        ensures drawn { IfErr result (λ fault. random_failed fault ≡ false) }
+    {
+        match chunks {
+            Some(chunks) => {
+                let copied = self.copy_content(source, shelf, store, depot, chunks.as_slice())?;
+                Ok(Some(copied))
+            }
+            None => Ok(None),
+        }
+    }
+
+    /// Copies the content that these chunks are.
+    fn copy_content<S: Shelf, D: Depot>(
+        &mut self,
+        source: &mut Repo,
+        shelf: &mut S,
+        store: &mut Store,
+        depot: &mut D,
+        chunks: &[ChunkRef],
+    ) -> Result<ChunkRefs, CarryFault>
+        requires ready { IsReady self.old }
+        requires source_fits { IfSome (S.told shelf.old) (λ t. FitsRepo (told_files t) (repo_view source.old) (cached_in source.old)) }
+        requires unspent { IsUnspent store.old }
+        requires fits { IfSome (D.told depot.old) (λ t. StoreFits false store.old t.history) }
+        ensures copied { (more : List (List ℕ)) × (Works (KeepsStanding store.old) (λ _. Gathers store.old more store.new)
+            (D.told depot.old) (D.told depot.new) (D.faults depot.old) (D.faults depot.new) result
+            × IfOk result (λ copied. CopiesContent (S.told shelf.old) (repo_view source.old) self.old.block (repo_view store.old.repo).keys
+            (Some chunks.now) more (Some copied))) }
+        ensures ready { OnOk result (IsReady self.new) }
+        ensures others { OnOk result (self.new ≡ record self.old { contents = self.new.contents }) }
+        ensures rest { OnOk result (KeepsRest store.old store.new) }
+        ensures fits { OnOk result (IfSome (D.told depot.new) (λ t. StoreFits false store.new t.history)) }
+        ensures unspent { OnOk result (IsUnspent store.new) }
+        ensures source_fits { IfSome (S.told shelf.new) (λ t. FitsRepo (told_files t) (repo_view source.new) (cached_in source.new)) }
+        ensures kept { repo_view source.new ≡ repo_view source.old }
+        ensures same { KeepsTold shelf_failed (S.told shelf.old) (S.told shelf.new) result }
+        ensures cause { HasCause shelf_failed (S.faults shelf.old) (S.faults shelf.new) result }
+        ensures drawn { IfErr result (λ fault. random_failed fault ≡ false) }
+    {
+        if total_size(chunks) > MOST_PIECES * self.block as u128 {
+            return Err(CarryFault::Pieces);
+        }
+        write_contents(&mut self.contents, source, shelf, store, depot, chunks)?;
+        let copied = self.contents.finish(store, depot)?;
+        if copied.len() > MOST_PIECES as usize {
+            return Err(CarryFault::Memory);
+        }
+        Ok(ChunkRefs::new(copied))
+    }
+}
+
+/// Writes the contents of these chunks, one after another.
+fn write_contents<S: Shelf, D: Depot>(
+    writer: &mut PieceWriter,
+    source: &mut Repo,
+    shelf: &mut S,
+    store: &mut Store,
+    depot: &mut D,
+    chunks: &[ChunkRef],
+) -> Result<(), CarryFault>
+    requires most { writer.old.cutter.block ≤ 8388608 }
+    requires room { length writer.old.cutter.piece < writer.old.cutter.block }
+    requires source_fits { IfSome (S.told shelf.old) (λ t. FitsRepo (told_files t) (repo_view source.old) (cached_in source.old)) }
+    requires unspent { IsUnspent store.old }
+    requires fits { IfSome (D.told depot.old) (λ t. StoreFits false store.old t.history) }
+    ensures written { (more : List (List ℕ)) × (Works (KeepsStanding store.old) (λ _. Gathers store.old more store.new)
+        (D.told depot.old) (D.told depot.new) (D.faults depot.old) (D.faults depot.new) result
+        × OnOk result (WritesContents (S.told shelf.old) (repo_view source.old) (repo_view store.old.repo).keys chunks.now writer.old.cutter
+        writer.old.chunks.items more writer.new.cutter writer.new.chunks.items)) }
+    ensures rest { OnOk result (KeepsRest store.old store.new) }
+    ensures fits { OnOk result (IfSome (D.told depot.new) (λ t. StoreFits false store.new t.history)) }
+    ensures unspent { OnOk result (IsUnspent store.new) }
+    ensures source_fits { IfSome (S.told shelf.new) (λ t. FitsRepo (told_files t) (repo_view source.new) (cached_in source.new)) }
+    ensures kept { repo_view source.new ≡ repo_view source.old }
+    ensures same { KeepsTold shelf_failed (S.told shelf.old) (S.told shelf.new) result }
+    ensures cause { HasCause shelf_failed (S.faults shelf.old) (S.faults shelf.new) result }
+    ensures drawn { IfErr result (λ fault. random_failed fault ≡ false) }
+{
+    for place in 0..chunks.len() {
+        write_content(writer, source, shelf, store, depot, &chunks[place])?;
+    }
+    Ok(())
+}
+
+/// Writes the content of one chunk.
+#[tactic(auto, using(crate::proofs::FaultLemmas::conversions))]
+fn write_content<S: Shelf, D: Depot>(
+    writer: &mut PieceWriter,
+    source: &mut Repo,
+    shelf: &mut S,
+    store: &mut Store,
+    depot: &mut D,
+    chunk: &ChunkRef,
+) -> Result<(), CarryFault>
+    requires most { writer.old.cutter.block ≤ 8388608 }
+    requires room { length writer.old.cutter.piece < writer.old.cutter.block }
+    requires source_fits { IfSome (S.told shelf.old) (λ t. FitsRepo (told_files t) (repo_view source.old) (cached_in source.old)) }
+    requires unspent { IsUnspent store.old }
+    requires fits { IfSome (D.told depot.old) (λ t. StoreFits false store.old t.history) }
+    ensures written { (more : List (List ℕ)) × (Works (KeepsStanding store.old) (λ _. Gathers store.old more store.new)
+        (D.told depot.old) (D.told depot.new) (D.faults depot.old) (D.faults depot.new) result
+        × OnOk result (WritesContent (S.told shelf.old) (repo_view source.old) (repo_view store.old.repo).keys chunk.now writer.old.cutter
+        writer.old.chunks.items more writer.new.cutter writer.new.chunks.items)) }
+    ensures rest { OnOk result (KeepsRest store.old store.new) }
+    ensures fits { OnOk result (IfSome (D.told depot.new) (λ t. StoreFits false store.new t.history)) }
+    ensures unspent { OnOk result (IsUnspent store.new) }
+    ensures source_fits { IfSome (S.told shelf.new) (λ t. FitsRepo (told_files t) (repo_view source.new) (cached_in source.new)) }
+    ensures kept { repo_view source.new ≡ repo_view source.old }
+    ensures same { KeepsTold shelf_failed (S.told shelf.old) (S.told shelf.new) result }
+    ensures cause { HasCause shelf_failed (S.faults shelf.old) (S.faults shelf.new) result }
+    ensures drawn { IfErr result (λ fault. random_failed fault ≡ false) }
+{
+    let content = source.content(shelf, chunk)?;
+    writer.write(store, depot, &content)
+}
+
+/// The sum of the stated sizes of chunks.
+fn total_size(chunks: &[ChunkRef]) -> u128 {
+    let mut total = 0u128;
+    for place in 0..chunks.len() {
+        total = total.saturating_add(u128::from(chunks[place].size));
+    }
+    total
+}
+
+/// The record of the archive whose record has this id.
+#[tactic(auto, using(crate::proofs::FaultLemmas::conversions))]
+fn read_record<S: Shelf>(
+    alloc: Global,
+    source: &mut Repo,
+    shelf: &mut S,
+    id: &Id,
+) -> Result<Archive, CarryFault>
+    requires fits { IfSome (S.told shelf.old) (λ t. FitsRepo (told_files t) (repo_view source.old) (cached_in source.old)) }
+    ensures archive { IfOk result (λ archive. IfSome (S.told shelf.old) (λ t.
+        HoldsRecord (told_files t) (repo_view source.old).log (repo_view source.old).keys id.now (archive_view archive))) }
+    ensures packable { IfOk result (λ archive. IsPackableArchive (archive_view archive)) }
+    ensures fits { IfSome (S.told shelf.new) (λ t. FitsRepo (told_files t) (repo_view source.new) (cached_in source.new)) }
+    ensures kept { repo_view source.new ≡ repo_view source.old }
+    ensures same { KeepsTold shelf_failed (S.told shelf.old) (S.told shelf.new) result }
+    ensures cause { HasCause shelf_failed (S.faults shelf.old) (S.faults shelf.new) result }
+    ensures still { IfErr result (λ fault. target_failed fault ≡ false) }
+    ensures drawn { IfErr result (λ fault. random_failed fault ≡ false) }
+{
+    let content = source.chunk(shelf, id)?;
+    record_in(alloc, source.keys(), *id, &content)
+}
+
+/// The record that the chunk of this id is.
+fn record_in(alloc: Global, keys: &Keys, id: Id, content: &[u8]) -> Result<Archive, CarryFault>
+    ensures archive { IfOk result (λ archive. archive_of keys.now content.now ≡ Ok (archive_view archive)) }
+    ensures packable { IfOk result (λ archive. IsPackableArchive (archive_view archive)) }
+    ensures shelf { IfErr result (λ fault. shelf_failed fault ≡ false) }
+    ensures still { IfErr result (λ fault. target_failed fault ≡ false) }
+    ensures drawn { IfErr result (λ fault. random_failed fault ≡ false) }
+{
+    match read_archive(alloc, keys, content) {
+        Ok(archive) => Ok(archive),
+        Err(MetaFault::Memory) => Err(CarryFault::Memory),
+        Err(fault) => Err(CarryFault::Source(RepoFault::Archive(id, fault))),
+    }
+}

@@ -1,0 +1,440 @@
+//! One archive, item by item.
+ghost use Rattle.std.specs.Prelude.{◌≡◌, ◌⊎◌, Option, None, Ok, [], false, IfErr, IfOk, IfSome, IsSome, OnOk};
+ghost use Rattle.ferry_carry.specs.Fault.{random_failed, shelf_failed, target_failed};
+ghost use Rattle.ferry_carry.specs.Flight.{AreRight, FlightFits, FlightStands, IsCommitted, IsSettled, ReadsStore};
+ghost use Rattle.ferry_carry.specs.Copying.{IsReady};
+ghost use Rattle.ferry_carry.specs.Gather.{Gathers, KeepsRest, KeepsStanding};
+ghost use Rattle.ferry_carry.specs.Grow.{AcceptsMore, Grows, KeepsGrowing, KeepsMost};
+ghost use Rattle.ferry_carry.specs.Work.{Works};
+ghost use Rattle.ferry_compare.specs.Compare.{AreEqual, Differ, FitsTold, comparison_view};
+ghost use Rattle.ferry_disk.specs.Device.{HasCause, KeepsTold, Told, told_files};
+ghost use Rattle.ferry_manifest.specs.Manifest.Writing.{IsPackable};
+ghost use Rattle.ferry_repo.specs.Archives.{archive_named};
+ghost use Rattle.ferry_repo.specs.Opening.{FitsRepo, cached_in, repo_view};
+ghost use Rattle.ferry_repo.specs.Walk.{FitsWalk, walk_view};
+ghost use Rattle.ferry_store.specs.Commit.{accepted_in};
+ghost use Rattle.ferry_store.specs.Store.{IsUnspent, StoreFits};
+
+use crate::copy::Copy;
+use crate::fault::CarryFault;
+use crate::naming::end_copy;
+use crate::options::{Carried, Options};
+use crate::piece::commit_pieces;
+use ferry_base::Bytes;
+use ferry_compare::{Compared, Comparison};
+use ferry_disk::{Depot, Entropy, Shelf};
+use ferry_manifest::ArchiveRef;
+use ferry_repo::Repo;
+use ferry_store::Store;
+use std::alloc::{AllocError, Global};
+use std::mem;
+
+/// What one turn of a flight did.
+#[derive(Clone, Copy, Debug, PartialEq, Eq)]
+pub enum Turn {
+    /// It took one further item.
+    More,
+    /// All items were taken, and the archive, which the target lacked, is committed under its name.
+    Named,
+    /// All items were compared, and the archive, which was there, is equal.
+    Present,
+}
+
+/// An archive of the source that is copied into a target, or compared with the one that has its name there, an item a turn.
+///
+/// It owns copies of what it was begun with. It is used with the source of its begin and the store of its first step.
+#[derive(Drop)]
+pub struct Flight {
+    alloc: Global,
+    named: ArchiveRef,
+    options: Options,
+    work: Work,
+    put: Carried,
+}
+
+/// What a flight does.
+#[derive(Drop)]
+pub(crate) enum Work {
+    /// No step was taken.
+    Waiting,
+    /// The archive is copied.
+    Copying(Copy),
+    /// The archive is compared.
+    Comparing(Comparison),
+}
+
+impl Flight {
+    /// A flight of the archive of a name.
+    ///
+    /// `NotFound` says that the source has no archive of this name.
+    pub fn begin(
+        alloc: Global,
+        source: &Repo,
+        name: &[u8],
+        options: &Options,
+    ) -> Result<Flight, CarryFault>
+        requires options { AreRight options.now }
+        ensures flight { IfOk result (λ flight. (told heard : Option Told) (store : Store) → FlightFits told (repo_view source.now) heard store flight) }
+        ensures name { IfOk result (λ flight. flight.named.name ≡ name.now) }
+        ensures refused { IfErr result (λ fault. (fault ≡ CarryFault.Memory) ⊎ ((fault ≡ CarryFault.NotFound name.now)
+            × (archive_named name.now (repo_view source.now).manifest.archives ≡ None))) }
+    {
+        let archives = source.manifest().archives.as_slice();
+        let Some(named) = entry_named(alloc, archives, name)? else {
+            return Err(CarryFault::NotFound(copy_bytes(alloc, name)?));
+        };
+        Ok(Flight {
+            alloc,
+            named,
+            options: copy_options(alloc, options)?,
+            work: Work::Waiting,
+            put: Carried::nothing(),
+        })
+    }
+
+    /// The pieces that were put for the archive, once it is named.
+    pub(crate) fn put(&self) -> Carried {
+        self.put
+    }
+}
+
+impl Flight {
+    /// Takes one further item, or meets the archive's end.
+    ///
+    /// A refused step ends the flight; what it added stays in the store. `Taken` says that the target has another archive of this name.
+    pub fn step<S: Shelf, D: Depot, E: Entropy>(
+        &mut self,
+        source: &mut Repo,
+        shelf: &mut S,
+        store: &mut Store,
+        depot: &mut D,
+        entropy: &mut E,
+    ) -> Result<Turn, CarryFault>
+        requires source_fits { IfSome (S.told shelf.old) (λ t. FitsRepo (told_files t) (repo_view source.old) (cached_in source.old)) }
+        requires unspent { IsUnspent store.old }
+        requires fits { IfSome (D.told depot.old) (λ t. StoreFits false store.old t.history) }
+        requires packable { IsPackable (accepted_in store.old) }
+        requires accepts { AcceptsMore store.old }
+        requires committed { IsCommitted store.old self.old.named.name }
+        requires flight { FlightFits (S.told shelf.old) (repo_view source.old) (D.told depot.old) store.old self.old }
+        ensures works { Works (KeepsGrowing store.old) (λ _. Grows store.old store.new)
+            (D.told depot.old) (D.told depot.new) (D.faults depot.old) (D.faults depot.new) result }
+        ensures most { OnOk result (KeepsMost store.old store.new) }
+        ensures packable { OnOk result (IsPackable (accepted_in store.new)) }
+        ensures accepts { OnOk result (AcceptsMore store.new) }
+        ensures committed { OnOk result (IsCommitted store.new self.new.named.name) }
+        ensures settled { OnOk result (IsSettled store.old → IsSettled store.new) }
+        ensures fits { OnOk result (IfSome (D.told depot.new) (λ t. StoreFits false store.new t.history)) }
+        ensures unspent { OnOk result (IsUnspent store.new) }
+        ensures source_fits { IfSome (S.told shelf.new) (λ t. FitsRepo (told_files t) (repo_view source.new) (cached_in source.new)) }
+        ensures kept { repo_view source.new ≡ repo_view source.old }
+        ensures same { KeepsTold shelf_failed (S.told shelf.old) (S.told shelf.new) result }
+        ensures cause { HasCause shelf_failed (S.faults shelf.old) (S.faults shelf.new) result }
+        ensures entropy { HasCause random_failed (E.faults entropy.old) (E.faults entropy.new) result }
+        ensures flight { result ≡ Ok Turn.More → FlightFits (S.told shelf.new) (repo_view source.new) (D.told depot.new) store.new self.new }
+        ensures name { self.new.named ≡ self.old.named }
+    {
+        match mem::replace(&mut self.work, Work::Waiting) {
+            Work::Waiting => self.take_first(source, shelf, store, depot, entropy),
+            Work::Copying(copy) => self.copy(source, shelf, store, depot, entropy, copy),
+            Work::Comparing(comparison) => { self.compare(source, shelf, store, depot, comparison) }
+        }
+    }
+
+    /// Begins to copy or to compare, and takes the first item.
+    fn take_first<S: Shelf, D: Depot, E: Entropy>(
+        &mut self,
+        source: &mut Repo,
+        shelf: &mut S,
+        store: &mut Store,
+        depot: &mut D,
+        entropy: &mut E,
+    ) -> Result<Turn, CarryFault>
+        requires source_fits { IfSome (S.told shelf.old) (λ t. FitsRepo (told_files t) (repo_view source.old) (cached_in source.old)) }
+        requires unspent { IsUnspent store.old }
+        requires fits { IfSome (D.told depot.old) (λ t. StoreFits false store.old t.history) }
+        requires packable { IsPackable (accepted_in store.old) }
+        requires accepts { AcceptsMore store.old }
+        requires committed { IsCommitted store.old self.old.named.name }
+        requires flight { FlightStands (repo_view source.old) self.old }
+        ensures works { Works (KeepsGrowing store.old) (λ _. Grows store.old store.new)
+            (D.told depot.old) (D.told depot.new) (D.faults depot.old) (D.faults depot.new) result }
+        ensures most { OnOk result (KeepsMost store.old store.new) }
+        ensures packable { OnOk result (IsPackable (accepted_in store.new)) }
+        ensures accepts { OnOk result (AcceptsMore store.new) }
+        ensures committed { OnOk result (IsCommitted store.new self.new.named.name) }
+        ensures settled { OnOk result (IsSettled store.old → IsSettled store.new) }
+        ensures fits { OnOk result (IfSome (D.told depot.new) (λ t. StoreFits false store.new t.history)) }
+        ensures unspent { OnOk result (IsUnspent store.new) }
+        ensures source_fits { IfSome (S.told shelf.new) (λ t. FitsRepo (told_files t) (repo_view source.new) (cached_in source.new)) }
+        ensures kept { repo_view source.new ≡ repo_view source.old }
+        ensures same { KeepsTold shelf_failed (S.told shelf.old) (S.told shelf.new) result }
+        ensures cause { HasCause shelf_failed (S.faults shelf.old) (S.faults shelf.new) result }
+        ensures entropy { HasCause random_failed (E.faults entropy.old) (E.faults entropy.new) result }
+        ensures flight { result ≡ Ok Turn.More → FlightFits (S.told shelf.new) (repo_view source.new) (D.told depot.new) store.new self.new }
+        ensures name { self.new.named ≡ self.old.named }
+    {
+        if store.has(self.named.name.as_slice()) {
+            let comparison = self.begin_comparing(source, shelf, store, depot)?;
+            self.compare(source, shelf, store, depot, comparison)
+        } else {
+            let copy = Copy::begin(self.alloc, source, shelf, &self.named.id, &self.options)?;
+            self.copy(source, shelf, store, depot, entropy, copy)
+        }
+    }
+
+    /// Copies one further item, or names the archive.
+    fn copy<S: Shelf, D: Depot, E: Entropy>(
+        &mut self,
+        source: &mut Repo,
+        shelf: &mut S,
+        store: &mut Store,
+        depot: &mut D,
+        entropy: &mut E,
+        copy: Copy,
+    ) -> Result<Turn, CarryFault>
+        requires source_fits { IfSome (S.told shelf.old) (λ t. FitsRepo (told_files t) (repo_view source.old) (cached_in source.old)) }
+        requires unspent { IsUnspent store.old }
+        requires fits { IfSome (D.told depot.old) (λ t. StoreFits false store.old t.history) }
+        requires packable { IsPackable (accepted_in store.old) }
+        requires accepts { AcceptsMore store.old }
+        requires committed { IsCommitted store.old self.old.named.name }
+        requires flight { FlightStands (repo_view source.old) self.old }
+        requires ready { IsReady copy }
+        requires unnamed { archive_named self.old.named.name (accepted_in store.old).archives ≡ None }
+        requires walk_fits { IfSome (S.told shelf.old) (λ t.
+            FitsWalk (told_files t) (repo_view source.old).log (repo_view source.old).keys (walk_view copy.walk)) }
+        ensures works { Works (KeepsGrowing store.old) (λ _. Grows store.old store.new)
+            (D.told depot.old) (D.told depot.new) (D.faults depot.old) (D.faults depot.new) result }
+        ensures most { OnOk result (KeepsMost store.old store.new) }
+        ensures packable { OnOk result (IsPackable (accepted_in store.new)) }
+        ensures accepts { OnOk result (AcceptsMore store.new) }
+        ensures committed { OnOk result (IsCommitted store.new self.new.named.name) }
+        ensures settled { OnOk result (IsSettled store.old → IsSettled store.new) }
+        ensures fits { OnOk result (IfSome (D.told depot.new) (λ t. StoreFits false store.new t.history)) }
+        ensures unspent { OnOk result (IsUnspent store.new) }
+        ensures source_fits { IfSome (S.told shelf.new) (λ t. FitsRepo (told_files t) (repo_view source.new) (cached_in source.new)) }
+        ensures kept { repo_view source.new ≡ repo_view source.old }
+        ensures same { KeepsTold shelf_failed (S.told shelf.old) (S.told shelf.new) result }
+        ensures cause { HasCause shelf_failed (S.faults shelf.old) (S.faults shelf.new) result }
+        ensures entropy { HasCause random_failed (E.faults entropy.old) (E.faults entropy.new) result }
+        ensures flight { result ≡ Ok Turn.More → FlightFits (S.told shelf.new) (repo_view source.new) (D.told depot.new) store.new self.new }
+        ensures name { self.new.named ≡ self.old.named }
+    {
+        let mut copy = copy;
+        let more = copy.step(source, shelf, store, depot)?;
+        if more {
+            self.work = Work::Copying(copy);
+            return Ok(Turn::More);
+        }
+        self.put = end_copy(
+            copy,
+            source,
+            store,
+            depot,
+            entropy,
+            &self.named,
+            &self.options.timestamp,
+        )?;
+        Ok(Turn::Named)
+    }
+
+    /// Compares one further item, or answers that the archive is there.
+    fn compare<S: Shelf, D: Depot>(
+        &mut self,
+        source: &mut Repo,
+        shelf: &mut S,
+        store: &mut Store,
+        depot: &mut D,
+        comparison: Comparison,
+    ) -> Result<Turn, CarryFault>
+        requires source_fits { IfSome (S.told shelf.old) (λ t. FitsRepo (told_files t) (repo_view source.old) (cached_in source.old)) }
+        requires unspent { IsUnspent store.old }
+        requires fits { IfSome (D.told depot.old) (λ t. StoreFits false store.old t.history) }
+        requires packable { IsPackable (accepted_in store.old) }
+        requires accepts { AcceptsMore store.old }
+        requires committed { IsCommitted store.old self.old.named.name }
+        requires flight { FlightStands (repo_view source.old) self.old }
+        requires comparison { FitsTold (S.told shelf.old) (repo_view source.old) (D.told depot.old) (repo_view store.old.repo) (comparison_view comparison) }
+        requires same_name { (comparison_view comparison).name ≡ self.old.named.name }
+        ensures works { Works (KeepsGrowing store.old) (λ _. Grows store.old store.new)
+            (D.told depot.old) (D.told depot.new) (D.faults depot.old) (D.faults depot.new) result }
+        ensures most { OnOk result (KeepsMost store.old store.new) }
+        ensures packable { OnOk result (IsPackable (accepted_in store.new)) }
+        ensures accepts { OnOk result (AcceptsMore store.new) }
+        ensures committed { OnOk result (IsCommitted store.new self.new.named.name) }
+        ensures settled { OnOk result (IsSettled store.old → IsSettled store.new) }
+        ensures fits { OnOk result (IfSome (D.told depot.new) (λ t. StoreFits false store.new t.history)) }
+        ensures unspent { OnOk result (IsUnspent store.new) }
+        ensures source_fits { IfSome (S.told shelf.new) (λ t. FitsRepo (told_files t) (repo_view source.new) (cached_in source.new)) }
+        ensures kept { repo_view source.new ≡ repo_view source.old }
+        ensures same { KeepsTold shelf_failed (S.told shelf.old) (S.told shelf.new) result }
+        ensures cause { HasCause shelf_failed (S.faults shelf.old) (S.faults shelf.new) result }
+        ensures drawn { IfErr result (λ fault. random_failed fault ≡ false) }
+        ensures flight { result ≡ Ok Turn.More → FlightFits (S.told shelf.new) (repo_view source.new) (D.told depot.new) store.new self.new }
+        ensures name { self.new.named ≡ self.old.named }
+    {
+        let mut comparison = comparison;
+        match compare_item(source, shelf, store, depot, &mut comparison)? {
+            Compared::More => {
+                self.work = Work::Comparing(comparison);
+                Ok(Turn::More)
+            }
+            Compared::Equal => present(store, depot),
+            Compared::Differs => Err(taken(self.alloc, self.named.name.as_slice())),
+        }
+    }
+
+    /// Begins to compare.
+    #[tactic(auto, using(crate::proofs::FaultLemmas::conversions))]
+    fn begin_comparing<S: Shelf, D: Depot>(
+        &self,
+        source: &mut Repo,
+        shelf: &mut S,
+        store: &mut Store,
+        depot: &mut D,
+    ) -> Result<Comparison, CarryFault>
+        requires source_fits { IfSome (S.told shelf.old) (λ t. FitsRepo (told_files t) (repo_view source.old) (cached_in source.old)) }
+        requires fits { IfSome (D.told depot.old) (λ t. StoreFits false store.old t.history) }
+        requires flight { FlightStands (repo_view source.old) self.now }
+        requires there { IsSome (archive_named self.now.named.name (repo_view store.old.repo).manifest.archives) }
+        ensures works { Works (KeepsGrowing store.old) (λ _. Grows store.old store.new)
+            (D.told depot.old) (D.told depot.new) (D.faults depot.old) (D.faults depot.new) result }
+        ensures read { ReadsStore store.old store.new }
+        ensures comparison { IfOk result (λ comparison. FitsTold (S.told shelf.new) (repo_view source.new) (D.told depot.new) (repo_view store.new.repo)
+            (comparison_view comparison)) }
+        ensures name { IfOk result (λ comparison. (comparison_view comparison).name ≡ self.now.named.name) }
+        ensures fits { IfSome (D.told depot.new) (λ t. StoreFits false store.new t.history) }
+        ensures source_fits { IfSome (S.told shelf.new) (λ t. FitsRepo (told_files t) (repo_view source.new) (cached_in source.new)) }
+        ensures kept { repo_view source.new ≡ repo_view source.old }
+        ensures same { KeepsTold shelf_failed (S.told shelf.old) (S.told shelf.new) result }
+        ensures cause { HasCause shelf_failed (S.faults shelf.old) (S.faults shelf.new) result }
+        ensures drawn { IfErr result (λ fault. random_failed fault ≡ false) }
+    {
+        let name = self.named.name.as_slice();
+        let comparison = Comparison::begin(self.alloc, source, shelf, store.repo(), depot, name)?;
+        Ok(comparison)
+    }
+}
+
+/// Compares one further item, and answers what the comparison says.
+#[tactic(auto, using(crate::proofs::FaultLemmas::conversions))]
+fn compare_item<S: Shelf, D: Depot>(
+    source: &mut Repo,
+    shelf: &mut S,
+    store: &mut Store,
+    depot: &mut D,
+    comparison: &mut Comparison,
+) -> Result<Compared, CarryFault>
+    requires source_fits { IfSome (S.told shelf.old) (λ t. FitsRepo (told_files t) (repo_view source.old) (cached_in source.old)) }
+    requires fits { IfSome (D.told depot.old) (λ t. StoreFits false store.old t.history) }
+    requires comparison { FitsTold (S.told shelf.old) (repo_view source.old) (D.told depot.old) (repo_view store.old.repo) (comparison_view comparison.old) }
+    ensures works { Works (KeepsGrowing store.old) (λ _. Grows store.old store.new)
+        (D.told depot.old) (D.told depot.new) (D.faults depot.old) (D.faults depot.new) result }
+    ensures read { ReadsStore store.old store.new }
+    ensures comparison { result ≡ Ok Compared.More → FitsTold (S.told shelf.new) (repo_view source.new) (D.told depot.new) (repo_view store.new.repo)
+        (comparison_view comparison.new) }
+    ensures name { (comparison_view comparison.new).name ≡ (comparison_view comparison.old).name }
+    ensures equal { result ≡ Ok Compared.Equal → AreEqual (S.told shelf.old) (repo_view source.old) (D.told depot.old) (repo_view store.old.repo)
+        (comparison_view comparison.old).name }
+    ensures differs { result ≡ Ok Compared.Differs → Differ (S.told shelf.old) (repo_view source.old) (D.told depot.old) (repo_view store.old.repo)
+        (comparison_view comparison.old).name }
+    ensures fits { IfSome (D.told depot.new) (λ t. StoreFits false store.new t.history) }
+    ensures source_fits { IfSome (S.told shelf.new) (λ t. FitsRepo (told_files t) (repo_view source.new) (cached_in source.new)) }
+    ensures kept { repo_view source.new ≡ repo_view source.old }
+    ensures same { KeepsTold shelf_failed (S.told shelf.old) (S.told shelf.new) result }
+    ensures cause { HasCause shelf_failed (S.faults shelf.old) (S.faults shelf.new) result }
+    ensures drawn { IfErr result (λ fault. random_failed fault ≡ false) }
+{
+    let compared = comparison.step(source, shelf, store.repo(), depot)?;
+    Ok(compared)
+}
+
+/// Answers that an archive is there, with nothing pending, so that each stop shows what was compared.
+fn present<D: Depot>(store: &mut Store, depot: &mut D) -> Result<Turn, CarryFault>
+    requires unspent { IsUnspent store.old }
+    requires fits { IfSome (D.told depot.old) (λ t. StoreFits false store.old t.history) }
+    ensures works { Works (KeepsStanding store.old) (λ _. Gathers store.old [] store.new)
+        (D.told depot.old) (D.told depot.new) (D.faults depot.old) (D.faults depot.new) result }
+    ensures present { IfOk result (λ turn. turn ≡ Turn.Present) }
+    ensures pending { OnOk result (store.new.pending ≡ 0) }
+    ensures rest { OnOk result (KeepsRest store.old store.new) }
+    ensures fits { OnOk result (IfSome (D.told depot.new) (λ t. StoreFits false store.new t.history)) }
+    ensures unspent { OnOk result (IsUnspent store.new) }
+    ensures drawn { IfErr result (λ fault. random_failed fault ≡ false) }
+    ensures shelf { IfErr result (λ fault. shelf_failed fault ≡ false) }
+{
+    if store.pending() == 0 {
+        return Ok(Turn::Present);
+    }
+    commit_pieces(store, depot)?;
+    Ok(Turn::Present)
+}
+
+/// That a name is taken.
+fn taken(alloc: Global, name: &[u8]) -> CarryFault
+    ensures taken { (result ≡ CarryFault.Taken name.now) ⊎ (result ≡ CarryFault.Memory) }
+{
+    match copy_bytes(alloc, name) {
+        Ok(name) => CarryFault::Taken(name),
+        Err(_) => CarryFault::Memory,
+    }
+}
+
+/// A copy of bytes.
+fn copy_bytes(alloc: Global, bytes: &[u8]) -> Result<Bytes, AllocError>
+    ensures bytes { IfOk result (λ copy. copy ≡ bytes.now) }
+{
+    Ok(Bytes::new(Vec::from_slice(alloc, bytes)?))
+}
+
+/// A copy of a time, where there is one.
+fn copy_time(alloc: Global, time: &Option<Bytes>) -> Result<Option<Bytes>, AllocError>
+    ensures time { IfOk result (λ copy. copy ≡ time.now) }
+{
+    match time {
+        Some(time) => Ok(Some(copy_bytes(alloc, time.as_slice())?)),
+        None => Ok(None),
+    }
+}
+
+/// A copy of how archives are copied.
+fn copy_options(alloc: Global, options: &Options) -> Result<Options, AllocError>
+    ensures options { IfOk result (λ copy. copy ≡ options.now) }
+{
+    Ok(Options {
+        block: options.block,
+        checkpoint: options.checkpoint,
+        timestamp: copy_time(alloc, &options.timestamp)?,
+    })
+}
+
+/// A copy of the entry of a name among these, none where no entry has it.
+#[tactic(auto, unfolding(ferry_repo::specs::Archives::archive_named))]
+fn entry_named(
+    alloc: Global,
+    archives: &[ArchiveRef],
+    name: &[u8],
+) -> Result<Option<ArchiveRef>, AllocError>
+    ensures entry { IfOk result (λ entry. entry ≡ archive_named name.now archives.now) }
+{
+    for place in 0..archives.len() {
+        if archives[place].name.as_slice() == name {
+            return Ok(Some(copy_entry(alloc, &archives[place])?));
+        }
+    }
+    Ok(None)
+}
+
+/// A copy of an entry.
+fn copy_entry(alloc: Global, entry: &ArchiveRef) -> Result<ArchiveRef, AllocError>
+    ensures entry { IfOk result (λ copy. copy ≡ entry.now) }
+{
+    let name = copy_bytes(alloc, entry.name.as_slice())?;
+    let time = copy_bytes(alloc, entry.time.as_slice())?;
+    Ok(ArchiveRef {
+        name,
+        id: entry.id,
+        time,
+    })
+}

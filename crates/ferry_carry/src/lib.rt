@@ -1,0 +1,21 @@
+//! Archives that are copied from one repository into another, with its own key and its own block size.
+//!
+//! A `Flight` copies one archive, an item a turn, or compares it where the target has its name; `carry` does so for each chosen name in
+//! order, and tells what it did. What a stop of the machine leaves at any moment opens, with each archive that was told. The formats are
+//! those of BorgBackup 1.2 (Internals, "Data structures and file formats").
+#![tactic(auto)]
+
+mod chosen;
+mod copy;
+mod fault;
+mod flight;
+mod lines;
+mod naming;
+mod options;
+mod piece;
+mod time;
+
+pub use chosen::{carry, missing_name};
+pub use fault::CarryFault;
+pub use flight::{Flight, Turn};
+pub use options::{Carried, Options};

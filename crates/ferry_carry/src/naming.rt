@@ -1,0 +1,368 @@
+//! The end of an archive: its record, its name in the manifest, and the commit of both.
+ghost use Rattle.std.specs.Prelude.{◌≡◌, ◌≤◌, ◌∷◌, ◌++◌, [], ℕ, List, None, Ok, false, length, map, option_map, IfErr, IfOk, IfSome, OnOk};
+ghost use Rattle.ferry_base.specs.Limits.{content_limit};
+ghost use Rattle.ferry_blob.specs.Blob.{content_id};
+ghost use Rattle.ferry_carry.specs.Copying.{IsReady};
+ghost use Rattle.ferry_carry.specs.Fault.{random_failed, shelf_failed, target_failed};
+ghost use Rattle.ferry_carry.specs.Gather.{Gathers, KeepsRest, KeepsStanding, chunks_of};
+ghost use Rattle.ferry_carry.specs.Grow.{AcceptsMore, Grows, KeepsGrowing, KeepsMost};
+ghost use Rattle.ferry_carry.specs.Naming.{IsRecord, copied_archive, entry_for, fixed_params};
+ghost use Rattle.ferry_msgpack.specs.View.{value_view};
+ghost use Rattle.ferry_carry.specs.Work.{Works};
+ghost use Rattle.ferry_disk.specs.Device.{HasCause};
+ghost use Rattle.ferry_manifest.specs.Manifest.Writing.{IsPackable};
+ghost use Rattle.ferry_manifest.specs.Record.Text.{archive_of, archive_view, as_tagged};
+ghost use Rattle.ferry_manifest.specs.Record.Writing.{IsPackableArchive};
+ghost use Rattle.ferry_next.specs.Next.{next_manifest, written_at};
+ghost use Rattle.ferry_rechunk.specs.Cut.{cut};
+ghost use Rattle.ferry_repo.specs.Archives.{archive_named};
+ghost use Rattle.ferry_repo.specs.Opening.{repo_view};
+ghost use Rattle.ferry_store.specs.Commit.{accepted_in};
+ghost use Rattle.ferry_store.specs.Standing.{with_manifest};
+ghost use Rattle.ferry_store.specs.Store.{IsUnspent, StoreFits};
+
+use crate::copy::Copy;
+use crate::fault::CarryFault;
+use crate::options::Carried;
+use crate::piece::{PieceWriter, add};
+use crate::time::time_for;
+use ferry_base::{Bytes, Id};
+use ferry_disk::{Depot, Entropy};
+use ferry_item::ChunkRef;
+use ferry_mac::Keys;
+use ferry_manifest::{Archive, ArchiveRef, Ids, MetaFault, write_archive};
+use ferry_msgpack::Value;
+use ferry_repo::Repo;
+use ferry_store::Store;
+use std::alloc::{AllocError, Global};
+
+/// The ids of chunks.
+fn ids_of(alloc: Global, chunks: &[ChunkRef]) -> Result<Ids, AllocError>
+    ensures ids { IfOk result (λ ids. ids ≡ map (λ chunk. chunk.id) chunks.now) }
+{
+    let mut ids = Vec::with_capacity(alloc, chunks.len())?;
+    for place in 0..chunks.len() {
+        let id = chunks[place].id;
+        ids.push(id)?;
+    }
+    Ok(Ids::new(ids))
+}
+
+/// The parameters of a chunker that cuts pieces of `block` bytes: its name, the length, and that of a header.
+fn fixed_params(alloc: Global, block: usize) -> Result<Value, AllocError>
+    ensures params { IfOk result (λ params. value_view params ≡ fixed_params block) }
+{
+    let mut params = Vec::with_capacity(alloc, 3)?;
+    params.push(Value::Raw(Vec::from_slice(alloc, b"fixed")?))?;
+    params.push(Value::Number(block as i128))?;
+    params.push(Value::Number(0))?;
+    Ok(Value::Array(params))
+}
+
+/// The record of an archive whose stream has these pieces.
+fn copied_archive(
+    alloc: Global,
+    archive: Archive,
+    block: usize,
+    pieces: &[ChunkRef],
+) -> Result<Archive, AllocError>
+    requires packable { IsPackableArchive (archive_view archive) }
+    ensures archive { IfOk result (λ copied. archive_view copied
+        ≡ copied_archive (archive_view archive) block (map (λ chunk. chunk.id) pieces.now)) }
+    ensures packable { IfOk result (λ copied. IsPackableArchive (archive_view copied)) }
+{
+    Ok(Archive {
+        name: archive.name,
+        items: ids_of(alloc, pieces)?,
+        params: Some(fixed_params(alloc, block)?),
+        fields: archive.fields,
+        tagged: true,
+    })
+}
+
+/// The packed bytes of a record.
+fn record_text(
+    alloc: Global,
+    keys: &Keys,
+    archive: &Archive,
+    salt: &[u8; 64],
+) -> Result<Vec<u8>, CarryFault>
+    requires packable { IsPackableArchive (archive_view archive.now) }
+    ensures reads { IfOk result (λ text. archive_of keys.now text.items ≡ Ok (as_tagged (archive_view archive.now))) }
+    ensures small { IfOk result (λ text. length text.items ≤ content_limit) }
+    ensures shelf { IfErr result (λ fault. shelf_failed fault ≡ false) }
+    ensures still { IfErr result (λ fault. target_failed fault ≡ false) }
+    ensures drawn { IfErr result (λ fault. random_failed fault ≡ false) }
+{
+    match write_archive(alloc, keys, archive, salt) {
+        Ok(text) => Ok(text),
+        Err(MetaFault::TooLarge) => Err(CarryFault::Record),
+        Err(_) => Err(CarryFault::Memory),
+    }
+}
+
+/// The record of an archive, tagged with 64 random bytes.
+#[tactic(auto, using(crate::proofs::FaultLemmas::conversions))]
+fn tagged_record<E: Entropy>(
+    alloc: Global,
+    keys: &Keys,
+    entropy: &mut E,
+    archive: &Archive,
+) -> Result<Vec<u8>, CarryFault>
+    requires packable { IsPackableArchive (archive_view archive.now) }
+    ensures reads { IfOk result (λ text. archive_of keys.now text.items ≡ Ok (as_tagged (archive_view archive.now))) }
+    ensures small { IfOk result (λ text. length text.items ≤ content_limit) }
+    ensures shelf { IfErr result (λ fault. shelf_failed fault ≡ false) }
+    ensures still { IfErr result (λ fault. target_failed fault ≡ false) }
+    ensures entropy { HasCause random_failed (E.faults entropy.old) (E.faults entropy.new) result }
+{
+    let mut salt = [0u8; 64];
+    entropy.fill(&mut salt)?;
+    record_text(alloc, keys, archive, &salt)
+}
+
+/// Adds a record, and answers its id.
+fn add_record<D: Depot>(store: &mut Store, depot: &mut D, text: &[u8]) -> Result<Id, CarryFault>
+    requires size { length text.now ≤ content_limit }
+    requires unspent { IsUnspent store.old }
+    requires fits { IfSome (D.told depot.old) (λ t. StoreFits false store.old t.history) }
+    ensures works { Works (KeepsStanding store.old) (λ _. Gathers store.old (text.now ∷ []) store.new)
+        (D.told depot.old) (D.told depot.new) (D.faults depot.old) (D.faults depot.new) result }
+    ensures id { IfOk result (λ id. id ≡ content_id (repo_view store.old.repo).keys text.now) }
+    ensures rest { OnOk result (KeepsRest store.old store.new) }
+    ensures fits { OnOk result (IfSome (D.told depot.new) (λ t. StoreFits false store.new t.history)) }
+    ensures unspent { OnOk result (IsUnspent store.new) }
+    ensures drawn { IfErr result (λ fault. random_failed fault ≡ false) }
+    ensures shelf { IfErr result (λ fault. shelf_failed fault ≡ false) }
+{
+    let added = add(store, depot, text)?;
+    Ok(added.id)
+}
+
+/// The entry of an archive whose record has another id.
+fn entry_of(alloc: Global, named: &ArchiveRef, id: Id) -> Result<ArchiveRef, AllocError>
+    ensures entry { IfOk result (λ entry. entry ≡ entry_for named.now id) }
+{
+    let name = Bytes::new(Vec::from_slice(alloc, named.name.as_slice())?);
+    let time = Bytes::new(Vec::from_slice(alloc, named.time.as_slice())?);
+    Ok(ArchiveRef { name, id, time })
+}
+
+/// Makes the record of an archive, and adds it.
+#[tactic(auto, using(crate::proofs::FaultLemmas::conversions))]
+fn put_record<D: Depot, E: Entropy>(
+    alloc: Global,
+    store: &mut Store,
+    depot: &mut D,
+    entropy: &mut E,
+    archive: &Archive,
+) -> Result<Id, CarryFault>
+    requires packable { IsPackableArchive (archive_view archive.now) }
+    requires unspent { IsUnspent store.old }
+    requires fits { IfSome (D.told depot.old) (λ t. StoreFits false store.old t.history) }
+    ensures put { (text : List ℕ) × (Works (KeepsStanding store.old) (λ _. Gathers store.old (text ∷ []) store.new)
+        (D.told depot.old) (D.told depot.new) (D.faults depot.old) (D.faults depot.new) result
+        × IfOk result (λ id. (id ≡ content_id (repo_view store.old.repo).keys text)
+        × (archive_of (repo_view store.old.repo).keys text ≡ Ok (as_tagged (archive_view archive.now))))) }
+    ensures rest { OnOk result (KeepsRest store.old store.new) }
+    ensures fits { OnOk result (IfSome (D.told depot.new) (λ t. StoreFits false store.new t.history)) }
+    ensures unspent { OnOk result (IsUnspent store.new) }
+    ensures entropy { HasCause random_failed (E.faults entropy.old) (E.faults entropy.new) result }
+    ensures shelf { IfErr result (λ fault. shelf_failed fault ≡ false) }
+{
+    let text = tagged_record(alloc, store.keys(), entropy, archive)?;
+    add_record(store, depot, &text)
+}
+
+/// Makes the record of an archive whose stream has these pieces, and adds it.
+fn put_copied<D: Depot, E: Entropy>(
+    alloc: Global,
+    store: &mut Store,
+    depot: &mut D,
+    entropy: &mut E,
+    archive: Archive,
+    block: usize,
+    pieces: &[ChunkRef],
+) -> Result<Id, CarryFault>
+    requires packable { IsPackableArchive (archive_view archive) }
+    requires unspent { IsUnspent store.old }
+    requires fits { IfSome (D.told depot.old) (λ t. StoreFits false store.old t.history) }
+    ensures put { (text : List ℕ) × (Works (KeepsStanding store.old) (λ _. Gathers store.old (text ∷ []) store.new)
+        (D.told depot.old) (D.told depot.new) (D.faults depot.old) (D.faults depot.new) result
+        × IfOk result (λ id. IsRecord (repo_view store.old.repo).keys (archive_view archive) block pieces.now text id)) }
+    ensures rest { OnOk result (KeepsRest store.old store.new) }
+    ensures fits { OnOk result (IfSome (D.told depot.new) (λ t. StoreFits false store.new t.history)) }
+    ensures unspent { OnOk result (IsUnspent store.new) }
+    ensures entropy { HasCause random_failed (E.faults entropy.old) (E.faults entropy.new) result }
+    ensures shelf { IfErr result (λ fault. shelf_failed fault ≡ false) }
+{
+    let copied = copied_archive(alloc, archive, block, pieces)?;
+    put_record(alloc, store, depot, entropy, &copied)
+}
+
+/// Adds what is left of an archive's stream, and its record.
+fn end_stream<D: Depot, E: Entropy>(
+    alloc: Global,
+    store: &mut Store,
+    depot: &mut D,
+    entropy: &mut E,
+    archive: Archive,
+    block: usize,
+    stream: &mut PieceWriter,
+) -> Result<Id, CarryFault>
+    requires packable { IsPackableArchive (archive_view archive) }
+    requires least { 1 ≤ stream.old.cutter.block }
+    requires most { stream.old.cutter.block ≤ 8388608 }
+    requires within { length stream.old.cutter.piece ≤ stream.old.cutter.block }
+    requires unspent { IsUnspent store.old }
+    requires fits { IfSome (D.told depot.old) (λ t. StoreFits false store.old t.history) }
+    ensures ended { (text : List ℕ) × (Works (KeepsStanding store.old)
+        (λ _. Gathers store.old (cut stream.old.cutter.block stream.old.cutter.piece ++ text ∷ []) store.new)
+        (D.told depot.old) (D.told depot.new) (D.faults depot.old) (D.faults depot.new) result
+        × IfOk result (λ id. IsRecord (repo_view store.old.repo).keys (archive_view archive) block (stream.old.chunks.items
+        ++ chunks_of (repo_view store.old.repo).keys (cut stream.old.cutter.block stream.old.cutter.piece)) text id)) }
+    ensures rest { OnOk result (KeepsRest store.old store.new) }
+    ensures fits { OnOk result (IfSome (D.told depot.new) (λ t. StoreFits false store.new t.history)) }
+    ensures unspent { OnOk result (IsUnspent store.new) }
+    ensures entropy { HasCause random_failed (E.faults entropy.old) (E.faults entropy.new) result }
+    ensures shelf { IfErr result (λ fault. shelf_failed fault ≡ false) }
+{
+    let pieces = stream.finish(store, depot)?;
+    put_copied(alloc, store, depot, entropy, archive, block, &pieces)
+}
+
+/// Commits an archive whose record was added under its name.
+fn name_record<D: Depot, E: Entropy>(
+    alloc: Global,
+    source: &Repo,
+    store: &mut Store,
+    depot: &mut D,
+    entropy: &mut E,
+    named: &ArchiveRef,
+    id: Id,
+    timestamp: &Option<Bytes>,
+) -> Result<(), CarryFault>
+    requires unspent { IsUnspent store.old }
+    requires fits { IfSome (D.told depot.old) (λ t. StoreFits false store.old t.history) }
+    requires packable { IsPackable (accepted_in store.old) }
+    requires accepts { AcceptsMore store.old }
+    requires unnamed { archive_named named.now.name (accepted_in store.old).archives ≡ None }
+    ensures works { Works (KeepsGrowing store.old) (λ _. Grows store.old store.new)
+        (D.told depot.old) (D.told depot.new) (D.faults depot.old) (D.faults depot.new) result }
+    ensures most { OnOk result (KeepsMost store.old store.new) }
+    ensures named { OnOk result ((time : List ℕ) × (repo_view store.new.repo ≡ with_manifest (repo_view store.old.repo)
+        (written_at (next_manifest (accepted_in store.old) (entry_for named.now id) (repo_view source.now).manifest.item_keys) time))) }
+    ensures accepted { OnOk result (accepted_in store.new ≡ (repo_view store.new.repo).manifest) }
+    ensures packable { OnOk result (IsPackable (accepted_in store.new)) }
+    ensures fits { OnOk result (IfSome (D.told depot.new) (λ t. StoreFits false store.new t.history)) }
+    ensures unspent { OnOk result (IsUnspent store.new) }
+    ensures entropy { HasCause random_failed (E.faults entropy.old) (E.faults entropy.new) result }
+    ensures shelf { IfErr result (λ fault. shelf_failed fault ≡ false) }
+{
+    let entry = entry_of(alloc, named, id)?;
+    let time = time_for(
+        alloc,
+        timestamp,
+        &source.manifest().timestamp,
+        &store.manifest().timestamp,
+    )?;
+    commit_named(source, store, depot, entropy, entry, &time)
+}
+
+/// Ends an archive all of whose items were copied: adds what is left of its stream and its record, and commits it under its name. It answers
+/// the pieces that were put for it.
+pub(crate) fn end_copy<D: Depot, E: Entropy>(
+    copy: Copy,
+    source: &Repo,
+    store: &mut Store,
+    depot: &mut D,
+    entropy: &mut E,
+    named: &ArchiveRef,
+    timestamp: &Option<Bytes>,
+) -> Result<Carried, CarryFault>
+    requires ready { IsReady copy }
+    requires unspent { IsUnspent store.old }
+    requires fits { IfSome (D.told depot.old) (λ t. StoreFits false store.old t.history) }
+    requires packable { IsPackable (accepted_in store.old) }
+    requires accepts { AcceptsMore store.old }
+    requires unnamed { archive_named named.now.name (accepted_in store.old).archives ≡ None }
+    ensures works { Works (KeepsGrowing store.old) (λ _. Grows store.old store.new)
+        (D.told depot.old) (D.told depot.new) (D.faults depot.old) (D.faults depot.new) result }
+    ensures most { OnOk result (KeepsMost store.old store.new) }
+    ensures accepted { OnOk result (accepted_in store.new ≡ (repo_view store.new.repo).manifest) }
+    ensures packable { OnOk result (IsPackable (accepted_in store.new)) }
+    ensures fits { OnOk result (IfSome (D.told depot.new) (λ t. StoreFits false store.new t.history)) }
+    ensures unspent { OnOk result (IsUnspent store.new) }
+    ensures entropy { HasCause random_failed (E.faults entropy.old) (E.faults entropy.new) result }
+    ensures shelf { IfErr result (λ fault. shelf_failed fault ≡ false) }
+{
+    let Copy {
+        alloc,
+        block,
+        archive,
+        contents,
+        stream,
+        ..
+    } = copy;
+    let mut stream = stream;
+    let id = end_stream(alloc, store, depot, entropy, archive, block, &mut stream)?;
+    name_record(alloc, source, store, depot, entropy, named, id, timestamp)?;
+    Ok(Carried::of_pieces(contents.put(), stream.put().0))
+}
+
+/// Accepts an archive whose record was added, and commits it.
+fn commit_named<D: Depot, E: Entropy>(
+    source: &Repo,
+    store: &mut Store,
+    depot: &mut D,
+    entropy: &mut E,
+    entry: ArchiveRef,
+    timestamp: &[u8],
+) -> Result<(), CarryFault>
+    requires unspent { IsUnspent store.old }
+    requires fits { IfSome (D.told depot.old) (λ t. StoreFits false store.old t.history) }
+    requires packable { IsPackable (accepted_in store.old) }
+    requires accepts { AcceptsMore store.old }
+    requires unnamed { archive_named entry.name (accepted_in store.old).archives ≡ None }
+    ensures works { Works (KeepsGrowing store.old) (λ _. Grows store.old store.new)
+        (D.told depot.old) (D.told depot.new) (D.faults depot.old) (D.faults depot.new) result }
+    ensures most { OnOk result (KeepsMost store.old store.new) }
+    ensures named { OnOk result (repo_view store.new.repo ≡ with_manifest (repo_view store.old.repo)
+        (written_at (next_manifest (accepted_in store.old) entry (repo_view source.now).manifest.item_keys) timestamp.now)) }
+    ensures accepted { OnOk result (accepted_in store.new ≡ (repo_view store.new.repo).manifest) }
+    ensures packable { OnOk result (IsPackable (accepted_in store.new)) }
+    ensures fits { OnOk result (IfSome (D.told depot.new) (λ t. StoreFits false store.new t.history)) }
+    ensures unspent { OnOk result (IsUnspent store.new) }
+    ensures entropy { HasCause random_failed (E.faults entropy.old) (E.faults entropy.new) result }
+    ensures shelf { IfErr result (λ fault. shelf_failed fault ≡ false) }
+{
+    store.name_archive(entry, source.manifest().item_keys.as_slice())?;
+    commit(store, depot, entropy, timestamp)
+}
+
+/// Commits what was put and what was accepted.
+#[tactic(auto, using(crate::proofs::FaultLemmas::conversions))]
+fn commit<D: Depot, E: Entropy>(
+    store: &mut Store,
+    depot: &mut D,
+    entropy: &mut E,
+    timestamp: &[u8],
+) -> Result<(), CarryFault>
+    requires unspent { IsUnspent store.old }
+    requires fits { IfSome (D.told depot.old) (λ t. StoreFits false store.old t.history) }
+    requires packable { IsPackable (accepted_in store.old) }
+    requires accepts { AcceptsMore store.old }
+    ensures works { Works (KeepsGrowing store.old) (λ _. Grows store.old store.new)
+        (D.told depot.old) (D.told depot.new) (D.faults depot.old) (D.faults depot.new) result }
+    ensures most { OnOk result (KeepsMost store.old store.new) }
+    ensures committed { OnOk result (repo_view store.new.repo ≡ with_manifest (repo_view store.old.repo) (written_at (accepted_in store.old) timestamp.now)) }
+    ensures accepted { OnOk result (accepted_in store.new ≡ (repo_view store.new.repo).manifest) }
+    ensures packable { OnOk result (IsPackable (accepted_in store.new)) }
+    ensures fits { OnOk result (IfSome (D.told depot.new) (λ t. StoreFits false store.new t.history)) }
+    ensures unspent { OnOk result (IsUnspent store.new) }
+    ensures entropy { HasCause random_failed (E.faults entropy.old) (E.faults entropy.new) result }
+    ensures shelf { IfErr result (λ fault. shelf_failed fault ≡ false) }
+{
+    store.commit(depot, entropy, timestamp)?;
+    Ok(())
+}

@@ -1,0 +1,290 @@
+//! Bytes that are cut into pieces, each of which is added to a store.
+ghost use Rattle.std.specs.Prelude.{◌≡◌, ◌≤◌, ◌<◌, ◌+◌, ◌++◌, ◌∷◌, [], ℕ, List, false, length, IfErr, IfOk, IfSome, OnOk};
+ghost use Rattle.ferry_base.specs.Limits.{content_limit};
+ghost use Rattle.ferry_blob.specs.Blob.{content_id};
+ghost use Rattle.ferry_carry.specs.Fault.{random_failed, shelf_failed};
+ghost use Rattle.ferry_carry.specs.Gather.{Gathers, KeepsRest, KeepsStanding, chunk_of, chunks_of};
+ghost use Rattle.ferry_carry.specs.Piece.{WritesOn};
+ghost use Rattle.ferry_carry.specs.Work.{Works};
+ghost use Rattle.ferry_rechunk.specs.Cut.{cut};
+ghost use Rattle.ferry_repo.specs.Opening.{repo_view};
+ghost use Rattle.ferry_store.specs.Store.{IsUnspent, StoreFits};
+
+use crate::fault::CarryFault;
+use ferry_disk::Depot;
+use ferry_item::ChunkRef;
+use ferry_rechunk::Cutter;
+use ferry_store::{Added, Store};
+use std::alloc::{AllocError, Global};
+use std::mem;
+
+/// How many bytes of a blob stand before its content.
+const HEAD: u64 = 43;
+
+/// Adds a piece, behind a checkpoint where so many are pending that none more may be put before.
+fn add_piece<D: Depot>(
+    store: &mut Store,
+    depot: &mut D,
+    checkpoint: u64,
+    piece: &[u8],
+) -> Result<Added, CarryFault>
+    requires size { length piece.now ≤ content_limit }
+    requires unspent { IsUnspent store.old }
+    requires fits { IfSome (D.told depot.old) (λ t. StoreFits false store.old t.history) }
+    ensures works { Works (KeepsStanding store.old) (λ _. Gathers store.old (piece.now ∷ []) store.new)
+        (D.told depot.old) (D.told depot.new) (D.faults depot.old) (D.faults depot.new) result }
+    ensures id { IfOk result (λ added. added.id ≡ content_id (repo_view store.old.repo).keys piece.now) }
+    ensures rest { OnOk result (KeepsRest store.old store.new) }
+    ensures fits { OnOk result (IfSome (D.told depot.new) (λ t. StoreFits false store.new t.history)) }
+    ensures unspent { OnOk result (IsUnspent store.new) }
+    ensures shelf { IfErr result (λ fault. shelf_failed fault ≡ false) }
+    ensures drawn { IfErr result (λ fault. random_failed fault ≡ false) }
+{
+    make_room(store, depot, checkpoint, piece)?;
+    add(store, depot, piece)
+}
+
+/// Commits what is pending, where the piece would be put and none more may be put before.
+fn make_room<D: Depot>(
+    store: &mut Store,
+    depot: &mut D,
+    checkpoint: u64,
+    piece: &[u8],
+) -> Result<(), CarryFault>
+    requires unspent { IsUnspent store.old }
+    requires fits { IfSome (D.told depot.old) (λ t. StoreFits false store.old t.history) }
+    ensures works { Works (KeepsStanding store.old) (λ _. Gathers store.old [] store.new)
+        (D.told depot.old) (D.told depot.new) (D.faults depot.old) (D.faults depot.new) result }
+    ensures rest { OnOk result (KeepsRest store.old store.new) }
+    ensures fits { OnOk result (IfSome (D.told depot.new) (λ t. StoreFits false store.new t.history)) }
+    ensures unspent { OnOk result (IsUnspent store.new) }
+    ensures shelf { IfErr result (λ fault. shelf_failed fault ≡ false) }
+    ensures drawn { IfErr result (λ fault. random_failed fault ≡ false) }
+{
+    if store.pending() < checkpoint || !store.would_put(piece) {
+        return Ok(());
+    }
+    commit_pieces(store, depot)
+}
+
+/// Commits the pieces that were put.
+#[tactic(auto, using(crate::proofs::FaultLemmas::conversions))]
+pub(crate) fn commit_pieces<D: Depot>(store: &mut Store, depot: &mut D) -> Result<(), CarryFault>
+    requires unspent { IsUnspent store.old }
+    requires fits { IfSome (D.told depot.old) (λ t. StoreFits false store.old t.history) }
+    ensures works { Works (KeepsStanding store.old) (λ _. Gathers store.old [] store.new)
+        (D.told depot.old) (D.told depot.new) (D.faults depot.old) (D.faults depot.new) result }
+    ensures rest { OnOk result (KeepsRest store.old store.new) }
+    ensures pending { OnOk result (store.new.pending ≡ 0) }
+    ensures fits { OnOk result (IfSome (D.told depot.new) (λ t. StoreFits false store.new t.history)) }
+    ensures unspent { OnOk result (IsUnspent store.new) }
+    ensures shelf { IfErr result (λ fault. shelf_failed fault ≡ false) }
+    ensures drawn { IfErr result (λ fault. random_failed fault ≡ false) }
+{
+    store.checkpoint(depot)?;
+    Ok(())
+}
+
+/// Adds a content.
+#[tactic(auto, using(crate::proofs::FaultLemmas::conversions))]
+pub(crate) fn add<D: Depot>(
+    store: &mut Store,
+    depot: &mut D,
+    content: &[u8],
+) -> Result<Added, CarryFault>
+    requires size { length content.now ≤ content_limit }
+    requires unspent { IsUnspent store.old }
+    requires fits { IfSome (D.told depot.old) (λ t. StoreFits false store.old t.history) }
+    ensures works { Works (KeepsStanding store.old) (λ _. Gathers store.old (content.now ∷ []) store.new)
+        (D.told depot.old) (D.told depot.new) (D.faults depot.old) (D.faults depot.new) result }
+    ensures id { IfOk result (λ added. added.id ≡ content_id (repo_view store.old.repo).keys content.now) }
+    ensures rest { OnOk result (KeepsRest store.old store.new) }
+    ensures fits { OnOk result (IfSome (D.told depot.new) (λ t. StoreFits false store.new t.history)) }
+    ensures unspent { OnOk result (IsUnspent store.new) }
+    ensures shelf { IfErr result (λ fault. shelf_failed fault ≡ false) }
+    ensures drawn { IfErr result (λ fault. random_failed fault ≡ false) }
+{
+    let added = store.add(depot, content)?;
+    Ok(added)
+}
+
+/// A writer of bytes into a store: it cuts them into pieces and adds each, and keeps the chunks that the pieces are.
+#[derive(Drop)]
+pub(crate) struct PieceWriter {
+    alloc: Global,
+    checkpoint: u64,
+    cutter: Cutter,
+    chunks: Vec<ChunkRef>,
+    put: u64,
+    bytes: u128,
+}
+
+impl PieceWriter {
+    /// A writer of pieces of `block` bytes.
+    pub(crate) fn new(
+        alloc: Global,
+        block: usize,
+        checkpoint: u64,
+    ) -> Result<PieceWriter, AllocError>
+        requires least { 64 ≤ block }
+        requires most { block ≤ 8388608 }
+        ensures block { IfOk result (λ writer. writer.cutter.block ≡ block) }
+        ensures piece { IfOk result (λ writer. writer.cutter.piece ≡ []) }
+        ensures chunks { IfOk result (λ writer. writer.chunks.items ≡ []) }
+    {
+        Ok(PieceWriter {
+            alloc,
+            checkpoint,
+            cutter: Cutter::new(alloc, block)?,
+            chunks: Vec::new(alloc),
+            put: 0,
+            bytes: 0,
+        })
+    }
+
+    /// How many pieces were put, and how many bytes they have.
+    pub(crate) fn put(&self) -> (u64, u128) {
+        (self.put, self.bytes)
+    }
+
+    /// Takes bytes, and adds each piece that becomes whole.
+    pub(crate) fn write<D: Depot>(
+        &mut self,
+        store: &mut Store,
+        depot: &mut D,
+        bytes: &[u8],
+    ) -> Result<(), CarryFault>
+        requires most { self.old.cutter.block ≤ 8388608 }
+        requires room { length self.old.cutter.piece < self.old.cutter.block }
+        requires unspent { IsUnspent store.old }
+        requires fits { IfSome (D.told depot.old) (λ t. StoreFits false store.old t.history) }
+        ensures written { (more : List (List ℕ)) × (Works (KeepsStanding store.old) (λ _. Gathers store.old more store.new)
+            (D.told depot.old) (D.told depot.new) (D.faults depot.old) (D.faults depot.new) result
+            × OnOk result (WritesOn (repo_view store.old.repo).keys self.old.cutter self.old.chunks.items bytes.now more
+            self.new.cutter self.new.chunks.items)) }
+        ensures rest { OnOk result (KeepsRest store.old store.new) }
+        ensures fits { OnOk result (IfSome (D.told depot.new) (λ t. StoreFits false store.new t.history)) }
+        ensures unspent { OnOk result (IsUnspent store.new) }
+        ensures shelf { IfErr result (λ fault. shelf_failed fault ≡ false) }
+        ensures drawn { IfErr result (λ fault. random_failed fault ≡ false) }
+    {
+        let mut rest = bytes;
+        loop {
+            let taken = self.cutter.feed(rest);
+            rest = &rest[taken..];
+            if self.cutter.full().is_none() {
+                return Ok(());
+            }
+            self.add(store, depot)?;
+        }
+    }
+
+    /// Adds the last piece, where it isn't empty, and answers the chunks of all pieces. The next bytes begin a new list.
+    pub(crate) fn finish<D: Depot>(
+        &mut self,
+        store: &mut Store,
+        depot: &mut D,
+    ) -> Result<Vec<ChunkRef>, CarryFault>
+        requires least { 1 ≤ self.old.cutter.block }
+        requires most { self.old.cutter.block ≤ 8388608 }
+        requires within { length self.old.cutter.piece ≤ self.old.cutter.block }
+        requires unspent { IsUnspent store.old }
+        requires fits { IfSome (D.told depot.old) (λ t. StoreFits false store.old t.history) }
+        ensures works { Works (KeepsStanding store.old) (λ _. Gathers store.old (cut self.old.cutter.block self.old.cutter.piece) store.new)
+            (D.told depot.old) (D.told depot.new) (D.faults depot.old) (D.faults depot.new) result }
+        ensures chunks { IfOk result (λ chunks. chunks.items
+            ≡ self.old.chunks.items ++ chunks_of (repo_view store.old.repo).keys (cut self.old.cutter.block self.old.cutter.piece)) }
+        ensures begun { OnOk result ((self.new.cutter.piece ≡ []) × (self.new.chunks.items ≡ [])) }
+        ensures block { self.new.cutter.block ≡ self.old.cutter.block }
+        ensures rest { OnOk result (KeepsRest store.old store.new) }
+        ensures fits { OnOk result (IfSome (D.told depot.new) (λ t. StoreFits false store.new t.history)) }
+        ensures unspent { OnOk result (IsUnspent store.new) }
+        ensures shelf { IfErr result (λ fault. shelf_failed fault ≡ false) }
+        ensures drawn { IfErr result (λ fault. random_failed fault ≡ false) }
+    {
+        self.add_last(store, depot)?;
+        Ok(mem::replace(&mut self.chunks, Vec::new(self.alloc)))
+    }
+
+    /// Adds the piece in hand, where it isn't empty.
+    fn add_last<D: Depot>(&mut self, store: &mut Store, depot: &mut D) -> Result<(), CarryFault>
+        requires least { 1 ≤ self.old.cutter.block }
+        requires most { self.old.cutter.block ≤ 8388608 }
+        requires within { length self.old.cutter.piece ≤ self.old.cutter.block }
+        requires unspent { IsUnspent store.old }
+        requires fits { IfSome (D.told depot.old) (λ t. StoreFits false store.old t.history) }
+        ensures works { Works (KeepsStanding store.old) (λ _. Gathers store.old (cut self.old.cutter.block self.old.cutter.piece) store.new)
+            (D.told depot.old) (D.told depot.new) (D.faults depot.old) (D.faults depot.new) result }
+        ensures chunks { OnOk result (self.new.chunks.items
+            ≡ self.old.chunks.items ++ chunks_of (repo_view store.old.repo).keys (cut self.old.cutter.block self.old.cutter.piece)) }
+        ensures cleared { OnOk result (self.new.cutter.piece ≡ []) }
+        ensures block { self.new.cutter.block ≡ self.old.cutter.block }
+        ensures rest { OnOk result (KeepsRest store.old store.new) }
+        ensures fits { OnOk result (IfSome (D.told depot.new) (λ t. StoreFits false store.new t.history)) }
+        ensures unspent { OnOk result (IsUnspent store.new) }
+        ensures shelf { IfErr result (λ fault. shelf_failed fault ≡ false) }
+        ensures drawn { IfErr result (λ fault. random_failed fault ≡ false) }
+    {
+        if self.cutter.last().is_none() {
+            return Ok(());
+        }
+        self.add(store, depot)
+    }
+
+    /// Adds the piece in hand, and begins the next one.
+    fn add<D: Depot>(&mut self, store: &mut Store, depot: &mut D) -> Result<(), CarryFault>
+        requires most { self.old.cutter.block ≤ 8388608 }
+        requires within { length self.old.cutter.piece ≤ self.old.cutter.block }
+        requires piece { 1 ≤ length self.old.cutter.piece }
+        requires unspent { IsUnspent store.old }
+        requires fits { IfSome (D.told depot.old) (λ t. StoreFits false store.old t.history) }
+        ensures works { Works (KeepsStanding store.old) (λ _. Gathers store.old (self.old.cutter.piece ∷ []) store.new)
+            (D.told depot.old) (D.told depot.new) (D.faults depot.old) (D.faults depot.new) result }
+        ensures chunks { OnOk result (self.new.chunks.items ≡ self.old.chunks.items
+            ++ chunk_of (repo_view store.old.repo).keys self.old.cutter.piece ∷ []) }
+        ensures cleared { OnOk result (self.new.cutter.piece ≡ []) }
+        ensures block { self.new.cutter.block ≡ self.old.cutter.block }
+        ensures rest { OnOk result (KeepsRest store.old store.new) }
+        ensures fits { OnOk result (IfSome (D.told depot.new) (λ t. StoreFits false store.new t.history)) }
+        ensures unspent { OnOk result (IsUnspent store.new) }
+        ensures shelf { IfErr result (λ fault. shelf_failed fault ≡ false) }
+        ensures drawn { IfErr result (λ fault. random_failed fault ≡ false) }
+    {
+        let Some(piece) = self.cutter.last() else {
+            return Ok(());
+        };
+        let size = piece.len() as u64;
+        let added = add_piece(store, depot, self.checkpoint, piece)?;
+        self.note(added, size)?;
+        self.cutter.clear();
+        Ok(())
+    }
+
+    /// Notes the chunk of a piece that was added.
+    fn note(&mut self, added: Added, size: u64) -> Result<(), AllocError>
+        requires small { size ≤ content_limit }
+        ensures chunks { OnOk result (self.new.chunks.items ≡ self.old.chunks.items
+            ++ record { id = added.id; size = size; csize = 43 + size } ∷ []) }
+        ensures cutter { self.new.cutter ≡ self.old.cutter }
+    {
+        let id = added.id;
+        self.chunks.push(ChunkRef {
+            id,
+            size,
+            csize: HEAD + size,
+        })?;
+        self.count(added.new, size);
+        Ok(())
+    }
+
+    /// Counts a piece, where it was put.
+    fn count(&mut self, new: bool, size: u64)
+        ensures chunks { self.new.chunks ≡ self.old.chunks }
+        ensures cutter { self.new.cutter ≡ self.old.cutter }
+    {
+        if new {
+            self.put = self.put.saturating_add(1);
+            self.bytes = self.bytes.saturating_add(u128::from(size));
+        }
+    }
+}

@@ -1,0 +1,10 @@
+pub mod FaultLemmas
+pub mod SameLemmas
+pub mod WalkLemmas
+pub mod ReadLemmas
+pub mod BeginLemmas
+pub mod StepLemmas
+pub mod CursorLemmas
+pub mod ContentLemmas
+pub mod PassLemmas
+pub mod KeptLemmas

@@ -1,0 +1,4 @@
+pub mod Compare
+pub mod Fault
+pub mod Same
+pub mod Steps

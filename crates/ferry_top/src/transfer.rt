@@ -1,0 +1,150 @@
+//! The command that copies archives.
+ghost use Rattle.std.specs.Prelude.{◌≡◌, ℕ, [], false, IfErr, IfSome};
+ghost use Rattle.ferry_carry.specs.Fault.{random_failed, shelf_failed, target_failed as depot_failed};
+ghost use Rattle.ferry_carry.specs.Flight.{AreRight};
+ghost use Rattle.ferry_carry.specs.Work.{Works};
+ghost use Rattle.ferry_disk.specs.Device.{HasCause, KeepsTold, KeptWhere, RoseWhere, heard, told_files};
+ghost use Rattle.ferry_disk.specs.Faults.{FailedWhere};
+ghost use Rattle.ferry_disk.specs.Moments.{Between};
+ghost use Rattle.ferry_repo.specs.Opening.{FitsRepo, cached_in, repo_view};
+ghost use Rattle.ferry_top.specs.Status.{entropy_failed, output_failed, source_failed, target_failed};
+ghost use Rattle.ferry_top.specs.Transfer.{TransferEach};
+
+use crate::status::{Secrets, Status, of_carry, of_repo};
+use ferry_base::Bytes;
+use ferry_carry::{CarryFault, Options, carry, missing_name};
+use ferry_disk::{Depot, Entropy, Shelf};
+use ferry_repo::{Repo, Secret};
+use ferry_store::Store;
+use std::alloc::{AllocError, Global};
+
+/// Copies the chosen archives of the source into the target, all of them where no name is chosen.
+#[tactic(auto, using(crate::proofs::StatusLemmas::carried))]
+pub(crate) fn transfer<S: Shelf, D: Depot, E: Entropy>(
+    alloc: Global,
+    secrets: &Secrets,
+    options: &Options,
+    names: &[Bytes],
+    source: &mut S,
+    target: &mut D,
+    entropy: &mut E,
+) -> Status
+    requires options { AreRight options.now }
+    requires begun { IfSome (D.told target.old) (λ t. t.history.acts ≡ []) }
+    ensures each { Between (D.told target.old) (D.told target.new) (TransferEach secrets.now.target) }
+    ensures same { KeptWhere (source_failed result) (heard (S.told source.old)) (S.told source.new) }
+    ensures cause { RoseWhere (source_failed result) (S.faults source.old) (S.faults source.new) }
+    ensures ends { FailedWhere (target_failed result) (D.told target.old) (D.told target.new) }
+    ensures target_cause { RoseWhere (target_failed result) (D.faults target.old) (D.faults target.new) }
+    ensures entropy { RoseWhere (entropy_failed result) (E.faults entropy.old) (E.faults entropy.new) }
+    ensures quiet { output_failed result ≡ false }
+    ensures used { (n : ℕ) → result ≡ Status.Usage n → ⊥ }
+{
+    match copy(alloc, secrets, options, names, source, target, entropy) {
+        Ok(()) => Status::Done,
+        Err(fault) => of_carry(fault),
+    }
+}
+
+/// Opens the source, looks the names up, opens the target and copies.
+#[tactic(auto, using(ferry_carry::proofs::FaultLemmas::conversions))]
+fn copy<S: Shelf, D: Depot, E: Entropy>(
+    alloc: Global,
+    secrets: &Secrets,
+    options: &Options,
+    names: &[Bytes],
+    source: &mut S,
+    target: &mut D,
+    entropy: &mut E,
+) -> Result<(), CarryFault>
+    requires options { AreRight options.now }
+    requires begun { IfSome (D.told target.old) (λ t. t.history.acts ≡ []) }
+    ensures works { Works (TransferEach secrets.now.target) (λ _ h g. Unit {0})
+        (D.told target.old) (D.told target.new) (D.faults target.old) (D.faults target.new) result }
+    ensures same { KeepsTold shelf_failed (S.told source.old) (S.told source.new) result }
+    ensures cause { HasCause shelf_failed (S.faults source.old) (S.faults source.new) result }
+    ensures entropy { HasCause random_failed (E.faults entropy.old) (E.faults entropy.new) result }
+{
+    let mut repo = Repo::open(alloc, source, &secrets.source)?;
+    let chosen = chosen_names(alloc, &repo, names)?;
+    find_names(alloc, &repo, &chosen)?;
+    copy_into(
+        alloc,
+        &mut repo,
+        source,
+        &secrets.target,
+        target,
+        entropy,
+        &chosen,
+        options,
+    )
+}
+
+/// Opens the target and copies the archives of these names.
+fn copy_into<S: Shelf, D: Depot, E: Entropy>(
+    alloc: Global,
+    repo: &mut Repo,
+    source: &mut S,
+    secret: &Secret,
+    target: &mut D,
+    entropy: &mut E,
+    names: &[Bytes],
+    options: &Options,
+) -> Result<(), CarryFault>
+    requires options { AreRight options.now }
+    requires begun { IfSome (D.told target.old) (λ t. t.history.acts ≡ []) }
+    requires source_fits { IfSome (S.told source.old) (λ t. FitsRepo (told_files t) (repo_view repo.old) (cached_in repo.old)) }
+    ensures works { Works (TransferEach secret.now) (λ _ h g. Unit {0})
+        (D.told target.old) (D.told target.new) (D.faults target.old) (D.faults target.new) result }
+    ensures same { KeepsTold shelf_failed (S.told source.old) (S.told source.new) result }
+    ensures cause { HasCause shelf_failed (S.faults source.old) (S.faults source.new) result }
+    ensures entropy { HasCause random_failed (E.faults entropy.old) (E.faults entropy.new) result }
+{
+    let mut store = Store::open(alloc, target, secret)?;
+    carry(
+        alloc, repo, source, &mut store, target, entropy, names, options,
+    )?;
+    Ok(())
+}
+
+/// Answers `NotFound` where the source lacks one of these names.
+fn find_names(alloc: Global, repo: &Repo, names: &[Bytes]) -> Result<(), CarryFault>
+    ensures shelf { IfErr result (λ fault. shelf_failed fault ≡ false) }
+    ensures still { IfErr result (λ fault. depot_failed fault ≡ false) }
+    ensures drawn { IfErr result (λ fault. random_failed fault ≡ false) }
+{
+    if let Some(place) = missing_name(repo, names) {
+        let name = Vec::from_slice(alloc, names[place].as_slice())?;
+        return Err(CarryFault::NotFound(Bytes::new(name)));
+    }
+    Ok(())
+}
+
+/// Copies of these names, or of those of all archives where there are none.
+fn chosen_names(alloc: Global, repo: &Repo, names: &[Bytes]) -> Result<Vec<Bytes>, AllocError> {
+    if names.is_empty() {
+        return archive_names(alloc, repo);
+    }
+    copies(alloc, names)
+}
+
+/// Copies of the names of all archives, in byte order.
+fn archive_names(alloc: Global, repo: &Repo) -> Result<Vec<Bytes>, AllocError> {
+    let archives = repo.manifest().archives.as_slice();
+    let mut chosen = Vec::new(alloc);
+    for place in 0..archives.len() {
+        let name = Vec::from_slice(alloc, archives[place].name.as_slice())?;
+        chosen.push(Bytes::new(name))?;
+    }
+    Ok(chosen)
+}
+
+/// Copies of names.
+fn copies(alloc: Global, names: &[Bytes]) -> Result<Vec<Bytes>, AllocError> {
+    let mut chosen = Vec::new(alloc);
+    for place in 0..names.len() {
+        let name = Vec::from_slice(alloc, names[place].as_slice())?;
+        chosen.push(Bytes::new(name))?;
+    }
+    Ok(chosen)
+}
