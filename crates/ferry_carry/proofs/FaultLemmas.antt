@@ -1,11 +1,12 @@
 -- Lemmas on specs/Fault.antt: whose device a fault is.
-use Rattle.std.proofs.Common.{◌≡◌, false, refl}
+use Rattle.std.proofs.Common.{◌≡◌, true, false, refl}
 use Rattle.ferry_repo.specs.Fault.{repo_failed}
 use Rattle.ferry_repo.specs.declared.fault.RepoFault.{RepoFault}
 use Rattle.ferry_repo.specs.declared.fault.RepoFault.TheVariants as Repos
 use Rattle.ferry_store.specs.Fault.{depot_failed, source_failed}
 use Rattle.ferry_store.specs.declared.fault.StoreRefusal.{StoreRefusal}
 use Rattle.ferry_store.specs.declared.fault.StoreRefusal.TheVariants as Stores
+use Rattle.ferry_carry.specs.Refusals.{is_target}
 use Rattle.ferry_carry.specs.Fault.{random_failed, shelf_failed, source_fault, target_failed, target_fault}
 
 pub failed_source : (fault : RepoFault) → shelf_failed (source_fault fault) ≡ repo_failed fault
@@ -86,4 +87,13 @@ failed_random Stores.TooLarge = refl
 failed_random Stores.Entropy = refl
 failed_random Stores.Memory = refl
 
-pub ruleset conversions = (failed_source, source_still, source_undrawn, failed_target, target_still, failed_random)
+pub target_is : (refusal : StoreRefusal) → is_target (target_fault refusal) ≡ true
+target_is (Stores.Repo fault) = refl
+target_is (Stores.Write fault) = refl
+target_is (Stores.Nonce fault) = refl
+target_is Stores.Committed = refl
+target_is Stores.TooLarge = refl
+target_is Stores.Entropy = refl
+target_is Stores.Memory = refl
+
+pub ruleset conversions = (failed_source, source_still, source_undrawn, failed_target, target_still, failed_random, target_is)

@@ -1,11 +1,13 @@
 -- Lemmas on specs/Flight.antt: a target that is only read, and what holds of a store of which nothing was named.
-use Rattle.std.proofs.Common.{◌≡◌, ◌≢◌, ◌⊎◌, inl, inr, ◌<◌, ℕ, Bool, true, false, List, [], ◌∷◌, Option, Some, None, Result, Ok, Err, IfSome, IsSome, OnOk}
-use Rattle.std.proofs.Common.{refl, sym, ◌∙◌, ap, subst}
+use Rattle.std.proofs.Common.{◌≡◌, ◌≢◌, inl, inr, ◌<◌, ℕ, Bool, true, false, List, [], ◌∷◌, Option, Some, None, Result, Ok, Err, IfSome, IsSome, OnOk}
+use Rattle.std.proofs.Common.{refl, sym, ◌∙◌, ap, subst, arith, ◌^◌, ◌-◌, ◌++◌, min, length}
+use Rattle.std.proofs.lemmas.List.{append-nil}
 use Rattle.std.proofs.lemmas.Slice.Eq.{bytes_eq-Decides}
 use Rattle.std.specs.FinMap.{get}
 use Rattle.std.specs.Str.{bytes_eq}
 use Rattle.ferry_base.specs.Limits.{zero_id}
-use Rattle.ferry_compare.specs.Fault.{source_failed, target_failed as other_failed}
+use Rattle.ferry_compare.specs.Compare.{AreEqual, Says}
+use Rattle.ferry_compare.specs.Fault.{target_failed as other_failed}
 use Rattle.ferry_compare.specs.declared.fault.CompareFault.{CompareFault}
 use Rattle.ferry_compare.specs.declared.fault.CompareFault.TheVariants as Compares
 use Rattle.ferry_disk.proofs.FaultLemmas.{keeps_end}
@@ -14,34 +16,41 @@ use Rattle.ferry_disk.specs.Act.{History, files_now}
 use Rattle.ferry_disk.specs.Device.{Told, HasCause, Heard, KeepsTold, KeptWhere, RoseWhere, failed_at, heard, heard_of, told_files}
 use Rattle.ferry_disk.specs.Faults.{FailedWhere}
 use Rattle.ferry_disk.specs.Moments.{Between}
+use Rattle.ferry_mac.specs.declared.keys.Keys.{Keys}
 use Rattle.ferry_manifest.specs.Manifest.Text.{ManifestText}
 use Rattle.ferry_manifest.specs.Manifest.Writing.{IsPackable}
 use Rattle.ferry_manifest.specs.declared.manifest.ArchiveRef.{ArchiveRef}
 use Rattle.ferry_repo.proofs.ArchiveLemmas.{archive_named-here, archive_named-none, archive_named-other}
 use Rattle.ferry_repo.specs.Archives.{archive_named}
+use Rattle.ferry_repo.specs.Objects.{HasBlob}
 use Rattle.ferry_repo.specs.Fault.{repo_failed}
 use Rattle.ferry_repo.specs.Opening.{FitsRepo, RepoState, cached_in, repo_view}
 use Rattle.ferry_repo.specs.declared.fault.RepoFault.{RepoFault}
 use Rattle.ferry_repo.specs.declared.fault.RepoFault.TheVariants as Repos
+use Rattle.ferry_repo.specs.Whole.{WholeArchive}
 use Rattle.ferry_repo.specs.declared.repo.Repo.{Repo}
+use Rattle.ferry_segment.specs.Entry.{LogEntry}
 use Rattle.ferry_store.proofs.StepLemmas.{done_here, same_told}
 use Rattle.ferry_store.specs.Commit.{accepted_in, accepted_or}
 use Rattle.ferry_store.specs.Content.{IsThere}
 use Rattle.ferry_store.specs.Fault.{depot_failed}
-use Rattle.ferry_store.specs.Standing.{CommitsManifest, HoldsLive, entries_of}
+use Rattle.ferry_store.specs.Standing.{CommitsManifest, HoldsLive, committed_of, entries_of, live_in}
 use Rattle.ferry_store.specs.Store.{IsKnown, IsUnspent, StoreFits}
 use Rattle.ferry_store.specs.declared.fault.StoreRefusal.TheVariants as Stores
 use Rattle.ferry_store.specs.declared.store.Store.{Store}
 use Rattle.ferry_write.specs.Room.{behind}
 use Rattle.ferry_write.specs.Script.{AllDone}
-use Rattle.ferry_carry.proofs.GrowLemmas.{growing_here, most_from}
-use Rattle.ferry_carry.specs.Fault.{compare_fault, random_failed, shelf_failed, target_failed}
-use Rattle.ferry_carry.specs.Flight.{IsCommitted, IsSettled, ReadsStore}
-use Rattle.ferry_carry.proofs.WorkLemmas.{grown_from, grown_from_err}
-use Rattle.ferry_carry.specs.Gather.{Gathers, KeepsRest, KeepsStanding}
-use Rattle.ferry_carry.specs.Grow.{AcceptsMore, Grown, Grows, KeepsGrowing, KeepsMost, KeepsNames}
+use Rattle.ferry_carry.proofs.CarryLemmas.{if_some, same_over}
+use Rattle.ferry_carry.proofs.CutLemmas.{cut_same}
+use Rattle.ferry_carry.proofs.GatherLemmas.{moved_here, stands_here}
+use Rattle.ferry_carry.proofs.GrowLemmas.{growing_by, most_from}
+use Rattle.ferry_carry.specs.Fault.{compare_fault, target_failed}
+use Rattle.ferry_carry.specs.Carrying.{CarriesOver, IsCarried, Origin, SaysIn, origin}
+use Rattle.ferry_carry.specs.Flight.{IsCommitted, IsSame, IsSettled, ReadsStore}
+use Rattle.ferry_carry.proofs.WorkLemmas.{between_known}
+use Rattle.ferry_carry.specs.Gather.{Gathered, Gathers, HoldsWithin, KeepsRest, KeepsStanding}
+use Rattle.ferry_carry.specs.Grow.{AcceptsMore, Grows, KeepsGrowing, KeepsNames}
 use Rattle.ferry_carry.specs.Work.{Works}
-use Rattle.ferry_carry.specs.declared.fault.CarryFault.{CarryFault}
 
 -- ---- faults of a comparison
 
@@ -115,26 +124,18 @@ read_fits counts store repo h same repo_fits fits = record {
   holds = subst (λ (r : RepoState). HoldsLive (files_now h) r.log (entries_of fits.written)) (sym same) fits.holds;
   manifest = subst (λ (r : RepoState). CommitsManifest r fits.written.committed) (sym same) fits.manifest;
   keeps = fits.keeps;
+  pending = fits.pending;
 }
 
-read_grows : (store : Store) (repo : Repo) (h g : History) → repo_view repo ≡ repo_view store.repo
-    → (g ≡ h) × FitsRepo (files_now g) (repo_view repo) (cached_in repo) → Grows store (with_repo store repo) h g
-read_grows store repo h g same reads counts fits =
-    subst (λ (k : History). FitsRepo (files_now k) (repo_view repo) (cached_in repo) → Grown counts store (with_repo store repo) h k fits) (sym reads.0)
-    (λ repo_fits. record {
-      fits_now = record {
-        written = fits.written;
-        under_way = fits.under_way;
-        repo = repo_fits;
-        below = subst (λ (r : RepoState). r.log.transaction < behind store.session.after) (sym same) fits.below;
-        there = λ id apart known.
-            subst (λ (r : RepoState). IsThere (files_now h) r id) (sym same) (fits.there id apart (known_with store repo id same known));
-        holds = subst (λ (r : RepoState). HoldsLive (files_now h) r.log (entries_of fits.written)) (sym same) fits.holds;
-        manifest = subst (λ (r : RepoState). CommitsManifest r fits.written.committed) (sym same) fits.manifest;
-        keeps = fits.keeps;
-      };
-      chunks = λ id blob apart live. live;
-      config = refl;
+read_gathers : (store : Store) (repo : Repo) (h g : History) → repo_view repo ≡ repo_view store.repo
+    → (g ≡ h) × FitsRepo (files_now g) (repo_view repo) (cached_in repo) → Gathers store [] (with_repo store repo) h g
+unfolding read_fits
+read_gathers store repo h g same reads counts fits =
+    subst (λ (k : History). FitsRepo (files_now k) (repo_view repo) (cached_in repo) → Gathered counts store [] (with_repo store repo) h k fits)
+    (sym reads.0) (λ repo_fits. record {
+      fits_now = read_fits counts store repo h same repo_fits fits;
+      moved = moved_here fits.written;
+      brings = λ scope apart all within. (subst (λ (r : RepoState). HoldsWithin scope (files_now h) r) (sym same) within, tt);
     }) reads.1
 
 -- a store fits after a call that read its repository
@@ -150,14 +151,14 @@ fits_read {T} store repo a b result same kept repo_fits fits = by_end b repo_fit
 -- such a call as a body of a flight
 pub works_read : {T U : Type 0} (store : Store) (repo : Repo) (a b : Option Told) (n m : ℕ) (x : T) (y : U) → repo_view repo ≡ repo_view store.repo
     → KeepsTold {F = CompareFault} other_failed a b (Ok x) → m ≡ n → IfSome b (λ t. FitsRepo (told_files t) (repo_view repo) (cached_in repo))
-    → Works (KeepsGrowing store) (λ (_ : U). Grows store (with_repo store repo)) a b n m (Ok y)
+    → Works (KeepsStanding store) (λ (_ : U). Gathers store [] (with_repo store repo)) a b n m (Ok y)
 works_read {T} {U} store repo a b n m x y same kept caused repo_fits =
     let reads : Between a b (λ h g. g ≡ h) = same_told {T = T} {F = CompareFault} other_failed a b (Ok x) kept in
     record {
-      each = between_map a b (λ h g. g ≡ h) (KeepsGrowing store) (λ h g e. subst (KeepsGrowing store h) (sym e) (growing_here store h)) reads;
+      each = between_map a b (λ h g. g ≡ h) (KeepsStanding store) (λ h g e. subst (KeepsStanding store h) (sym e) (stands_here store h)) reads;
       end = between_map a b (λ h g. (g ≡ h) × FitsRepo (files_now g) (repo_view repo) (cached_in repo))
-          (λ h g. AllDone h g × Grows store (with_repo store repo) h g)
-          (λ h g e. (subst (AllDone h) (sym e.0) (done_here h), read_grows store repo h g same e))
+          (λ h g. AllDone h g × Gathers store [] (with_repo store repo) h g)
+          (λ h g e. (subst (AllDone h) (sym e.0) (done_here h), read_gathers store repo h g same e))
           (between_end (λ h. FitsRepo (files_now h) (repo_view repo) (cached_in repo)) (λ h g. g ≡ h) a b repo_fits reads);
       ends = keeps_end {T = T} {F = CompareFault} other_failed a b (Ok x) kept;
       cause = caused;
@@ -165,15 +166,28 @@ works_read {T} {U} store repo a b n m x y same kept caused repo_fits =
 
 pub works_unread : {U : Type 0} (T : Type 0) (store now : Store) (a b : Option Told) (n m : ℕ) (fault : CompareFault)
     → KeepsTold {T = T} other_failed a b (Err fault) → HasCause {T = T} other_failed n m (Err fault)
-    → Works (KeepsGrowing store) (λ (_ : U). Grows store now) a b n m (Err (compare_fault fault))
+    → Works (KeepsStanding store) (λ (_ : U). Gathers store [] now) a b n m (Err (compare_fault fault))
 works_unread {U} T store now a b n m fault kept caused =
     let reads : Between a b (λ h g. g ≡ h) = same_told {T = T} {F = CompareFault} other_failed a b (Err fault) kept in
     record {
-      each = between_map a b (λ h g. g ≡ h) (KeepsGrowing store) (λ h g e. subst (KeepsGrowing store h) (sym e) (growing_here store h)) reads;
+      each = between_map a b (λ h g. g ≡ h) (KeepsStanding store) (λ h g e. subst (KeepsStanding store h) (sym e) (stands_here store h)) reads;
       end = tt;
       ends = subst (λ (d : Bool). FailedWhere d a b) (sym (compared_target fault)) (keeps_end {T = T} {F = CompareFault} other_failed a b (Err fault) kept);
       cause = subst (λ (d : Bool). RoseWhere d n m) (sym (compared_target fault)) caused;
     }
+
+-- what was compared is the same still
+pub same_read : {T : Type 0} (told a b : Option Told) (source : RepoState) (block : ℕ) (target now : RepoState) (name : List ℕ) (x : T) → now ≡ target
+    → KeepsTold {F = CompareFault} other_failed a b (Ok x) → AreEqual told source a target name → IsSame (origin told source block) b now name
+same_read {T} told a b source block target now name x same kept equal =
+    subst (λ (r : RepoState). IsSame (origin told source block) b r name) (sym same)
+    (by told b equal.first (known_read (λ h. Says (files_now h) target name equal.whole) other_failed a b (Ok x) kept equal.second)) where
+      by : (told b : Option Told) → IfSome told (λ t. Says (told_files t) source name equal.whole)
+          → IfSome b (λ t. Says (told_files t) target name equal.whole) → IsSame (origin told source block) b target name
+      by None None first second = tt
+      by None (Some d) first second = tt
+      by (Some t) None first second = tt
+      by (Some t) (Some d) first second = (equal.whole, (first, second))
 
 -- ---- what a store keeps that nothing was named in
 
@@ -217,12 +231,66 @@ pub on_ok : {T F : Type 0} {P Q : Type 0} (result : Result T F) → (P → Q) �
 on_ok (Ok x) step p = step p
 on_ok (Err fault) step p = tt
 
--- contents were added, which is a way to grow
-pub grown_so : {T : Type 0} (store now : Store) (contents : List (List ℕ)) (a b : Option Told) (n m : ℕ) (result : Result T CarryFault)
-    → Works (KeepsStanding store) (λ (_ : T). Gathers store contents now) a b n m result
-    → Works (KeepsGrowing store) (λ (_ : T). Grows store now) a b n m result
-grown_so {T} store now contents a b n m (Ok x) p = grown_from {T = T} {U = T} store now contents a b n m x x p
-grown_so {T} store now contents a b n m (Err fault) p = grown_from_err {T = T} {U = T} store now now contents a b n m fault p
+-- an archive that was there is carried once nothing is pending
+none_pending : (n m : ℕ) → n ≡ 0 → n ≡ min m (2 ^ 64 - 1) → m ≡ 0
+none_pending n m none is = omega (arith, none, is)
+
+no_entries : (entries : List LogEntry) → length entries ≡ 0 → entries ≡ []
+no_entries [] none = refl
+no_entries (e ∷ es) none = absurd (omega (arith, none))
+
+same_grows : (from : Origin) (name : List ℕ) (store now : Store) (h g : History) → AcceptsMore store → KeepsRest store now → now.pending ≡ 0
+    → IfSome from.files (λ there. (whole : WholeArchive)
+    × (SaysIn there from.repo name whole × SaysIn (files_now h) (repo_view store.repo) name whole))
+    → Gathers store [] now h g → Grows from (name ∷ []) store now h g
+same_grows from name store now h g accepts rest pending same gathers counts fits =
+    let end = gathers counts fits in
+    let written = end.fits_now.written in
+    let none : written.pending ≡ [] =
+    no_entries written.pending (none_pending now.pending (length written.pending) pending end.fits_now.pending) in
+    let all : entries_of written ≡ committed_of written =
+    ap (λ (es : List LogEntry). committed_of written ++ es) none ∙ append-nil (committed_of written) in
+    let lives : (id blob : List ℕ) → id ≢ zero_id → HasBlob (files_now h) (repo_view store.repo).log id blob
+    → live_in id (committed_of written) ≡ Some blob =
+    λ id blob apart has.
+    ap (live_in id) (sym all) ∙ end.moved.entries id blob ((fits.holds id blob apart).0 has) in
+    let carried : IsCarried from (repo_view store.repo).keys (committed_of written) (repo_view store.repo).manifest.archives name =
+    if_some (λ there. (whole : WholeArchive) × (SaysIn there from.repo name whole × SaysIn (files_now h) (repo_view store.repo) name whole))
+    (λ there. CarriesOver there from (repo_view store.repo).keys (committed_of written) (repo_view store.repo).manifest.archives name) from.files
+    (λ there s. same_over there from (files_now h) (repo_view store.repo) name s.0 (committed_of written) lives s.1.0 s.1.1) same in
+    record {
+      fits_now = end.fits_now;
+      chunks = λ id blob apart live. end.moved.committed id blob live;
+      config = end.moved.config;
+      most = most_from store now rest;
+      carried = (
+        subst (λ (k : Keys). IsCarried from k (committed_of written) (repo_view now.repo).manifest.archives name) (sym rest.keys)
+            (subst (λ (m : ManifestText). IsCarried from (repo_view store.repo).keys (committed_of written) m.archives name) (sym rest.manifest) carried),
+        tt,
+      );
+      cut = cut_same (accepted_in store) from (files_now h) (repo_view store.repo) (repo_view now.repo).keys (repo_view now.repo).manifest.archives name
+          accepts same;
+      only = λ other entry is. inl (ap (λ (m : ManifestText). archive_named other m.archives) (sym rest.accepted) ∙ is);
+    }
+
+pub same_carried : {T : Type 0} (from : Origin) (name : List ℕ) (store now : Store) (a b : Option Told) (n m : ℕ) (x : T) → AcceptsMore store
+    → KeepsRest store now → now.pending ≡ 0 → IsSame from a (repo_view store.repo) name
+    → Works (KeepsStanding store) (λ (_ : T). Gathers store [] now) a b n m (Ok x)
+    → Works (KeepsGrowing from (name ∷ []) store) (λ (_ : T). Grows from (name ∷ []) store now) a b n m (Ok x)
+same_carried {T} from name store now a b n m x accepts rest pending same p = record {
+  each = between_map a b (KeepsStanding store) (KeepsGrowing from (name ∷ []) store)
+      (λ h g e. growing_by from (name ∷ []) (accepted_in store) store h g accepts e) p.each;
+  end = between_map a b
+      (λ h g. IfSome from.files (λ there. (whole : WholeArchive)
+      × (SaysIn there from.repo name whole × SaysIn (files_now h) (repo_view store.repo) name whole)) × (AllDone h g × Gathers store [] now h g))
+      (λ h g. AllDone h g × Grows from (name ∷ []) store now h g)
+      (λ h g e. (e.1.0, same_grows from name store now h g accepts rest pending e.0 e.1.1))
+      (between_known (λ h. IfSome from.files (λ there. (whole : WholeArchive)
+      × (SaysIn there from.repo name whole × SaysIn (files_now h) (repo_view store.repo) name whole))) (λ h g. AllDone h g × Gathers store [] now h g) a b
+      same p.end);
+  ends = p.ends;
+  cause = p.cause;
+}
 
 -- ---- the archive of a name
 

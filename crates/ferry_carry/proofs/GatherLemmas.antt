@@ -1,6 +1,6 @@
 -- A store with contents added, one after another.
 use Rattle.std.proofs.Common.{◌≡◌, ◌≢◌, ◌⊎◌, ◌↔◌, IsTrue, inl, inr, ℕ, Bool, true, false, List, [], ◌∷◌, ◌++◌, Option, Some}
-use Rattle.std.proofs.Common.{None, unwrap_or, Ok, IfSome, refl, sym, ◌∙◌, ap, subst}
+use Rattle.std.proofs.Common.{unwrap_or, Ok, IfSome, refl, sym, ◌∙◌, ap, subst}
 use Rattle.std.specs.List.{AllByRecursion}
 use Rattle.ferry_base.specs.Limits.{zero_id}
 use Rattle.ferry_blob.proofs.CallerLemmas.{opened_id}
@@ -10,30 +10,32 @@ use Rattle.ferry_disk.specs.Act.{History, files_now}
 use Rattle.ferry_disk.specs.Files.{Files}
 use Rattle.ferry_disk.specs.Device.{Told}
 use Rattle.ferry_disk.specs.Moments.{Moments}
-use Rattle.ferry_log.specs.State.{LogState}
 use Rattle.ferry_mac.specs.declared.keys.Keys.{Keys}
-use Rattle.ferry_repo.specs.Objects.{HasBlob, HoldsChunk, HoldsObject, IsMissing}
+use Rattle.ferry_repo.specs.Objects.{HoldsChunk}
 use Rattle.ferry_manifest.specs.Manifest.Text.{ManifestText}
 use Rattle.ferry_manifest.specs.declared.manifest.Manifest.{Manifest}
 use Rattle.ferry_repo.specs.Opening.{RepoState, repo_view}
 use Rattle.ferry_repo.specs.declared.repo.Repo.{Repo}
 use Rattle.ferry_store.specs.Commit.{accepted_or}
 use Rattle.ferry_segment.specs.Entry.{LogEntry, CommitEntry}
+use Rattle.ferry_stops.proofs.TellLemmas.{untold_then}
 use Rattle.ferry_stops.specs.Entries.{Shows}
+use Rattle.ferry_stops.specs.Tells.{TellsNothing}
 use Rattle.ferry_store.proofs.LiveLemmas.{keeps_commit, keeps_put, keeps_same, keeps_then, live_other, live_put, same_or}
 use Rattle.ferry_store.proofs.PutLemmas.{keeps_here}
 use Rattle.ferry_store.proofs.StandingLemmas.{entries_put, live_committed, missing_unlive}
 use Rattle.ferry_store.proofs.StepLemmas.{known_end, known_then, moments_map, moments_then}
 use Rattle.ferry_store.proofs.UseLemmas.{fits_added}
 use Rattle.ferry_store.specs.Adding.{Adds, Checkpoints, entry_of, id_under}
-use Rattle.ferry_store.specs.Content.{IsNew, IsThere, Learns, blob_for, with_added}
-use Rattle.ferry_store.specs.Standing.{HoldsLive, Keeps, committed_of, entries_of, live_in}
+use Rattle.ferry_store.specs.Content.{IsNew, Learns, blob_for, with_added}
+use Rattle.ferry_store.specs.Standing.{Keeps, committed_of, entries_of, live_in}
 use Rattle.ferry_store.specs.State.{CommitsSound, Did, IsSound, KeepsSound, ShowsEither, ShowsStanding, Written}
 use Rattle.ferry_store.specs.Store.{IsKnown, StoreFits}
 use Rattle.ferry_store.specs.declared.content.Added.{Added}
 use Rattle.ferry_store.specs.declared.store.Store.{Store}
 use Rattle.ferry_write.specs.Script.{AllDone}
-use Rattle.ferry_carry.specs.Gather.{Brings, Gathered, Gathers, HoldsContents, HoldsWithin, IsAmong, KeepsRest, KeepsStanding, Moved, NoCollision, StandsFrom}
+use Rattle.ferry_carry.proofs.WholeLemmas.{all_both, all_front}
+use Rattle.ferry_carry.specs.Gather.{Brings, Gathers, HoldsContents, HoldsWithin, IsAmong, KeepsRest, KeepsStanding, Moved, NoCollision, StandsFrom}
 
 -- ---- what stands
 
@@ -68,7 +70,7 @@ moved_then a b c p q = record {
   config = q.config ∙ p.config;
 }
 
-sound_map : (P Q : Files → Type 0) (counts : Bool) (h : History) → ((image : Files) → P image → Q image) → IsSound P counts h → IsSound Q counts h
+pub sound_map : (P Q : Files → Type 0) (counts : Bool) (h : History) → ((image : Files) → P image → Q image) → IsSound P counts h → IsSound Q counts h
 sound_map P Q counts h step s = record { shows = λ image left. step image (s.shows image left); traced = s.traced; fresh = s.fresh }
 
 pub sound_moments : (P Q : Files → Type 0) (counts : Bool) (h g : History) → ((image : Files) → P image → Q image) → Moments (IsSound P counts) h g
@@ -98,14 +100,6 @@ all_on : (keys : Keys) (P Q : List ℕ → Type 0) (contents : List (List ℕ)) 
     → AllByRecursion Q contents
 all_on keys P Q [] step all = tt
 all_on keys P Q (content ∷ contents) step all = (step content all.0, all_on keys P Q contents step all.1)
-
-all_both : (P : List ℕ → Type 0) (some more : List (List ℕ)) → AllByRecursion P some → AllByRecursion P more → AllByRecursion P (some ++ more)
-all_both P [] more all others = others
-all_both P (content ∷ some) more all others = (all.0, all_both P some more all.1 others)
-
-all_front : (P : List ℕ → Type 0) (some more : List (List ℕ)) → AllByRecursion P (some ++ more) → AllByRecursion P some × AllByRecursion P more
-all_front P [] more all = (tt, all)
-all_front P (content ∷ some) more all = let rest = all_front P some more all.1 in ((all.0, rest.0), rest.1)
 
 -- ---- one after another
 
@@ -137,17 +131,23 @@ gathers_then store middle now some more rest rest_now h g i p q counts fits =
 
 pub each_then : (store middle : Store) (contents : List (List ℕ)) (h g i : History) → KeepsStanding store h g → AllDone h g → Gathers store contents middle h g
     → KeepsStanding middle g i → KeepsStanding store h i
-each_then store middle contents h g i before done gathers after counts fits =
-    let first = gathers counts fits in
-    moments_then (IsSound (StandsFrom fits.written) counts) h g i (before counts fits) done
-    (sound_moments (StandsFrom first.fits_now.written) (StandsFrom fits.written) counts g i
-    (λ image stands. stands_then fits.written first.fits_now.written image first.moved stands) (after counts first.fits_now))
+each_then store middle contents h g i before done gathers after = (
+  untold_then h g i before.0 after.0,
+  λ counts fits.
+      let first = gathers counts fits in
+      moments_then (IsSound (StandsFrom fits.written) counts) h g i (before.1 counts fits) done
+      (sound_moments (StandsFrom first.fits_now.written) (StandsFrom fits.written) counts g i
+      (λ image stands. stands_then fits.written first.fits_now.written image first.moved stands) (after.1 counts first.fits_now)),
+)
 
 -- where nothing is done, what stands is what a sound moment shows
 pub stands_here : (store : Store) (h : History) → KeepsStanding store h h
-stands_here store h counts fits =
-    sound_moments (ShowsStanding fits.written) (StandsFrom fits.written) counts h h (λ image shown. standing_from counts store h fits image shown)
-    (keeps_here store.session store.counter h counts fits.written fits.under_way)
+stands_here store h = (
+  refl,
+  λ counts fits.
+      sound_moments (ShowsStanding fits.written) (StandsFrom fits.written) counts h h (λ image shown. standing_from counts store h fits image shown)
+      (keeps_here store.session store.counter h counts fits.written fits.under_way),
+)
 
 pub rest_here : (store : Store) → KeepsRest store store
 rest_here store = record { keys = refl; config = refl; manifest = refl; accepted = refl }
@@ -310,10 +310,13 @@ add_gathers store now content added h g so adds counts fits =
     let both = added_by counts store now content added h g fits end.0 added.new refl so end.1 in
     record { fits_now = end.0; moved = both.0; brings = both.1 }
 
-pub add_stands : (store : Store) (h g : History) → KeepsSound store.session store.counter h g → KeepsStanding store h g
-add_stands store h g keeps counts fits =
-    sound_moments (ShowsStanding fits.written) (StandsFrom fits.written) counts h g (λ image shown. standing_from counts store h fits image shown)
-    (keeps counts fits.written fits.under_way)
+pub add_stands : (store : Store) (h g : History) → TellsNothing h g → KeepsSound store.session store.counter h g → KeepsStanding store h g
+add_stands store h g untold keeps = (
+  untold,
+  λ counts fits.
+      sound_moments (ShowsStanding fits.written) (StandsFrom fits.written) counts h g (λ image shown. standing_from counts store h fits image shown)
+      (keeps counts fits.written fits.under_way),
+)
 
 -- ---- a checkpoint
 
@@ -344,19 +347,25 @@ checkpoint_gathers store now h g repo takes counts fits =
       );
     }
 
-pub checkpoint_stands : (store : Store) (h g : History) → CommitsSound store.session store.counter h g → KeepsStanding store h g
-checkpoint_stands store h g keeps counts fits =
-    sound_moments (ShowsEither fits.written) (StandsFrom fits.written) counts h g either (keeps counts fits.written fits.under_way) where
-      either : (image : Files) → ShowsEither fits.written image → StandsFrom fits.written image
-      either image (inl shown) = standing_from counts store h fits image shown
-      either image (inr shown) =
-          let w = fits.written in (
-            entries_of w ++ CommitEntry ∷ [],
-            (
-              shown.0,
-              (keeps_then (committed_of w) (entries_of w) (entries_of w ++ CommitEntry ∷ []) fits.keeps (keeps_commit (entries_of w)), shown.1),
-            ),
-          )
+either_from : (counts : Bool) (store : Store) (h : History) (fits : StoreFits counts store h) (image : Files) → ShowsEither fits.written image
+    → StandsFrom fits.written image
+either_from counts store h fits image (inl shown) = standing_from counts store h fits image shown
+either_from counts store h fits image (inr shown) =
+    let w = fits.written in (
+      entries_of w ++ CommitEntry ∷ [],
+      (
+        shown.0,
+        (keeps_then (committed_of w) (entries_of w) (entries_of w ++ CommitEntry ∷ []) fits.keeps (keeps_commit (entries_of w)), shown.1),
+      ),
+    )
+
+pub checkpoint_stands : (store : Store) (h g : History) → TellsNothing h g → CommitsSound store.session store.counter h g → KeepsStanding store h g
+checkpoint_stands store h g untold keeps = (
+  untold,
+  λ counts fits.
+      sound_moments (ShowsEither fits.written) (StandsFrom fits.written) counts h g (λ image shown. either_from counts store h fits image shown)
+      (keeps counts fits.written fits.under_way),
+)
 
 -- ---- from call to call
 

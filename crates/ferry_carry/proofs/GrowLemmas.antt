@@ -1,14 +1,15 @@
 -- A target into which archives come, one after another.
-use Rattle.std.proofs.Common.{◌≡◌, ◌≢◌, ◌⊎◌, inl, inr, ℕ, Bool, true, false, List, [], ◌∷◌, ◌++◌, Option, Some, None, Result, Ok, Err, IfSome, OnOk}
+use Rattle.std.proofs.Common.{◌≡◌, ◌⊎◌, inl, inr, ℕ, zero, Bool, true, false, cond, List, [], ◌∷◌, ◌++◌, Option, Some, None, Ok, IfSome}
 use Rattle.std.proofs.Common.{if◌then◌else◌, unwrap_or, refl, sym, ◌∙◌, ap, subst}
 use Rattle.std.proofs.lemmas.Slice.Eq.{bytes_eq-Decides}
+use Rattle.std.proofs.lemmas.List.{append_assoc}
+use Rattle.std.specs.List.{AllByRecursion}
 use Rattle.std.specs.Str.{bytes_eq}
 use Rattle.ferry_base.specs.Limits.{zero_id}
 use Rattle.ferry_blob.specs.Blob.{OpensTo}
-use Rattle.ferry_disk.specs.Act.{History}
+use Rattle.ferry_disk.specs.Act.{History, files_now}
 use Rattle.ferry_disk.specs.Device.{Told}
 use Rattle.ferry_disk.specs.Files.{Files}
-use Rattle.ferry_disk.specs.Moments.{Moments}
 use Rattle.ferry_mac.specs.declared.keys.Keys.{Keys}
 use Rattle.ferry_manifest.specs.Manifest.Text.{ManifestText, manifest_of}
 use Rattle.ferry_manifest.specs.declared.manifest.ArchiveRef.{ArchiveRef}
@@ -17,19 +18,25 @@ use Rattle.ferry_next.specs.Next.{next_manifest}
 use Rattle.ferry_repo.specs.Archives.{archive_named}
 use Rattle.ferry_repo.specs.Opening.{RepoState, repo_view}
 use Rattle.ferry_segment.specs.Entry.{LogEntry, PutEntry}
-use Rattle.ferry_stops.specs.Entries.{Shows}
-use Rattle.ferry_store.proofs.PutLemmas.{keeps_here}
-use Rattle.ferry_store.proofs.StandingLemmas.{live_manifest, live_renewed, manifest_kept}
+use Rattle.ferry_stops.proofs.TellLemmas.{untold_then}
+use Rattle.ferry_stops.specs.Tells.{TellsNothing}
+use Rattle.ferry_store.proofs.StandingLemmas.{live_manifest, manifest_kept}
 use Rattle.ferry_store.proofs.StepLemmas.{known_end, known_then, moments_then}
-use Rattle.ferry_store.specs.Commit.{Commits, CommitsEntry, ShowsManifest, accepted_in, manifest_entry}
-use Rattle.ferry_store.specs.Standing.{HoldsManifest, Keeps, committed_of, entries_committed, entries_of, live_in, with_manifest}
-use Rattle.ferry_store.specs.State.{Did, IsSound, ShowsStanding, Written, all_committed, with_entry}
+use Rattle.ferry_store.specs.Commit.{Commits, CommitsEntry, ShowsManifest, accepted_in}
+use Rattle.ferry_store.specs.Standing.{HoldsManifest, Keeps, committed_of, entries_committed, live_in, with_manifest}
+use Rattle.ferry_store.specs.State.{Did, IsSound, Written, with_entry}
 use Rattle.ferry_store.specs.Store.{StoreFits}
 use Rattle.ferry_store.specs.declared.store.Store.{Store}
 use Rattle.ferry_write.specs.Script.{AllDone}
-use Rattle.ferry_carry.proofs.GatherLemmas.{sound_moments, standing_from}
-use Rattle.ferry_carry.specs.Gather.{Gathers, KeepsRest, KeepsStanding, StandsFrom}
-use Rattle.ferry_carry.specs.Grow.{AcceptsMore, Grown, Grows, KeepsChunks, KeepsGrowing, KeepsMost, KeepsNames, StandsOn}
+use Rattle.ferry_carry.proofs.CarryLemmas.{all_carried, named_carried}
+use Rattle.ferry_carry.proofs.CutLemmas.{cut_none, cut_one, cut_then}
+use Rattle.ferry_carry.proofs.GatherLemmas.{sound_moments, standing_from, stands_here}
+use Rattle.ferry_carry.proofs.WholeLemmas.{all_both, among_behind, among_front}
+use Rattle.ferry_carry.specs.Gather.{Gathers, IsAmong, KeepsRest, KeepsStanding, StandsFrom}
+use Rattle.ferry_carry.specs.Grow.{AcceptsMore, Grows, GrowsBy, IsNamedBy, KeepsChunks, KeepsGrowing, KeepsGrowingBy, KeepsMost, KeepsNames}
+use Rattle.ferry_carry.specs.Grow.{StandsOn}
+use Rattle.ferry_carry.specs.Carrying.{AreCut, IsCarried, IsReadyToName, Origin}
+use Rattle.ferry_carry.specs.Flight.{AcceptsOne}
 
 -- ---- names and chunks
 
@@ -39,14 +46,14 @@ names_here manifest name entry is = is
 pub names_then : (a b c : ManifestText) → KeepsNames a b → KeepsNames b c → KeepsNames a c
 names_then a b c p q name entry is = q name entry (p name entry is)
 
-chunks_then : (a b c : List LogEntry) → KeepsChunks a b → KeepsChunks b c → KeepsChunks a c
+pub chunks_then : (a b c : List LogEntry) → KeepsChunks a b → KeepsChunks b c → KeepsChunks a c
 chunks_then a b c p q id blob apart live = q id blob apart (p id blob apart live)
 
 keeps_chunks : (a b : List LogEntry) → Keeps a b → KeepsChunks a b
 keeps_chunks a b keeps id blob apart live = keeps id blob live
 
 -- a manifest that is held under the same secrets
-held_by : (repo other : RepoState) (manifest : ManifestText) (entries : List LogEntry) → other.keys ≡ repo.keys
+pub held_by : (repo other : RepoState) (manifest : ManifestText) (entries : List LogEntry) → other.keys ≡ repo.keys
     → HoldsManifest (with_manifest other manifest) entries → HoldsManifest (with_manifest repo manifest) entries
 held_by repo other manifest entries keys holds = record {
   blob = holds.blob;
@@ -59,9 +66,10 @@ held_by repo other manifest entries keys holds = record {
 -- ---- what stands
 
 -- by entries that keep all that was committed the manifest is the one that was
-pub on_from : (counts : Bool) (store : Store) (h : History) (fits : StoreFits counts store h) (image : Files) → StandsFrom fits.written image
-    → StandsOn (repo_view store.repo) fits.written image
-on_from counts store h fits image stands =
+pub on_from : (from : Origin) (chosen : List (List ℕ)) (accepted : ManifestText) (counts : Bool) (store : Store) (h : History)
+    (fits : StoreFits counts store h) (image : Files) → KeepsNames (repo_view store.repo).manifest accepted → StandsFrom fits.written image
+    → StandsOn from chosen accepted (repo_view store.repo) fits.written image
+on_from from chosen accepted counts store h fits image accepts stands =
     let entries_are : committed_of fits.written ≡ fits.manifest.entries = ap (λ (c : Option (List LogEntry)). unwrap_or c []) fits.manifest.is in
     record {
       entries = stands.0;
@@ -72,17 +80,45 @@ on_from counts store h fits image stands =
           (subst (HoldsManifest (repo_view store.repo)) (sym entries_are) fits.manifest.holds);
       names = names_here (repo_view store.repo).manifest;
       config = stands.1.1.1;
+      done = [];
+      rest = chosen;
+      front = refl;
+      carried = tt;
+      cut = cut_none accepted from (repo_view store.repo).keys (repo_view store.repo).manifest.archives;
+      only = λ name entry is. inl (accepts name entry is);
     }
 
-pub growing_from : (store : Store) (h g : History) → KeepsStanding store h g → KeepsGrowing store h g
-growing_from store h g keeps counts fits =
-    sound_moments (StandsFrom fits.written) (StandsOn (repo_view store.repo) fits.written) counts h g (λ image stands. on_from counts store h fits image stands)
-    (keeps counts fits)
+pub growing_by : (from : Origin) (chosen : List (List ℕ)) (accepted : ManifestText) (store : Store) (h g : History)
+    → KeepsNames (repo_view store.repo).manifest accepted → KeepsStanding store h g → KeepsGrowingBy accepted from chosen store h g
+growing_by from chosen accepted store h g accepts keeps = (
+  keeps.0,
+  λ counts fits.
+      sound_moments (StandsFrom fits.written) (StandsOn from chosen accepted (repo_view store.repo) fits.written) counts h g
+      (λ image stands. on_from from chosen accepted counts store h fits image accepts stands) (keeps.1 counts fits),
+)
+
+-- names of both
+pub named_then : (accepted middle manifest : ManifestText) (some more : List (List ℕ)) → IsNamedBy accepted some middle → IsNamedBy middle more manifest
+    → IsNamedBy accepted (some ++ more) manifest
+named_then accepted middle manifest some more p q name entry is = by (q name entry is) where
+  first : (archive_named name accepted.archives ≡ Some entry) ⊎ IsAmong some name
+      → (archive_named name accepted.archives ≡ Some entry) ⊎ IsAmong (some ++ more) name
+  first (inl e) = inl e
+  first (inr among) = inr (among_front some more name among)
+
+  by : (archive_named name middle.archives ≡ Some entry) ⊎ IsAmong more name
+      → (archive_named name accepted.archives ≡ Some entry) ⊎ IsAmong (some ++ more) name
+  by (inl e) = first (p name entry e)
+  by (inr among) = inr (among_behind some more name among)
 
 -- what stands from later on stands from before
-on_then : (repo next : RepoState) (written after : Written) (image : Files) → next.keys ≡ repo.keys → KeepsNames repo.manifest next.manifest
-    → KeepsChunks (committed_of written) (committed_of after) → after.config ≡ written.config → StandsOn next after image → StandsOn repo written image
-on_then repo next written after image keys names chunks config stands = record {
+unfoldable pub on_then : (from : Origin) (some more : List (List ℕ)) (accepted middle : ManifestText) (repo next : RepoState)
+    (written after : Written) (image : Files)
+    → next.keys ≡ repo.keys → KeepsNames repo.manifest next.manifest → KeepsChunks (committed_of written) (committed_of after)
+    → after.config ≡ written.config → AllByRecursion (IsCarried from next.keys (committed_of after) next.manifest.archives) some
+    → AreCut accepted from next.keys next.manifest.archives some → IsNamedBy accepted some middle → StandsOn from more middle next after image
+    → StandsOn from (some ++ more) accepted repo written image
+on_then from some more accepted middle repo next written after image keys names chunks config carried cut only stands = record {
   entries = stands.entries;
   manifest = stands.manifest;
   shown = stands.shown;
@@ -90,18 +126,47 @@ on_then repo next written after image keys names chunks config stands = record {
   holds = held_by repo next stands.manifest stands.entries keys stands.holds;
   names = names_then repo.manifest next.manifest stands.manifest names stands.names;
   config = stands.config ∙ config;
+  done = some ++ stands.done;
+  rest = stands.rest;
+  front = ap (λ (l : List (List ℕ)). some ++ l) stands.front ∙ sym (append_assoc some stands.done stands.rest);
+  carried = subst (λ (k : Keys). AllByRecursion (IsCarried from k stands.entries stands.manifest.archives) (some ++ stands.done)) keys
+      (all_both (IsCarried from next.keys stands.entries stands.manifest.archives) some stands.done
+      (all_carried from next.keys (committed_of after) stands.entries next.manifest stands.manifest some stands.chunks stands.names carried) stands.carried);
+  cut = subst (λ (k : Keys). AreCut accepted from k stands.manifest.archives (some ++ stands.done)) keys
+      (cut_then accepted middle from next.keys next.manifest stands.manifest some stands.done only stands.names cut stands.cut);
+  only = named_then accepted middle stands.manifest some stands.done only stands.only;
 }
 
--- ---- one after another
+-- of more chosen names a front was carried too
+unfoldable pub on_wider : (from : Origin) (some more : List (List ℕ)) (accepted : ManifestText) (repo : RepoState) (written : Written) (image : Files)
+    → StandsOn from some accepted repo written image → StandsOn from (some ++ more) accepted repo written image
+on_wider from some more accepted repo written image stands = record {
+  entries = stands.entries;
+  manifest = stands.manifest;
+  shown = stands.shown;
+  chunks = stands.chunks;
+  holds = stands.holds;
+  names = stands.names;
+  config = stands.config;
+  done = stands.done;
+  rest = stands.rest ++ more;
+  front = ap (λ (l : List (List ℕ)). l ++ more) stands.front ∙ append_assoc stands.done stands.rest more;
+  carried = stands.carried;
+  cut = stands.cut;
+  only = stands.only;
+}
 
-pub grows_from : (store now : Store) (contents : List (List ℕ)) (h g : History) → Gathers store contents now h g → Grows store now h g
-grows_from store now contents h g gathers counts fits =
-    let end = gathers counts fits in
-    record {
-      fits_now = end.fits_now;
-      chunks = keeps_chunks (committed_of fits.written) (committed_of end.fits_now.written) end.moved.committed;
-      config = end.moved.config;
-    }
+pub growing_wider : (from : Origin) (some more : List (List ℕ)) (store : Store) (h g : History) → KeepsGrowing from some store h g
+    → KeepsGrowing from (some ++ more) store h g
+growing_wider from some more store h g growing = (
+  growing.0,
+  λ counts fits.
+      let repo = repo_view store.repo in
+      sound_moments (StandsOn from some (accepted_in store) repo fits.written) (StandsOn from (some ++ more) (accepted_in store) repo fits.written) counts h g
+      (λ image stands. on_wider from some more (accepted_in store) repo fits.written image stands) (growing.1 counts fits),
+)
+
+-- ---- one after another
 
 pub most_from : (store now : Store) → KeepsRest store now → KeepsMost store now
 most_from store now rest = record {
@@ -120,67 +185,146 @@ most_then a b c p q = record {
   names = names_then (repo_view a.repo).manifest (repo_view b.repo).manifest (repo_view c.repo).manifest p.names q.names;
 }
 
-pub grows_here : (store : Store) (h : History) → Grows store store h h
-grows_here store h counts fits = record { fits_now = fits; chunks = λ id blob apart live. live; config = refl }
-
-pub grows_then : (store middle now : Store) (h g i : History) → Grows store middle h g → Grows middle now g i → Grows store now h i
-grows_then store middle now h g i p q counts fits =
-    let first = p counts fits in
-    let second = q counts first.fits_now in
+pub grows_from : (from : Origin) (store now : Store) (contents : List (List ℕ)) (h g : History) → KeepsRest store now → Gathers store contents now h g
+    → Grows from [] store now h g
+grows_from from store now contents h g rest gathers counts fits =
+    let end = gathers counts fits in
     record {
-      fits_now = second.fits_now;
-      chunks = chunks_then (committed_of fits.written) (committed_of first.fits_now.written) (committed_of second.fits_now.written) first.chunks second.chunks;
-      config = second.config ∙ first.config;
+      fits_now = end.fits_now;
+      chunks = keeps_chunks (committed_of fits.written) (committed_of end.fits_now.written) end.moved.committed;
+      config = end.moved.config;
+      most = most_from store now rest;
+      carried = tt;
+      cut = cut_none (accepted_in store) from (repo_view now.repo).keys (repo_view now.repo).manifest.archives;
+      only = λ name entry is. inl (ap (λ (m : ManifestText). archive_named name m.archives) (sym rest.accepted) ∙ is);
     }
 
-pub growing_then : (store middle : Store) (h g i : History) → KeepsMost store middle → KeepsGrowing store h g → AllDone h g → Grows store middle h g
-    → KeepsGrowing middle g i → KeepsGrowing store h i
-growing_then store middle h g i most before done grows after counts fits =
-    let first = grows counts fits in
-    moments_then (IsSound (StandsOn (repo_view store.repo) fits.written) counts) h g i (before counts fits) done
-    (sound_moments (StandsOn (repo_view middle.repo) first.fits_now.written) (StandsOn (repo_view store.repo) fits.written) counts g i
-    (λ image stands. on_then (repo_view store.repo) (repo_view middle.repo) fits.written first.fits_now.written image most.keys most.names first.chunks
-    first.config
-    stands) (after counts first.fits_now))
+pub grows_here : (from : Origin) (store : Store) (h : History) → Grows from [] store store h h
+grows_here from store h counts fits = record {
+  fits_now = fits;
+  chunks = λ id blob apart live. live;
+  config = refl;
+  most = most_here store;
+  carried = tt;
+  cut = cut_none (accepted_in store) from (repo_view store.repo).keys (repo_view store.repo).manifest.archives;
+  only = λ name entry is. inl is;
+}
 
-pub growing_here : (store : Store) (h : History) → KeepsGrowing store h h
-growing_here store h counts fits =
-    sound_moments (ShowsStanding fits.written) (StandsOn (repo_view store.repo) fits.written) counts h h
-    (λ image shown. on_from counts store h fits image (standing_from counts store h fits image shown))
-    (keeps_here store.session store.counter h counts fits.written fits.under_way)
+pub grows_then : (from : Origin) (some more : List (List ℕ)) (store middle now : Store) (h g i : History) → Grows from some store middle h g
+    → Grows from more middle now g i → Grows from (some ++ more) store now h i
+grows_then from some more store middle now h g i p q counts fits =
+    let first = p counts fits in
+    let second = q counts first.fits_now in
+    let keys = (repo_view now.repo).keys in
+    let archives = (repo_view now.repo).manifest.archives in
+    let committed = committed_of second.fits_now.written in
+    record {
+      fits_now = second.fits_now;
+      chunks = chunks_then (committed_of fits.written) (committed_of first.fits_now.written) committed first.chunks second.chunks;
+      config = second.config ∙ first.config;
+      most = most_then store middle now first.most second.most;
+      carried = all_both (IsCarried from keys committed archives) some more
+          (all_carried from keys (committed_of first.fits_now.written) committed (repo_view middle.repo).manifest (repo_view now.repo).manifest some
+          second.chunks second.most.names
+          (subst (λ (k : Keys). AllByRecursion (IsCarried from k (committed_of first.fits_now.written) (repo_view middle.repo).manifest.archives) some)
+          (sym second.most.keys) first.carried)) second.carried;
+      cut = cut_then (accepted_in store) (accepted_in middle) from keys (repo_view middle.repo).manifest (repo_view now.repo).manifest some more first.only
+          second.most.names
+          (subst (λ (k : Keys). AreCut (accepted_in store) from k (repo_view middle.repo).manifest.archives some) (sym second.most.keys) first.cut)
+          second.cut;
+      only = named_then (accepted_in store) (accepted_in middle) (accepted_in now) some more first.only second.only;
+    }
+
+pub growing_then : (from : Origin) (some more : List (List ℕ)) (store middle : Store) (h g i : History) → KeepsGrowing from (some ++ more) store h g
+    → AllDone h g → Grows from some store middle h g → KeepsGrowing from more middle g i → KeepsGrowing from (some ++ more) store h i
+growing_then from some more store middle h g i before done grows after = (
+  untold_then h g i before.0 after.0,
+  λ counts fits.
+      let first = grows counts fits in
+      let repo = repo_view store.repo in
+      let next = repo_view middle.repo in
+      moments_then (IsSound (StandsOn from (some ++ more) (accepted_in store) repo fits.written) counts) h g i (before.1 counts fits) done
+      (sound_moments (StandsOn from more (accepted_in middle) next first.fits_now.written)
+      (StandsOn from (some ++ more) (accepted_in store) repo fits.written) counts g i
+      (λ image stands. on_then from some more (accepted_in store) (accepted_in middle) repo next fits.written first.fits_now.written image first.most.keys
+      first.most.names first.chunks first.config first.carried first.cut first.only stands) (after.1 counts first.fits_now)),
+)
+
+pub growing_here : (from : Origin) (chosen : List (List ℕ)) (store : Store) (h : History) → AcceptsMore store → KeepsGrowing from chosen store h h
+growing_here from chosen store h accepts = growing_by from chosen (accepted_in store) store h h accepts (stands_here store h)
 
 -- ---- a manifest is committed
 
-commit_on : (counts : Bool) (store : Store) (h : History) (fits : StoreFits counts store h) (manifest : ManifestText) (blob : List ℕ) (image : Files)
-    → KeepsNames (repo_view store.repo).manifest manifest
+commit_on : (from : Origin) (accepted : ManifestText) (entry : ArchiveRef) (counts : Bool) (store : Store) (h : History)
+    (fits : StoreFits counts store h) (manifest : ManifestText) (blob : List ℕ) (image : Files) → KeepsNames (repo_view store.repo).manifest manifest
+    → manifest.archives ≡ (accepted_in store).archives → AcceptsOne accepted store entry → IsReadyToName from (files_now h) (repo_view store.repo) entry
     → ShowsManifest (with_manifest (repo_view store.repo) manifest) (with_entry fits.written (PutEntry zero_id blob)) image
-    → StandsOn (repo_view store.repo) fits.written image
-commit_on counts store h fits manifest blob image names (inl shown) = on_from counts store h fits image (standing_from counts store h fits image shown)
-commit_on counts store h fits manifest blob image names (inr shown) = record {
-  entries = entries_committed (with_entry fits.written (PutEntry zero_id blob));
-  manifest = manifest;
-  shown = shown.0.0;
-  chunks = λ id old apart live. live_manifest fits.written blob id apart ∙ fits.keeps id old live;
-  holds = shown.1;
-  names = names;
-  config = shown.0.1;
-}
+    → StandsOn from (entry.name ∷ []) accepted (repo_view store.repo) fits.written image
+commit_on from accepted entry counts store h fits manifest blob image names archives one ready (inl shown) =
+    on_from from (entry.name ∷ []) accepted counts store h fits image one.keeps (standing_from counts store h fits image shown)
+commit_on from accepted entry counts store h fits manifest blob image names archives one ready (inr shown) =
+    let named : (name : List ℕ) → archive_named name manifest.archives ≡ archive_named name (accepted_in store).archives =
+    λ name. ap (archive_named name) archives in
+    record {
+      entries = entries_committed (with_entry fits.written (PutEntry zero_id blob));
+      manifest = manifest;
+      shown = shown.0.0;
+      chunks = λ id old apart live. live_manifest fits.written blob id apart ∙ fits.keeps id old live;
+      holds = shown.1;
+      names = names;
+      config = shown.0.1;
+      done = entry.name ∷ [];
+      rest = [];
+      front = refl;
+      carried = (named_carried counts store h fits blob from manifest entry (named entry.name ∙ one.there) ready, tt);
+      cut = cut_one accepted from (files_now h) (repo_view store.repo) manifest entry (named entry.name ∙ one.there) ready;
+      only = λ name other is. one.only name other (sym (named name) ∙ is);
+    }
 
-pub commit_growing : (store : Store) (manifest : ManifestText) (blob : List ℕ) (h g : History) → KeepsNames (repo_view store.repo).manifest manifest
-    → CommitsEntry (with_manifest (repo_view store.repo) manifest) store.session store.counter (PutEntry zero_id blob) h g → KeepsGrowing store h g
-commit_growing store manifest blob h g names commits counts fits =
-    sound_moments (ShowsManifest (with_manifest (repo_view store.repo) manifest) (with_entry fits.written (PutEntry zero_id blob)))
-    (StandsOn (repo_view store.repo) fits.written) counts h g (λ image shown. commit_on counts store h fits manifest blob image names shown)
-    (commits counts fits.written fits.under_way)
+pub commit_growing : (from : Origin) (accepted : ManifestText) (entry : ArchiveRef) (store : Store) (manifest : ManifestText) (blob : List ℕ)
+    (h g : History) → KeepsNames (repo_view store.repo).manifest manifest → manifest.archives ≡ (accepted_in store).archives
+    → AcceptsOne accepted store entry → IsReadyToName from (files_now h) (repo_view store.repo) entry → TellsNothing h g
+    → CommitsEntry (with_manifest (repo_view store.repo) manifest) store.session store.counter (PutEntry zero_id blob) h g
+    → KeepsGrowingBy accepted from (entry.name ∷ []) store h g
+commit_growing from accepted entry store manifest blob h g names archives one ready untold commits = (
+  untold,
+  λ counts fits.
+      sound_moments (ShowsManifest (with_manifest (repo_view store.repo) manifest) (with_entry fits.written (PutEntry zero_id blob)))
+      (StandsOn from (entry.name ∷ []) accepted (repo_view store.repo) fits.written) counts h g
+      (λ image shown. commit_on from accepted entry counts store h fits manifest blob image names archives one ready shown)
+      (commits counts fits.written fits.under_way),
+)
 
-pub commit_grows : (store now : Store) (blob : List ℕ) (h g : History) → Commits store (PutEntry zero_id blob) now h g → Grows store now h g
-commit_grows store now blob h g commits counts fits =
+pub commit_grows : (from : Origin) (accepted : ManifestText) (entry : ArchiveRef) (store now : Store) (manifest : ManifestText) (blob : List ℕ)
+    (h g : History) → KeepsMost store now → manifest.archives ≡ (accepted_in store).archives → (repo_view now.repo).manifest ≡ manifest
+    → accepted_in now ≡ (repo_view now.repo).manifest → AcceptsOne accepted store entry
+    → IsReadyToName from (files_now h) (repo_view store.repo) entry → Commits store (PutEntry zero_id blob) now h g
+    → GrowsBy accepted from (entry.name ∷ []) store now h g
+commit_grows from accepted entry store now manifest blob h g most archives manifest_is accepted_is one ready commits counts fits =
     let end = commits counts fits in
+    let entries = entries_committed (with_entry fits.written (PutEntry zero_id blob)) in
+    let committed : committed_of end.0.written ≡ entries = ap committed_of end.1 in
+    let named : (name : List ℕ) → archive_named name manifest.archives ≡ archive_named name (accepted_in store).archives =
+    λ name. ap (archive_named name) archives in
     record {
       fits_now = end.0;
       chunks = λ id old apart live.
           ap (λ (w : Written). live_in id (committed_of w)) end.1 ∙ (live_manifest fits.written blob id apart ∙ fits.keeps id old live);
       config = ap (λ (w : Written). w.config) end.1;
+      most = most;
+      carried = (
+        subst (λ (es : List LogEntry). IsCarried from (repo_view now.repo).keys es (repo_view now.repo).manifest.archives entry.name) (sym committed)
+            (subst (λ (m : ManifestText). IsCarried from (repo_view now.repo).keys entries m.archives entry.name) (sym manifest_is)
+            (subst (λ (k : Keys). IsCarried from k entries manifest.archives entry.name) (sym most.keys)
+            (named_carried counts store h fits blob from manifest entry (named entry.name ∙ one.there) ready))),
+        tt,
+      );
+      cut = subst (λ (m : ManifestText). AreCut accepted from (repo_view now.repo).keys m.archives (entry.name ∷ [])) (sym manifest_is)
+          (subst (λ (k : Keys). AreCut accepted from k manifest.archives (entry.name ∷ [])) (sym most.keys)
+          (cut_one accepted from (files_now h) (repo_view store.repo) manifest entry (named entry.name ∙ one.there) ready));
+      only = λ name other is.
+          one.only name other
+          (sym (named name) ∙ (ap (λ (m : ManifestText). archive_named name m.archives) (sym (accepted_is ∙ manifest_is)) ∙ is));
     }
 
 -- what was accepted keeps each archive of the manifest, and so does what is written of it
@@ -190,26 +334,76 @@ accepts_on store now is = subst (KeepsNames (repo_view now.repo).manifest) (sym 
 -- ---- an archive is accepted
 
 -- a store with an archive accepted fits
-pub accepted_grows : (store now : Store) (h : History) → now ≡ record store { accepted = now.accepted } → Grows store now h h
-accepted_grows store now h same =
-    subst (λ (s : Store). Grows store s h h) (sym same) (λ counts fits. record {
-      fits_now = record {
-        written = fits.written;
-        under_way = fits.under_way;
-        repo = fits.repo;
-        below = fits.below;
-        there = fits.there;
-        holds = fits.holds;
-        manifest = fits.manifest;
-        keeps = fits.keeps;
-      };
-      chunks = λ id blob apart live. live;
-      config = refl;
+pub accepted_fits : (counts : Bool) (store now : Store) (h : History) → now ≡ record store { accepted = now.accepted } → StoreFits counts store h
+    → StoreFits counts now h
+accepted_fits counts store now h same fits =
+    subst (λ (s : Store). StoreFits counts s h) (sym same) (record {
+      written = fits.written;
+      under_way = fits.under_way;
+      repo = fits.repo;
+      below = fits.below;
+      there = fits.there;
+      holds = fits.holds;
+      manifest = fits.manifest;
+      keeps = fits.keeps;
+      pending = fits.pending;
     })
+
+pub accepted_known : (store now : Store) (a : Option Told) → now ≡ record store { accepted = now.accepted }
+    → IfSome a (λ t. StoreFits false store t.history) → IfSome a (λ t. StoreFits false now t.history)
+accepted_known store now None same known = tt
+accepted_known store now (Some t) same known = accepted_fits false store now t.history same known
 
 pub accepted_most : (store now : Store) → now ≡ record store { accepted = now.accepted } → KeepsMost store now
 accepted_most store now same =
     subst (KeepsMost store) (sym same) (record { keys = refl; config = refl; names = names_here (repo_view store.repo).manifest })
+
+-- what stands from a store with an archive accepted stands from the store before
+pub growing_accepted : (accepted : ManifestText) (from : Origin) (chosen : List (List ℕ)) (store middle : Store) (h g : History)
+    → middle ≡ record store { accepted = middle.accepted } → KeepsGrowingBy accepted from chosen middle h g
+    → KeepsGrowingBy accepted from chosen store h g
+growing_accepted accepted from chosen store middle h g same growing =
+    (subst (λ (s : Store). KeepsGrowingBy accepted from chosen s h g → KeepsGrowingBy accepted from chosen store h g) (sym same)
+    (λ after. (
+      after.0,
+      λ counts fits.
+          after.1 counts (record {
+            written = fits.written;
+            under_way = fits.under_way;
+            repo = fits.repo;
+            below = fits.below;
+            there = fits.there;
+            holds = fits.holds;
+            manifest = fits.manifest;
+            keeps = fits.keeps;
+            pending = fits.pending;
+          }),
+    ))) growing
+
+pub grows_accepted : (accepted : ManifestText) (from : Origin) (chosen : List (List ℕ)) (store middle now : Store) (h g : History)
+    → middle ≡ record store { accepted = middle.accepted } → GrowsBy accepted from chosen middle now h g → GrowsBy accepted from chosen store now h g
+grows_accepted accepted from chosen store middle now h g same grows =
+    (subst (λ (s : Store). GrowsBy accepted from chosen s now h g → GrowsBy accepted from chosen store now h g) (sym same) (λ after counts fits.
+    let end = after counts (record {
+      written = fits.written;
+      under_way = fits.under_way;
+      repo = fits.repo;
+      below = fits.below;
+      there = fits.there;
+      holds = fits.holds;
+      manifest = fits.manifest;
+      keeps = fits.keeps;
+      pending = fits.pending;
+    }) in
+    record {
+      fits_now = end.fits_now;
+      chunks = end.chunks;
+      config = end.config;
+      most = record { keys = end.most.keys; config = end.most.config; names = end.most.names };
+      carried = end.carried;
+      cut = end.cut;
+      only = end.only;
+    })) grows
 
 -- one more archive, whose name no other has, keeps each name
 pub names_next : (manifest accepted : ManifestText) (entry : ArchiveRef) (item_keys : List (List ℕ)) → archive_named entry.name accepted.archives ≡ None
@@ -225,6 +419,26 @@ names_next manifest accepted entry item_keys none keeps name old is =
           let same : entry.name ≡ name = (bytes_eq-Decides entry.name name).0 e in
           let both : None ≡ Some old = sym none ∙ (ap (λ (n : List ℕ). archive_named n accepted.archives) same ∙ there) in
           absurd (let no : ⊥ = cc in no)
+
+-- it is accepted then, and each other archive was before
+pub accepts_one : (store now : Store) (entry : ArchiveRef) (item_keys : List (List ℕ)) → (repo_view now.repo).manifest ≡ (repo_view store.repo).manifest
+    → accepted_in now ≡ next_manifest (accepted_in store) entry item_keys → AcceptsMore store → AcceptsOne (accepted_in store) now entry
+accepts_one store now entry item_keys manifest named accepts = record {
+  keeps = subst (λ (m : ManifestText). KeepsNames m (accepted_in store)) (sym manifest) accepts;
+  only = λ name other is.
+      by_name name other (bytes_eq entry.name name) refl
+      (sym (with_named name (accepted_in store).archives entry) ∙ (ap (λ (m : ManifestText). archive_named name m.archives) (sym named) ∙ is));
+  there = ap (λ (m : ManifestText). archive_named entry.name m.archives) named
+      ∙ (with_named entry.name (accepted_in store).archives entry
+      ∙ ap (λ (b : Bool). cond b (Some entry) (archive_named entry.name (accepted_in store).archives))
+      ((bytes_eq-Decides entry.name entry.name).1 refl));
+} where
+  by_name : (name : List ℕ) (other : ArchiveRef) (b : Bool) → bytes_eq entry.name name ≡ b
+      → cond (bytes_eq entry.name name) (Some entry) (archive_named name (accepted_in store).archives) ≡ Some other
+      → (archive_named name (accepted_in store).archives ≡ Some other) ⊎ IsAmong (entry.name ∷ []) name
+  by_name name other true e found = inr (zero, ap Some ((bytes_eq-Decides entry.name name).0 e))
+  by_name name other false e found =
+      inl (sym (ap (λ (b : Bool). cond b (Some entry) (archive_named name (accepted_in store).archives)) e) ∙ found)
 
 pub commit_fits : (E : History → History → Type 0) (store now : Store) (blob : List ℕ) (a b : Option Told) (n m : ℕ)
     → IfSome a (λ t. StoreFits false store t.history)

@@ -6,7 +6,15 @@ pub mod SourceLemmas
 pub mod PieceLemmas
 pub mod CopyLemmas
 pub mod GrowLemmas
+pub mod HealedLemmas
+pub mod ProgressLemmas
 pub mod StepLemmas
+pub mod RefusalLemmas
 pub mod NamingLemmas
 pub mod FlightLemmas
+pub mod CauseLemmas
 pub mod TellLemmas
+pub mod CarryLemmas
+pub mod FlyLemmas
+pub mod ReportLemmas
+pub mod CutLemmas

@@ -1,5 +1,5 @@
 -- A line that is told changes nothing of what is written.
-use Rattle.std.proofs.Common.{◌≡◌, ◌≢◌, ◌⊎◌, inl, inr, ℕ, Bool, true, false, List, Option, Result, Ok, Err, refl, sym, ◌∙◌, ap, subst}
+use Rattle.std.proofs.Common.{◌≡◌, ◌≢◌, ◌⊎◌, inl, inr, ℕ, Bool, true, false, List, [], Option, Ok, Err, IfSome, refl, sym, ◌∙◌, ap, subst}
 use Rattle.ferry_base.specs.Limits.{zero_id}
 use Rattle.ferry_disk.proofs.FaultLemmas.{acts_end}
 use Rattle.ferry_disk.proofs.ImageLemmas.{applied-push}
@@ -16,25 +16,24 @@ use Rattle.ferry_manifest.specs.Manifest.Text.{ManifestText}
 use Rattle.ferry_repo.specs.Archives.{archive_named}
 use Rattle.ferry_repo.specs.Opening.{FitsRepo, cached_in, repo_view}
 use Rattle.ferry_stops.specs.Blobs.{BlobOf}
-use Rattle.ferry_store.proofs.SoundLemmas.{counter_kept, stands_now}
+use Rattle.ferry_store.proofs.SoundLemmas.{counter_kept}
 use Rattle.ferry_store.proofs.StepLemmas.{acts_done, acts_step, step_done, step_moments}
 use Rattle.ferry_store.specs.Content.{IsThere}
 use Rattle.ferry_store.specs.Fault.{store_refusal}
 use Rattle.ferry_store.specs.Standing.{HoldsLive, entries_of}
-use Rattle.ferry_store.specs.State.{AreTaken, IsSound, IsStep, IsUnderWay, ShowsStanding, Written}
+use Rattle.ferry_store.specs.State.{AreTaken, IsStep, IsUnderWay, Written}
 use Rattle.ferry_store.specs.Store.{IsKnown, StoreFits}
 use Rattle.ferry_store.specs.declared.store.Store.{Store}
 use Rattle.ferry_write.proofs.LawLemmas.{beside_blobs, beside_fits, beside_rows}
 use Rattle.ferry_write.proofs.PlainLemmas.{plain_next}
 use Rattle.ferry_write.specs.Script.{AllDone}
 use Rattle.ferry_write.specs.Session.{KeepsPlain, rests_at}
-use Rattle.ferry_carry.proofs.GatherLemmas.{sound_moments, standing_from}
-use Rattle.ferry_carry.proofs.GrowLemmas.{growing_here, on_from}
-use Rattle.ferry_carry.proofs.WorkLemmas.{works_as, works_front, works_nothing}
+use Rattle.ferry_carry.proofs.GatherLemmas.{moved_here}
+use Rattle.ferry_carry.proofs.WorkLemmas.{works_known, works_nothing}
 use Rattle.ferry_carry.specs.Chosen.{TellsLine}
 use Rattle.ferry_carry.specs.Fault.{target_failed, target_fault}
 use Rattle.ferry_carry.specs.Flight.{IsCommitted, IsSettled}
-use Rattle.ferry_carry.specs.Grow.{Grown, Grows, KeepsGrowing, StandsOn}
+use Rattle.ferry_carry.specs.Gather.{Gathered, Gathers, HoldsWithin}
 use Rattle.ferry_carry.specs.Work.{Works}
 use Rattle.ferry_carry.specs.declared.fault.CarryFault.{CarryFault}
 use Rattle.ferry_carry.specs.declared.fault.CarryFault.TheVariants.{NotFound, Memory}
@@ -59,7 +58,7 @@ told_plain line done h name file e =
     (inr (done, refl))
 
 -- a repository that is written is as it was
-told_stands : (counts : Bool) (store : Store) (written : Written) (line : List ℕ) (done : Bool) (h : History)
+pub told_stands : (counts : Bool) (store : Store) (written : Written) (line : List ℕ) (done : Bool) (h : History)
     → IsUnderWay counts store.session store.counter written h → IsUnderWay counts store.session store.counter written (with_act (TellOf line) done h)
 told_stands counts store written line done h u =
     let step = TellOf line in
@@ -87,32 +86,30 @@ told_fits counts store line h fits =
       holds = subst (λ (f : Files). HoldsLive f repo.log (entries_of fits.written)) same fits.holds;
       manifest = fits.manifest;
       keeps = fits.keeps;
+      pending = fits.pending;
     }
 
-pub told_grows : (store : Store) (line : List ℕ) (h g : History) → TellsLine line h g → Grows store store h g
+pub told_gathers : (store : Store) (line : List ℕ) (h g : History) → TellsLine line h g → Gathers store [] store h g
 unfolding told_fits
-told_grows store line h g is counts fits =
-    subst (λ (k : History). Grown counts store store h k fits) (sym is)
-    (record { fits_now = told_fits counts store line h fits; chunks = λ id blob apart live. live; config = refl })
-
-pub told_growing : (store : Store) (line : List ℕ) (h g : History) → IsStep (TellOf line) h g → KeepsGrowing store h g
-told_growing store line h g is counts fits =
-    let u = fits.under_way in
-    sound_moments (ShowsStanding fits.written) (StandsOn (repo_view store.repo) fits.written) counts h g
-    (λ image shown. on_from counts store h fits image (standing_from counts store h fits image shown))
-    (step_moments (IsSound (ShowsStanding fits.written) counts) (TellOf line) h g (stands_now counts store.session store.counter fits.written h u)
-    (λ done. stands_now counts store.session store.counter fits.written (with_act (TellOf line) done h)
-    (told_stands counts store fits.written line done h u)) is)
+told_gathers store line h g is counts fits =
+    subst (λ (k : History). Gathered counts store [] store h k fits) (sym is) (record {
+      fits_now = told_fits counts store line h fits;
+      moved = moved_here fits.written;
+      brings = λ scope apart all within. (
+        subst (λ (f : Files). HoldsWithin scope f (repo_view store.repo)) (sym (files_told line h)) within,
+        tt,
+      );
+    })
 
 -- ---- the call that tells a line
 
-pub tell_works : (store : Store) (line : List ℕ) (a b : Option Told) (n m : ℕ) → Acts {T = Unit {0}} (TellOf line) a b (Ok tt)
+pub tell_works : (line : List ℕ) (a b : Option Told) (n m : ℕ) → Acts {T = Unit {0}} (TellOf line) a b (Ok tt)
     → HasCause {T = Unit {0}} store_failed n m (Ok tt)
-    → Works {T = Unit {0}} (KeepsGrowing store) (λ _ h g. TellsLine line h g × Grows store store h g) a b n m (Ok tt)
-tell_works store line a b n m acts cause = record {
-  each = between_map a b (IsStep (TellOf line)) (KeepsGrowing store) (told_growing store line) (acts_step {T = Unit {0}} (TellOf line) a b (Ok tt) acts);
-  end = between_map a b (TellsLine line) (λ h g. AllDone h g × (TellsLine line h g × Grows store store h g))
-      (λ h g is. (step_done (TellOf line) h g is, (is, told_grows store line h g is))) (acts_done {T = Unit {0}} (TellOf line) a b tt acts);
+    → Works {T = Unit {0}} (IsStep (TellOf line)) (λ _. TellsLine line) a b n m (Ok tt)
+tell_works line a b n m acts cause = record {
+  each = acts_step {T = Unit {0}} (TellOf line) a b (Ok tt) acts;
+  end = between_map a b (TellsLine line) (λ h g. AllDone h g × TellsLine line h g) (λ h g is. (step_done (TellOf line) h g is, is))
+      (acts_done {T = Unit {0}} (TellOf line) a b tt acts);
   ends = acts_end {T = Unit {0}} (TellOf line) a b (Ok tt) acts;
   cause = cause;
 }
@@ -121,32 +118,27 @@ store_is : (fault : StoreFault) → target_failed (target_fault (store_refusal f
 store_is Shelf.Failed = refl
 store_is Shelf.Memory = refl
 
-pub untold_works : (store : Store) (line : List ℕ) (a b : Option Told) (n m : ℕ) (fault : StoreFault) → Acts {T = Unit {0}} (TellOf line) a b (Err fault)
+pub untold_works : (line : List ℕ) (a b : Option Told) (n m : ℕ) (fault : StoreFault) → Acts {T = Unit {0}} (TellOf line) a b (Err fault)
     → RoseWhere (store_failed fault) n m
-    → Works {T = Unit {0}} (KeepsGrowing store) (λ _ h g. TellsLine line h g × Grows store store h g) a b n m (Err (target_fault (store_refusal fault)))
-untold_works store line a b n m fault acts cause = record {
-  each = between_map a b (IsStep (TellOf line)) (KeepsGrowing store) (told_growing store line) (acts_step {T = Unit {0}} (TellOf line) a b (Err fault) acts);
+    → Works {T = Unit {0}} (IsStep (TellOf line)) (λ _. TellsLine line) a b n m (Err (target_fault (store_refusal fault)))
+untold_works line a b n m fault acts cause = record {
+  each = acts_step {T = Unit {0}} (TellOf line) a b (Err fault) acts;
   end = tt;
   ends = subst (λ (d : Bool). FailedWhere d a b) (sym (store_is fault)) (acts_end {T = Unit {0}} (TellOf line) a b (Err fault) acts);
   cause = subst (λ (d : Bool). RoseWhere d n m) (sym (store_is fault)) cause;
 }
 
 -- where no line was told
-pub tell_nothing : {T : Type 0} (store : Store) (line : List ℕ) (a : Option Told) (n : ℕ) (fault : CarryFault) → target_failed fault ≡ false
-    → Works (KeepsGrowing store) (λ (_ : T) h g. TellsLine line h g × Grows store store h g) a a n n (Err fault)
-tell_nothing {T} store line a n fault still =
-    works_nothing (KeepsGrowing store) (λ (_ : T) h g. TellsLine line h g × Grows store store h g) a n fault still (λ h. growing_here store h)
+pub tell_nothing : {T : Type 0} (line : List ℕ) (a : Option Told) (n : ℕ) (fault : CarryFault) → target_failed fault ≡ false
+    → Works (IsStep (TellOf line)) (λ (_ : T). TellsLine line) a a n n (Err fault)
+tell_nothing {T} line a n fault still = works_nothing (IsStep (TellOf line)) (λ (_ : T). TellsLine line) a n fault still (λ h. inl refl)
 
--- what it leaves, whatever the line
-pub tell_grown : {T : Type 0} (store : Store) (line : List ℕ) (a b : Option Told) (n m : ℕ) (result : Result T CarryFault)
-    → Works (KeepsGrowing store) (λ (_ : T) h g. TellsLine line h g × Grows store store h g) a b n m result
-    → Works (KeepsGrowing store) (λ (_ : T). Grows store store) a b n m result
-tell_grown {T} store line a b n m (Ok x) p =
-    works_as (KeepsGrowing store) (λ (_ : T) h g. TellsLine line h g × Grows store store h g) (KeepsGrowing store) (λ (_ : T). Grows store store)
-    a b n m x x (λ h g e. e) (λ h g e. e.1) p
-tell_grown {T} store line a b n m (Err fault) p =
-    works_front (KeepsGrowing store) (λ (_ : T) h g. TellsLine line h g × Grows store store h g) (KeepsGrowing store) (λ (_ : T). Grows store store)
-    a b n m fault (λ h g e. e) p
+-- the store fits behind it
+pub tell_fits : {T : Type 0} (store : Store) (line : List ℕ) (a b : Option Told) (n m : ℕ) (x : T) → IfSome a (λ t. StoreFits false store t.history)
+    → Works (IsStep (TellOf line)) (λ (_ : T). TellsLine line) a b n m (Ok x) → IfSome b (λ t. StoreFits false store t.history)
+tell_fits {T} store line a b n m x fits p =
+    works_known (StoreFits false store) (StoreFits false store) (IsStep (TellOf line)) (λ (_ : T). TellsLine line) a b n m x
+    (λ h g f is. subst (StoreFits false store) (sym is) (told_fits false store line h f)) fits p
 
 -- ---- from body to body
 

@@ -10,7 +10,6 @@ use Rattle.ferry_item.specs.declared.item.ChunkRef.{ChunkRef}
 use Rattle.ferry_item.proofs.StreamLemmas.{first_item}
 use Rattle.ferry_log.specs.State.{LogState}
 use Rattle.ferry_mac.specs.declared.keys.Keys.{Keys}
-use Rattle.ferry_manifest.specs.Record.Text.{ArchiveText}
 use Rattle.ferry_manifest.specs.declared.manifest.ArchiveRef.{ArchiveRef}
 use Rattle.ferry_rechunk.specs.Cut.{cut}
 use Rattle.ferry_rechunk.proofs.CutLemmas.{cut_joined}
@@ -18,7 +17,7 @@ use Rattle.ferry_repo.specs.Archives.{archive_named}
 use Rattle.ferry_repo.specs.Objects.{HoldsChunk}
 use Rattle.ferry_repo.specs.Walk.{HoldChunks, IsStream}
 use Rattle.ferry_repo.specs.Whole.{ContentsCome, HoldsJoined, WholesCome, WholeItem, WholeArchive, IsWhole}
-use Rattle.ferry_carry.specs.Copied.{stream_block, pieces_of, copied_item, stream_of, IsRead, HoldsPiece, HoldsCopy}
+use Rattle.ferry_carry.specs.Copied.{stream_block, stream_pieces, contents_of, pieces_of, copied_item, stream_of, IsRead, HoldsPiece, HoldsCopy}
 use Rattle.ferry_carry.specs.Gather.{IsAmong, chunks_of}
 
 -- ---- IsAmong
@@ -38,7 +37,7 @@ among_behind [] more content is = is
 among_behind (s ∷ ss) more content is = let later = among_behind ss more content is in (suc later.0, later.1)
 
 -- of each holds what follows from what holds of it
-each_to : (P Q : List ℕ → Type 0) (contents : List (List ℕ)) → ((content : List ℕ) → P content → Q content) → AllByRecursion P contents
+pub each_to : (P Q : List ℕ → Type 0) (contents : List (List ℕ)) → ((content : List ℕ) → P content → Q content) → AllByRecursion P contents
     → AllByRecursion Q contents
 each_to P Q [] step all = tt
 each_to P Q (c ∷ cs) step all = (step c all.0, each_to P Q cs step all.1)
@@ -62,6 +61,15 @@ among_all P contents content all is = all_at P contents is.0 content all is.1
 pub all_of_among : (P : List ℕ → Type 0) (contents some : List (List ℕ)) → AllByRecursion P contents → AllByRecursion (IsAmong contents) some
     → AllByRecursion P some
 all_of_among P contents some all are = each_to (IsAmong contents) P some (λ content is. among_all P contents content all is) are
+
+-- what holds of each of two lists, and of both
+pub all_front : (P : List ℕ → Type 0) (some more : List (List ℕ)) → AllByRecursion P (some ++ more) → AllByRecursion P some × AllByRecursion P more
+all_front P [] more all = (tt, all)
+all_front P (content ∷ some) more all = let rest = all_front P some more all.1 in ((all.0, rest.0), rest.1)
+
+pub all_both : (P : List ℕ → Type 0) (some more : List (List ℕ)) → AllByRecursion P some → AllByRecursion P more → AllByRecursion P (some ++ more)
+all_both P [] more all others = others
+all_both P (content ∷ some) more all others = (all.0, all_both P some more all.1 others)
 
 -- ---- the pieces of a content
 
@@ -129,26 +137,36 @@ module _ (files : Files) (log : LogState) (keys : Keys) where
             (spelled_stream block wholes spelled);
       }
 
+  -- of each of the contents of items, what holds of all
+  each_content : (P : List ℕ → Type 0) (block : ℕ) (wholes : List WholeItem) → AllByRecursion P (contents_of block wholes)
+      → AllByRecursion (λ (whole : WholeItem). AllByRecursion P (pieces_of block whole.content)) wholes
+  each_content P block [] all = tt
+  each_content P block (w ∷ ws) all =
+      let parts = all_front P (pieces_of block w.content) (contents_of block ws) all in (parts.0, each_content P block ws parts.1)
+
   -- an archive of which all is there is whole
-  pub copied_whole : (block : ℕ) (wholes : List WholeItem) (fields : ArchiveText) (text : List ℕ) (archives : List ArchiveRef) (named : ArchiveRef)
-      → 1 ≤ block → HoldsCopy files log keys block wholes fields text archives named
-      → IsWhole files log keys archives named.name (record { time = named.time; fields = fields.fields; items = wholes })
-  copied_whole block wholes fields text archives named some copy =
+  pub copied_whole : (block : ℕ) (whole : WholeArchive) (text : List ℕ) (archives : List ArchiveRef) (named : ArchiveRef) → whole.time ≡ named.time
+      → HoldsCopy files log keys block whole.items whole.fields text archives named → IsWhole files log keys archives named.name whole
+  copied_whole block whole text archives named time holds =
+      let wholes = whole.items in
       let items : List ItemText = map (copied_item keys block) wholes in
+      let copy = holds.copy in
+      let parts = all_front (HoldsPiece files log keys) (contents_of block wholes) (stream_pieces keys block wholes ++ text ∷ []) holds.there in
+      let last = all_front (HoldsPiece files log keys) (stream_pieces keys block wholes) (text ∷ []) parts.1 in
       record {
-        named = copy.entry;
-        named_is = copy.entry_is;
+        named = holds.entry;
+        named_is = holds.entry_is;
         archive = copy.copied;
         record_is = record {
           content = text;
-          chunk = subst (λ (id : List ℕ). HoldsChunk files log keys id text) (sym copy.id) copy.record_there;
+          chunk = subst (λ (id : List ℕ). HoldsChunk files log keys id text) (sym holds.id) last.1.0;
           record_is = copy.reads;
         };
         items = items;
         stream = subst (λ (ids : List (List ℕ)). IsStream files log keys ids items) (sym copy.items)
-            (stream_copied block wholes copy.spelled copy.stream_there);
-        contents = wholes_copied block some wholes copy.contents_there;
-        time = sym copy.time;
+            (stream_copied block wholes copy.spelled last.0);
+        contents = wholes_copied block copy.some wholes (each_content (HoldsPiece files log keys) block wholes parts.0);
+        time = time ∙ sym holds.time;
         fields = sym copy.same;
       }
 

@@ -1,21 +1,23 @@
 -- Bodies one after another: what holds at each moment of both, and at their end.
-use Rattle.std.proofs.Common.{◌≡◌, ℕ, Bool, true, false, List, [], ◌++◌, Option, Some, None, Result, Ok, Err, IfSome, OnOk, IsErrAnd, refl, sym, ◌∙◌, subst}
+use Rattle.std.proofs.Common.{◌≡◌, ℕ, Bool, false, List, [], ◌++◌, Option, Some, None, Result, Ok, Err, IfSome, OnOk, IsErrAnd, refl, sym, ◌∙◌, subst}
 use Rattle.ferry_disk.proofs.MomentLemmas.{between_map, between_then, between_both}
 use Rattle.ferry_disk.specs.Act.{History}
 use Rattle.ferry_disk.specs.Device.{Told, RoseWhere}
 use Rattle.ferry_disk.specs.Faults.{FailedWhere}
 use Rattle.ferry_disk.specs.Moments.{Between}
 use Rattle.ferry_store.proofs.StepLemmas.{done_here, done_then, failed_then, here_each, known_end, known_then, rose_then}
-use Rattle.ferry_store.specs.Fault.{depot_failed}
 use Rattle.ferry_store.specs.State.{Did}
 use Rattle.ferry_store.specs.declared.fault.StoreRefusal.{StoreRefusal}
+use Rattle.ferry_stops.specs.Tells.{TellsNothing}
 use Rattle.ferry_write.specs.Script.{AllDone}
 use Rattle.ferry_carry.proofs.FaultLemmas.{failed_target}
 use Rattle.ferry_carry.specs.Fault.{target_failed, target_fault}
 use Rattle.ferry_carry.proofs.GatherLemmas.{each_then, gathers_here, gathers_then, stands_here}
-use Rattle.ferry_carry.proofs.GrowLemmas.{growing_from, growing_here, growing_then, grows_from, grows_here, grows_then}
+use Rattle.ferry_carry.proofs.GrowLemmas.{growing_by, growing_here, growing_then, growing_wider, grows_from, grows_here, grows_then}
+use Rattle.ferry_carry.specs.Carrying.{Origin}
 use Rattle.ferry_carry.specs.Gather.{Gathers, KeepsRest, KeepsStanding}
-use Rattle.ferry_carry.specs.Grow.{Grows, KeepsGrowing, KeepsMost}
+use Rattle.ferry_carry.specs.Grow.{AcceptsMore, Grows, KeepsGrowing, KeepsMost}
+use Rattle.ferry_store.specs.Commit.{accepted_in}
 use Rattle.ferry_carry.specs.Work.{Works}
 use Rattle.ferry_store.specs.Store.{StoreFits}
 use Rattle.ferry_store.specs.declared.store.Store.{Store}
@@ -26,22 +28,23 @@ pub err_is : {T : Type 0} (r : Result T CarryFault) (fault : CarryFault) (P : Re
 err_is (Ok x) fault P e p = absurd e
 err_is (Err y) fault P e p = subst (λ (f : CarryFault). P (Err f)) (sym e) p
 
--- a call of the store
+-- a call of the store, which tells no line
 pub works_ok : {T U : Type 0} (E1 : History → History → Type 0) (Q1 : T → History → History → Type 0) (E : History → History → Type 0)
-    (Q : U → History → History → Type 0) (a b : Option Told) (n m : ℕ) (x : T) (y : U) → ((h g : History) → E1 h g → E h g)
-    → ((h g : History) → Q1 x h g → Q y h g) → Did E1 Q1 a b n m (Ok x) → Works E Q a b n m (Ok y)
-works_ok E1 Q1 E Q a b n m x y step last p = record {
-  each = between_map a b E1 E step p.each;
+    (Q : U → History → History → Type 0) (a b : Option Told) (n m : ℕ) (x : T) (y : U) → ((h g : History) → TellsNothing h g → E1 h g → E h g)
+    → ((h g : History) → Q1 x h g → Q y h g) → Between a b TellsNothing → Did E1 Q1 a b n m (Ok x) → Works E Q a b n m (Ok y)
+works_ok E1 Q1 E Q a b n m x y step last untold p = record {
+  each = between_map a b (λ h g. TellsNothing h g × E1 h g) E (λ h g e. step h g e.0 e.1) (between_both a b TellsNothing E1 untold p.each);
   end = between_map a b (λ h g. AllDone h g × Q1 x h g) (λ h g. AllDone h g × Q y h g) (λ h g e. (e.0, last h g e.1)) p.end;
   ends = p.ends;
   cause = p.cause;
 }
 
 pub works_err : {T U : Type 0} (E1 : History → History → Type 0) (Q1 : T → History → History → Type 0) (E : History → History → Type 0)
-    (Q : U → History → History → Type 0) (a b : Option Told) (n m : ℕ) (refusal : StoreRefusal) → ((h g : History) → E1 h g → E h g)
-    → Did E1 Q1 a b n m (Err refusal) → Works E Q a b n m (Err (target_fault refusal))
-works_err E1 Q1 E Q a b n m refusal step p = record {
-  each = between_map a b E1 E step p.each;
+    (Q : U → History → History → Type 0) (a b : Option Told) (n m : ℕ) (refusal : StoreRefusal)
+    → ((h g : History) → TellsNothing h g → E1 h g → E h g) → Between a b TellsNothing → Did E1 Q1 a b n m (Err refusal)
+    → Works E Q a b n m (Err (target_fault refusal))
+works_err E1 Q1 E Q a b n m refusal step untold p = record {
+  each = between_map a b (λ h g. TellsNothing h g × E1 h g) E (λ h g e. step h g e.0 e.1) (between_both a b TellsNothing E1 untold p.each);
   end = tt;
   ends = subst (λ (d : Bool). FailedWhere d a b) (sym (failed_target refusal)) p.ends;
   cause = subst (λ (d : Bool). RoseWhere d n m) (sym (failed_target refusal)) p.cause;
@@ -83,6 +86,18 @@ pub works_front : {T U : Type 0} (E1 : History → History → Type 0) (Q1 : T �
     (Q : U → History → History → Type 0) (a b : Option Told) (n m : ℕ) (fault : CarryFault) → ((h g : History) → E1 h g → E h g)
     → Works E1 Q1 a b n m (Err fault) → Works E Q a b n m (Err fault)
 works_front E1 Q1 E Q a b n m fault step p = record { each = between_map a b E1 E step p.each; end = tt; ends = p.ends; cause = p.cause }
+
+-- at the end of a body that is `Ok` what holds at each moment holds too
+pub works_both : {T : Type 0} (E : History → History → Type 0) (Q : T → History → History → Type 0) (a b : Option Told) (n m : ℕ)
+    (result : Result T CarryFault) → Works E Q a b n m result → Works E (λ x h g. E h g × Q x h g) a b n m result
+works_both E Q a b n m (Ok x) p = record {
+  each = p.each;
+  end = between_map a b (λ h g. E h g × (AllDone h g × Q x h g)) (λ h g. AllDone h g × (E h g × Q x h g)) (λ h g e. (e.1.0, (e.0, e.1.1)))
+      (between_both a b E (λ h g. AllDone h g × Q x h g) p.each p.end);
+  ends = p.ends;
+  cause = p.cause;
+}
+works_both E Q a b n m (Err fault) p = record { each = p.each; end = tt; ends = p.ends; cause = p.cause }
 
 -- where no call of the target was made
 pub works_nothing : {T : Type 0} (E : History → History → Type 0) (Q : T → History → History → Type 0) (a : Option Told) (n : ℕ) (fault : CarryFault)
@@ -164,52 +179,81 @@ gathered_fits {T} store now contents a b n m x fits p =
 
 -- ---- archives that come, one after another
 
-pub grown_then : {T U : Type 0} (store middle now : Store) (a b c : Option Told) (n m k : ℕ) (x : T) (result : Result U CarryFault) → KeepsMost store middle
-    → Works (KeepsGrowing store) (λ (_ : T). Grows store middle) a b n m (Ok x) → Works (KeepsGrowing middle) (λ (_ : U). Grows middle now) b c m k result
-    → Works (KeepsGrowing store) (λ (_ : U). Grows store now) a c n k result
-grown_then {T} {U} store middle now a b c n m k x result most p q =
-    works_then (KeepsGrowing store) (λ (_ : T). Grows store middle) (KeepsGrowing middle) (λ (_ : U). Grows middle now) (KeepsGrowing store)
-    (λ (_ : U). Grows store now) a b c n m k x result (λ h g i e d f r. growing_then store middle h g i most e d f r)
-    (λ _ h g i e f. grows_then store middle now h g i e f) p q
+-- one body behind another, each of which carried archives
+pub carried_by_then : {T U : Type 0} (from : Origin) (some each : List (List ℕ)) (more : U → List (List ℕ)) (store middle now : Store)
+    (a b c : Option Told) (n m k : ℕ) (x : T) (result : Result U CarryFault)
+    → Works (KeepsGrowing from (some ++ each) store) (λ (_ : T). Grows from some store middle) a b n m (Ok x)
+    → Works (KeepsGrowing from each middle) (λ (y : U). Grows from (more y) middle now) b c m k result
+    → Works (KeepsGrowing from (some ++ each) store) (λ (y : U). Grows from (some ++ more y) store now) a c n k result
+carried_by_then {T} {U} from some each more store middle now a b c n m k x result p q =
+    works_then (KeepsGrowing from (some ++ each) store) (λ (_ : T). Grows from some store middle) (KeepsGrowing from each middle)
+    (λ (y : U). Grows from (more y) middle now) (KeepsGrowing from (some ++ each) store) (λ (y : U). Grows from (some ++ more y) store now) a b c n m k x result
+    (λ h g i e d f r. growing_then from some each store middle h g i e d f r) (λ y h g i e f. grows_then from some (more y) store middle now h g i e f) p q
 
-pub grown_none : {T : Type 0} (store : Store) (a : Option Told) (n : ℕ) (x : T) → Works (KeepsGrowing store) (λ (_ : T). Grows store store) a a n n (Ok x)
-grown_none {T} store a n x = works_none (KeepsGrowing store) (λ (_ : T). Grows store store) a n x (λ h. growing_here store h) (λ h. grows_here store h)
+pub carried_then : {T U : Type 0} (from : Origin) (some more : List (List ℕ)) (store middle now : Store) (a b c : Option Told) (n m k : ℕ) (x : T)
+    (result : Result U CarryFault) → KeepsMost store middle
+    → Works (KeepsGrowing from (some ++ more) store) (λ (_ : T). Grows from some store middle) a b n m (Ok x)
+    → Works (KeepsGrowing from more middle) (λ (_ : U). Grows from more middle now) b c m k result
+    → Works (KeepsGrowing from (some ++ more) store) (λ (_ : U). Grows from (some ++ more) store now) a c n k result
+carried_then {T} {U} from some more store middle now a b c n m k x result most p q =
+    carried_by_then {T = T} {U = U} from some more (λ _. more) store middle now a b c n m k x result p q
 
-pub grown_nothing : {T : Type 0} (store now : Store) (a : Option Told) (n : ℕ) (fault : CarryFault) → target_failed fault ≡ false
-    → Works (KeepsGrowing store) (λ (_ : T). Grows store now) a a n n (Err fault)
-grown_nothing {T} store now a n fault still =
-    works_nothing (KeepsGrowing store) (λ (_ : T). Grows store now) a n fault still (λ h. growing_here store h)
+pub carried_none : {T : Type 0} (from : Origin) (chosen : List (List ℕ)) (store : Store) (a : Option Told) (n : ℕ) (x : T) → AcceptsMore store
+    → Works (KeepsGrowing from chosen store) (λ (_ : T). Grows from [] store store) a a n n (Ok x)
+carried_none {T} from chosen store a n x accepts =
+    works_none (KeepsGrowing from chosen store) (λ (_ : T). Grows from [] store store) a n x (λ h. growing_here from chosen store h accepts)
+    (λ h. grows_here from store h)
 
-pub grown_as : {T U : Type 0} (store now : Store) (a b : Option Told) (n m : ℕ) (x : T) (y : U)
-    → Works (KeepsGrowing store) (λ (_ : T). Grows store now) a b n m (Ok x)
-    → Works (KeepsGrowing store) (λ (_ : U). Grows store now) a b n m (Ok y)
-grown_as {T} {U} store now a b n m x y p =
-    works_as (KeepsGrowing store) (λ (_ : T). Grows store now) (KeepsGrowing store) (λ (_ : U). Grows store now) a b n m x y (λ h g e. e) (λ h g e. e) p
+pub carried_nothing : {T : Type 0} (from : Origin) (chosen others : List (List ℕ)) (store now : Store) (a : Option Told) (n : ℕ) (fault : CarryFault)
+    → AcceptsMore store → target_failed fault ≡ false
+    → Works (KeepsGrowing from chosen store) (λ (_ : T). Grows from others store now) a a n n (Err fault)
+carried_nothing {T} from chosen others store now a n fault accepts still =
+    works_nothing (KeepsGrowing from chosen store) (λ (_ : T). Grows from others store now) a n fault still (λ h. growing_here from chosen store h accepts)
 
-pub grown_err : {T U : Type 0} (store now other : Store) (a b : Option Told) (n m : ℕ) (fault : CarryFault)
-    → Works (KeepsGrowing store) (λ (_ : T). Grows store now) a b n m (Err fault)
-    → Works (KeepsGrowing store) (λ (_ : U). Grows store other) a b n m (Err fault)
-grown_err {T} {U} store now other a b n m fault p =
-    works_front (KeepsGrowing store) (λ (_ : T). Grows store now) (KeepsGrowing store) (λ (_ : U). Grows store other) a b n m fault (λ h g e. e) p
+pub carried_as : {T U : Type 0} (from : Origin) (chosen each : List (List ℕ)) (store now : Store) (a b : Option Told) (n m : ℕ) (x : T) (y : U)
+    → Works (KeepsGrowing from each store) (λ (_ : T). Grows from chosen store now) a b n m (Ok x)
+    → Works (KeepsGrowing from each store) (λ (_ : U). Grows from chosen store now) a b n m (Ok y)
+carried_as {T} {U} from chosen each store now a b n m x y p =
+    works_as (KeepsGrowing from each store) (λ (_ : T). Grows from chosen store now) (KeepsGrowing from each store)
+    (λ (_ : U). Grows from chosen store now) a b n m x y (λ h g e. e) (λ h g e. e) p
+
+pub carried_err : {T U : Type 0} (from : Origin) (each some others : List (List ℕ)) (store now other : Store) (a b : Option Told) (n m : ℕ)
+    (fault : CarryFault) → Works (KeepsGrowing from each store) (λ (_ : T). Grows from some store now) a b n m (Err fault)
+    → Works (KeepsGrowing from each store) (λ (_ : U). Grows from others store other) a b n m (Err fault)
+carried_err {T} {U} from each some others store now other a b n m fault p =
+    works_front (KeepsGrowing from each store) (λ (_ : T). Grows from some store now) (KeepsGrowing from each store)
+    (λ (_ : U). Grows from others store other) a b n m fault (λ h g e. e) p
+
+-- of more chosen names
+pub carried_wider : {T : Type 0} (from : Origin) (each more chosen : List (List ℕ)) (store now : Store) (a b : Option Told) (n m : ℕ)
+    (result : Result T CarryFault) → Works (KeepsGrowing from each store) (λ (_ : T). Grows from chosen store now) a b n m result
+    → Works (KeepsGrowing from (each ++ more) store) (λ (_ : T). Grows from chosen store now) a b n m result
+carried_wider {T} from each more chosen store now a b n m (Ok x) p =
+    works_as (KeepsGrowing from each store) (λ (_ : T). Grows from chosen store now) (KeepsGrowing from (each ++ more) store)
+    (λ (_ : T). Grows from chosen store now) a b n m x x (λ h g e. growing_wider from each more store h g e) (λ h g e. e) p
+carried_wider {T} from each more chosen store now a b n m (Err fault) p =
+    works_front (KeepsGrowing from each store) (λ (_ : T). Grows from chosen store now) (KeepsGrowing from (each ++ more) store)
+    (λ (_ : T). Grows from chosen store now) a b n m fault (λ h g e. growing_wider from each more store h g e) p
 
 -- contents that were added
-pub grown_from : {T U : Type 0} (store now : Store) (contents : List (List ℕ)) (a b : Option Told) (n m : ℕ) (x : T) (y : U)
+pub carried_from : {T U : Type 0} (from : Origin) (chosen : List (List ℕ)) (store now : Store) (contents : List (List ℕ)) (a b : Option Told) (n m : ℕ)
+    (x : T) (y : U) → AcceptsMore store → KeepsRest store now
     → Works (KeepsStanding store) (λ (_ : T). Gathers store contents now) a b n m (Ok x)
-    → Works (KeepsGrowing store) (λ (_ : U). Grows store now) a b n m (Ok y)
-grown_from {T} {U} store now contents a b n m x y p =
-    works_as (KeepsStanding store) (λ (_ : T). Gathers store contents now) (KeepsGrowing store) (λ (_ : U). Grows store now) a b n m x y
-    (λ h g e. growing_from store h g e) (λ h g e. grows_from store now contents h g e) p
+    → Works (KeepsGrowing from chosen store) (λ (_ : U). Grows from [] store now) a b n m (Ok y)
+carried_from {T} {U} from chosen store now contents a b n m x y accepts rest p =
+    works_as (KeepsStanding store) (λ (_ : T). Gathers store contents now) (KeepsGrowing from chosen store) (λ (_ : U). Grows from [] store now) a b n m x y
+    (λ h g e. growing_by from chosen (accepted_in store) store h g accepts e) (λ h g e. grows_from from store now contents h g rest e) p
 
-pub grown_from_err : {T U : Type 0} (store now other : Store) (contents : List (List ℕ)) (a b : Option Told) (n m : ℕ) (fault : CarryFault)
+pub carried_from_err : {T U : Type 0} (from : Origin) (chosen others : List (List ℕ)) (store now other : Store) (contents : List (List ℕ))
+    (a b : Option Told) (n m : ℕ) (fault : CarryFault) → AcceptsMore store
     → Works (KeepsStanding store) (λ (_ : T). Gathers store contents now) a b n m (Err fault)
-    → Works (KeepsGrowing store) (λ (_ : U). Grows store other) a b n m (Err fault)
-grown_from_err {T} {U} store now other contents a b n m fault p =
-    works_front (KeepsStanding store) (λ (_ : T). Gathers store contents now) (KeepsGrowing store) (λ (_ : U). Grows store other) a b n m fault
-    (λ h g e. growing_from store h g e) p
+    → Works (KeepsGrowing from chosen store) (λ (_ : U). Grows from others store other) a b n m (Err fault)
+carried_from_err {T} {U} from chosen others store now other contents a b n m fault accepts p =
+    works_front (KeepsStanding store) (λ (_ : T). Gathers store contents now) (KeepsGrowing from chosen store) (λ (_ : U). Grows from others store other)
+    a b n m fault (λ h g e. growing_by from chosen (accepted_in store) store h g accepts e) p
 
--- a store fits from body to body
-pub grown_fits : {T : Type 0} (store now : Store) (a b : Option Told) (n m : ℕ) (x : T) → IfSome a (λ t. StoreFits false store t.history)
-    → Works (KeepsGrowing store) (λ (_ : T). Grows store now) a b n m (Ok x) → IfSome b (λ t. StoreFits false now t.history)
-grown_fits {T} store now a b n m x fits p =
-    works_known (λ h. StoreFits false store h) (λ h. StoreFits false now h) (KeepsGrowing store) (λ (_ : T). Grows store now) a b n m x
-    (λ h g f e. (e false f).fits_now) fits p
+-- what is known at the begin of what was done
+pub between_known : (P : History → Type 0) (E : History → History → Type 0) (a b : Option Told) → IfSome a (λ t. P t.history) → Between a b E
+    → Between a b (λ h g. P h × E h g)
+between_known P E None b known p = tt
+between_known P E (Some told) b known p = (p.0, p.1, (known, p.2))

@@ -1,5 +1,5 @@
 -- The chosen archives: which names are missing, and what is told.
-use Rattle.std.specs.Prelude.{◌≡◌, ◌<◌, ℕ, true, List, Option, Some, None, IsSome, slice_get}
+use Rattle.std.specs.Prelude.{◌≡◌, ◌<◌, ℕ, true, List, Some, None, IsSome, slice_get}
 use Rattle.ferry_disk.specs.Act.{History, TellOf, with_act}
 use Rattle.ferry_manifest.specs.Manifest.Text.{ManifestText}
 use Rattle.ferry_repo.specs.Archives.{archive_named}

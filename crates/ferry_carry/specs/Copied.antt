@@ -1,6 +1,6 @@
 -- What an archive is in a target: its items with the chunks of their contents as they are cut there, its stream, and its record.
-use Rattle.std.specs.Prelude.{◌≡◌, ℕ, List, [], ◌++◌, map, Option, Some, None, option_map, Ok}
-use Rattle.std.specs.List.{AllByRecursion, concat}
+use Rattle.std.specs.Prelude.{◌≡◌, ◌≤◌, ℕ, List, [], ◌∷◌, ◌++◌, map, Option, Some, None, option_map, Ok}
+use Rattle.std.specs.List.{AllByRecursion, concat, flat_map}
 use Rattle.ferry_blob.specs.Blob.{content_id}
 use Rattle.ferry_disk.specs.Files.{Files}
 use Rattle.ferry_item.specs.Item.{ItemText}
@@ -10,10 +10,11 @@ use Rattle.ferry_log.specs.State.{LogState}
 use Rattle.ferry_mac.specs.declared.keys.Keys.{Keys}
 use Rattle.ferry_manifest.specs.Record.Text.{ArchiveText, archive_of}
 use Rattle.ferry_manifest.specs.declared.manifest.ArchiveRef.{ArchiveRef}
+use Rattle.ferry_msgpack.specs.Tree.{Tree}
 use Rattle.ferry_rechunk.specs.Cut.{cut}
 use Rattle.ferry_repo.specs.Archives.{archive_named}
 use Rattle.ferry_repo.specs.Objects.{HoldsChunk}
-use Rattle.ferry_repo.specs.Whole.{WholeArchive, WholeItem}
+use Rattle.ferry_repo.specs.Whole.{WholeItem}
 use Rattle.ferry_carry.specs.Gather.{chunks_of}
 
 -- the length of the pieces of an item stream
@@ -38,23 +39,41 @@ stream_of items = concat (map item_text items)
 abbrev pub IsRead : ItemText → Type 0
 IsRead item = (rest : List ℕ) → front_item (item_text item ++ rest) ≡ an_item item rest
 
+-- the pieces of the contents of these items
+abbrev pub contents_of : ℕ → List WholeItem → List (List ℕ)
+contents_of block wholes = flat_map (λ (whole : WholeItem). pieces_of block whole.content) wholes
+
+-- the stream of these items in a target, and its pieces
+abbrev pub copied_stream : Keys → ℕ → List WholeItem → List ℕ
+copied_stream keys block wholes = stream_of (map (copied_item keys block) wholes)
+
+abbrev pub stream_pieces : Keys → ℕ → List WholeItem → List (List ℕ)
+stream_pieces keys block wholes = cut stream_block (copied_stream keys block wholes)
+
+-- all contents that an archive of these items is in a target, whose record has this text
+abbrev pub adds_of : Keys → ℕ → List WholeItem → List ℕ → List (List ℕ)
+adds_of keys block wholes text = contents_of block wholes ++ (stream_pieces keys block wholes ++ text ∷ [])
+
+-- A text is that of the record of an archive with these fields, whose stream is that of these items.
+pub record IsCopyOf (keys : Keys) (block : ℕ) (wholes : List WholeItem) (fields : Tree) (text : List ℕ) : Type 0 where
+  pub some : 1 ≤ block
+  pub copied : ArchiveText
+  pub reads : archive_of keys text ≡ Ok copied
+  pub same : copied.fields ≡ fields
+  pub items : copied.items ≡ map (content_id keys) (stream_pieces keys block wholes)
+  pub spelled : AllByRecursion (λ (whole : WholeItem). IsRead (copied_item keys block whole)) wholes
+
 -- A content is that of a chunk, under its id.
 abbrev pub HoldsPiece : Files → LogState → Keys → List ℕ → Type 0
 HoldsPiece files log keys piece = HoldsChunk files log keys (content_id keys piece) piece
 
 -- All is there of an archive whose items are these: the pieces of their contents, those of the stream, and the record, whose text is this and
 -- which a manifest names.
-pub record HoldsCopy (files : Files) (log : LogState) (keys : Keys) (block : ℕ) (wholes : List WholeItem) (fields : ArchiveText) (text : List ℕ)
+pub record HoldsCopy (files : Files) (log : LogState) (keys : Keys) (block : ℕ) (wholes : List WholeItem) (fields : Tree) (text : List ℕ)
     (archives : List ArchiveRef) (named : ArchiveRef) : Type 0 where
   pub entry : ArchiveRef
   pub entry_is : archive_named named.name archives ≡ Some entry
   pub time : entry.time ≡ named.time
   pub id : entry.id ≡ content_id keys text
-  pub copied : ArchiveText
-  pub reads : archive_of keys text ≡ Ok copied
-  pub same : copied.fields ≡ fields.fields
-  pub items : copied.items ≡ map (content_id keys) (cut stream_block (stream_of (map (copied_item keys block) wholes)))
-  pub spelled : AllByRecursion (λ (whole : WholeItem). IsRead (copied_item keys block whole)) wholes
-  pub record_there : HoldsPiece files log keys text
-  pub stream_there : AllByRecursion (HoldsPiece files log keys) (cut stream_block (stream_of (map (copied_item keys block) wholes)))
-  pub contents_there : AllByRecursion (λ (whole : WholeItem). AllByRecursion (HoldsPiece files log keys) (pieces_of block whole.content)) wholes
+  pub copy : IsCopyOf keys block wholes fields text
+  pub there : AllByRecursion (HoldsPiece files log keys) (adds_of keys block wholes text)

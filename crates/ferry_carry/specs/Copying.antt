@@ -1,5 +1,5 @@
 -- An archive on its way: an item that is taken, its content as it is cut, and its spelling in the stream.
-use Rattle.std.specs.Prelude.{◌≡◌, ◌≤◌, ◌<◌, ◌++◌, ℕ, List, [], ◌∷◌, length, Option, Some, None, IfSome}
+use Rattle.std.specs.Prelude.{◌≡◌, ◌≤◌, ◌<◌, ℕ, List, [], ◌∷◌, length, Option, Some, None, IfSome}
 use Rattle.ferry_disk.specs.Device.{Told, told_files}
 use Rattle.ferry_disk.specs.Files.{Files}
 use Rattle.ferry_item.specs.Item.{ItemText}

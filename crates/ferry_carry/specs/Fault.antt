@@ -1,5 +1,5 @@
 -- The faults of copying: those of the source, of the target, and its own.
-use Rattle.std.specs.Prelude.{ℕ, Bool, true, false}
+use Rattle.std.specs.Prelude.{ℕ, Bool, false}
 use Rattle.ferry_carry.specs.declared.fault.CarryFault.{CarryFault}
 use Rattle.ferry_carry.specs.declared.fault.CarryFault.TheVariants.{Source, Target, Taken, NotFound, Pieces, Memory, Record}
 use Rattle.ferry_compare.specs.declared.fault.CompareFault.{CompareFault}

@@ -1,15 +1,24 @@
 -- An archive on its way, by what was begun of it.
-use Rattle.std.specs.Prelude.{◌≡◌, ◌≢◌, ◌≤◌, ℕ, List, Option, Some, None, IfSome}
+use Rattle.std.specs.Prelude.{◌≡◌, ◌≤◌, ℕ, List, [], ◌∷◌, Option, Some, None, Result, IfSome}
 use Rattle.ferry_compare.specs.Compare.{FitsTold, comparison_view}
 use Rattle.ferry_disk.specs.Device.{Told, told_files}
+use Rattle.ferry_manifest.specs.Manifest.Text.{ManifestText}
 use Rattle.ferry_manifest.specs.declared.manifest.ArchiveRef.{ArchiveRef}
 use Rattle.ferry_repo.specs.Archives.{archive_named}
 use Rattle.ferry_repo.specs.Opening.{RepoState, repo_view}
 use Rattle.ferry_repo.specs.Walk.{FitsWalk, walk_view}
+use Rattle.ferry_repo.specs.Whole.{WholeArchive}
 use Rattle.ferry_store.specs.Commit.{accepted_in}
 use Rattle.ferry_store.specs.declared.store.Store.{Store}
+use Rattle.ferry_carry.specs.Carrying.{IsReadyToName, Origin, SaysIn, origin}
 use Rattle.ferry_carry.specs.Copying.{IsReady}
+use Rattle.ferry_carry.specs.Grow.{Grows, GrowsBy, IsNamedBy, KeepsGrowing, KeepsGrowingBy, KeepsNames}
+use Rattle.ferry_carry.specs.Progress.{IsCopiedSoFar}
+use Rattle.ferry_carry.specs.Work.{Works}
+use Rattle.ferry_carry.specs.declared.fault.CarryFault.{CarryFault}
 use Rattle.ferry_carry.specs.declared.flight.Flight.{Flight}
+use Rattle.ferry_carry.specs.declared.flight.Turn.{Turn}
+use Rattle.ferry_carry.specs.declared.flight.Turn.TheVariants.{More, Named, Present}
 use Rattle.ferry_carry.specs.declared.flight.Work.{Work}
 use Rattle.ferry_carry.specs.declared.flight.Work.TheVariants.{Waiting, Copying, Comparing}
 use Rattle.ferry_carry.specs.declared.options.Options.{Options}
@@ -25,16 +34,55 @@ pub record FlightStands (source : RepoState) (flight : Flight) : Type 0 where
   pub named : archive_named flight.named.name source.manifest.archives ≡ Some flight.named
 
 -- What is under way fits the source and the store.
-abbrev pub WorkFits : Option Told → RepoState → Option Told → Store → List ℕ → Work → Type 0
-WorkFits told source heard store name Waiting = Unit {0}
-WorkFits told source heard store name (Copying copy) = IsReady copy × (archive_named name (accepted_in store).archives ≡ None)
+abbrev pub WorkFits : Option Told → RepoState → Option Told → Store → ArchiveRef → ℕ → Work → Type 0
+WorkFits told source heard store named block Waiting = Unit {0}
+WorkFits told source heard store named block (Copying copy) = IsReady copy × (archive_named named.name (accepted_in store).archives ≡ None)
     × IfSome told (λ t. FitsWalk (told_files t) source.log source.keys (walk_view copy.walk))
-WorkFits told source heard store name (Comparing comparison) = FitsTold told source heard (repo_view store.repo) (comparison_view comparison)
-    × ((comparison_view comparison).name ≡ name)
+    × IsCopiedSoFar (origin told source block) named heard store copy
+WorkFits told source heard store named block (Comparing comparison) = FitsTold told source heard (repo_view store.repo) (comparison_view comparison)
+    × ((comparison_view comparison).name ≡ named.name)
 
 pub record FlightFits (told : Option Told) (source : RepoState) (heard : Option Told) (store : Store) (flight : Flight) : Type 0 where
   pub stands : FlightStands source flight
-  pub work : WorkFits told source heard store flight.named.name flight.work
+  pub work : WorkFits told source heard store flight.named flight.options.block flight.work
+
+-- the source of a flight
+abbrev pub flown_from : Option Told → RepoState → Flight → Origin
+flown_from told source flight = origin told source flight.options.block
+
+-- which names were carried by a turn
+abbrev pub carried_by : Turn → List ℕ → List (List ℕ)
+carried_by More name = []
+carried_by Named name = name ∷ []
+carried_by Present name = name ∷ []
+
+-- What a turn of a flight did of the archive of a name.
+abbrev pub Flies : Origin → List ℕ → Store → Store → Option Told → Option Told → ℕ → ℕ → Result Turn CarryFault → Type 0
+Flies from name store store_now before now count after result =
+    Works (KeepsGrowing from (name ∷ []) store) (λ turn. Grows from (carried_by turn name) store store_now) before now count after result
+
+-- What was done of the archives of names, one after another.
+abbrev pub Carries : {T : Type 0} → Origin → List (List ℕ) → Store → Store → Option Told → Option Told → ℕ → ℕ → Result T CarryFault → Type 0
+Carries from chosen store store_now before now count after result =
+    Works (KeepsGrowing from chosen store) (λ _. Grows from chosen store store_now) before now count after result
+
+-- The archive of a name is whole in the source and in the target, and says the same in both, where they tell their files.
+abbrev pub IsSame : Origin → Option Told → RepoState → List ℕ → Type 0
+IsSame from heard target name = IfSome heard (λ d. IfSome from.files (λ there. (whole : WholeArchive)
+    × (SaysIn there from.repo name whole × SaysIn (told_files d) target name whole)))
+
+-- An archive is accepted under its name, and no other that another manifest lacks.
+pub record AcceptsOne (accepted : ManifestText) (store : Store) (entry : ArchiveRef) : Type 0 where
+  pub keeps : KeepsNames (repo_view store.repo).manifest accepted
+  pub only : IsNamedBy accepted (entry.name ∷ []) (accepted_in store)
+  pub there : archive_named entry.name (accepted_in store).archives ≡ Some entry
+
+-- What a body did that commits the archive of this entry, all of which is there in the target.
+abbrev pub NamesArchive : ManifestText → ArchiveRef → Store → Store → Option Told → Option Told → ℕ → ℕ → Result (Unit {0}) CarryFault → Type 0
+NamesArchive accepted entry store store_now before now count after result = (from : Origin)
+    → IfSome before (λ t. IsReadyToName from (told_files t) (repo_view store.repo) entry)
+    → Works (KeepsGrowingBy accepted from (entry.name ∷ []) store) (λ _. GrowsBy accepted from (entry.name ∷ []) store store_now)
+    before now count after result
 
 -- Where a store accepted an archive of this name, it has committed it.
 abbrev pub IsCommitted : Store → List ℕ → Type 0

@@ -12,6 +12,7 @@ use Rattle.ferry_repo.specs.Objects.{HoldsChunk}
 use Rattle.ferry_repo.specs.Opening.{RepoState, repo_view}
 use Rattle.ferry_segment.specs.Entry.{LogEntry}
 use Rattle.ferry_stops.specs.Entries.{Shows}
+use Rattle.ferry_stops.specs.Tells.{TellsNothing}
 use Rattle.ferry_store.specs.Commit.{accepted_in}
 use Rattle.ferry_store.specs.Standing.{Keeps, committed_of, entries_of}
 use Rattle.ferry_store.specs.State.{IsSound, Written}
@@ -64,8 +65,12 @@ abbrev pub StandsFrom : Written → Files → Type 0
 StandsFrom written image = (entries : List LogEntry) × (Shows image (Some entries) × (Keeps (committed_of written) entries × (image.config ≡ written.config)))
 
 -- At each moment each stop shows so, and no counter block serves two blobs.
+abbrev pub EachStands : Store → History → History → Type 0
+EachStands store before now = (counts : Bool) (fits : StoreFits counts store before) → Moments (IsSound (StandsFrom fits.written) counts) before now
+
+-- The same where no line was told.
 abbrev pub KeepsStanding : Store → History → History → Type 0
-KeepsStanding store before now = (counts : Bool) (fits : StoreFits counts store before) → Moments (IsSound (StandsFrom fits.written) counts) before now
+KeepsStanding store before now = TellsNothing before now × EachStands store before now
 
 -- ---- what was added
 

@@ -1,5 +1,6 @@
 -- What a target is as archives come into it: each archive that it had keeps its name and its chunks.
-use Rattle.std.specs.Prelude.{◌≡◌, ◌≢◌, ℕ, Bool, List, Option, Some}
+use Rattle.std.specs.Prelude.{◌≡◌, ◌≢◌, ◌⊎◌, ◌++◌, ℕ, Bool, List, Some}
+use Rattle.std.specs.List.{AllByRecursion}
 use Rattle.ferry_base.specs.Limits.{zero_id}
 use Rattle.ferry_disk.specs.Act.{History}
 use Rattle.ferry_disk.specs.Files.{Files}
@@ -10,11 +11,14 @@ use Rattle.ferry_repo.specs.Archives.{archive_named}
 use Rattle.ferry_repo.specs.Opening.{RepoState, repo_view}
 use Rattle.ferry_segment.specs.Entry.{LogEntry}
 use Rattle.ferry_stops.specs.Entries.{Shows}
+use Rattle.ferry_stops.specs.Tells.{TellsNothing}
 use Rattle.ferry_store.specs.Commit.{accepted_in}
 use Rattle.ferry_store.specs.Standing.{HoldsManifest, committed_of, live_in, with_manifest}
 use Rattle.ferry_store.specs.State.{IsSound, Written}
 use Rattle.ferry_store.specs.Store.{StoreFits}
 use Rattle.ferry_store.specs.declared.store.Store.{Store}
+use Rattle.ferry_carry.specs.Carrying.{AreCut, IsCarried, Origin}
+use Rattle.ferry_carry.specs.Gather.{IsAmong}
 
 -- Each chunk that is live by these entries is live by those, with the same blob.
 abbrev pub KeepsChunks : List LogEntry → List LogEntry → Type 0
@@ -25,8 +29,20 @@ abbrev pub KeepsNames : ManifestText → ManifestText → Type 0
 KeepsNames before after =
     (name : List ℕ) (entry : ArchiveRef) → archive_named name before.archives ≡ Some entry → archive_named name after.archives ≡ Some entry
 
--- Committed are entries that keep each chunk, and a manifest that keeps each archive, with the settings as they were.
-pub record StandsOn (repo : RepoState) (written : Written) (image : Files) : Type 0 where
+-- Its repository has the settings and the secrets that it had, and keeps each archive.
+pub record KeepsMost (store store_now : Store) : Type 0 where
+  pub keys : (repo_view store_now.repo).keys ≡ (repo_view store.repo).keys
+  pub config : (repo_view store_now.repo).config ≡ (repo_view store.repo).config
+  pub names : KeepsNames (repo_view store.repo).manifest (repo_view store_now.repo).manifest
+
+-- Each archive of a manifest is in an accepted manifest, or its name is among these.
+abbrev pub IsNamedBy : ManifestText → List (List ℕ) → ManifestText → Type 0
+IsNamedBy accepted done manifest = (name : List ℕ) (entry : ArchiveRef) → archive_named name manifest.archives ≡ Some entry
+    → (archive_named name accepted.archives ≡ Some entry) ⊎ IsAmong done name
+
+-- Committed are entries that keep each chunk, and a manifest that keeps each archive, with the settings as they were. Of the chosen names those of
+-- a front were carried, those that were not accepted are cut so, and beside what was accepted no other is named.
+pub record StandsOn (from : Origin) (chosen : List (List ℕ)) (accepted : ManifestText) (repo : RepoState) (written : Written) (image : Files) : Type 0 where
   pub entries : List LogEntry
   pub manifest : ManifestText
   pub shown : Shows image (Some entries)
@@ -34,26 +50,43 @@ pub record StandsOn (repo : RepoState) (written : Written) (image : Files) : Typ
   pub holds : HoldsManifest (with_manifest repo manifest) entries
   pub names : KeepsNames repo.manifest manifest
   pub config : image.config ≡ written.config
+  pub done : List (List ℕ)
+  pub rest : List (List ℕ)
+  pub front : chosen ≡ done ++ rest
+  pub carried : AllByRecursion (IsCarried from repo.keys entries manifest.archives) done
+  pub cut : AreCut accepted from repo.keys manifest.archives done
+  pub only : IsNamedBy accepted done manifest
 
 -- At each moment each stop shows so, and no counter block serves two blobs.
-abbrev pub KeepsGrowing : Store → History → History → Type 0
-KeepsGrowing store before now = (counts : Bool) (fits : StoreFits counts store before)
-    → Moments (IsSound (StandsOn (repo_view store.repo) fits.written) counts) before now
+abbrev pub EachGrowsBy : ManifestText → Origin → List (List ℕ) → Store → History → History → Type 0
+EachGrowsBy accepted from chosen store before now = (counts : Bool) (fits : StoreFits counts store before)
+    → Moments (IsSound (StandsOn from chosen accepted (repo_view store.repo) fits.written) counts) before now
 
--- A store fits in which each chunk and each archive is kept.
-pub record Grown (counts : Bool) (store store_now : Store) (before now : History) (fits : StoreFits counts store before) : Type 0 where
+-- The same where no line was told.
+abbrev pub KeepsGrowingBy : ManifestText → Origin → List (List ℕ) → Store → History → History → Type 0
+KeepsGrowingBy accepted from chosen store before now = TellsNothing before now × EachGrowsBy accepted from chosen store before now
+
+abbrev pub KeepsGrowing : Origin → List (List ℕ) → Store → History → History → Type 0
+KeepsGrowing from chosen store = KeepsGrowingBy (accepted_in store) from chosen store
+
+-- A store fits in which each chunk and each archive is kept. All chosen names were carried, and beside what was accepted no other is.
+pub record Grown (accepted : ManifestText) (from : Origin) (chosen : List (List ℕ)) (counts : Bool) (store store_now : Store) (before now : History)
+    (fits : StoreFits counts store before) : Type 0 where
   pub fits_now : StoreFits counts store_now now
   pub chunks : KeepsChunks (committed_of fits.written) (committed_of fits_now.written)
   pub config : fits_now.written.config ≡ fits.written.config
+  pub most : KeepsMost store store_now
+  pub carried : AllByRecursion (IsCarried from (repo_view store_now.repo).keys (committed_of fits_now.written)
+      (repo_view store_now.repo).manifest.archives) chosen
+  pub cut : AreCut accepted from (repo_view store_now.repo).keys (repo_view store_now.repo).manifest.archives chosen
+  pub only : IsNamedBy accepted chosen (accepted_in store_now)
 
-abbrev pub Grows : Store → Store → History → History → Type 0
-Grows store store_now before now = (counts : Bool) (fits : StoreFits counts store before) → Grown counts store store_now before now fits
+abbrev pub GrowsBy : ManifestText → Origin → List (List ℕ) → Store → Store → History → History → Type 0
+GrowsBy accepted from chosen store store_now before now = (counts : Bool) (fits : StoreFits counts store before)
+    → Grown accepted from chosen counts store store_now before now fits
 
--- Its repository has the settings and the secrets that it had, and keeps each archive.
-pub record KeepsMost (store store_now : Store) : Type 0 where
-  pub keys : (repo_view store_now.repo).keys ≡ (repo_view store.repo).keys
-  pub config : (repo_view store_now.repo).config ≡ (repo_view store.repo).config
-  pub names : KeepsNames (repo_view store.repo).manifest (repo_view store_now.repo).manifest
+abbrev pub Grows : Origin → List (List ℕ) → Store → Store → History → History → Type 0
+Grows from chosen store = GrowsBy (accepted_in store) from chosen store
 
 -- What a store accepted has each archive of its manifest.
 abbrev pub AcceptsMore : Store → Type 0

@@ -11,3 +11,7 @@ pub mod Naming
 pub mod Flight
 pub mod Chosen
 pub mod Step
+pub mod Carrying
+pub mod Progress
+pub mod Telling
+pub mod Refusals

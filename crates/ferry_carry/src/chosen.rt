@@ -1,16 +1,21 @@
 //! The chosen archives, one after another.
-ghost use Rattle.std.specs.Prelude.{◌≡◌, ℕ, List, None, Some, false, slice_get, IfErr, IfSome, IsSome, OnOk};
+ghost use Rattle.std.specs.Prelude.{◌≡◌, ◌⊎◌, ℕ, List, [], ◌∷◌, None, Some, Err, true, false, slice_get, IfErr, IfSome, IsSome, OnOk};
 ghost use Rattle.ferry_carry.specs.Chosen.{IsMissingName, TellsLine};
 ghost use Rattle.ferry_carry.specs.Fault.{random_failed, shelf_failed};
-ghost use Rattle.ferry_carry.specs.Flight.{AreRight, FlightFits, IsSettled};
-ghost use Rattle.ferry_carry.specs.Grow.{Grows, KeepsGrowing, KeepsMost};
+ghost use Rattle.ferry_carry.specs.Carrying.{origin};
+ghost use Rattle.ferry_carry.specs.Flight.{AreRight, Carries, FlightFits, IsSettled, flown_from};
+ghost use Rattle.ferry_carry.specs.Grow.{KeepsMost};
 ghost use Rattle.ferry_carry.specs.Lines.{name_line, told_of};
+ghost use Rattle.ferry_carry.specs.Refusals.{RefusesName, RefusesNames, RefusesOne, is_target};
+ghost use Rattle.ferry_carry.specs.Telling.{Reports, ReportsWhole};
 ghost use Rattle.ferry_carry.specs.Work.{Works};
+ghost use Rattle.ferry_disk.specs.Act.{TellOf};
 ghost use Rattle.ferry_disk.specs.Device.{HasCause, KeepsTold, told_files};
 ghost use Rattle.ferry_manifest.specs.Manifest.Writing.{IsPackable};
 ghost use Rattle.ferry_repo.specs.Archives.{archive_named};
 ghost use Rattle.ferry_repo.specs.Opening.{FitsRepo, cached_in, repo_view};
 ghost use Rattle.ferry_store.specs.Commit.{accepted_in};
+ghost use Rattle.ferry_store.specs.State.{IsStep};
 ghost use Rattle.ferry_store.specs.Store.{IsUnspent, StoreFits};
 
 use crate::fault::CarryFault;
@@ -57,8 +62,18 @@ pub fn carry<S: Shelf, D: Depot, E: Entropy>(
     requires fits { IfSome (D.told depot.old) (λ t. StoreFits false store.old t.history) }
     requires packable { IsPackable (accepted_in store.old) }
     requires settled { IsSettled store.old }
-    ensures works { Works (KeepsGrowing store.old) (λ _. Grows store.old store.new)
+    ensures works { ReportsWhole (origin (S.told shelf.old) (repo_view source.old) options.now.block) names.now store.old store.new
         (D.told depot.old) (D.told depot.new) (D.faults depot.old) (D.faults depot.new) result }
+    ensures settled { OnOk result (IsSettled store.new) }
+    ensures refused { IfErr result (RefusesNames (origin (S.told shelf.old) (repo_view source.old) options.now.block) (D.told depot.old) store.old
+        (D.told depot.new) store.new names.now) }
+    // Where a name is missing nothing is done.
+    ensures nothing { (missing : List ℕ) → result ≡ Err (CarryFault.NotFound missing) → (source.new ≡ source.old) × (shelf.new ≡ shelf.old)
+        × (store.new ≡ store.old) × (depot.new ≡ depot.old) × (entropy.new ≡ entropy.old) }
+    // And that is answered wherever one is missing, but for want of memory.
+    ensures missing { (place : ℕ) (name : List ℕ) → slice_get names.now place ≡ Some name
+        → archive_named name (repo_view source.old).manifest.archives ≡ None
+        → (result ≡ Err CarryFault.Memory) ⊎ ((missing : List ℕ) × (result ≡ Err (CarryFault.NotFound missing))) }
     ensures most { OnOk result (KeepsMost store.old store.new) }
     ensures fits { OnOk result (IfSome (D.told depot.new) (λ t. StoreFits false store.new t.history)) }
     ensures source_fits { IfSome (S.told shelf.new) (λ t. FitsRepo (told_files t) (repo_view source.new) (cached_in source.new)) }
@@ -109,8 +124,10 @@ fn carry_all<S: Shelf, D: Depot, E: Entropy>(
     ensures settled { OnOk result (IsSettled store.new) }
     ensures packable { OnOk result (IsPackable (accepted_in store.new)) }
     ensures unspent { OnOk result (IsUnspent store.new) }
-    ensures works { Works (KeepsGrowing store.old) (λ _. Grows store.old store.new)
+    ensures works { Reports (origin (S.told shelf.old) (repo_view source.old) options.now.block) names.now store.old store.new
         (D.told depot.old) (D.told depot.new) (D.faults depot.old) (D.faults depot.new) result }
+    ensures refused { IfErr result (RefusesOne (origin (S.told shelf.old) (repo_view source.old) options.now.block) (D.told depot.old) store.old
+        (D.told depot.new) store.new names.now) }
     ensures most { OnOk result (KeepsMost store.old store.new) }
     ensures fits { OnOk result (IfSome (D.told depot.new) (λ t. StoreFits false store.new t.history)) }
     ensures source_fits { IfSome (S.told shelf.new) (λ t. FitsRepo (told_files t) (repo_view source.new) (cached_in source.new)) }
@@ -149,8 +166,10 @@ fn carry_one<S: Shelf, D: Depot, E: Entropy>(
     ensures settled { OnOk result (IsSettled store.new) }
     ensures packable { OnOk result (IsPackable (accepted_in store.new)) }
     ensures unspent { OnOk result (IsUnspent store.new) }
-    ensures works { Works (KeepsGrowing store.old) (λ _. Grows store.old store.new)
+    ensures works { Reports (origin (S.told shelf.old) (repo_view source.old) options.now.block) (name.now ∷ []) store.old store.new
         (D.told depot.old) (D.told depot.new) (D.faults depot.old) (D.faults depot.new) result }
+    ensures refused { IfErr result (RefusesName (origin (S.told shelf.old) (repo_view source.old) options.now.block) (D.told depot.old) store.old
+        (D.told depot.new) store.new name.now) }
     ensures most { OnOk result (KeepsMost store.old store.new) }
     ensures fits { OnOk result (IfSome (D.told depot.new) (λ t. StoreFits false store.new t.history)) }
     ensures source_fits { IfSome (S.told shelf.new) (λ t. FitsRepo (told_files t) (repo_view source.new) (cached_in source.new)) }
@@ -186,6 +205,7 @@ fn carry_flight<S: Shelf, D: Depot, E: Entropy>(
     carried: &mut Carried,
 ) -> Result<(), CarryFault>
     requires flight { FlightFits (S.told shelf.old) (repo_view source.old) (D.told depot.old) store.old flight.old }
+    requires called { name.now ≡ flight.old.named.name }
     requires source_fits { IfSome (S.told shelf.old) (λ t. FitsRepo (told_files t) (repo_view source.old) (cached_in source.old)) }
     requires unspent { IsUnspent store.old }
     requires fits { IfSome (D.told depot.old) (λ t. StoreFits false store.old t.history) }
@@ -194,8 +214,10 @@ fn carry_flight<S: Shelf, D: Depot, E: Entropy>(
     ensures settled { OnOk result (IsSettled store.new) }
     ensures packable { OnOk result (IsPackable (accepted_in store.new)) }
     ensures unspent { OnOk result (IsUnspent store.new) }
-    ensures works { Works (KeepsGrowing store.old) (λ _. Grows store.old store.new)
+    ensures works { Reports (flown_from (S.told shelf.old) (repo_view source.old) flight.old) (flight.old.named.name ∷ []) store.old store.new
         (D.told depot.old) (D.told depot.new) (D.faults depot.old) (D.faults depot.new) result }
+    ensures refused { IfErr result (RefusesName (flown_from (S.told shelf.old) (repo_view source.old) flight.old) (D.told depot.old) store.old
+        (D.told depot.new) store.new flight.old.named.name) }
     ensures most { OnOk result (KeepsMost store.old store.new) }
     ensures fits { OnOk result (IfSome (D.told depot.new) (λ t. StoreFits false store.new t.history)) }
     ensures source_fits { IfSome (S.told shelf.new) (λ t. FitsRepo (told_files t) (repo_view source.new) (cached_in source.new)) }
@@ -228,8 +250,10 @@ fn fly<S: Shelf, D: Depot, E: Entropy>(
     ensures settled { OnOk result (IsSettled store.new) }
     ensures packable { OnOk result (IsPackable (accepted_in store.new)) }
     ensures unspent { OnOk result (IsUnspent store.new) }
-    ensures works { Works (KeepsGrowing store.old) (λ _. Grows store.old store.new)
+    ensures works { Carries (flown_from (S.told shelf.old) (repo_view source.old) flight.old) (flight.old.named.name ∷ []) store.old store.new
         (D.told depot.old) (D.told depot.new) (D.faults depot.old) (D.faults depot.new) result }
+    ensures refused { IfErr result (RefusesName (flown_from (S.told shelf.old) (repo_view source.old) flight.old) (D.told depot.old) store.old
+        (D.told depot.new) store.new flight.old.named.name) }
     ensures most { OnOk result (KeepsMost store.old store.new) }
     ensures fits { OnOk result (IfSome (D.told depot.new) (λ t. StoreFits false store.new t.history)) }
     ensures source_fits { IfSome (S.told shelf.new) (λ t. FitsRepo (told_files t) (repo_view source.new) (cached_in source.new)) }
@@ -257,10 +281,11 @@ fn tell_name<D: Depot>(
     name: &[u8],
 ) -> Result<(), CarryFault>
     requires fits { IfSome (D.told depot.old) (λ t. StoreFits false store.now t.history) }
-    ensures works { Works (KeepsGrowing store.now) (λ _ h g. TellsLine (name_line (told_of named) name.now) h g × Grows store.now store.now h g)
+    ensures works { Works (IsStep (TellOf (name_line (told_of named) name.now))) (λ _. TellsLine (name_line (told_of named) name.now))
         (D.told depot.old) (D.told depot.new) (D.faults depot.old) (D.faults depot.new) result }
     ensures fits { OnOk result (IfSome (D.told depot.new) (λ t. StoreFits false store.now t.history)) }
     ensures shelf { IfErr result (λ fault. shelf_failed fault ≡ false) }
+    ensures target { IfErr result (λ fault. is_target fault ≡ true) }
     ensures drawn { IfErr result (λ fault. random_failed fault ≡ false) }
 {
     let line = name_line(alloc, what_of(named), name)?;
@@ -277,10 +302,11 @@ fn what_of(copied: bool) -> &'static [u8]
 /// Tells a line. The store is the one that writes the depot.
 fn tell<D: Depot>(store: &Store, depot: &mut D, line: &[u8]) -> Result<(), CarryFault>
     requires fits { IfSome (D.told depot.old) (λ t. StoreFits false store.now t.history) }
-    ensures works { Works (KeepsGrowing store.now) (λ _ h g. TellsLine line.now h g × Grows store.now store.now h g)
+    ensures works { Works (IsStep (TellOf line.now)) (λ _. TellsLine line.now)
         (D.told depot.old) (D.told depot.new) (D.faults depot.old) (D.faults depot.new) result }
     ensures fits { OnOk result (IfSome (D.told depot.new) (λ t. StoreFits false store.now t.history)) }
     ensures shelf { IfErr result (λ fault. shelf_failed fault ≡ false) }
+    ensures target { IfErr result (λ fault. is_target fault ≡ true) }
     ensures drawn { IfErr result (λ fault. random_failed fault ≡ false) }
 {
     depot.tell(line)?;

@@ -1,17 +1,22 @@
 //! An archive that the target lacks.
-ghost use Rattle.std.specs.Prelude.{◌≡◌, ◌≤◌, ◌<◌, [], ℕ, List, Some, None, Ok, false, length, IfErr, IfOk, IfSome, OnOk};
+ghost use Rattle.std.specs.Prelude.{◌≡◌, ◌≤◌, ◌<◌, ◌^◌, ◌-◌, [], ℕ, List, Some, None, Ok, true, false, length, min, IfErr, IfOk, IfSome, OnOk};
 ghost use Rattle.ferry_disk.specs.Device.{HasCause, KeepsTold, told_files};
+ghost use Rattle.ferry_carry.specs.Carrying.{origin};
 ghost use Rattle.ferry_carry.specs.Copied.{IsRead};
 ghost use Rattle.ferry_carry.specs.Copying.{CopiesContent, IsReady, TakesItem, WritesContent, WritesContents, WritesItem};
 ghost use Rattle.ferry_carry.specs.Fault.{random_failed, shelf_failed, target_failed};
 ghost use Rattle.ferry_carry.specs.Gather.{Gathers, KeepsRest, KeepsStanding};
+ghost use Rattle.ferry_carry.specs.Progress.{IsAllCopied, IsCopiedSoFar};
+ghost use Rattle.ferry_carry.specs.Refusals.{RefusesBegin, RefusesContents, RefusesCopying, RefusesNext, RefusesStep, RefusesText, RefusesWriting};
+ghost use Rattle.ferry_carry.specs.Refusals.{is_target, total_size};
 ghost use Rattle.ferry_carry.specs.Step.{StepsOn};
 ghost use Rattle.ferry_carry.specs.Work.{Works};
 ghost use Rattle.ferry_item.specs.Item.{is_healed, item_view};
 ghost use Rattle.ferry_item.specs.Writing.{IsPackable as IsPackableItem, field_pairs};
 ghost use Rattle.ferry_manifest.specs.Record.Text.{archive_of, archive_view};
 ghost use Rattle.ferry_manifest.specs.Record.Writing.{IsPackableArchive};
-ghost use Rattle.ferry_repo.specs.Archives.{HoldsRecord};
+ghost use Rattle.ferry_manifest.specs.declared.manifest.ArchiveRef.{ArchiveRef};
+ghost use Rattle.ferry_repo.specs.Archives.{HoldsRecord, archive_named};
 ghost use Rattle.ferry_repo.specs.Opening.{FitsRepo, cached_in, repo_view};
 ghost use Rattle.ferry_repo.specs.Walk.{FitsWalk, IsToCome, begin_walk, walk_view};
 ghost use Rattle.ferry_store.specs.Store.{IsUnspent, StoreFits};
@@ -62,9 +67,11 @@ impl Copy {
         ensures archive { IfOk result (λ copy. IfSome (S.told shelf.old) (λ t.
             HoldsRecord (told_files t) (repo_view source.old).log (repo_view source.old).keys id.now (archive_view copy.archive))) }
         ensures walk { IfOk result (λ copy. walk_view copy.walk ≡ begin_walk id.now (archive_view copy.archive).items) }
+        ensures block { IfOk result (λ copy. copy.block ≡ options.now.block) }
         ensures stream { IfOk result (λ copy. (copy.stream.cutter.piece ≡ []) × (copy.stream.chunks.items ≡ [])) }
         ensures walk_fits { IfOk result (λ copy. IfSome (S.told shelf.new) (λ t.
             FitsWalk (told_files t) (repo_view source.new).log (repo_view source.new).keys (walk_view copy.walk))) }
+        ensures refused { IfErr result (RefusesBegin (S.told shelf.old) (repo_view source.old) id.now) }
         ensures fits { IfSome (S.told shelf.new) (λ t. FitsRepo (told_files t) (repo_view source.new) (cached_in source.new)) }
         ensures kept { repo_view source.new ≡ repo_view source.old }
         ensures same { KeepsTold shelf_failed (S.told shelf.old) (S.told shelf.new) result }
@@ -103,6 +110,16 @@ impl Copy {
         ensures steps { (more : List (List ℕ)) × (Works (KeepsStanding store.old) (λ _. Gathers store.old more store.new)
             (D.told depot.old) (D.told depot.new) (D.faults depot.old) (D.faults depot.new) result
             × IfOk result (StepsOn (S.told shelf.old) (repo_view source.old) (repo_view store.old.repo).keys self.old more self.new)) }
+        ensures copied { (named : ArchiveRef) → result ≡ Ok true
+            → IsCopiedSoFar (origin (S.told shelf.old) (repo_view source.old) self.old.block) named (D.told depot.old) store.old self.old
+            → IsCopiedSoFar (origin (S.told shelf.old) (repo_view source.old) self.old.block) named (D.told depot.new) store.new self.new }
+        ensures ended { (named : ArchiveRef) → result ≡ Ok false
+            → archive_named named.name (repo_view source.old).manifest.archives ≡ Some named
+            → IsCopiedSoFar (origin (S.told shelf.old) (repo_view source.old) self.old.block) named (D.told depot.old) store.old self.old
+            → IsAllCopied (origin (S.told shelf.old) (repo_view source.old) self.old.block) named (D.told depot.new) store.new self.new }
+        ensures refused { (named : ArchiveRef) → archive_named named.name (repo_view source.old).manifest.archives ≡ Some named
+            → IsCopiedSoFar (origin (S.told shelf.old) (repo_view source.old) self.old.block) named (D.told depot.old) store.old self.old
+            → IfErr result (RefusesStep (origin (S.told shelf.old) (repo_view source.old) self.old.block) (D.told depot.old) named.name) }
         ensures archive { OnOk result (self.new.archive ≡ self.old.archive) }
         ensures block { OnOk result (self.new.block ≡ self.old.block) }
         ensures ready { OnOk result (IsReady self.new) }
@@ -140,6 +157,7 @@ impl Copy {
             TakesItem (told_files t) (repo_view source.old) (walk_view self.old.walk) (item_view item) (walk_view self.new.walk)))) }
         ensures none { result ≡ Ok None → IfSome (S.told shelf.old) (λ t.
             IsToCome (told_files t) (repo_view source.old).log (repo_view source.old).keys (walk_view self.old.walk) [] None) }
+        ensures refused { IfErr result (RefusesNext (S.told shelf.old) (repo_view source.old) (walk_view self.old.walk)) }
         ensures packable { IfOk result (λ found. IfSome found (λ item. IsPackableItem (item_view item))) }
         ensures walk_fits { IfSome (S.told shelf.new) (λ t.
             FitsWalk (told_files t) (repo_view source.new).log (repo_view source.new).keys (walk_view self.new.walk)) }
@@ -176,6 +194,7 @@ impl Copy {
         ensures rest { OnOk result (KeepsRest store.old store.new) }
         ensures fits { OnOk result (IfSome (D.told depot.new) (λ t. StoreFits false store.new t.history)) }
         ensures unspent { OnOk result (IsUnspent store.new) }
+        ensures target { IfErr result (λ fault. is_target fault ≡ true) }
         ensures shelf { IfErr result (λ fault. shelf_failed fault ≡ false) }
         ensures drawn { IfErr result (λ fault. random_failed fault ≡ false) }
     {
@@ -200,6 +219,7 @@ impl Copy {
         ensures copied { (more : List (List ℕ)) × (Works (KeepsStanding store.old) (λ _. Gathers store.old more store.new)
             (D.told depot.old) (D.told depot.new) (D.faults depot.old) (D.faults depot.new) result
             × IfOk result (CopiesContent (S.told shelf.old) (repo_view source.old) self.old.block (repo_view store.old.repo).keys chunks.now more)) }
+        ensures refused { IfErr result (RefusesCopying (S.told shelf.old) (repo_view source.old) self.old.block chunks.now) }
         ensures ready { OnOk result (IsReady self.new) }
         ensures others { OnOk result (self.new ≡ record self.old { contents = self.new.contents }) }
         ensures rest { OnOk result (KeepsRest store.old store.new) }
@@ -237,6 +257,7 @@ impl Copy {
             (D.told depot.old) (D.told depot.new) (D.faults depot.old) (D.faults depot.new) result
             × IfOk result (λ copied. CopiesContent (S.told shelf.old) (repo_view source.old) self.old.block (repo_view store.old.repo).keys
             (Some chunks.now) more (Some copied))) }
+        ensures refused { IfErr result (RefusesCopying (S.told shelf.old) (repo_view source.old) self.old.block (Some chunks.now)) }
         ensures ready { OnOk result (IsReady self.new) }
         ensures others { OnOk result (self.new ≡ record self.old { contents = self.new.contents }) }
         ensures rest { OnOk result (KeepsRest store.old store.new) }
@@ -278,6 +299,7 @@ fn write_contents<S: Shelf, D: Depot>(
         (D.told depot.old) (D.told depot.new) (D.faults depot.old) (D.faults depot.new) result
         × OnOk result (WritesContents (S.told shelf.old) (repo_view source.old) (repo_view store.old.repo).keys chunks.now writer.old.cutter
         writer.old.chunks.items more writer.new.cutter writer.new.chunks.items)) }
+    ensures refused { IfErr result (RefusesContents (S.told shelf.old) (repo_view source.old) chunks.now) }
     ensures rest { OnOk result (KeepsRest store.old store.new) }
     ensures fits { OnOk result (IfSome (D.told depot.new) (λ t. StoreFits false store.new t.history)) }
     ensures unspent { OnOk result (IsUnspent store.new) }
@@ -312,6 +334,7 @@ fn write_content<S: Shelf, D: Depot>(
         (D.told depot.old) (D.told depot.new) (D.faults depot.old) (D.faults depot.new) result
         × OnOk result (WritesContent (S.told shelf.old) (repo_view source.old) (repo_view store.old.repo).keys chunk.now writer.old.cutter
         writer.old.chunks.items more writer.new.cutter writer.new.chunks.items)) }
+    ensures refused { IfErr result (RefusesWriting (S.told shelf.old) (repo_view source.old) chunk.now) }
     ensures rest { OnOk result (KeepsRest store.old store.new) }
     ensures fits { OnOk result (IfSome (D.told depot.new) (λ t. StoreFits false store.new t.history)) }
     ensures unspent { OnOk result (IsUnspent store.new) }
@@ -326,7 +349,9 @@ fn write_content<S: Shelf, D: Depot>(
 }
 
 /// The sum of the stated sizes of chunks.
-fn total_size(chunks: &[ChunkRef]) -> u128 {
+fn total_size(chunks: &[ChunkRef]) -> u128
+    ensures total { result ≡ min (total_size chunks.now) (2 ^ 128 - 1) }
+{
     let mut total = 0u128;
     for place in 0..chunks.len() {
         total = total.saturating_add(u128::from(chunks[place].size));
@@ -345,6 +370,7 @@ fn read_record<S: Shelf>(
     requires fits { IfSome (S.told shelf.old) (λ t. FitsRepo (told_files t) (repo_view source.old) (cached_in source.old)) }
     ensures archive { IfOk result (λ archive. IfSome (S.told shelf.old) (λ t.
         HoldsRecord (told_files t) (repo_view source.old).log (repo_view source.old).keys id.now (archive_view archive))) }
+    ensures refused { IfErr result (RefusesBegin (S.told shelf.old) (repo_view source.old) id.now) }
     ensures packable { IfOk result (λ archive. IsPackableArchive (archive_view archive)) }
     ensures fits { IfSome (S.told shelf.new) (λ t. FitsRepo (told_files t) (repo_view source.new) (cached_in source.new)) }
     ensures kept { repo_view source.new ≡ repo_view source.old }
@@ -360,6 +386,7 @@ fn read_record<S: Shelf>(
 /// The record that the chunk of this id is.
 fn record_in(alloc: Global, keys: &Keys, id: Id, content: &[u8]) -> Result<Archive, CarryFault>
     ensures archive { IfOk result (λ archive. archive_of keys.now content.now ≡ Ok (archive_view archive)) }
+    ensures refused { IfErr result (RefusesText keys.now id content.now) }
     ensures packable { IfOk result (λ archive. IsPackableArchive (archive_view archive)) }
     ensures shelf { IfErr result (λ fault. shelf_failed fault ≡ false) }
     ensures still { IfErr result (λ fault. target_failed fault ≡ false) }

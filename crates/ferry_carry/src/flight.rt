@@ -1,12 +1,15 @@
 //! One archive, item by item.
-ghost use Rattle.std.specs.Prelude.{◌≡◌, ◌⊎◌, Option, None, Ok, [], false, IfErr, IfOk, IfSome, IsSome, OnOk};
+ghost use Rattle.std.specs.Prelude.{◌≡◌, ◌⊎◌, ◌∷◌, ℕ, Option, None, Ok, [], true, false, IfErr, IfOk, IfSome, IsSome, OnOk};
 ghost use Rattle.ferry_carry.specs.Fault.{random_failed, shelf_failed, target_failed};
-ghost use Rattle.ferry_carry.specs.Flight.{AreRight, FlightFits, FlightStands, IsCommitted, IsSettled, ReadsStore};
+ghost use Rattle.ferry_carry.specs.Flight.{AreRight, Flies, FlightFits, FlightStands, IsCommitted, IsSame, IsSettled, ReadsStore, flown_from};
+ghost use Rattle.ferry_carry.specs.Carrying.{origin};
 ghost use Rattle.ferry_carry.specs.Copying.{IsReady};
 ghost use Rattle.ferry_carry.specs.Gather.{Gathers, KeepsRest, KeepsStanding};
-ghost use Rattle.ferry_carry.specs.Grow.{AcceptsMore, Grows, KeepsGrowing, KeepsMost};
+ghost use Rattle.ferry_carry.specs.Grow.{AcceptsMore, KeepsMost};
+ghost use Rattle.ferry_carry.specs.Progress.{IsCopiedSoFar};
+ghost use Rattle.ferry_carry.specs.Refusals.{DiffersThere, RefusesComparing, RefusesName, is_target};
 ghost use Rattle.ferry_carry.specs.Work.{Works};
-ghost use Rattle.ferry_compare.specs.Compare.{AreEqual, Differ, FitsTold, comparison_view};
+ghost use Rattle.ferry_compare.specs.Compare.{Differ, FitsTold, comparison_view};
 ghost use Rattle.ferry_disk.specs.Device.{HasCause, KeepsTold, Told, told_files};
 ghost use Rattle.ferry_manifest.specs.Manifest.Writing.{IsPackable};
 ghost use Rattle.ferry_repo.specs.Archives.{archive_named};
@@ -76,6 +79,7 @@ impl Flight {
         requires options { AreRight options.now }
         ensures flight { IfOk result (λ flight. (told heard : Option Told) (store : Store) → FlightFits told (repo_view source.now) heard store flight) }
         ensures name { IfOk result (λ flight. flight.named.name ≡ name.now) }
+        ensures options { IfOk result (λ flight. flight.options ≡ options.now) }
         ensures refused { IfErr result (λ fault. (fault ≡ CarryFault.Memory) ⊎ ((fault ≡ CarryFault.NotFound name.now)
             × (archive_named name.now (repo_view source.now).manifest.archives ≡ None))) }
     {
@@ -117,8 +121,10 @@ impl Flight {
         requires accepts { AcceptsMore store.old }
         requires committed { IsCommitted store.old self.old.named.name }
         requires flight { FlightFits (S.told shelf.old) (repo_view source.old) (D.told depot.old) store.old self.old }
-        ensures works { Works (KeepsGrowing store.old) (λ _. Grows store.old store.new)
+        ensures works { Flies (flown_from (S.told shelf.old) (repo_view source.old) self.old) self.old.named.name store.old store.new
             (D.told depot.old) (D.told depot.new) (D.faults depot.old) (D.faults depot.new) result }
+        ensures refused { IfErr result (RefusesName (flown_from (S.told shelf.old) (repo_view source.old) self.old) (D.told depot.old) store.old
+            (D.told depot.new) store.new self.old.named.name) }
         ensures most { OnOk result (KeepsMost store.old store.new) }
         ensures packable { OnOk result (IsPackable (accepted_in store.new)) }
         ensures accepts { OnOk result (AcceptsMore store.new) }
@@ -133,6 +139,7 @@ impl Flight {
         ensures entropy { HasCause random_failed (E.faults entropy.old) (E.faults entropy.new) result }
         ensures flight { result ≡ Ok Turn.More → FlightFits (S.told shelf.new) (repo_view source.new) (D.told depot.new) store.new self.new }
         ensures name { self.new.named ≡ self.old.named }
+        ensures options { self.new.options ≡ self.old.options }
     {
         match mem::replace(&mut self.work, Work::Waiting) {
             Work::Waiting => self.take_first(source, shelf, store, depot, entropy),
@@ -157,8 +164,10 @@ impl Flight {
         requires accepts { AcceptsMore store.old }
         requires committed { IsCommitted store.old self.old.named.name }
         requires flight { FlightStands (repo_view source.old) self.old }
-        ensures works { Works (KeepsGrowing store.old) (λ _. Grows store.old store.new)
+        ensures works { Flies (flown_from (S.told shelf.old) (repo_view source.old) self.old) self.old.named.name store.old store.new
             (D.told depot.old) (D.told depot.new) (D.faults depot.old) (D.faults depot.new) result }
+        ensures refused { IfErr result (RefusesName (flown_from (S.told shelf.old) (repo_view source.old) self.old) (D.told depot.old) store.old
+            (D.told depot.new) store.new self.old.named.name) }
         ensures most { OnOk result (KeepsMost store.old store.new) }
         ensures packable { OnOk result (IsPackable (accepted_in store.new)) }
         ensures accepts { OnOk result (AcceptsMore store.new) }
@@ -173,6 +182,7 @@ impl Flight {
         ensures entropy { HasCause random_failed (E.faults entropy.old) (E.faults entropy.new) result }
         ensures flight { result ≡ Ok Turn.More → FlightFits (S.told shelf.new) (repo_view source.new) (D.told depot.new) store.new self.new }
         ensures name { self.new.named ≡ self.old.named }
+        ensures options { self.new.options ≡ self.old.options }
     {
         if store.has(self.named.name.as_slice()) {
             let comparison = self.begin_comparing(source, shelf, store, depot)?;
@@ -204,8 +214,11 @@ impl Flight {
         requires unnamed { archive_named self.old.named.name (accepted_in store.old).archives ≡ None }
         requires walk_fits { IfSome (S.told shelf.old) (λ t.
             FitsWalk (told_files t) (repo_view source.old).log (repo_view source.old).keys (walk_view copy.walk)) }
-        ensures works { Works (KeepsGrowing store.old) (λ _. Grows store.old store.new)
+        requires copied { IsCopiedSoFar (flown_from (S.told shelf.old) (repo_view source.old) self.old) self.old.named (D.told depot.old) store.old copy }
+        ensures works { Flies (flown_from (S.told shelf.old) (repo_view source.old) self.old) self.old.named.name store.old store.new
             (D.told depot.old) (D.told depot.new) (D.faults depot.old) (D.faults depot.new) result }
+        ensures refused { IfErr result (RefusesName (flown_from (S.told shelf.old) (repo_view source.old) self.old) (D.told depot.old) store.old
+            (D.told depot.new) store.new self.old.named.name) }
         ensures most { OnOk result (KeepsMost store.old store.new) }
         ensures packable { OnOk result (IsPackable (accepted_in store.new)) }
         ensures accepts { OnOk result (AcceptsMore store.new) }
@@ -220,6 +233,7 @@ impl Flight {
         ensures entropy { HasCause random_failed (E.faults entropy.old) (E.faults entropy.new) result }
         ensures flight { result ≡ Ok Turn.More → FlightFits (S.told shelf.new) (repo_view source.new) (D.told depot.new) store.new self.new }
         ensures name { self.new.named ≡ self.old.named }
+        ensures options { self.new.options ≡ self.old.options }
     {
         let mut copy = copy;
         let more = copy.step(source, shelf, store, depot)?;
@@ -257,8 +271,10 @@ impl Flight {
         requires flight { FlightStands (repo_view source.old) self.old }
         requires comparison { FitsTold (S.told shelf.old) (repo_view source.old) (D.told depot.old) (repo_view store.old.repo) (comparison_view comparison) }
         requires same_name { (comparison_view comparison).name ≡ self.old.named.name }
-        ensures works { Works (KeepsGrowing store.old) (λ _. Grows store.old store.new)
+        ensures works { Flies (flown_from (S.told shelf.old) (repo_view source.old) self.old) self.old.named.name store.old store.new
             (D.told depot.old) (D.told depot.new) (D.faults depot.old) (D.faults depot.new) result }
+        ensures refused { IfErr result (RefusesName (flown_from (S.told shelf.old) (repo_view source.old) self.old) (D.told depot.old) store.old
+            (D.told depot.new) store.new self.old.named.name) }
         ensures most { OnOk result (KeepsMost store.old store.new) }
         ensures packable { OnOk result (IsPackable (accepted_in store.new)) }
         ensures accepts { OnOk result (AcceptsMore store.new) }
@@ -273,6 +289,7 @@ impl Flight {
         ensures drawn { IfErr result (λ fault. random_failed fault ≡ false) }
         ensures flight { result ≡ Ok Turn.More → FlightFits (S.told shelf.new) (repo_view source.new) (D.told depot.new) store.new self.new }
         ensures name { self.new.named ≡ self.old.named }
+        ensures options { self.new.options ≡ self.old.options }
     {
         let mut comparison = comparison;
         match compare_item(source, shelf, store, depot, &mut comparison)? {
@@ -298,12 +315,13 @@ impl Flight {
         requires fits { IfSome (D.told depot.old) (λ t. StoreFits false store.old t.history) }
         requires flight { FlightStands (repo_view source.old) self.now }
         requires there { IsSome (archive_named self.now.named.name (repo_view store.old.repo).manifest.archives) }
-        ensures works { Works (KeepsGrowing store.old) (λ _. Grows store.old store.new)
+        ensures works { Works (KeepsStanding store.old) (λ _. Gathers store.old [] store.new)
             (D.told depot.old) (D.told depot.new) (D.faults depot.old) (D.faults depot.new) result }
         ensures read { ReadsStore store.old store.new }
         ensures comparison { IfOk result (λ comparison. FitsTold (S.told shelf.new) (repo_view source.new) (D.told depot.new) (repo_view store.new.repo)
             (comparison_view comparison)) }
         ensures name { IfOk result (λ comparison. (comparison_view comparison).name ≡ self.now.named.name) }
+        ensures refused { IfErr result (RefusesComparing (S.told shelf.old) (repo_view source.old) self.now.named.name) }
         ensures fits { IfSome (D.told depot.new) (λ t. StoreFits false store.new t.history) }
         ensures source_fits { IfSome (S.told shelf.new) (λ t. FitsRepo (told_files t) (repo_view source.new) (cached_in source.new)) }
         ensures kept { repo_view source.new ≡ repo_view source.old }
@@ -329,16 +347,19 @@ fn compare_item<S: Shelf, D: Depot>(
     requires source_fits { IfSome (S.told shelf.old) (λ t. FitsRepo (told_files t) (repo_view source.old) (cached_in source.old)) }
     requires fits { IfSome (D.told depot.old) (λ t. StoreFits false store.old t.history) }
     requires comparison { FitsTold (S.told shelf.old) (repo_view source.old) (D.told depot.old) (repo_view store.old.repo) (comparison_view comparison.old) }
-    ensures works { Works (KeepsGrowing store.old) (λ _. Grows store.old store.new)
+    ensures works { Works (KeepsStanding store.old) (λ _. Gathers store.old [] store.new)
         (D.told depot.old) (D.told depot.new) (D.faults depot.old) (D.faults depot.new) result }
     ensures read { ReadsStore store.old store.new }
     ensures comparison { result ≡ Ok Compared.More → FitsTold (S.told shelf.new) (repo_view source.new) (D.told depot.new) (repo_view store.new.repo)
         (comparison_view comparison.new) }
     ensures name { (comparison_view comparison.new).name ≡ (comparison_view comparison.old).name }
-    ensures equal { result ≡ Ok Compared.Equal → AreEqual (S.told shelf.old) (repo_view source.old) (D.told depot.old) (repo_view store.old.repo)
-        (comparison_view comparison.old).name }
+    ensures equal { result ≡ Ok Compared.Equal → (block : ℕ) → IsSame (origin (S.told shelf.old) (repo_view source.old) block) (D.told depot.new)
+        (repo_view store.new.repo) (comparison_view comparison.old).name }
     ensures differs { result ≡ Ok Compared.Differs → Differ (S.told shelf.old) (repo_view source.old) (D.told depot.old) (repo_view store.old.repo)
         (comparison_view comparison.old).name }
+    ensures differs_now { result ≡ Ok Compared.Differs → (block : ℕ) → DiffersThere (origin (S.told shelf.old) (repo_view source.old) block)
+        (D.told depot.new) (repo_view store.new.repo) (comparison_view comparison.old).name }
+    ensures refused { IfErr result (RefusesComparing (S.told shelf.old) (repo_view source.old) (comparison_view comparison.old).name) }
     ensures fits { IfSome (D.told depot.new) (λ t. StoreFits false store.new t.history) }
     ensures source_fits { IfSome (S.told shelf.new) (λ t. FitsRepo (told_files t) (repo_view source.new) (cached_in source.new)) }
     ensures kept { repo_view source.new ≡ repo_view source.old }
@@ -361,6 +382,7 @@ fn present<D: Depot>(store: &mut Store, depot: &mut D) -> Result<Turn, CarryFaul
     ensures rest { OnOk result (KeepsRest store.old store.new) }
     ensures fits { OnOk result (IfSome (D.told depot.new) (λ t. StoreFits false store.new t.history)) }
     ensures unspent { OnOk result (IsUnspent store.new) }
+    ensures target { IfErr result (λ fault. is_target fault ≡ true) }
     ensures drawn { IfErr result (λ fault. random_failed fault ≡ false) }
     ensures shelf { IfErr result (λ fault. shelf_failed fault ≡ false) }
 {

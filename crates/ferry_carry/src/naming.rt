@@ -1,16 +1,22 @@
 //! The end of an archive: its record, its name in the manifest, and the commit of both.
-ghost use Rattle.std.specs.Prelude.{◌≡◌, ◌≤◌, ◌∷◌, ◌++◌, [], ℕ, List, None, Ok, false, length, map, option_map, IfErr, IfOk, IfSome, OnOk};
+ghost use Rattle.std.specs.Prelude.{◌≡◌, ◌≤◌, ◌∷◌, ◌++◌, [], ℕ, List, None, Ok, true, false, length, map, option_map, IfErr, IfOk, IfSome, OnOk};
 ghost use Rattle.ferry_base.specs.Limits.{content_limit};
 ghost use Rattle.ferry_blob.specs.Blob.{content_id};
 ghost use Rattle.ferry_carry.specs.Copying.{IsReady};
 ghost use Rattle.ferry_carry.specs.Fault.{random_failed, shelf_failed, target_failed};
 ghost use Rattle.ferry_carry.specs.Gather.{Gathers, KeepsRest, KeepsStanding, chunks_of};
-ghost use Rattle.ferry_carry.specs.Grow.{AcceptsMore, Grows, KeepsGrowing, KeepsMost};
+ghost use Rattle.ferry_carry.specs.Carrying.{Origin};
+ghost use Rattle.ferry_carry.specs.Flight.{AcceptsOne, Carries, NamesArchive};
+ghost use Rattle.ferry_carry.specs.Grow.{AcceptsMore, KeepsMost};
+ghost use Rattle.ferry_carry.specs.Progress.{IsAllCopied};
 ghost use Rattle.ferry_carry.specs.Naming.{IsRecord, copied_archive, entry_for, fixed_params};
+ghost use Rattle.ferry_carry.specs.Refusals.{RefusesEnd, RefusesRecordText, is_target};
 ghost use Rattle.ferry_msgpack.specs.View.{value_view};
 ghost use Rattle.ferry_carry.specs.Work.{Works};
 ghost use Rattle.ferry_disk.specs.Device.{HasCause};
+ghost use Rattle.ferry_manifest.specs.Manifest.Text.{ManifestText};
 ghost use Rattle.ferry_manifest.specs.Manifest.Writing.{IsPackable};
+ghost use Rattle.ferry_manifest.specs.declared.manifest.ArchiveRef.{ArchiveRef};
 ghost use Rattle.ferry_manifest.specs.Record.Text.{archive_of, archive_view, as_tagged};
 ghost use Rattle.ferry_manifest.specs.Record.Writing.{IsPackableArchive};
 ghost use Rattle.ferry_next.specs.Next.{next_manifest, written_at};
@@ -90,6 +96,7 @@ fn record_text(
     requires packable { IsPackableArchive (archive_view archive.now) }
     ensures reads { IfOk result (λ text. archive_of keys.now text.items ≡ Ok (as_tagged (archive_view archive.now))) }
     ensures small { IfOk result (λ text. length text.items ≤ content_limit) }
+    ensures refused { IfErr result (RefusesRecordText keys.now (archive_view archive.now)) }
     ensures shelf { IfErr result (λ fault. shelf_failed fault ≡ false) }
     ensures still { IfErr result (λ fault. target_failed fault ≡ false) }
     ensures drawn { IfErr result (λ fault. random_failed fault ≡ false) }
@@ -112,6 +119,7 @@ fn tagged_record<E: Entropy>(
     requires packable { IsPackableArchive (archive_view archive.now) }
     ensures reads { IfOk result (λ text. archive_of keys.now text.items ≡ Ok (as_tagged (archive_view archive.now))) }
     ensures small { IfOk result (λ text. length text.items ≤ content_limit) }
+    ensures refused { IfErr result (RefusesRecordText keys.now (archive_view archive.now)) }
     ensures shelf { IfErr result (λ fault. shelf_failed fault ≡ false) }
     ensures still { IfErr result (λ fault. target_failed fault ≡ false) }
     ensures entropy { HasCause random_failed (E.faults entropy.old) (E.faults entropy.new) result }
@@ -133,6 +141,7 @@ fn add_record<D: Depot>(store: &mut Store, depot: &mut D, text: &[u8]) -> Result
     ensures fits { OnOk result (IfSome (D.told depot.new) (λ t. StoreFits false store.new t.history)) }
     ensures unspent { OnOk result (IsUnspent store.new) }
     ensures drawn { IfErr result (λ fault. random_failed fault ≡ false) }
+    ensures target { IfErr result (λ fault. is_target fault ≡ true) }
     ensures shelf { IfErr result (λ fault. shelf_failed fault ≡ false) }
 {
     let added = add(store, depot, text)?;
@@ -168,6 +177,7 @@ fn put_record<D: Depot, E: Entropy>(
     ensures fits { OnOk result (IfSome (D.told depot.new) (λ t. StoreFits false store.new t.history)) }
     ensures unspent { OnOk result (IsUnspent store.new) }
     ensures entropy { HasCause random_failed (E.faults entropy.old) (E.faults entropy.new) result }
+    ensures refused { IfErr result (RefusesRecordText (repo_view store.old.repo).keys (archive_view archive.now)) }
     ensures shelf { IfErr result (λ fault. shelf_failed fault ≡ false) }
 {
     let text = tagged_record(alloc, store.keys(), entropy, archive)?;
@@ -194,6 +204,8 @@ fn put_copied<D: Depot, E: Entropy>(
     ensures fits { OnOk result (IfSome (D.told depot.new) (λ t. StoreFits false store.new t.history)) }
     ensures unspent { OnOk result (IsUnspent store.new) }
     ensures entropy { HasCause random_failed (E.faults entropy.old) (E.faults entropy.new) result }
+    ensures refused { IfErr result (RefusesRecordText (repo_view store.old.repo).keys
+        (copied_archive (archive_view archive) block (map (λ chunk. chunk.id) pieces.now))) }
     ensures shelf { IfErr result (λ fault. shelf_failed fault ≡ false) }
 {
     let copied = copied_archive(alloc, archive, block, pieces)?;
@@ -225,13 +237,16 @@ fn end_stream<D: Depot, E: Entropy>(
     ensures fits { OnOk result (IfSome (D.told depot.new) (λ t. StoreFits false store.new t.history)) }
     ensures unspent { OnOk result (IsUnspent store.new) }
     ensures entropy { HasCause random_failed (E.faults entropy.old) (E.faults entropy.new) result }
+    ensures refused { IfErr result (RefusesRecordText (repo_view store.old.repo).keys (copied_archive (archive_view archive) block
+        (map (λ chunk. chunk.id) (stream.old.chunks.items
+        ++ chunks_of (repo_view store.old.repo).keys (cut stream.old.cutter.block stream.old.cutter.piece))))) }
     ensures shelf { IfErr result (λ fault. shelf_failed fault ≡ false) }
 {
     let pieces = stream.finish(store, depot)?;
     put_copied(alloc, store, depot, entropy, archive, block, &pieces)
 }
 
-/// Commits an archive whose record was added under its name.
+/// NamesArchive an archive whose record was added under its name.
 fn name_record<D: Depot, E: Entropy>(
     alloc: Global,
     source: &Repo,
@@ -247,7 +262,7 @@ fn name_record<D: Depot, E: Entropy>(
     requires packable { IsPackable (accepted_in store.old) }
     requires accepts { AcceptsMore store.old }
     requires unnamed { archive_named named.now.name (accepted_in store.old).archives ≡ None }
-    ensures works { Works (KeepsGrowing store.old) (λ _. Grows store.old store.new)
+    ensures works { NamesArchive (accepted_in store.old) (entry_for named.now id) store.old store.new
         (D.told depot.old) (D.told depot.new) (D.faults depot.old) (D.faults depot.new) result }
     ensures most { OnOk result (KeepsMost store.old store.new) }
     ensures named { OnOk result ((time : List ℕ) × (repo_view store.new.repo ≡ with_manifest (repo_view store.old.repo)
@@ -257,6 +272,7 @@ fn name_record<D: Depot, E: Entropy>(
     ensures fits { OnOk result (IfSome (D.told depot.new) (λ t. StoreFits false store.new t.history)) }
     ensures unspent { OnOk result (IsUnspent store.new) }
     ensures entropy { HasCause random_failed (E.faults entropy.old) (E.faults entropy.new) result }
+    ensures target { IfErr result (λ fault. is_target fault ≡ true) }
     ensures shelf { IfErr result (λ fault. shelf_failed fault ≡ false) }
 {
     let entry = entry_of(alloc, named, id)?;
@@ -286,7 +302,8 @@ pub(crate) fn end_copy<D: Depot, E: Entropy>(
     requires packable { IsPackable (accepted_in store.old) }
     requires accepts { AcceptsMore store.old }
     requires unnamed { archive_named named.now.name (accepted_in store.old).archives ≡ None }
-    ensures works { Works (KeepsGrowing store.old) (λ _. Grows store.old store.new)
+    ensures works { (from : Origin) → IsAllCopied from named.now (D.told depot.old) store.old copy
+        → Carries from (named.now.name ∷ []) store.old store.new
         (D.told depot.old) (D.told depot.new) (D.faults depot.old) (D.faults depot.new) result }
     ensures most { OnOk result (KeepsMost store.old store.new) }
     ensures accepted { OnOk result (accepted_in store.new ≡ (repo_view store.new.repo).manifest) }
@@ -294,6 +311,8 @@ pub(crate) fn end_copy<D: Depot, E: Entropy>(
     ensures fits { OnOk result (IfSome (D.told depot.new) (λ t. StoreFits false store.new t.history)) }
     ensures unspent { OnOk result (IsUnspent store.new) }
     ensures entropy { HasCause random_failed (E.faults entropy.old) (E.faults entropy.new) result }
+    ensures refused { (from : Origin) → IsAllCopied from named.now (D.told depot.old) store.old copy
+        → IfErr result (RefusesEnd from (D.told depot.old) (repo_view store.old.repo).keys named.now.name) }
     ensures shelf { IfErr result (λ fault. shelf_failed fault ≡ false) }
 {
     let Copy {
@@ -324,7 +343,7 @@ fn commit_named<D: Depot, E: Entropy>(
     requires packable { IsPackable (accepted_in store.old) }
     requires accepts { AcceptsMore store.old }
     requires unnamed { archive_named entry.name (accepted_in store.old).archives ≡ None }
-    ensures works { Works (KeepsGrowing store.old) (λ _. Grows store.old store.new)
+    ensures works { NamesArchive (accepted_in store.old) entry store.old store.new
         (D.told depot.old) (D.told depot.new) (D.faults depot.old) (D.faults depot.new) result }
     ensures most { OnOk result (KeepsMost store.old store.new) }
     ensures named { OnOk result (repo_view store.new.repo ≡ with_manifest (repo_view store.old.repo)
@@ -334,13 +353,14 @@ fn commit_named<D: Depot, E: Entropy>(
     ensures fits { OnOk result (IfSome (D.told depot.new) (λ t. StoreFits false store.new t.history)) }
     ensures unspent { OnOk result (IsUnspent store.new) }
     ensures entropy { HasCause random_failed (E.faults entropy.old) (E.faults entropy.new) result }
+    ensures target { IfErr result (λ fault. is_target fault ≡ true) }
     ensures shelf { IfErr result (λ fault. shelf_failed fault ≡ false) }
 {
     store.name_archive(entry, source.manifest().item_keys.as_slice())?;
     commit(store, depot, entropy, timestamp)
 }
 
-/// Commits what was put and what was accepted.
+/// NamesArchive what was put and what was accepted.
 #[tactic(auto, using(crate::proofs::FaultLemmas::conversions))]
 fn commit<D: Depot, E: Entropy>(
     store: &mut Store,
@@ -352,7 +372,7 @@ fn commit<D: Depot, E: Entropy>(
     requires fits { IfSome (D.told depot.old) (λ t. StoreFits false store.old t.history) }
     requires packable { IsPackable (accepted_in store.old) }
     requires accepts { AcceptsMore store.old }
-    ensures works { Works (KeepsGrowing store.old) (λ _. Grows store.old store.new)
+    ensures works { (accepted : ManifestText) (entry : ArchiveRef) → AcceptsOne accepted store.old entry → NamesArchive accepted entry store.old store.new
         (D.told depot.old) (D.told depot.new) (D.faults depot.old) (D.faults depot.new) result }
     ensures most { OnOk result (KeepsMost store.old store.new) }
     ensures committed { OnOk result (repo_view store.new.repo ≡ with_manifest (repo_view store.old.repo) (written_at (accepted_in store.old) timestamp.now)) }
@@ -361,6 +381,7 @@ fn commit<D: Depot, E: Entropy>(
     ensures fits { OnOk result (IfSome (D.told depot.new) (λ t. StoreFits false store.new t.history)) }
     ensures unspent { OnOk result (IsUnspent store.new) }
     ensures entropy { HasCause random_failed (E.faults entropy.old) (E.faults entropy.new) result }
+    ensures target { IfErr result (λ fault. is_target fault ≡ true) }
     ensures shelf { IfErr result (λ fault. shelf_failed fault ≡ false) }
 {
     store.commit(depot, entropy, timestamp)?;

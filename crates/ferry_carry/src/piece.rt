@@ -1,10 +1,11 @@
 //! Bytes that are cut into pieces, each of which is added to a store.
-ghost use Rattle.std.specs.Prelude.{◌≡◌, ◌≤◌, ◌<◌, ◌+◌, ◌++◌, ◌∷◌, [], ℕ, List, false, length, IfErr, IfOk, IfSome, OnOk};
+ghost use Rattle.std.specs.Prelude.{◌≡◌, ◌≤◌, ◌<◌, ◌+◌, ◌++◌, ◌∷◌, [], ℕ, List, false, true, length, IfErr, IfOk, IfSome, OnOk};
 ghost use Rattle.ferry_base.specs.Limits.{content_limit};
 ghost use Rattle.ferry_blob.specs.Blob.{content_id};
 ghost use Rattle.ferry_carry.specs.Fault.{random_failed, shelf_failed};
 ghost use Rattle.ferry_carry.specs.Gather.{Gathers, KeepsRest, KeepsStanding, chunk_of, chunks_of};
 ghost use Rattle.ferry_carry.specs.Piece.{WritesOn};
+ghost use Rattle.ferry_carry.specs.Refusals.{is_target};
 ghost use Rattle.ferry_carry.specs.Work.{Works};
 ghost use Rattle.ferry_rechunk.specs.Cut.{cut};
 ghost use Rattle.ferry_repo.specs.Opening.{repo_view};
@@ -38,6 +39,7 @@ fn add_piece<D: Depot>(
     ensures fits { OnOk result (IfSome (D.told depot.new) (λ t. StoreFits false store.new t.history)) }
     ensures unspent { OnOk result (IsUnspent store.new) }
     ensures shelf { IfErr result (λ fault. shelf_failed fault ≡ false) }
+    ensures target { IfErr result (λ fault. is_target fault ≡ true) }
     ensures drawn { IfErr result (λ fault. random_failed fault ≡ false) }
 {
     make_room(store, depot, checkpoint, piece)?;
@@ -59,6 +61,7 @@ fn make_room<D: Depot>(
     ensures fits { OnOk result (IfSome (D.told depot.new) (λ t. StoreFits false store.new t.history)) }
     ensures unspent { OnOk result (IsUnspent store.new) }
     ensures shelf { IfErr result (λ fault. shelf_failed fault ≡ false) }
+    ensures target { IfErr result (λ fault. is_target fault ≡ true) }
     ensures drawn { IfErr result (λ fault. random_failed fault ≡ false) }
 {
     if store.pending() < checkpoint || !store.would_put(piece) {
@@ -79,6 +82,7 @@ pub(crate) fn commit_pieces<D: Depot>(store: &mut Store, depot: &mut D) -> Resul
     ensures fits { OnOk result (IfSome (D.told depot.new) (λ t. StoreFits false store.new t.history)) }
     ensures unspent { OnOk result (IsUnspent store.new) }
     ensures shelf { IfErr result (λ fault. shelf_failed fault ≡ false) }
+    ensures target { IfErr result (λ fault. is_target fault ≡ true) }
     ensures drawn { IfErr result (λ fault. random_failed fault ≡ false) }
 {
     store.checkpoint(depot)?;
@@ -102,6 +106,7 @@ pub(crate) fn add<D: Depot>(
     ensures fits { OnOk result (IfSome (D.told depot.new) (λ t. StoreFits false store.new t.history)) }
     ensures unspent { OnOk result (IsUnspent store.new) }
     ensures shelf { IfErr result (λ fault. shelf_failed fault ≡ false) }
+    ensures target { IfErr result (λ fault. is_target fault ≡ true) }
     ensures drawn { IfErr result (λ fault. random_failed fault ≡ false) }
 {
     let added = store.add(depot, content)?;
@@ -166,6 +171,7 @@ impl PieceWriter {
         ensures fits { OnOk result (IfSome (D.told depot.new) (λ t. StoreFits false store.new t.history)) }
         ensures unspent { OnOk result (IsUnspent store.new) }
         ensures shelf { IfErr result (λ fault. shelf_failed fault ≡ false) }
+        ensures target { IfErr result (λ fault. is_target fault ≡ true) }
         ensures drawn { IfErr result (λ fault. random_failed fault ≡ false) }
     {
         let mut rest = bytes;
@@ -200,6 +206,7 @@ impl PieceWriter {
         ensures fits { OnOk result (IfSome (D.told depot.new) (λ t. StoreFits false store.new t.history)) }
         ensures unspent { OnOk result (IsUnspent store.new) }
         ensures shelf { IfErr result (λ fault. shelf_failed fault ≡ false) }
+        ensures target { IfErr result (λ fault. is_target fault ≡ true) }
         ensures drawn { IfErr result (λ fault. random_failed fault ≡ false) }
     {
         self.add_last(store, depot)?;
@@ -223,6 +230,7 @@ impl PieceWriter {
         ensures fits { OnOk result (IfSome (D.told depot.new) (λ t. StoreFits false store.new t.history)) }
         ensures unspent { OnOk result (IsUnspent store.new) }
         ensures shelf { IfErr result (λ fault. shelf_failed fault ≡ false) }
+        ensures target { IfErr result (λ fault. is_target fault ≡ true) }
         ensures drawn { IfErr result (λ fault. random_failed fault ≡ false) }
     {
         if self.cutter.last().is_none() {
@@ -248,6 +256,7 @@ impl PieceWriter {
         ensures fits { OnOk result (IfSome (D.told depot.new) (λ t. StoreFits false store.new t.history)) }
         ensures unspent { OnOk result (IsUnspent store.new) }
         ensures shelf { IfErr result (λ fault. shelf_failed fault ≡ false) }
+        ensures target { IfErr result (λ fault. is_target fault ≡ true) }
         ensures drawn { IfErr result (λ fault. random_failed fault ≡ false) }
     {
         let Some(piece) = self.cutter.last() else {

@@ -10,6 +10,7 @@ ghost use Rattle.ferry_nonce.specs.Counter.{CounterFits, FitIn, HasNoNumber, IsE
 ghost use Rattle.ferry_nonce.specs.Counter.{reservation, reserved_for, spends};
 ghost use Rattle.ferry_nonce.specs.Fault.{nonce_failed};
 ghost use Rattle.ferry_stops.specs.Counters.{IsNonce, Counts};
+ghost use Rattle.ferry_stops.specs.Tells.{TellsNothing};
 
 use crate::fault::NonceFault;
 use crate::text::{DIGITS, read_number, spell_number};
@@ -45,6 +46,7 @@ impl Counter {
         ensures never_exhausted { IsErrOf result NonceFault.Exhausted → ⊥ }
         ensures fresh { IfOk result (λ counter. (counter.reserved ≡ counter.free) × (counter.spent ≡ false)) }
         ensures same { KeepsTold nonce_failed (D.told depot.old) (D.told depot.new) result }
+        ensures untold { Between (D.told depot.old) (D.told depot.new) TellsNothing }
         ensures cause { HasCause nonce_failed (D.faults depot.old) (D.faults depot.new) result }
     {
         match number_in_file(depot, committed) {
@@ -76,6 +78,7 @@ impl Counter {
             (λ before now. CounterFits self.old before → CounterFits self.new now)) }
         ensures moments { Between (D.told depot.old) (D.told depot.new) (KeepsAbove self.old.free) }
         ensures stays_settled { IfSome (D.told depot.new) (λ t. settled t.history.acts ≡ true) }
+        ensures untold { Between (D.told depot.old) (D.told depot.new) TellsNothing }
         ensures exhausted { IsErrOf result NonceFault.Exhausted ↔ IsExhausted self.old blocks }
         ensures no_call { IsErrOf result NonceFault.Exhausted → depot.new ≡ depot.old }
         ensures spent { self.new.spent ≡ spends result }
@@ -114,6 +117,7 @@ impl Counter {
         ensures fits { OnOk result (Between (D.told depot.old) (D.told depot.new) (λ before now. Counts (behind + reservation) now)) }
         ensures moments { Between (D.told depot.old) (D.told depot.new) (KeepsAbove self.old.free) }
         ensures stays_settled { IfSome (D.told depot.new) (λ t. settled t.history.acts ≡ true) }
+        ensures untold { Between (D.told depot.old) (D.told depot.new) TellsNothing }
         ensures exhausted { IsErrOf result NonceFault.Exhausted ↔ (2 ^ 64 - 1 < behind + reservation) }
         ensures no_call { IsErrOf result NonceFault.Exhausted → depot.new ≡ depot.old }
         ensures cause { HasCause nonce_failed (D.faults depot.old) (D.faults depot.new) result }

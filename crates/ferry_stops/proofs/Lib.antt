@@ -6,3 +6,4 @@ pub mod KeptLemmas
 pub mod NumberLemmas
 pub mod EntryLemmas
 pub mod NowLemmas
+pub mod TellLemmas

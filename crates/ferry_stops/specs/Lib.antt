@@ -3,3 +3,4 @@ pub mod Chance
 pub mod Ground
 pub mod Blobs
 pub mod Counters
+pub mod Tells

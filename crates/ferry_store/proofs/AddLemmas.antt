@@ -1,5 +1,5 @@
 -- A store fits with a content added.
-use Rattle.std.proofs.Common.{◌≡◌, ◌≢◌, ◌⊎◌, inl, inr, ◌<◌, ℕ, Bool, true, false, cond, List, [], length, Option, Some, None}
+use Rattle.std.proofs.Common.{◌≡◌, ◌≢◌, ◌⊎◌, inl, inr, ◌<◌, ◌-◌, ◌^◌, min, ℕ, Bool, true, false, cond, List, [], ◌∷◌, length, Option, Some, None}
 use Rattle.std.proofs.Common.{Ok, IfSome, IsSome, refl, sym, ◌∙◌, ap, subst, arith}
 use Rattle.std.proofs.lemmas.List.{length-append}
 use Rattle.std.specs.BTreeSet.{contains, Updates}
@@ -29,15 +29,15 @@ use Rattle.ferry_repo.specs.Cached.{Contents}
 use Rattle.ferry_repo.specs.Objects.{HoldsChunk, IsMissing, KeepsBlobs}
 use Rattle.ferry_repo.specs.Opening.{FitsRepo, RepoState, cached_in, repo_view}
 use Rattle.ferry_repo.specs.declared.repo.Repo.{Repo}
-use Rattle.ferry_segment.specs.Entry.{PutEntry}
+use Rattle.ferry_segment.specs.Entry.{LogEntry, PutEntry}
 use Rattle.ferry_store.proofs.PutLemmas.{keeps_here}
 use Rattle.ferry_store.proofs.StandingLemmas.{entries_put, holds_put, keeps_more, manifest_learnt, missing_unlive}
 use Rattle.ferry_store.proofs.StepLemmas.{Reads, did_as, known_then, same_told}
-use Rattle.ferry_store.specs.Adding.{Adds, entry_of, id_under}
+use Rattle.ferry_store.specs.Adding.{Adds, entry_of, id_under, pending_after}
 use Rattle.ferry_store.specs.Content.{HasPut, IsNew, IsThere, Learns, blob_for, with_place}
 use Rattle.ferry_store.specs.Fault.{depot_failed}
 use Rattle.ferry_store.specs.Standing.{CommitsManifest, HoldsLive, entries_of}
-use Rattle.ferry_store.specs.State.{Did, HasPlaced, KeepsSound, with_entry}
+use Rattle.ferry_store.specs.State.{Did, HasPlaced, KeepsSound, Written, with_entry}
 use Rattle.ferry_store.specs.Store.{IsKnown, StoreFits}
 use Rattle.ferry_store.specs.declared.content.Added.{Added}
 use Rattle.ferry_store.specs.declared.fault.StoreRefusal.{StoreRefusal}
@@ -134,6 +134,7 @@ opened_added store repo opened content id h same noted there repo_fits counts fi
     holds = subst (λ (r : RepoState). HoldsLive (files_now h) r.log (entries_of fits.written)) (sym same) fits.holds;
     manifest = subst (λ (r : RepoState). CommitsManifest r fits.written.committed) (sym same) fits.manifest;
     keeps = fits.keeps;
+    pending = fits.pending;
   },
   refl,
 )
@@ -182,12 +183,17 @@ known_put store repo session counter pending id other place learnt (inr (inl put
       or_known (inr had) = inr (inr (inl had))
 known_put store repo session counter pending id other place learnt (inr (inr has)) = inr (inr (inr has))
 
+-- the count of what was put since the last commit, with one more entry put
+pending_more : (pending : ℕ) (written : Written) (entry : LogEntry) → pending ≡ min (length written.pending) (2 ^ 64 - 1)
+    → pending_after pending true ≡ min (length (with_entry written entry).pending) (2 ^ 64 - 1)
+pending_more pending written entry is = omega (arith, is, length-append written.pending (entry ∷ []))
+
 pub put_added : (store : Store) (repo : Repo) (session : Session) (counter : Counter) (pending : ℕ) (content : List ℕ) (h g : History)
     → id_under store content ≢ zero_id → IsMissing (repo_view store.repo).log (id_under store content)
-    → cached_in repo ≡ cached_in store.repo → session.after ≡ store.session.after
+    → cached_in repo ≡ cached_in store.repo → session.after ≡ store.session.after → pending ≡ pending_after store.pending true
     → HasPut (repo_view store.repo) store.session store.counter (id_under store content) content (repo_view repo) session counter h g
     → Adds store content (with_put store repo session counter pending) (record { id = id_under store content; new = true }) h g
-put_added store repo session counter pending content h g chunk missing cached after put counts fits =
+put_added store repo session counter pending content h g chunk missing cached after counted put counts fits =
     let before = repo_view store.repo in
     let id = id_under store content in
     let place = put.place in
@@ -214,6 +220,7 @@ put_added store repo session counter pending content h g chunk missing cached af
             (manifest_learnt before (with_place before id place) fits.written.committed refl refl fits.manifest);
         keeps = keeps_more fits.written id blob
             (missing_unlive (files_now h) before.log (entries_of fits.written) id chunk missing fits.holds) fits.keeps;
+        pending = counted ∙ pending_more store.pending fits.written (entry_of store content) fits.pending;
       },
       refl,
     )
@@ -260,19 +267,19 @@ opened_did store repo opened content id a b n m same noted there fits told cause
 
 pub put_did : (store : Store) (repo : Repo) (session : Session) (counter : Counter) (pending : ℕ) (content id : List ℕ) (a b : Option Told) (n m : ℕ)
     (x : Unit {0}) → id ≡ id_under store content → IsNew (repo_view store.repo) id → cached_in repo ≡ cached_in store.repo
-    → session.after ≡ store.session.after
+    → session.after ≡ store.session.after → pending ≡ pending_after store.pending true
     → Did {T = Unit {0}} (KeepsSound store.session store.counter)
     (λ _. HasPut (repo_view store.repo) store.session store.counter id content (repo_view repo) session counter) a b n m (Ok x)
     → Did {T = Added} (KeepsSound store.session store.counter) (Adds store content (with_put store repo session counter pending)) a b n m
     (Ok (record { id = id; new = true }))
-put_did store repo session counter pending content id a b n m x named new cached after p =
+put_did store repo session counter pending content id a b n m x named new cached after counted p =
     did_as (KeepsSound store.session store.counter)
     (λ _. HasPut (repo_view store.repo) store.session store.counter id content (repo_view repo) session counter)
     (KeepsSound store.session store.counter) (Adds store content (with_put store repo session counter pending)) a b n m x (record { id = id; new = true })
     (λ h g e. e)
     (λ h g put.
     put_added store repo session counter pending content h g (λ zero. new.0 (named ∙ zero))
-    (subst (IsMissing (repo_view store.repo).log) named new.1) cached after
+    (subst (IsMissing (repo_view store.repo).log) named new.1) cached after counted
     (subst (λ (i : List ℕ). HasPut (repo_view store.repo) store.session store.counter i content (repo_view repo) session counter h g) named put))
     p
 

@@ -91,6 +91,7 @@ checkpointed store session h g is takes stays counts fits =
             (blobs_stay after repo.log h g kept) (λ id apart. live_committed fits.written id) fits.holds;
         manifest = manifest_later repo fits.written fits.keeps fits.manifest;
         keeps = keeps_nil (entries_committed fits.written);
+        pending = refl;
       },
       refl,
     )

@@ -133,8 +133,8 @@ cleared_fit state h g e clears fits =
 store_opened : (secret : Secret) (store : Store) (h g : History) → OpensFilesTo (files_now h) secret (repo_view store.repo) → cached_in store.repo ≡ []
     → Begins (Some (repo_view store.repo).log.transaction) store.counter store.session h g
     → ClearsAll (Some (repo_view store.repo).log.transaction) h g → store.session.after ≡ Some (repo_view store.repo).log.transaction
-    → store.opened.keys ≡ [] → OpenFits store h g
-store_opened secret store h g opens empty begins clears after none counts e kept =
+    → store.opened.keys ≡ [] → store.pending ≡ 0 → OpenFits store h g
+store_opened secret store h g opens empty begins clears after none uncounted counts e kept =
     let repo = repo_view store.repo in
     let files = files_now g in
     let entries = entries_shown (files_now h) secret repo opens in
@@ -161,6 +161,7 @@ store_opened secret store h g opens empty begins clears after none counts e kept
           holds = opened_manifest (files_now h) secret repo entries opens (suc repo.log.transaction, before);
         };
         keeps = keeps_nil entries;
+        pending = uncounted;
       };
       found_is = refl;
     }
@@ -214,12 +215,12 @@ with_clear after x b c m k clears p = record {
 
 pub open_begun : (secret : Secret) (store : Store) (a b c : Option Told) (n m k : ℕ) → KeepsTold {F = RepoFault} repo_failed a b (Ok store.repo) → m ≡ n
     → IfSome a (λ t. OpensFilesTo (told_files t) secret (repo_view store.repo)) → cached_in store.repo ≡ []
-    → store.session.after ≡ Some (repo_view store.repo).log.transaction → store.opened.keys ≡ [] → Between b c SettlesFirst
+    → store.session.after ≡ Some (repo_view store.repo).log.transaction → store.opened.keys ≡ [] → store.pending ≡ 0 → Between b c SettlesFirst
     → Between b c (ClearsAll (Some (repo_view store.repo).log.transaction))
     → Did {T = Counter × Session} (BeginsSound (Some (repo_view store.repo).log.transaction))
     (λ x. Begins (Some (repo_view store.repo).log.transaction) x.0 x.1) b c m k (Ok (store.counter, store.session))
     → Did {T = Store} OpenEach OpenFits a c n k (Ok store)
-open_begun secret store a b c n m k same caused opens empty behind_log none first clears p =
+open_begun secret store a b c n m k same caused opens empty behind_log none uncounted first clears p =
     let repo = repo_view store.repo in
     let after = Some repo.log.transaction in
     did_as OpenEach (λ (y : Counter × Session) h g. OpenFits store h g) OpenEach OpenFits a c n k (store.counter, store.session) store (λ h g e. e) (λ h g e. e)
@@ -228,7 +229,7 @@ open_begun secret store a b c n m k same caused opens empty behind_log none firs
     (λ y h g. OpenFits store h g) a b c n m k store.repo (Ok (store.counter, store.session))
     (λ h g i e d q f. open_step secret repo h g i q f)
     (λ y h g i q f. store_opened secret store h i q.0 empty (subst (λ (x : History). Begins after store.counter store.session x i) q.1 f.1)
-    (subst (λ (x : History). ClearsAll after x i) q.1 f.0) behind_log none)
+    (subst (λ (x : History). ClearsAll after x i) q.1 f.0) behind_log none uncounted)
     (opened_read secret store.repo a b n m same caused opens)
     (with_clear after (store.counter, store.session) b c m k clears
     (did_also {T = Counter × Session} (BeginsSound after) SettlesFirst (λ x. Begins after x.0 x.1) b c m k (Ok (store.counter, store.session)) first p)))

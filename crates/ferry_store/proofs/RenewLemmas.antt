@@ -242,6 +242,7 @@ store_committed store repo session counter blob manifest h g view cached done co
         manifest = subst (λ (r : RepoState). CommitsManifest r (all_committed next).committed) (sym view)
             (record { entries = entries_committed next; is = refl; holds = done.holds fits.written });
         keeps = keeps_nil (entries_committed next);
+        pending = refl;
       },
       refl,
     )

@@ -125,8 +125,8 @@ makes_files secret iterations timestamp bytes counter session h g none made e =
 
 pub store_fits : (secret : Secret) (iterations : ℕ) (timestamp bytes : List ℕ) (store : Store) (h g : History) → IsUncommitted (files_now h)
     → IsMadeBy secret iterations timestamp bytes store.counter store.session h g → OpensFilesTo (files_now g) secret (repo_view store.repo)
-    → cached_in store.repo ≡ [] → store.opened.keys ≡ [] → InitFits store h g
-store_fits secret iterations timestamp bytes store h g none made opens empty unopened counts e kept =
+    → cached_in store.repo ≡ [] → store.opened.keys ≡ [] → store.pending ≡ 0 → InitFits store h g
+store_fits secret iterations timestamp bytes store h g none made opens empty unopened uncounted counts e kept =
     let repo = repo_view store.repo in
     let files = files_now g in
     let blob = manifest_blob made.basis timestamp made.salt made.free in
@@ -142,6 +142,7 @@ store_fits secret iterations timestamp bytes store h g none made opens empty uno
       holds = holds_opened files repo.log entries opens.opens.unlocks.reads shows;
       manifest = record { entries = entries; is = refl; holds = opened_manifest files secret repo entries opens shows };
       keeps = keeps_nil entries;
+      pending = uncounted;
     }
 
 -- ---- the steps of `init`
@@ -245,14 +246,14 @@ init_unopened secret iterations timestamp bytes x fault a c d n k j p same cause
 pub init_opened : (secret : Secret) (iterations : ℕ) (timestamp bytes : List ℕ) (store : Store) (a c d : Option Told) (n k j : ℕ)
     → Did (InitEach secret) (MadeOf secret iterations timestamp bytes) a c n k (Ok (store.counter, store.session))
     → KeepsTold {F = RepoFault} repo_failed c d (Ok store.repo) → j ≡ k → IfSome c (λ t. OpensFilesTo (told_files t) secret (repo_view store.repo))
-    → cached_in store.repo ≡ [] → store.opened.keys ≡ [] → Did (InitEach secret) InitFits a d n j (Ok store)
-init_opened secret iterations timestamp bytes store a c d n k j p same caused opens empty unopened =
+    → cached_in store.repo ≡ [] → store.opened.keys ≡ [] → store.pending ≡ 0 → Did (InitEach secret) InitFits a d n j (Ok store)
+init_opened secret iterations timestamp bytes store a c d n k j p same caused opens empty unopened uncounted =
     did_then (InitEach secret) (MadeOf secret iterations timestamp bytes) Reads
     (λ (s : Store) h g. OpensFilesTo (files_now h) secret (repo_view store.repo) × ((s ≡ store) × Reads h g)) (InitEach secret) InitFits a c d n k j
     (store.counter, store.session) (Ok store)
     (λ h g i e q m f. each_read secret h g i e f)
     (λ y h g i made f. subst (λ (s : Store). InitFits s h i) (sym f.1.0)
-    (subst (InitFits store h) (sym f.1.1) (store_fits secret iterations timestamp bytes store h g made.0 made.1 f.0 empty unopened)))
+    (subst (InitFits store h) (sym f.1.1) (store_fits secret iterations timestamp bytes store h g made.0 made.1 f.0 empty unopened uncounted)))
     p (did_known {T = Store} (λ h. OpensFilesTo (files_now h) secret (repo_view store.repo)) Reads (λ s h g. (s ≡ store) × Reads h g) c d k j store opens
     (did_as Reads (λ _. Reads) Reads (λ s h g. (s ≡ store) × Reads h g) c d k j store.repo store (λ h g e. e) (λ h g e. (refl, e))
     (read_did {T = Repo} repo_failed c d k j store.repo same caused)))

@@ -49,4 +49,5 @@ fits_named store now (Some t) same fits =
       holds = fits.holds;
       manifest = fits.manifest;
       keeps = fits.keeps;
+      pending = fits.pending;
     })

@@ -1,5 +1,5 @@
 -- What a store stands on, and what `init` and `open` leave, whatever a stop does.
-use Rattle.std.specs.Prelude.{◌≡◌, ◌≢◌, ◌⊎◌, ◌<◌, ℕ, Bool, true, false, List, [], Some, IsSome}
+use Rattle.std.specs.Prelude.{◌≡◌, ◌≢◌, ◌⊎◌, ◌<◌, ◌-◌, ◌^◌, ℕ, Bool, true, false, List, [], Some, IsSome, length, min}
 use Rattle.std.specs.BTreeSet.{contains}
 use Rattle.std.specs.FinMap.{get}
 use Rattle.ferry_base.specs.Limits.{zero_id}
@@ -37,7 +37,8 @@ IsKnown store id = (id ≡ zero_id) ⊎ (IsSome (get (repo_view store.repo).log.
 
 -- A store fits what its depot told: what was written stands, the repository fits the files and is that of a commit below those of the session,
 -- and each chunk that the store knows is there. The repository's chunks are those of the entries that are written, what is committed holds its
--- manifest, and what was put since keeps all that is live. With `counts` each counter block that was taken is below the store's counter.
+-- manifest, and what was put since keeps all that is live, and is counted, up to the largest number of 64 bits. With `counts` each counter
+-- block that was taken is below the store's counter.
 pub record StoreFits (counts : Bool) (store : Store) (history : History) : Type 0 where
   pub written : Written
   pub under_way : IsUnderWay counts store.session store.counter written history
@@ -47,6 +48,7 @@ pub record StoreFits (counts : Bool) (store : Store) (history : History) : Type 
   pub holds : HoldsLive (files_now history) (repo_view store.repo).log (entries_of written)
   pub manifest : CommitsManifest (repo_view store.repo) written.committed
   pub keeps : Keeps (committed_of written) (entries_of written)
+  pub pending : store.pending ≡ min (length written.pending) (2 ^ 64 - 1)
 
 -- No call on the store answered that it is spent.
 pub record IsUnspent (store : Store) : Type 0 where

@@ -2,9 +2,11 @@
 ghost use Rattle.std.specs.Prelude.{◌≡◌, ◌++◌, ℕ, List, false, true, length, option_map, IfErr, IfSome, OnOk};
 ghost use Rattle.ferry_disk.specs.Device.{HasCause};
 ghost use Rattle.ferry_disk.specs.Image.{settled};
+ghost use Rattle.ferry_disk.specs.Moments.{Between};
 ghost use Rattle.ferry_manifest.specs.Manifest.Text.{manifest_view};
 ghost use Rattle.ferry_manifest.specs.Manifest.Writing.{IsPackable, manifest_text};
 ghost use Rattle.ferry_repo.specs.Opening.{repo_view};
+ghost use Rattle.ferry_stops.specs.Tells.{TellsNothing};
 ghost use Rattle.ferry_store.specs.Commit.{CommitsEntry, HasCommitted, RefusesManifestOf, manifest_entry};
 ghost use Rattle.ferry_store.specs.Fault.{source_failed};
 ghost use Rattle.ferry_store.specs.Standing.{with_manifest};
@@ -42,6 +44,7 @@ pub(crate) fn commit_manifest<D: Depot, E: Entropy>(
         (manifest_entry (repo_view repo.now) counter.old (manifest_view manifest.now) salt)
         session.new counter.new) (D.told depot.old) (D.told depot.new) (D.faults depot.old) (D.faults depot.new) result
         × IfErr result (RefusesManifestOf counter.old (length (manifest_text (repo_view repo.now).keys salt (manifest_view manifest.now))))) }
+    ensures untold { Between (D.told depot.old) (D.told depot.new) TellsNothing }
     ensures session { OnOk result (session.new.spent ≡ false) }
     ensures counter { OnOk result (counter.new.spent ≡ false) }
     ensures cause { HasCause source_failed (E.faults entropy.old) (E.faults entropy.new) result }

@@ -5,9 +5,11 @@ ghost use Rattle.ferry_base.specs.Limits.{content_limit, zero_id};
 ghost use Rattle.ferry_blob.specs.Blob.{OpensTo, content_id};
 ghost use Rattle.ferry_disk.specs.Device.{HasCause, KeepsTold, told_files};
 ghost use Rattle.ferry_disk.specs.Image.{settled};
+ghost use Rattle.ferry_disk.specs.Moments.{Between};
 ghost use Rattle.ferry_log.specs.Live.{key_cmp};
 ghost use Rattle.ferry_repo.specs.Objects.{IsMissing};
 ghost use Rattle.ferry_repo.specs.Opening.{FitsRepo, cached_in, repo_view};
+ghost use Rattle.ferry_stops.specs.Tells.{TellsNothing};
 ghost use Rattle.ferry_store.specs.Content.{blob_for, HasPut, IsThere, Learns, RefusesNew, RefusesOld};
 ghost use Rattle.ferry_store.specs.Fault.{depot_failed, source_failed};
 ghost use Rattle.ferry_store.specs.State.{Did, KeepsSound};
@@ -48,6 +50,7 @@ pub(crate) fn put_content<D: Depot>(
     ensures did { Did (KeepsSound session.old counter.old)
         (λ _. HasPut (repo_view repo.old) session.old counter.old id.now content.now (repo_view repo.new) session.new counter.new)
         (D.told depot.old) (D.told depot.new) (D.faults depot.old) (D.faults depot.new) result }
+    ensures untold { Between (D.told depot.old) (D.told depot.new) TellsNothing }
     ensures cached { cached_in repo.new ≡ cached_in repo.old }
     ensures learns { OnOk result (Learns (repo_view repo.old) id.now true (repo_view repo.new)) }
     ensures opens { OnOk result (OpensTo (repo_view repo.old).keys id.now (blob_for (repo_view repo.old) counter.old content.now) content.now) }

@@ -12,6 +12,7 @@ ghost use Rattle.ferry_nonce.specs.Counter.{IsExhausted};
 ghost use Rattle.ferry_nonce.specs.declared.fault.NonceFault.TheVariants as Nonces;
 ghost use Rattle.ferry_repo.specs.Opening.{mode_of};
 ghost use Rattle.ferry_segment.specs.Entry.{PutEntry};
+ghost use Rattle.ferry_stops.specs.Tells.{TellsNothing};
 ghost use Rattle.ferry_store.specs.Fault.{source_failed};
 ghost use Rattle.ferry_store.specs.New.{IsPacked, PutsManifest, first_manifest};
 ghost use Rattle.ferry_store.specs.State.{Did, IsPlaced, KeepsSound, RefusesManifest, RefusesPut, TakesEntry};
@@ -53,6 +54,7 @@ pub(crate) fn put_object<D: Depot>(
     ensures did { Did (KeepsSound session.old counter.old)
         (λ _. TakesEntry session.old counter.old (PutEntry id.now (sealed keys.now mode counter.old.free (drop 43 buffer.old))) session.new counter.new)
         (D.told depot.old) (D.told depot.new) (D.faults depot.old) (D.faults depot.new) result }
+    ensures untold { Between (D.told depot.old) (D.told depot.new) TellsNothing }
     ensures placed { IfOk result (λ place. Between (D.told depot.old) (D.told depot.new)
         (IsPlaced session.old counter.old (sealed keys.now mode counter.old.free (drop 43 buffer.old)) place)) }
     ensures opens { OnOk result ((name : List ℕ) → (name ≡ zero_id) ⊎ (name ≡ content_id keys.now (drop 43 buffer.old))

@@ -10,6 +10,7 @@ ghost use Rattle.ferry_disk.specs.Moments.{Between};
 ghost use Rattle.ferry_disk.specs.declared.name.Name.TheVariants as FileName;
 ghost use Rattle.ferry_log.specs.Log.{IsUncommitted};
 ghost use Rattle.ferry_stops.specs.Counters.{IsNonce};
+ghost use Rattle.ferry_stops.specs.Tells.{TellsNothing};
 ghost use Rattle.ferry_store.specs.Fault.{depot_failed, source_failed};
 ghost use Rattle.ferry_store.specs.State.{Begins, BeginsSound, CommitsSound, Did, IsFirst, IsStep, IsTarget};
 ghost use Rattle.ferry_store.specs.State.{RefusesBegin, RefusesCommit, RefusesLog, SettingsSound, TakesCommit, TakesSettings};
@@ -62,6 +63,7 @@ pub(crate) fn begin_at<D: Depot>(
     ensures fresh { IfOk result (λ b. IsFirst after limit b.0 b.1) }
     ensures settled { OnOk result (IfSome (D.told depot.new) (λ t. settled t.history.acts ≡ true)) }
     ensures first { Between (D.told depot.old) (D.told depot.new) SettlesFirst }
+    ensures untold { Between (D.told depot.old) (D.told depot.new) TellsNothing }
     ensures clears { OnOk result (Between (D.told depot.old) (D.told depot.new) (ClearsAll after)) }
     ensures refused { IfErr result (λ refusal. IfSome (D.told depot.old) (λ t. RefusesBegin committed (told_files t) refusal)) }
     ensures still { IfErr result (λ refusal. source_failed refusal ≡ false) }
@@ -106,6 +108,7 @@ pub(crate) fn commit<D: Depot>(depot: &mut D, session: &mut Session) -> Result<(
     ensures did { (counter : Counter) → Did (CommitsSound session.old counter)
         (λ _ h g. TakesCommit session.old counter session.new h g × OnlyAppends session.old h g)
         (D.told depot.old) (D.told depot.new) (D.faults depot.old) (D.faults depot.new) result }
+    ensures untold { Between (D.told depot.old) (D.told depot.new) TellsNothing }
     ensures session { OnOk result (session.new ≡ after_commit session.old) }
     ensures refused { IfErr result (RefusesCommit session.old) }
     ensures numbers { IsErrOf result (Refusal.Write Writes.Numbers) ↔ AreUsedUp session.old.last }

@@ -12,6 +12,7 @@ ghost use Rattle.ferry_repo.specs.Archives.{archive_named};
 ghost use Rattle.ferry_repo.specs.Objects.{IsMissing};
 ghost use Rattle.ferry_repo.specs.Opening.{OpensFilesTo, cached_in, repo_view};
 ghost use Rattle.ferry_repo.specs.contracts.repo.Repo.{the_row as row_of_repo};
+ghost use Rattle.ferry_stops.specs.Tells.{TellsNothing};
 ghost use Rattle.ferry_store.specs.Adding.{Adds, Checkpoints, RefusesAdd, id_under, pending_after};
 ghost use Rattle.ferry_store.specs.Commit.{Commits, CommitsEntry, HasCommitted, RefusesManifestOf, accepted_in, manifest_entry};
 ghost use Rattle.ferry_blob.specs.Blob.{OpensTo};
@@ -117,6 +118,7 @@ impl Store {
     ) -> Result<Store, StoreRefusal>
         ensures opened { IfOk result (λ store. IfSome (D.told depot.old) (λ t. OpensFilesTo (told_files t) secret.now (repo_view store.repo))) }
         ensures did { Did OpenEach OpenFits (D.told depot.old) (D.told depot.new) (D.faults depot.old) (D.faults depot.new) result }
+        ensures untold { Between (D.told depot.old) (D.told depot.new) TellsNothing }
         ensures refused { IfErr result (λ refusal. IfSome (D.told depot.old) (λ t. RefusesOpen secret.now (told_files t) refusal)) }
         ensures fresh { IfOk result (λ store. (cached_in store.repo ≡ []) × (store.pending ≡ 0)) }
         ensures accepted { IfOk result (λ store. store.accepted ≡ None) }
@@ -177,6 +179,7 @@ impl Store {
         requires fits { IfSome (D.told depot.old) (λ t. StoreFits false self.old t.history) }
         ensures did { Did (KeepsSound self.old.session self.old.counter) (Adds self.old content.now self.new)
             (D.told depot.old) (D.told depot.new) (D.faults depot.old) (D.faults depot.new) result }
+        ensures untold { Between (D.told depot.old) (D.told depot.new) TellsNothing }
         ensures id { IfOk result (λ added. added.id ≡ id_under self.old content.now) }
         ensures new { IfOk result (λ added. IsTrue added.new ↔ IsNew (repo_view self.old.repo) (id_under self.old content.now)) }
         ensures known { OnOk result (IsKnown self.new (id_under self.old content.now)) }
@@ -217,6 +220,7 @@ impl Store {
         requires fits { IfSome (D.told depot.old) (λ t. StoreFits false self.old t.history) }
         ensures did { Did (KeepsSound self.old.session self.old.counter) (Adds self.old content.now self.new)
             (D.told depot.old) (D.told depot.new) (D.faults depot.old) (D.faults depot.new) result }
+        ensures untold { Between (D.told depot.old) (D.told depot.new) TellsNothing }
         ensures added { IfOk result (λ added. added ≡ record { id = id; new = true }) }
         ensures known { OnOk result (IsKnown self.new id) }
         ensures repo { OnOk result (Learns (repo_view self.old.repo) id true (repo_view self.new.repo)) }
@@ -253,6 +257,7 @@ impl Store {
         requires fits { IfSome (D.told depot.old) (λ t. StoreFits false self.old t.history) }
         ensures did { (content : List ℕ) → Did (KeepsSound self.old.session self.old.counter) (Adds self.old content self.new)
             (D.told depot.old) (D.told depot.new) (D.faults depot.old) (D.faults depot.new) result }
+        ensures untold { Between (D.told depot.old) (D.told depot.new) TellsNothing }
         ensures added { IfOk result (λ added. added ≡ record { id = id; new = false }) }
         ensures known { OnOk result (IsKnown self.new id) }
         ensures repo { repo_view self.new.repo ≡ repo_view self.old.repo }
@@ -274,6 +279,7 @@ impl Store {
         requires unspent { IsUnspent self.old }
         ensures did { Did (CommitsSound self.old.session self.old.counter) (λ _. Checkpoints self.old self.new)
             (D.told depot.old) (D.told depot.new) (D.faults depot.old) (D.faults depot.new) result }
+        ensures untold { Between (D.told depot.old) (D.told depot.new) TellsNothing }
         ensures repo { self.new.repo ≡ self.old.repo }
         ensures accepted { self.new.accepted ≡ self.old.accepted }
         ensures pending { OnOk result (self.new.pending ≡ 0) }
@@ -321,6 +327,7 @@ impl Store {
             self.new.session self.new.counter) (D.told depot.old) (D.told depot.new) (D.faults depot.old) (D.faults depot.new) result
             × IfErr result (RefusesManifestOf self.old.counter
             (length (manifest_text (repo_view self.old.repo).keys salt (written_at (accepted_in self.old) timestamp.now))))) }
+        ensures untold { Between (D.told depot.old) (D.told depot.new) TellsNothing }
         ensures manifest { IfOk result (λ manifest. manifest_view manifest ≡ written_at (accepted_in self.old) timestamp.now) }
         ensures packable { IfOk result (λ manifest. IsPackable (manifest_view manifest)) }
         ensures rest { self.new ≡ record self.old { session = self.new.session; counter = self.new.counter } }
@@ -434,6 +441,7 @@ impl Store {
             self.new) (D.told depot.old) (D.told depot.new) (D.faults depot.old) (D.faults depot.new) result
             × IfErr result (RefusesManifestOf self.old.counter
             (length (manifest_text (repo_view self.old.repo).keys salt (written_at (accepted_in self.old) timestamp.now))))) }
+        ensures untold { Between (D.told depot.old) (D.told depot.new) TellsNothing }
         ensures repo { OnOk result (repo_view self.new.repo
             ≡ with_manifest (repo_view self.old.repo) (written_at (accepted_in self.old) timestamp.now)) }
         ensures accepted { OnOk result (accepted_in self.new ≡ written_at (accepted_in self.old) timestamp.now) }

@@ -6,3 +6,4 @@ pub mod CheckLemmas
 pub mod InitLemmas
 pub mod RunLemmas
 pub mod TransferLemmas
+pub mod RerunLemmas

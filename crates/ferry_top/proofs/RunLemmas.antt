@@ -16,7 +16,7 @@ use Rattle.ferry_top.specs.Init.{CommandEach, IsRefused, time_or}
 use Rattle.ferry_top.specs.MakeKey.{PrintsKey}
 use Rattle.ferry_top.specs.Run.{DoesCommand, Prints, PrintsAsRead, Reports, Runs}
 use Rattle.ferry_top.specs.Status.{source_failed, target_failed, entropy_failed, output_failed}
-use Rattle.ferry_top.specs.Transfer.{TransferEach}
+use Rattle.ferry_top.specs.Transfer.{Request, TransferEach, asked}
 use Rattle.ferry_top.specs.declared.status.Refusal.{Refusal}
 use Rattle.ferry_top.specs.declared.status.Secrets.{Secrets}
 use Rattle.ferry_top.specs.declared.status.Status.{Status}
@@ -233,9 +233,9 @@ memory_told : (secret : Secret) (timestamp : List ℕ) (told : Option Told) → 
 memory_told secret timestamp None = tt
 memory_told secret timestamp (Some t) = λ e. tt
 
-transfer_told : (secret : Secret) (told : Option Told) → Between told told (TransferEach secret)
-transfer_told secret None = tt
-transfer_told secret (Some t) = (t, refl, each_untouched secret t.history)
+transfer_told : (request : Request) (told : Option Told) → Between told told (TransferEach request)
+transfer_told request None = tt
+transfer_told request (Some t) = (t, refl, each_untouched request t.history)
 
 pub does_nothing : (words : Result Command ℕ) (secrets : Secrets) (all : Devices) → DoesCommand words secrets all Memory all
 does_nothing (Ok Keys) secrets all = record { shows = inl refl; target = refl; entropy = refl }
@@ -253,5 +253,9 @@ does_nothing (Ok (Init iterations timestamp)) secrets all = record {
 }
 does_nothing (Ok (MakeKey iterations)) secrets all = record { source = refl; target = refl; prints = inl refl }
 does_nothing (Ok (Transfer block checkpoint timestamp names)) secrets all =
-    record { output = refl; each = transfer_told secrets.target all.target.told }
+    record {
+      output = refl;
+      each = transfer_told (asked secrets block names all.source.told) all.target.told;
+      ended = λ e. absurd (let no : ⊥ = cc in no);
+    }
 does_nothing (Err word) secrets all = refl

@@ -1,24 +1,31 @@
--- A transfer: what each stop leaves opens, with each archive that was there.
-use Rattle.std.proofs.Common.{◌≡◌, ◌≢◌, ℕ, suc, map, Bool, true, false, List, [], ◌++◌, Option, Some, None, Result, Ok}
-use Rattle.std.proofs.Common.{Err, unwrap_or, refl, sym, ◌∙◌, ap, subst, IfSome}
-use Rattle.ferry_base.specs.Limits.{zero_id}
-use Rattle.ferry_carry.proofs.GrowLemmas.{names_here}
-use Rattle.ferry_carry.proofs.WholeLemmas.{whole_kept}
-use Rattle.ferry_carry.proofs.WorkLemmas.{works_err, works_nothing, works_ok, works_then}
-use Rattle.ferry_carry.specs.Grow.{Grows, KeepsChunks, KeepsGrowing, KeepsNames, StandsOn}
+-- A transfer: what each stop leaves opens, with each archive that was there and those of a front of the chosen names, and at the end with all of them.
+use Rattle.std.proofs.Common.{◌≡◌, ◌↔◌, inl, ℕ, suc, map, Bool, true, false, List, [], ◌∷◌, ◌++◌, Option, Some, None, Ok}
+use Rattle.std.proofs.Common.{Err, unwrap_or, option_map, refl, sym, ◌∙◌, ap, subst, IfSome}
+use Rattle.std.proofs.lemmas.List.{append-nil}
+use Rattle.std.specs.List.{AllByRecursion}
+use Rattle.ferry_carry.proofs.ReportLemmas.{report_none, untold_moments, whole_report}
+use Rattle.ferry_carry.proofs.WholeLemmas.{each_to, whole_kept}
+use Rattle.ferry_carry.proofs.WorkLemmas.{works_both, works_err, works_nothing, works_ok, works_then}
+use Rattle.ferry_carry.specs.Carrying.{AreCut, CarriesOver, IsCarried, Origin, origin}
+use Rattle.ferry_carry.specs.Grow.{Grown, Grows, IsNamedBy, KeepsChunks, KeepsNames, StandsOn}
+use Rattle.ferry_carry.specs.Telling.{IsReport, IsReported, KeepsReported, ReportsWhole, ShowsReport, TellsWhole}
+use Rattle.ferry_carry.specs.Lines.{total_line}
 use Rattle.ferry_carry.specs.Work.{Works}
 use Rattle.ferry_carry.specs.declared.fault.CarryFault.{CarryFault}
+use Rattle.ferry_carry.specs.Flight.{IsSettled}
 use Rattle.ferry_carry.specs.Fault.{target_failed as depot_failed, target_fault}
+use Rattle.ferry_disk.proofs.ImageLemmas.{plain_read}
+use Rattle.ferry_disk.proofs.MomentLemmas.{between_map}
 use Rattle.ferry_disk.specs.Act.{History, files_now}
 use Rattle.ferry_disk.specs.Device.{Heard, KeepsTold, Told, heard_of, told_files}
 use Rattle.ferry_disk.specs.Files.{Files}
-use Rattle.ferry_disk.specs.Moments.{Between, Moments}
+use Rattle.ferry_disk.specs.Image.{PlainFate}
+use Rattle.ferry_disk.specs.Moments.{Between}
+use Rattle.ferry_disk.specs.declared.name.Name.TheVariants.{Config as ConfigFile}
 use Rattle.ferry_log.specs.Log.{Located}
 use Rattle.ferry_log.specs.State.{LogState}
 use Rattle.ferry_manifest.specs.Manifest.Text.{ManifestText}
-use Rattle.ferry_manifest.specs.declared.manifest.ArchiveRef.{ArchiveRef}
 use Rattle.ferry_repo.proofs.LawLemmas.{one_repo, opens_fits}
-use Rattle.ferry_repo.specs.Archives.{archive_named}
 use Rattle.ferry_repo.specs.Objects.{HasBlob, HoldsChunk}
 use Rattle.ferry_repo.specs.Fault.{repo_failed}
 use Rattle.ferry_repo.specs.Opening.{FitsRepo, OpensFilesTo, RepoState, cached_in, repo_view}
@@ -31,17 +38,22 @@ use Rattle.ferry_stops.specs.Blobs.{AllTraced}
 use Rattle.ferry_stops.specs.Chance.{EachStop}
 use Rattle.ferry_stops.specs.Counters.{IsKept}
 use Rattle.ferry_stops.specs.Entries.{Shows}
+use Rattle.ferry_stops.specs.Tells.{TellsNothing, lines_of}
 use Rattle.ferry_store.proofs.OpenLemmas.{each_here}
-use Rattle.ferry_store.proofs.StandingLemmas.{opened_manifest, opened_unlocks, opens_live, state_live}
+use Rattle.ferry_store.proofs.StandingLemmas.{manifest_learnt, opened_manifest, opened_unlocks, opens_live, state_live}
 use Rattle.ferry_store.proofs.StepLemmas.{did_known, first_kept, moments_map, moments_then}
+use Rattle.ferry_store.specs.Commit.{accepted_in}
 use Rattle.ferry_store.specs.Standing.{OpensLive, UnlocksSettings, committed_of, live_in, with_manifest}
 use Rattle.ferry_store.specs.State.{Did, IsSound, ShowsStanding, Written, found}
-use Rattle.ferry_store.specs.Store.{InitKeeps, OpenEach, OpenFits, OpensFound, StoreFits}
+use Rattle.ferry_store.specs.Store.{OpenEach, OpenFits, OpensFound, StoreFits}
 use Rattle.ferry_store.specs.declared.fault.StoreRefusal.{StoreRefusal}
 use Rattle.ferry_store.specs.declared.store.Store.{Store}
-use Rattle.ferry_top.specs.Transfer.{KeepsArchives, TransferEach, TransferShows}
+use Rattle.ferry_top.specs.Transfer.{Arrives, IsChosen, IsChosenFront, KeepsArchives, Request, TransferEach, TransferEnds, TransferShows}
+use Rattle.ferry_top.specs.Transfer.{asked, chosen_of}
+use Rattle.ferry_top.specs.declared.status.Secrets.{Secrets}
+use Rattle.ferry_write.proofs.LawLemmas.{fits_now}
+use Rattle.ferry_write.specs.Room.{behind}
 use Rattle.ferry_write.specs.Script.{AllDone}
-use Rattle.ferry_write.specs.Session.{BeginBySettle}
 
 -- ---- what stands keeps the archives
 
@@ -57,81 +69,331 @@ chunk_in start image secret repo committed entries log opens shown keeps blobs i
       object = record { blob = object.blob; has = blobs id object.blob (keeps id object.blob chunk.chunk live); opens = object.opens };
     }
 
-pub stands_keeps : (start image : Files) (secret : Secret) (repo : RepoState) (written : Written) (committed : List LogEntry) → OpensFilesTo start secret repo
-    → Shows start (Some committed) → committed_of written ≡ committed → written.config ≡ start.config → StandsOn repo written image
-    → KeepsArchives secret start repo.manifest image
-stands_keeps start image secret repo written committed opens shown same config stands =
-    let next = with_manifest repo stands.manifest in
-    let unlocks : UnlocksSettings secret image.config repo.config repo.keys =
-    subst (λ (c : Option (List ℕ)). UnlocksSettings secret c repo.config repo.keys) (sym (stands.config ∙ config)) (opened_unlocks start secret repo opens) in
-    let live = opens_live secret image next stands.entries stands.shown unlocks stands.holds in
-    let chunks : KeepsChunks committed stands.entries = subst (λ (c : List LogEntry). KeepsChunks c stands.entries) same stands.chunks in
+-- an archive that was whole is so in files that open with each chunk and each archive
+whole_in : (start image : Files) (secret : Secret) (repo : RepoState) (committed entries : List LogEntry) (manifest : ManifestText)
+    → OpensLive image secret (with_manifest repo manifest) entries → OpensFilesTo start secret repo → Shows start (Some committed)
+    → KeepsChunks committed entries → KeepsNames repo.manifest manifest → (name : List ℕ) (whole : WholeArchive)
+    → HasWhole start secret name whole → HasWhole image secret name whole
+whole_in start image secret repo committed entries manifest live opens shown chunks names name whole had =
+    let next = with_manifest repo manifest in
+    let is : IsWhole start repo.log repo.keys repo.manifest.archives name whole =
+    subst (λ (r : RepoState). IsWhole start r.log r.keys r.manifest.archives name whole) (one_repo start secret had.repo repo had.opens opens) had.is in
     record {
       repo = record next { log = live.log };
       opens = live.opens;
-      names = stands.names;
-      wholes = λ name whole had.
-          let is : IsWhole start repo.log repo.keys repo.manifest.archives name whole =
-          subst (λ (r : RepoState). IsWhole start r.log r.keys r.manifest.archives name whole) (one_repo start secret had.repo repo had.opens opens) had.is in
-          record {
-            repo = record next { log = live.log };
-            opens = live.opens;
-            is = whole_kept start repo.log repo.keys image live.log repo.manifest.archives stands.manifest.archives name whole is
-                (chunk_in start image secret repo committed stands.entries live.log opens shown chunks (λ id blob e. (live.blobs id blob).1 e))
-                (stands.names name is.named is.named_is ∙ sym is.named_is);
-          };
+      is = whole_kept start repo.log repo.keys image live.log repo.manifest.archives manifest.archives name whole is
+          (chunk_in start image secret repo committed entries live.log opens shown chunks (λ id blob e. (live.blobs id blob).1 e))
+          (names name is.named is.named_is ∙ sym is.named_is);
     }
 
-pub shown_keeps : (start image : Files) (secret : Secret) (repo : RepoState) (committed : List LogEntry) → OpensFilesTo start secret repo
-    → Shows start (Some committed) → ShowsStanding (found (Some committed) start) image → KeepsArchives secret start repo.manifest image
-shown_keeps start image secret repo committed opens shown standing =
-    stands_keeps start image secret repo (found (Some committed) start) committed opens shown refl refl (record {
-      entries = committed;
-      manifest = repo.manifest;
-      shown = standing.0;
-      chunks = λ id blob apart live. live;
-      holds = opened_manifest start secret repo committed opens shown;
-      names = names_here repo.manifest;
-      config = standing.1;
-    })
+-- none of the chosen names
+front_here : (request : Request) (source : Option Files) → IfSome source (IsChosenFront request [])
+front_here request None = tt
+front_here request (Some files) = λ repo opens. (chosen_of request.names repo.manifest, refl)
+
+none_arrived : (request : Request) (image : Files) (repo : RepoState) (source : Option Files)
+    → IfSome source (λ files. AllByRecursion (Arrives request files image repo) [])
+none_arrived request image repo None = tt
+none_arrived request image repo (Some files) = tt
+
+pub shown_keeps : (request : Request) (start image : Files) (repo : RepoState) (committed : List LogEntry)
+    → OpensFilesTo start request.secrets.target repo → Shows start (Some committed) → ShowsStanding (found (Some committed) start) image
+    → KeepsArchives request start repo.manifest [] image
+shown_keeps request start image repo committed opens shown standing =
+    let secret = request.secrets.target in
+    let unlocks : UnlocksSettings secret image.config repo.config repo.keys =
+    subst (λ (c : Option (List ℕ)). UnlocksSettings secret c repo.config repo.keys) (sym standing.1) (opened_unlocks start secret repo opens) in
+    let live = opens_live secret image repo committed standing.0 unlocks (opened_manifest start secret repo committed opens shown) in
+    record {
+      repo = record repo { log = live.log };
+      opens = live.opens;
+      names = λ name entry is. is;
+      wholes = whole_in start image secret repo committed committed repo.manifest live opens shown (λ id blob apart e. e) (λ name entry is. is);
+      done = [];
+      front = front_here request request.source;
+      arrived = none_arrived request image (record repo { log = live.log }) request.source;
+      only = λ name entry is. inl is;
+      told = report_none [];
+    }
+
+-- ---- the names that were carried
+
+-- By a log, files have the blobs of all that is live by these entries, and no others.
+abbrev HasAll : Files → LogState → List LogEntry → Type 0
+HasAll files log entries = (id blob : List ℕ) → HasBlob files log id blob ↔ (live_in id entries ≡ Some blob)
+
+arrives : (request : Request) (there image : Files) (source next : RepoState) (entries : List LogEntry) (log : LogState) (name : List ℕ)
+    → OpensFilesTo there request.secrets.source source → OpensFilesTo image request.secrets.target (record next { log = log })
+    → HasAll image log entries
+    → CarriesOver there (record { files = Some there; repo = source; block = request.block }) next.keys entries next.manifest.archives name
+    → Arrives request there image (record next { log = log }) name
+arrives request there image source next entries log name source_opens opens blobs c = record {
+  whole = c.whole;
+  whole_there = record { repo = source; opens = source_opens; is = c.source };
+  text = c.text;
+  record_is = c.record_is;
+  there = λ scope apart adds within.
+      record {
+        repo = record next { log = log };
+        opens = opens;
+        is = c.target scope apart adds
+            (λ id blob content chunk live object.
+            within id content (record { chunk = chunk; object = record { blob = blob; has = (blobs id blob).1 live; opens = object } }))
+            image log (λ id blob chunk live. (blobs id blob).1 live);
+      };
+}
+
+-- what was asked, over a source that opened to a repository
+module _ (secrets : Secrets) (block : ℕ) (names : List (List ℕ)) (source : RepoState) where
+  -- The source's files, where they are told, open to the repository.
+  abbrev SourceOpens : Option Told → Type 0
+  SourceOpens told = IfSome told (λ t. OpensFilesTo (told_files t) secrets.source source)
+
+  front_of : (told : Option Told) (done rest : List (List ℕ)) → SourceOpens told → chosen_of names source.manifest ≡ done ++ rest
+      → IfSome (asked secrets block names told).source (IsChosenFront (asked secrets block names told) done)
+  front_of None done rest opens front = tt
+  front_of (Some t) done rest opens front = λ repo other.
+      (rest, ap (λ (r : RepoState). chosen_of names r.manifest) (one_repo (told_files t) secrets.source repo source other opens) ∙ front)
+
+  all_of : (told : Option Told) (done : List (List ℕ)) → SourceOpens told → done ≡ chosen_of names source.manifest
+      → IfSome (asked secrets block names told).source (IsChosen (asked secrets block names told) done)
+  all_of None done opens all = tt
+  all_of (Some t) done opens all = (source, (opens, all))
+
+  all_arrived : (told : Option Told) (image : Files) (next : RepoState) (entries : List LogEntry) (log : LogState) (done : List (List ℕ)) → SourceOpens told
+      → OpensFilesTo image secrets.target (record next { log = log }) → HasAll image log entries
+      → AllByRecursion (IsCarried (origin told source block) next.keys entries next.manifest.archives) done
+      → IfSome (asked secrets block names told).source
+      (λ files. AllByRecursion (Arrives (asked secrets block names told) files image (record next { log = log })) done)
+  all_arrived None image next entries log done source_opens opens blobs carried = tt
+  all_arrived (Some t) image next entries log done source_opens opens blobs carried =
+      each_to (IsCarried (origin (Some t) source block) next.keys entries next.manifest.archives)
+      (Arrives (asked secrets block names (Some t)) (told_files t) image (record next { log = log })) done
+      (λ name c. arrives (asked secrets block names (Some t)) (told_files t) image source next entries log name source_opens opens blobs c) carried
+
+  -- what stands keeps the archives, with those that were carried
+  stands_keeps : (told : Option Told) (chosen : List (List ℕ)) (accepted : ManifestText) (start image : Files) (repo : RepoState) (written : Written)
+      (committed : List LogEntry) → SourceOpens told → chosen ≡ chosen_of names source.manifest → accepted ≡ repo.manifest
+      → OpensFilesTo start secrets.target repo → Shows start (Some committed) → committed_of written ≡ committed → written.config ≡ start.config
+      → (lines : List (List ℕ)) → (stands : StandsOn (origin told source block) chosen accepted repo written image) → IsReport lines stands.done
+      → (keeps : KeepsArchives (asked secrets block names told) start repo.manifest lines image) × (keeps.done ≡ stands.done)
+  stands_keeps told chosen accepted start image repo written committed source_opens chosen_is accepted_is opens shown same config lines stands report =
+      let secret = secrets.target in
+      let next = with_manifest repo stands.manifest in
+      let unlocks : UnlocksSettings secret image.config repo.config repo.keys =
+      subst (λ (c : Option (List ℕ)). UnlocksSettings secret c repo.config repo.keys) (sym (stands.config ∙ config)) (opened_unlocks start secret repo opens)
+      in
+      let live = opens_live secret image next stands.entries stands.shown unlocks stands.holds in
+      let chunks : KeepsChunks committed stands.entries = subst (λ (c : List LogEntry). KeepsChunks c stands.entries) same stands.chunks in (
+        record {
+          repo = record next { log = live.log };
+          opens = live.opens;
+          names = stands.names;
+          wholes = whole_in start image secret repo committed stands.entries stands.manifest live opens shown chunks stands.names;
+          done = stands.done;
+          front = front_of told stands.done stands.rest source_opens (sym chosen_is ∙ stands.front);
+          arrived = all_arrived told image next stands.entries live.log stands.done source_opens live.opens live.blobs stands.carried;
+          only = subst (λ (m : ManifestText). IsNamedBy m stands.done stands.manifest) accepted_is stands.only;
+          told = report;
+        },
+        refl,
+      )
 
 -- ---- the opening, and what follows
 
-shows_opened : (secret : Secret) (h g : History) (committed : List LogEntry) → Shows (files_now h) (Some committed) → OpenEach h g → TransferShows secret h g
-shows_opened secret h g committed shown each begun repo opens =
-    moments_map (EachStop (ShowsStanding (found (Some committed) (files_now h)))) (EachStop (KeepsArchives secret (files_now h) repo.manifest)) h g
-    (λ k stops image left. shown_keeps (files_now h) image secret repo committed opens shown (stops image left)) (each.0 committed begun shown)
+-- At this moment these lines were told, and each stop keeps the archives.
+abbrev KeepsAt : Request → History → ManifestText → History → Type 0
+KeepsAt request before manifest moment = EachStop (KeepsArchives request (files_now before) manifest (lines_of moment.acts)) moment
 
-sound_kept : (store : Store) (h : History) (fits : Written) → IsSound (StandsOn (repo_view store.repo) fits) true h → IsKept h × AllTraced h
-sound_kept store h fits sound =
-    (record { fresh = sound.fresh refl; shows = λ image left. let stands = sound.shows image left in (Some stands.entries, stands.shown) }, sound.traced)
+-- a run that had made no act told no line
+untold_yet : (h : History) → h.acts ≡ [] → lines_of h.acts ≡ []
+unfolding lines_of
+untold_yet h begun = ap lines_of begun
 
-transfer_then : (secret : Secret) (store : Store) (h g i : History) → OpensFilesTo (files_now h) secret (repo_view store.repo)
-    → OpenEach h g → AllDone h g → OpenFits store h g → KeepsGrowing store g i → TransferEach secret h i
-transfer_then secret store h g i opens each done fits growing = (
-  λ begun repo opens_to.
-      let o = fits false begun (λ c. absurd (let no : ⊥ = cc in no)) in
-      let same = one_repo (files_now h) secret (repo_view store.repo) repo opens opens_to in
-      moments_then (EachStop (KeepsArchives secret (files_now h) repo.manifest)) h g i
-      (shows_opened secret h g o.committed o.shown each begun repo opens_to) done
-      (moments_map (IsSound (StandsOn (repo_view store.repo) o.fits.written) false) (EachStop (KeepsArchives secret (files_now h) repo.manifest)) g i
-      (λ k sound image left.
-      subst (λ (r : RepoState). KeepsArchives secret (files_now h) r.manifest image) same
-      (stands_keeps (files_now h) image secret (repo_view store.repo) o.fits.written o.committed opens o.shown
-      (ap committed_of o.found_is) (ap (λ (w : Written). w.config) o.found_is) (sound.shows image left)))
-      (growing false o.fits)),
-  (
-    λ begun kept.
-        let o = fits true begun (λ c. kept) in
-        moments_then (λ k. IsKept k × AllTraced k) h g i (each.1.0 begun kept) done
-        (moments_map (IsSound (StandsOn (repo_view store.repo) o.fits.written) true) (λ k. IsKept k × AllTraced k) g i
-        (λ k sound. sound_kept store k o.fits.written sound) (growing true o.fits)),
-    λ begun.
+shows_opened : (request : Request) (h g : History) (committed : List LogEntry) → Shows (files_now h) (Some committed) → TellsNothing h g → OpenEach h g
+    → TransferShows request h g
+shows_opened request h g committed shown untold each begun repo opens =
+    let Stands : History → Type 0 = EachStop (ShowsStanding (found (Some committed) (files_now h))) in
+    moments_map (λ k. Stands k × TellsNothing h k) (KeepsAt request h repo.manifest) h g
+    (λ k stops image left.
+    subst (λ (lines : List (List ℕ)). KeepsArchives request (files_now h) repo.manifest lines image) (sym (stops.1 ∙ untold_yet h begun))
+    (shown_keeps request (files_now h) image repo committed opens shown (stops.0 image left)))
+    (untold_moments Stands h g untold (each.0 committed begun shown))
+
+sound_kept : (from : Origin) (chosen : List (List ℕ)) (accepted : ManifestText) (repo : RepoState) (h k : History) (written : Written)
+    → IsReported (ShowsReport from chosen accepted repo written) true h k → IsKept k × AllTraced k
+sound_kept from chosen accepted repo h k written reported =
+    let sound = reported.sound in (
+      record { fresh = sound.fresh refl; shows = λ image left. let stands = (sound.shows image left).0 in (Some stands.entries, stands.shown) },
+      sound.traced,
+    )
+
+-- ---- the end
+
+-- what is committed in a store into which the archives came stands, with all of them
+grown_stands : (from : Origin) (chosen : List (List ℕ)) (accepted : ManifestText) (store now : Store) (h g : History) (fits : StoreFits false store h)
+    → accepted_in now ≡ (repo_view now.repo).manifest → Grown accepted from chosen false store now h g fits
+    → (stands : StandsOn from chosen accepted (repo_view store.repo) fits.written (files_now g)) × (stands.done ≡ chosen)
+grown_stands from chosen accepted store now h g fits settled grown =
+    let fits_then = grown.fits_now in
+    let after = fits_then.written in
+    let manifest = (repo_view now.repo).manifest in
+    let commits = manifest_learnt (repo_view now.repo) (with_manifest (repo_view store.repo) manifest) after.committed (sym grown.most.keys) refl
+    fits_then.manifest in
+    let entries = commits.entries in
+    let entries_are : committed_of after ≡ entries = ap (λ (c : Option (List LogEntry)). unwrap_or c []) commits.is in
+    let shown : Shows (files_now g) after.committed =
+    (behind now.session.after, fits_now now.session after.committed after.pending g fits_then.under_way.fits) in
+    let config : (files_now g).config ≡ after.config =
+    plain_read g.start g.acts ConfigFile (λ k e. let no : ⊥ = cc in no) ∙ ap (λ (f : PlainFate). f.read) fits_then.under_way.config in (
+      record {
+        entries = entries;
+        manifest = manifest;
+        shown = subst (λ (c : Option (List LogEntry)). Shows (files_now g) c) commits.is shown;
+        chunks = subst (λ (c : List LogEntry). KeepsChunks (committed_of fits.written) c) entries_are grown.chunks;
+        holds = commits.holds;
+        names = grown.most.names;
+        config = config ∙ grown.config;
+        done = chosen;
+        rest = [];
+        front = sym (append-nil chosen);
+        carried = subst (λ (c : List LogEntry). AllByRecursion (IsCarried from (repo_view store.repo).keys c manifest.archives) chosen) entries_are
+            (subst (λ k. AllByRecursion (IsCarried from k (committed_of after) manifest.archives) chosen) grown.most.keys grown.carried);
+        cut = subst (λ k. AreCut accepted from k manifest.archives chosen) grown.most.keys grown.cut;
+        only = subst (λ (m : ManifestText). IsNamedBy accepted chosen m) settled grown.only;
+      },
+      refl,
+    )
+
+-- ---- the whole command
+
+-- what was asked, over a source that opened to a repository, with the names that it chose
+module _ (secrets : Secrets) (block : ℕ) (names : List (List ℕ)) (source : RepoState) (told : Option Told) (chosen : List (List ℕ))
+    (source_opens : IfSome told (λ t. OpensFilesTo (told_files t) secrets.source source)) (chosen_is : chosen ≡ chosen_of names source.manifest) where
+  abbrev request : Request
+  request = asked secrets block names told
+
+  abbrev from : Origin
+  from = origin told source block
+
+  -- what stands behind the opening keeps the archives
+  stands_opened : (store : Store) (h g : History) (lines : List (List ℕ)) (image : Files) → IsSettled store
+      → OpensFilesTo (files_now h) secrets.target (repo_view store.repo)
+      → (o : OpensFound false store h g) → (stands : StandsOn from chosen (accepted_in store) (repo_view store.repo) o.fits.written image)
+      → IsReport lines stands.done
+      → (keeps : KeepsArchives request (files_now h) (repo_view store.repo).manifest lines image) × (keeps.done ≡ stands.done)
+  stands_opened store h g lines image settled opens o stands report =
+      stands_keeps secrets block names source told chosen (accepted_in store) (files_now h) image (repo_view store.repo) o.fits.written o.committed
+      source_opens chosen_is settled opens o.shown (ap committed_of o.found_is) (ap (λ (w : Written). w.config) o.found_is) lines stands report
+
+  -- the same at a moment, by all lines that were told
+  kept_at : (store : Store) (h g k : History) → h.acts ≡ [] → TellsNothing h g → IsSettled store
+      → OpensFilesTo (files_now h) secrets.target (repo_view store.repo) → (o : OpensFound false store h g)
+      → IsReported (ShowsReport from chosen (accepted_in store) (repo_view store.repo) o.fits.written) false g k
+      → KeepsAt request h (repo_view store.repo).manifest k
+  kept_at store h g k begun untold settled opens o reported image left =
+      let is : lines_of k.acts ≡ reported.lines =
+      reported.told ∙ ap (λ (l : List (List ℕ)). l ++ reported.lines) (untold ∙ untold_yet h begun) in
+      let shows = reported.sound.shows image left in
+      subst (λ (lines : List (List ℕ)). KeepsArchives request (files_now h) (repo_view store.repo).manifest lines image) (sym is)
+      (stands_opened store h g reported.lines image settled opens o shows.0 shows.1).0
+
+  transfer_then : (store : Store) (h g i : History) → IsSettled store → OpensFilesTo (files_now h) secrets.target (repo_view store.repo)
+      → TellsNothing h g → OpenEach h g → AllDone h g → OpenFits store h g → KeepsReported from chosen store g i → TransferEach request h i
+  transfer_then store h g i settled opens untold each done fits reported = (
+    λ begun repo opens_to.
         let o = fits false begun (λ c. absurd (let no : ⊥ = cc in no)) in
-        first_kept (IsSound (StandsOn (repo_view store.repo) o.fits.written) false) g i o.fits.under_way.fits.own.safe.settled_is
-        (each.1.1 begun) (growing false o.fits),
-  ),
-)
+        let same = one_repo (files_now h) secrets.target (repo_view store.repo) repo opens opens_to in
+        moments_then (KeepsAt request h repo.manifest) h g i
+        (shows_opened request h g o.committed o.shown untold each begun repo opens_to) done
+        (moments_map (IsReported (ShowsReport from chosen (accepted_in store) (repo_view store.repo) o.fits.written) false g)
+        (KeepsAt request h repo.manifest) g i
+        (λ k sound. subst (λ (r : RepoState). KeepsAt request h r.manifest k) same (kept_at store h g k begun untold settled opens o sound))
+        (reported false o.fits)),
+    (
+      λ begun kept.
+          let o = fits true begun (λ c. kept) in
+          moments_then (λ k. IsKept k × AllTraced k) h g i (each.1.0 begun kept) done
+          (moments_map (IsReported (ShowsReport from chosen (accepted_in store) (repo_view store.repo) o.fits.written) true g) (λ k. IsKept k × AllTraced k)
+          g i (λ k sound. sound_kept from chosen (accepted_in store) (repo_view store.repo) g k o.fits.written sound) (reported true o.fits)),
+      λ begun.
+          let o = fits false begun (λ c. absurd (let no : ⊥ = cc in no)) in
+          first_kept (IsReported (ShowsReport from chosen (accepted_in store) (repo_view store.repo) o.fits.written) false g) g i
+          o.fits.under_way.fits.own.safe.settled_is (each.1.1 begun) (reported false o.fits),
+    ),
+  )
+
+  ends_then : (store now : Store) (h g i : History) → IsSettled store → IsSettled now
+      → OpensFilesTo (files_now h) secrets.target (repo_view store.repo) → TellsNothing h g → OpenFits store h g → Grows from chosen store now g i
+      → TellsWhole chosen g i → TransferEnds request h i
+  ends_then store now h g i settled settled_now opens untold fits grows told_then begun =
+      let o = fits false begun (λ c. absurd (let no : ⊥ = cc in no)) in
+      let stands = grown_stands from chosen (accepted_in store) store now g i o.fits settled_now (grows false o.fits) in
+      let whole : TellsWhole chosen h i = (
+        told_then.0,
+        (
+          told_then.1.0,
+          (
+            told_then.1.1.0 ∙ ap (λ (l : List (List ℕ)). l ++ (told_then.0 ++ total_line told_then.1.0 ∷ [])) untold,
+            told_then.1.1.1,
+          ),
+        ),
+      ) in
+      let report = subst (λ (l : List (List ℕ)). IsReport (lines_of i.acts) l) (sym stands.1) (whole_report chosen h i (untold_yet h begun) whole) in
+      let kept = stands_opened store h g (lines_of i.acts) (files_now i) settled opens o stands.0 report in
+      record {
+        repo = repo_view store.repo;
+        opens = opens;
+        keeps = kept.0;
+        all = all_of secrets block names source told kept.0.done source_opens (kept.1 ∙ (stands.1 ∙ chosen_is));
+        told_all = subst (λ (l : List (List ℕ)). TellsWhole l h i) (sym (kept.1 ∙ stands.1)) whole;
+      }
+
+  -- the store that was opened, over the files that opened to its repository
+  abbrev OpensTo : Store → History → History → Type 0
+  OpensTo store before now = OpensFilesTo (files_now before) secrets.target (repo_view store.repo) × OpenFits store before now
+
+  -- An opening tells nothing.
+  abbrev OpensUntold : History → History → Type 0
+  OpensUntold before now = TellsNothing before now × OpenEach before now
+
+  abbrev OpensToUntold : Store → History → History → Type 0
+  OpensToUntold store before now = OpensUntold before now × OpensTo store before now
+
+  opened_works : (store : Store) (a b : Option Told) (n m : ℕ) → IfSome a (λ t. OpensFilesTo (files_now t.history) secrets.target (repo_view store.repo))
+      → Between a b TellsNothing → Did OpenEach OpenFits a b n m (Ok store) → Works OpensUntold OpensToUntold a b n m (Ok store)
+  opened_works store a b n m opens untold opened =
+      let P : History → Type 0 = λ h. OpensFilesTo (files_now h) secrets.target (repo_view store.repo) in
+      works_both OpensUntold OpensTo a b n m (Ok store)
+      (works_ok OpenEach (λ (s : Store) h g. P h × OpenFits s h g) OpensUntold OpensTo a b n m store store (λ h g none e. (none, e)) (λ h g e. e) untold
+      (did_known P OpenEach OpenFits a b n m store opens opened))
+
+  -- the archives of the chosen names were copied
+  pub copied_all : {T U : Type 0} (store now : Store) (a b c : Option Told) (n m k : ℕ) (x : T) (y : U) → IsSettled store → IsSettled now
+      → IfSome a (λ t. OpensFilesTo (files_now t.history) secrets.target (repo_view store.repo)) → Between a b TellsNothing
+      → Did OpenEach OpenFits a b n m (Ok store) → ReportsWhole {T = T} from chosen store now b c m k (Ok x)
+      → Works (TransferEach request) (λ (_ : U). TransferEnds request) a c n k (Ok y)
+  copied_all {T} {U} store now a b c n m k x y settled settled_now opens untold opened carried =
+      let all = works_then OpensUntold OpensToUntold (KeepsReported from chosen store)
+      (λ (_ : T) h g. Grows from chosen store now h g × TellsWhole chosen h g) (TransferEach request) (λ (_ : T). TransferEnds request) a b c n m k store
+      (Ok x)
+      (λ h g i each done fits reported. transfer_then store h g i settled fits.1.0 each.0 each.1 done fits.1.1 reported)
+      (λ _ h g i fits end. ends_then store now h g i settled settled_now fits.1.0 fits.0.0 fits.1.1 end.0 end.1)
+      (opened_works store a b n m opens untold opened) carried in
+      record { each = all.each; end = all.end; ends = all.ends; cause = all.cause }
+
+  -- they were not
+  pub copied_some : {T U : Type 0} (store now : Store) (a b c : Option Told) (n m k : ℕ) (fault : CarryFault) → IsSettled store
+      → IfSome a (λ t. OpensFilesTo (files_now t.history) secrets.target (repo_view store.repo)) → Between a b TellsNothing
+      → Did OpenEach OpenFits a b n m (Ok store) → ReportsWhole {T = T} from chosen store now b c m k (Err fault)
+      → Works (TransferEach request) (λ (_ : U). TransferEnds request) a c n k (Err fault)
+  copied_some {T} {U} store now a b c n m k fault settled opens untold opened carried =
+      let all = works_then OpensUntold OpensToUntold (KeepsReported from chosen store)
+      (λ (_ : T) h g. Grows from chosen store now h g × TellsWhole chosen h g) (TransferEach request)
+      (λ (_ : T) (h : History) (g : History). Unit {0}) a b c n m k store (Err fault)
+      (λ h g i each done fits reported. transfer_then store h g i settled fits.1.0 each.0 each.1 done fits.1.1 reported) (λ _ h g i e f. tt)
+      (opened_works store a b n m opens untold opened) carried in
+      record { each = all.each; end = tt; ends = all.ends; cause = all.cause }
 
 -- ---- the devices
 
@@ -143,53 +405,63 @@ entries_of_files files secret repo opens =
     (map (λ (e : Located). e.entry) reads.log, (suc repo.log.transaction, log_shown files repo.log.transaction reads.log reads.is))
 
 -- an opening that was refused
-pub each_unopened : (secret : Secret) (h g : History) → OpenEach h g → TransferEach secret h g
-each_unopened secret h g each = (
+pub each_unopened : (request : Request) (h g : History) → TellsNothing h g → OpenEach h g → TransferEach request h g
+each_unopened request h g untold each = (
   λ begun repo opens.
-      let shown = entries_of_files (files_now h) secret repo opens in shows_opened secret h g shown.0 shown.1 each begun repo opens,
+      let shown = entries_of_files (files_now h) request.secrets.target repo opens in shows_opened request h g shown.0 shown.1 untold each begun repo
+      opens,
   each.1,
 )
 
-pub unopened : {T : Type 0} (secret : Secret) (Q : Store → History → History → Type 0) (a b : Option Told) (n m : ℕ) (refusal : StoreRefusal)
-    → Did OpenEach Q a b n m (Err refusal) → Works (TransferEach secret) (λ (_ : T) (h : History) (g : History). Unit {0}) a b n m (Err (target_fault refusal))
-unopened {T} secret Q a b n m refusal opened =
-    works_err OpenEach Q (TransferEach secret) (λ (_ : T) (h : History) (g : History). Unit {0}) a b n m refusal (λ h g each. each_unopened secret h g each)
-    opened
+pub unopened : {T : Type 0} (request : Request) (Q : Store → History → History → Type 0) (a b : Option Told) (n m : ℕ) (refusal : StoreRefusal)
+    → Between a b TellsNothing → Did OpenEach Q a b n m (Err refusal)
+    → Works (TransferEach request) (λ (_ : T). TransferEnds request) a b n m (Err (target_fault refusal))
+unopened {T} request Q a b n m refusal untold opened =
+    works_err OpenEach Q (TransferEach request) (λ (_ : T). TransferEnds request) a b n m refusal
+    (λ h g none each. each_unopened request h g none each) untold opened
 
 -- where the target wasn't touched
-pub each_untouched : (secret : Secret) (h : History) → TransferEach secret h h
-each_untouched secret h = each_unopened secret h h (each_here h)
+pub each_untouched : (request : Request) (h : History) → TransferEach request h h
+each_untouched request h = each_unopened request h h refl (each_here h)
 
-pub untouched : {T : Type 0} (secret : Secret) (a : Option Told) (n : ℕ) (fault : CarryFault) → depot_failed fault ≡ false
-    → Works (TransferEach secret) (λ (_ : T) (h : History) (g : History). Unit {0}) a a n n (Err fault)
-untouched {T} secret a n fault still =
-    works_nothing (TransferEach secret) (λ (_ : T) (h : History) (g : History). Unit {0}) a n fault still (each_untouched secret)
+pub untouched : {T : Type 0} (request : Request) (a : Option Told) (n : ℕ) (fault : CarryFault) → depot_failed fault ≡ false
+    → Works (TransferEach request) (λ (_ : T). TransferEnds request) a a n n (Err fault)
+untouched {T} request a n fault still =
+    works_nothing (TransferEach request) (λ (_ : T). TransferEnds request) a n fault still (each_untouched request)
 
--- what is known of a status
-pub transfer_each : {T : Type 0} (secret : Secret) (a b : Option Told) (n m : ℕ) (result : Result T CarryFault)
-    → Works (TransferEach secret) (λ (_ : T) (h : History) (g : History). Unit {0}) a b n m result → Between a b (TransferEach secret)
-transfer_each {T} secret a b n m result works = works.each
+-- what is known at the end
+pub transfer_ended : {T : Type 0} (request : Request) (a b : Option Told) (n m : ℕ) (x : T)
+    → Works (TransferEach request) (λ (_ : T). TransferEnds request) a b n m (Ok x) → Between a b (TransferEnds request)
+transfer_ended {T} request a b n m x works =
+    between_map a b (λ h g. AllDone h g × TransferEnds request h g) (TransferEnds request) (λ h g e. e.1) works.end
 
-pub copied_then : {T : Type 0} (secret : Secret) (store now : Store) (a b c : Option Told) (n m k : ℕ) (result : Result T CarryFault)
-    → IfSome a (λ t. OpensFilesTo (files_now t.history) secret (repo_view store.repo)) → Did OpenEach OpenFits a b n m (Ok store)
-    → Works (KeepsGrowing store) (λ (_ : T). Grows store now) b c m k result
-    → Works (TransferEach secret) (λ (_ : T) (h : History) (g : History). Unit {0}) a c n k result
-copied_then {T} secret store now a b c n m k result opens opened carried =
-    works_then OpenEach (λ (s : Store) h g. OpensFilesTo (files_now h) secret (repo_view store.repo) × OpenFits s h g) (KeepsGrowing store)
-    (λ (_ : T). Grows store now) (TransferEach secret) (λ (_ : T) (h : History) (g : History). Unit {0}) a b c n m k store result
-    (λ h g i each done fits growing. transfer_then secret store h g i fits.0 each done fits.1 growing) (λ _ h g i e f. tt)
-    (works_ok OpenEach (λ (s : Store) h g. OpensFilesTo (files_now h) secret (repo_view store.repo) × OpenFits s h g) OpenEach
-    (λ (s : Store) h g. OpensFilesTo (files_now h) secret (repo_view store.repo) × OpenFits s h g) a b n m store store (λ h g e. e) (λ h g e. e)
-    (did_known (λ h. OpensFilesTo (files_now h) secret (repo_view store.repo)) OpenEach OpenFits a b n m store opens opened)) carried
+-- what a source tells that was read
+pub files_kept : {T F : Type 0} (is_device : F → Bool) (a b : Option Told) (x : T) → KeepsTold {F = F} is_device a b (Ok x)
+    → option_map (λ (t : Told). told_files t) b ≡ option_map (λ (t : Told). told_files t) a
+files_kept is_device None None x same = refl
+files_kept is_device None (Some now) x same = absurd (let no : ⊥ = cc in no)
+files_kept is_device (Some told) None x same = absurd (let no : ⊥ = cc in no)
+files_kept is_device (Some told) (Some now) x same =
+    let heard_same : heard_of now ≡ heard_of told = cc in ap (λ (h : Heard). Some (files_now h.history)) heard_same
 
--- the repository that was opened fits the files
-pub source_fits : (a b : Option Told) (repo : Repo) (secret : Secret) → IfSome a (λ t. OpensFilesTo (told_files t) secret (repo_view repo))
-    → cached_in repo ≡ []
-    → KeepsTold {T = Repo} repo_failed a b (Ok repo) → IfSome b (λ t. FitsRepo (told_files t) (repo_view repo) (cached_in repo))
-source_fits None None repo secret opens cached same = tt
-source_fits None (Some now) repo secret opens cached same = absurd (let no : ⊥ = cc in no)
-source_fits (Some told) None repo secret opens cached same = tt
-source_fits (Some told) (Some now) repo secret opens cached same =
+pub asked_kept : {T F : Type 0} (secrets : Secrets) (block : ℕ) (names : List (List ℕ)) (is_device : F → Bool) (a b : Option Told) (x : T)
+    → KeepsTold {F = F} is_device a b (Ok x) → asked secrets block names b ≡ asked secrets block names a
+asked_kept {T} {F} secrets block names is_device a b x same =
+    ap (λ (files : Option Files). record { secrets = secrets; block = block; names = names; source = files }) (files_kept {T = T} {F = F} is_device a b x same)
+
+-- the repository that was opened, over what is told then
+pub source_opens : (a b : Option Told) (repo : Repo) (secret : Secret) → IfSome a (λ t. OpensFilesTo (told_files t) secret (repo_view repo))
+    → KeepsTold {T = Repo} repo_failed a b (Ok repo) → IfSome b (λ t. OpensFilesTo (told_files t) secret (repo_view repo))
+source_opens None None repo secret opens same = tt
+source_opens None (Some now) repo secret opens same = absurd (let no : ⊥ = cc in no)
+source_opens (Some told) None repo secret opens same = tt
+source_opens (Some told) (Some now) repo secret opens same =
     let files : told_files told ≡ told_files now = (let e : heard_of now ≡ heard_of told = cc in ap (λ (h : Heard). files_now h.history) (sym e)) in
-    subst (λ (f : Files). FitsRepo f (repo_view repo) (cached_in repo)) files
-    (subst (FitsRepo (told_files told) (repo_view repo)) (sym cached) (opens_fits (told_files told) secret (repo_view repo) opens))
+    subst (λ (f : Files). OpensFilesTo f secret (repo_view repo)) files opens
+
+-- it fits the files
+pub source_fits : (told : Option Told) (repo : Repo) (secret : Secret) → IfSome told (λ t. OpensFilesTo (told_files t) secret (repo_view repo))
+    → cached_in repo ≡ [] → IfSome told (λ t. FitsRepo (told_files t) (repo_view repo) (cached_in repo))
+source_fits None repo secret opens cached = tt
+source_fits (Some told) repo secret opens cached =
+    subst (FitsRepo (told_files told) (repo_view repo)) (sym cached) (opens_fits (told_files told) secret (repo_view repo) opens)

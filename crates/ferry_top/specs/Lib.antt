@@ -10,3 +10,4 @@ pub mod Run
 pub mod Status
 pub mod Words
 pub mod Transfer
+pub mod Rerun

@@ -15,7 +15,7 @@ use Rattle.ferry_top.specs.MakeKey.{MakesKey}
 use Rattle.ferry_view.specs.Items.{RefusesItems, RefusesFile}
 use Rattle.ferry_top.specs.Items.{ShowsItems, ShowsItemsFront, ShowsFile, ShowsFileFront, RefusesShowing, LacksArchive, LacksPath}
 use Rattle.ferry_top.specs.Status.{fault_line, RefusesKeys}
-use Rattle.ferry_top.specs.Transfer.{Transfers}
+use Rattle.ferry_top.specs.Transfer.{Transfers, asked}
 use Rattle.ferry_words.specs.declared.command.Command.{Command}
 use Rattle.ferry_words.specs.declared.command.Command.TheVariants.{Keys, Key, List as ListArchives, ListItems, Extract, Check, Init, MakeKey, Transfer}
 use Rattle.ferry_top.specs.declared.status.Refusal.{Refusal}
@@ -98,7 +98,8 @@ DoesCommand (Ok Check) secrets before status after = ReadsSource Check secrets.s
 DoesCommand (Ok (Init iterations timestamp)) secrets before status after =
     MakesRepository secrets.target iterations (time_or timestamp) before status after
 DoesCommand (Ok (MakeKey iterations)) secrets before status after = MakesKey secrets.target iterations before status after
-DoesCommand (Ok (Transfer block checkpoint timestamp names)) secrets before status after = Transfers secrets names before status after
+DoesCommand (Ok (Transfer block checkpoint timestamp names)) secrets before status after =
+    Transfers (asked secrets block names before.source.told) before status after
 DoesCommand (Err word) secrets before status after = after ≡ before
 
 -- A line went to the output in one write, whatever the write answered.

@@ -1,38 +1,115 @@
--- What the command that copies archives leaves in its target, whatever a stop of the machine does.
-use Rattle.std.specs.Prelude.{◌≡◌, ℕ, List, []}
-use Rattle.ferry_carry.specs.Grow.{KeepsNames}
+-- What the command that copies archives leaves in its target, whatever a stop of the machine does, and what it has copied at its end.
+use Rattle.std.specs.Prelude.{◌≡◌, ℕ, List, [], ◌∷◌, ◌++◌, map, Option, option_map, IfSome}
+use Rattle.std.specs.List.{AllByRecursion}
+use Rattle.ferry_carry.specs.Carrying.{IsRecordText}
+use Rattle.ferry_carry.specs.Copied.{adds_of}
+use Rattle.ferry_carry.specs.Gather.{HoldsWithin, IsAmong, NoCollision}
+use Rattle.ferry_carry.specs.Grow.{IsNamedBy, KeepsNames}
+use Rattle.ferry_carry.specs.Telling.{IsReport, TellsWhole}
 use Rattle.ferry_disk.specs.Act.{History, files_now}
+use Rattle.ferry_disk.specs.Device.{Told, told_files}
 use Rattle.ferry_disk.specs.Files.{Files}
 use Rattle.ferry_disk.specs.Moments.{Between, Moments}
 use Rattle.ferry_manifest.specs.Manifest.Text.{ManifestText}
+use Rattle.ferry_manifest.specs.declared.manifest.ArchiveRef.{ArchiveRef}
 use Rattle.ferry_repo.specs.Opening.{RepoState, OpensFilesTo}
 use Rattle.ferry_repo.specs.Whole.{HasWhole, WholeArchive}
-use Rattle.ferry_repo.specs.declared.secret.Secret.{Secret}
 use Rattle.ferry_stops.specs.Chance.{EachStop}
+use Rattle.ferry_stops.specs.Tells.{lines_of}
 use Rattle.ferry_store.specs.Store.{InitKeeps}
 use Rattle.ferry_top.specs.Devices.{Devices}
 use Rattle.ferry_top.specs.declared.status.Secrets.{Secrets}
 use Rattle.ferry_top.specs.declared.status.Status.{Status}
+use Rattle.ferry_top.specs.declared.status.Status.TheVariants.{Done}
 use Rattle.ferry_write.specs.Session.{SettlesFirst}
 
--- Files open under a secret, and each archive that these had is named there, and says the same where it was whole.
-pub record KeepsArchives (secret : Secret) (start : Files) (before : ManifestText) (image : Files) : Type 0 where
-  pub repo : RepoState
-  pub opens : OpensFilesTo image secret repo
-  pub names : KeepsNames before repo.manifest
-  pub wholes : (name : List ℕ) (whole : WholeArchive) → HasWhole start secret name whole → HasWhole image secret name whole
+-- ---- what is asked for
 
--- In a run that had made no act, over files that open, each stop at each moment leaves files that open with each archive that was there.
-abbrev pub TransferShows : Secret → History → History → Type 0
-TransferShows secret before now = before.acts ≡ [] → (repo : RepoState) → OpensFilesTo (files_now before) secret repo
-    → Moments (EachStop (KeepsArchives secret (files_now before) repo.manifest)) before now
+-- the names that a transfer chose: those that are given, and where none is given those of all archives of the source
+abbrev pub chosen_of : List (List ℕ) → ManifestText → List (List ℕ)
+chosen_of [] manifest = map (λ (entry : ArchiveRef). entry.name) manifest.archives
+chosen_of (name ∷ names) manifest = name ∷ names
+
+-- what a transfer is asked for: the secrets of both repositories, the length of the pieces that contents are cut into in the target, the names that
+-- are given, and the files of the source, where they are told
+pub record Request : Type 0 where
+  pub secrets : Secrets
+  pub block : ℕ
+  pub names : List (List ℕ)
+  pub source : Option Files
+
+abbrev pub asked : Secrets → ℕ → List (List ℕ) → Option Told → Request
+asked secrets block names told =
+    record { secrets = secrets; block = block; names = names; source = option_map (λ (t : Told). told_files t) told }
+
+-- ---- what is there
+
+-- The archive of a name is whole in the source. In the target it is whole and says the same, where no contents collide among those that it is there
+-- and those that are live there.
+pub record Arrives (request : Request) (source image : Files) (repo : RepoState) (name : List ℕ) : Type 0 where
+  pub whole : WholeArchive
+  pub whole_there : HasWhole source request.secrets.source name whole
+  pub text : List ℕ
+  pub record_is : IsRecordText repo.keys text whole
+  pub there : (scope : List (List ℕ)) → NoCollision repo.keys scope
+      → AllByRecursion (IsAmong scope) (adds_of repo.keys request.block whole.items text) → HoldsWithin scope image repo
+      → HasWhole image request.secrets.target name whole
+
+-- Where the source's files open, these names are a front of those that are chosen.
+abbrev pub IsChosenFront : Request → List (List ℕ) → Files → Type 0
+IsChosenFront request done files = (repo : RepoState) → OpensFilesTo files request.secrets.source repo
+    → (rest : List (List ℕ)) × (chosen_of request.names repo.manifest ≡ done ++ rest)
+
+-- Files open under the target's secret, and each archive that these had is named there, and says the same where it was whole. Of the chosen names
+-- those of a front arrived, and beside them and those that were there no other is named. These lines tell a front of those that arrived, and behind
+-- them perhaps the whole.
+pub record KeepsArchives (request : Request) (start : Files) (before : ManifestText) (lines : List (List ℕ)) (image : Files) : Type 0 where
+  pub repo : RepoState
+  pub opens : OpensFilesTo image request.secrets.target repo
+  pub names : KeepsNames before repo.manifest
+  pub wholes : (name : List ℕ) (whole : WholeArchive) → HasWhole start request.secrets.target name whole
+      → HasWhole image request.secrets.target name whole
+  pub done : List (List ℕ)
+  pub front : IfSome request.source (IsChosenFront request done)
+  pub arrived : IfSome request.source (λ files. AllByRecursion (Arrives request files image repo) done)
+  pub only : IsNamedBy before done repo.manifest
+  pub told : IsReport lines done
+
+-- ---- each stop
+
+-- In a run that had made no act, over files that open, each stop at each moment leaves files that open with each archive that was there, and with
+-- those of a front of the chosen names, of which all are there that were told up to the moment.
+abbrev pub TransferShows : Request → History → History → Type 0
+TransferShows request before now = before.acts ≡ [] → (repo : RepoState) → OpensFilesTo (files_now before) request.secrets.target repo
+    → Moments (λ moment. EachStop (KeepsArchives request (files_now before) repo.manifest (lines_of moment.acts)) moment) before now
 
 -- At each moment of the command: its stops, the counter blocks of all runs, and its first act.
-abbrev pub TransferEach : Secret → History → History → Type 0
-TransferEach secret before now = TransferShows secret before now × (InitKeeps before now × SettlesFirst before now)
+abbrev pub TransferEach : Request → History → History → Type 0
+TransferEach request before now = TransferShows request before now × (InitKeeps before now × SettlesFirst before now)
 
--- Archives are copied into the target. Whatever a stop leaves at any moment opens, with each archive that the target had; the counter blocks of
--- the runs before stay apart. The output is not used.
-pub record Transfers (secrets : Secrets) (names : List (List ℕ)) (before : Devices) (status : Status) (after : Devices) : Type 0 where
+-- ---- the end
+
+-- The source's files open, and these are all names that are chosen.
+abbrev pub IsChosen : Request → List (List ℕ) → Files → Type 0
+IsChosen request done files =
+    (repo : RepoState) × (OpensFilesTo files request.secrets.source repo × (done ≡ chosen_of request.names repo.manifest))
+
+-- The target's files opened, and now they open with each archive that was there. All chosen names arrived and were told, and behind them the whole.
+pub record HasTransferred (request : Request) (before now : History) : Type 0 where
+  pub repo : RepoState
+  pub opens : OpensFilesTo (files_now before) request.secrets.target repo
+  pub keeps : KeepsArchives request (files_now before) repo.manifest (lines_of now.acts) (files_now now)
+  pub all : IfSome request.source (IsChosen request keeps.done)
+  pub told_all : TellsWhole keeps.done before now
+
+-- The same of a run that had made no act.
+abbrev pub TransferEnds : Request → History → History → Type 0
+TransferEnds request before now = before.acts ≡ [] → HasTransferred request before now
+
+-- Archives are copied into the target. Whatever a stop leaves at any moment opens, with each archive that the target had and those of a front of the
+-- chosen names, those that were told among them; the counter blocks of the runs before stay apart. Where it is done, all chosen archives are there and
+-- were told. The output is not used.
+pub record Transfers (request : Request) (before : Devices) (status : Status) (after : Devices) : Type 0 where
   pub output : after.output ≡ before.output
-  pub each : Between before.target.told after.target.told (TransferEach secrets.target)
+  pub each : Between before.target.told after.target.told (TransferEach request)
+  pub ended : status ≡ Done → Between before.target.told after.target.told (TransferEnds request)

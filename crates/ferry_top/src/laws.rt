@@ -1,8 +1,13 @@
 //! Laws of what `run` says, each the contract of a function with nothing to do.
-ghost use Rattle.std.specs.Prelude.{◌≡◌, List, [], ℕ, Some};
+ghost use Rattle.std.specs.Prelude.{◌≡◌, ◌↔◌, List, [], ℕ, Some};
+ghost use Rattle.std.specs.List.{AllByRecursion};
 ghost use Rattle.ferry_disk.specs.Device.{Told, told_files};
+ghost use Rattle.ferry_disk.specs.Files.{Files};
+ghost use Rattle.ferry_repo.specs.Opening.{OpensFilesTo, RepoState};
 ghost use Rattle.ferry_repo.specs.declared.secret.Secret.{Secret};
 ghost use Rattle.ferry_top.specs.Init.{IsFault, IsReady, IsRefused};
+ghost use Rattle.ferry_top.specs.Rerun.{AreLeftInTurn, EachChosen, IsNamedOrChosen, LacksName, MeetsConditions, NoneCollideIn};
+ghost use Rattle.ferry_top.specs.Transfer.{KeepsArchives, Request};
 ghost use Rattle.ferry_top.specs.declared.status.Status.{Status as TheStatus};
 
 /// Where nothing is committed, the key file reads and opens where there is one, `nonce` has a number, and no limit is met, `init` is refused by
@@ -10,4 +15,25 @@ ghost use Rattle.ferry_top.specs.declared.status.Status.{Status as TheStatus};
 pub fn init_laws()
     ensures complete { (secret : Secret) (timestamp : List ℕ) (told : Told) (status : TheStatus) → told.history.acts ≡ []
         → IsReady secret timestamp (told_files told) → IsRefused secret timestamp (Some told) status → IsFault status }
+{}
+
+/// What a transfer asks of the archives of its target, it finds again in what it left at a stop, with the same words and the same source: the files
+/// open, and each chosen name is absent there or equal. Of the file `nonce` nothing is said here.
+pub fn transfer_laws()
+    // This needs that no contents collide among those of each archive that arrived and those that are live in what the stop left.
+    ensures rerun { (request : Request) (start image : Files) (before : RepoState) (lines : List (List ℕ))
+        → OpensFilesTo start request.secrets.target before → (keeps : KeepsArchives request start before.manifest lines image)
+        → NoneCollideIn request image keeps.repo keeps.done request.source keeps.arrived
+        → MeetsConditions request start → MeetsConditions request image }
+    // The same over any number of stops, each of a run over what the one before left.
+    ensures runs { (request : Request) (start : Files) (images : List Files) → AreLeftInTurn request start images → MeetsConditions request start
+        → AllByRecursion (MeetsConditions request) images }
+    // Where the source opens, the names with the chosen ones are those of the start with the chosen ones.
+    ensures names { (request : Request) (start image : Files) (before from : RepoState) (source : Files) (lines : List (List ℕ))
+        → request.source ≡ Some source → OpensFilesTo source request.secrets.source from
+        → (keeps : KeepsArchives request start before.manifest lines image) (name : List ℕ)
+        → IsNamedOrChosen request from.manifest keeps.repo.manifest name ↔ IsNamedOrChosen request from.manifest before.manifest name }
+    // A target that opens and lacks each chosen name meets the conditions.
+    ensures first { (request : Request) (start : Files) (repo : RepoState) → OpensFilesTo start request.secrets.target repo
+        → EachChosen request request.source (λ source name. LacksName repo.manifest name) → MeetsConditions request start }
 {}

@@ -26,7 +26,7 @@ mod transfer_tests;
 mod words;
 
 pub use ferry_repo::{RepoFault, Secret};
-pub use laws::init_laws;
+pub use laws::{init_laws, transfer_laws};
 pub use status::{Limit, Refusal, Secrets, Status};
 pub use top::run;
 pub use words::places_fit;

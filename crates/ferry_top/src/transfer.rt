@@ -1,20 +1,21 @@
 //! The command that copies archives.
-ghost use Rattle.std.specs.Prelude.{◌≡◌, ℕ, [], false, IfErr, IfSome};
+ghost use Rattle.std.specs.Prelude.{◌≡◌, ℕ, [], false, map, IfErr, IfOk, IfSome};
 ghost use Rattle.ferry_carry.specs.Fault.{random_failed, shelf_failed, target_failed as depot_failed};
 ghost use Rattle.ferry_carry.specs.Flight.{AreRight};
 ghost use Rattle.ferry_carry.specs.Work.{Works};
 ghost use Rattle.ferry_disk.specs.Device.{HasCause, KeepsTold, KeptWhere, RoseWhere, heard, told_files};
 ghost use Rattle.ferry_disk.specs.Faults.{FailedWhere};
 ghost use Rattle.ferry_disk.specs.Moments.{Between};
-ghost use Rattle.ferry_repo.specs.Opening.{FitsRepo, cached_in, repo_view};
+ghost use Rattle.ferry_manifest.specs.declared.manifest.ArchiveRef.{ArchiveRef};
+ghost use Rattle.ferry_repo.specs.Opening.{FitsRepo, OpensFilesTo, cached_in, repo_view};
 ghost use Rattle.ferry_top.specs.Status.{entropy_failed, output_failed, source_failed, target_failed};
-ghost use Rattle.ferry_top.specs.Transfer.{TransferEach};
+ghost use Rattle.ferry_top.specs.Transfer.{TransferEach, TransferEnds, asked, chosen_of};
 
 use crate::status::{Secrets, Status, of_carry, of_repo};
 use ferry_base::Bytes;
 use ferry_carry::{CarryFault, Options, carry, missing_name};
 use ferry_disk::{Depot, Entropy, Shelf};
-use ferry_repo::{Repo, Secret};
+use ferry_repo::Repo;
 use ferry_store::Store;
 use std::alloc::{AllocError, Global};
 
@@ -31,7 +32,10 @@ pub(crate) fn transfer<S: Shelf, D: Depot, E: Entropy>(
 ) -> Status
     requires options { AreRight options.now }
     requires begun { IfSome (D.told target.old) (λ t. t.history.acts ≡ []) }
-    ensures each { Between (D.told target.old) (D.told target.new) (TransferEach secrets.now.target) }
+    ensures each { Between (D.told target.old) (D.told target.new)
+        (TransferEach (asked secrets.now options.now.block names.now (S.told source.old))) }
+    ensures ended { result ≡ Status.Done → Between (D.told target.old) (D.told target.new)
+        (TransferEnds (asked secrets.now options.now.block names.now (S.told source.old))) }
     ensures same { KeptWhere (source_failed result) (heard (S.told source.old)) (S.told source.new) }
     ensures cause { RoseWhere (source_failed result) (S.faults source.old) (S.faults source.new) }
     ensures ends { FailedWhere (target_failed result) (D.told target.old) (D.told target.new) }
@@ -46,7 +50,7 @@ pub(crate) fn transfer<S: Shelf, D: Depot, E: Entropy>(
     }
 }
 
-/// Opens the source, looks the names up, opens the target and copies.
+/// Opens the source, and copies.
 #[tactic(auto, using(ferry_carry::proofs::FaultLemmas::conversions))]
 fn copy<S: Shelf, D: Depot, E: Entropy>(
     alloc: Global,
@@ -59,33 +63,26 @@ fn copy<S: Shelf, D: Depot, E: Entropy>(
 ) -> Result<(), CarryFault>
     requires options { AreRight options.now }
     requires begun { IfSome (D.told target.old) (λ t. t.history.acts ≡ []) }
-    ensures works { Works (TransferEach secrets.now.target) (λ _ h g. Unit {0})
+    ensures works { Works (TransferEach (asked secrets.now options.now.block names.now (S.told source.old)))
+        (λ _. TransferEnds (asked secrets.now options.now.block names.now (S.told source.old)))
         (D.told target.old) (D.told target.new) (D.faults target.old) (D.faults target.new) result }
     ensures same { KeepsTold shelf_failed (S.told source.old) (S.told source.new) result }
     ensures cause { HasCause shelf_failed (S.faults source.old) (S.faults source.new) result }
     ensures entropy { HasCause random_failed (E.faults entropy.old) (E.faults entropy.new) result }
 {
     let mut repo = Repo::open(alloc, source, &secrets.source)?;
-    let chosen = chosen_names(alloc, &repo, names)?;
-    find_names(alloc, &repo, &chosen)?;
     copy_into(
-        alloc,
-        &mut repo,
-        source,
-        &secrets.target,
-        target,
-        entropy,
-        &chosen,
-        options,
+        alloc, &mut repo, source, secrets, target, entropy, names, options,
     )
 }
 
-/// Opens the target and copies the archives of these names.
+/// Looks the names up in the opened source, opens the target, and copies the archives of these names, all of them where there is none.
+#[tactic(auto, using(ferry_carry::proofs::FaultLemmas::conversions))]
 fn copy_into<S: Shelf, D: Depot, E: Entropy>(
     alloc: Global,
     repo: &mut Repo,
     source: &mut S,
-    secret: &Secret,
+    secrets: &Secrets,
     target: &mut D,
     entropy: &mut E,
     names: &[Bytes],
@@ -93,16 +90,20 @@ fn copy_into<S: Shelf, D: Depot, E: Entropy>(
 ) -> Result<(), CarryFault>
     requires options { AreRight options.now }
     requires begun { IfSome (D.told target.old) (λ t. t.history.acts ≡ []) }
+    requires source_opens { IfSome (S.told source.old) (λ t. OpensFilesTo (told_files t) secrets.now.source (repo_view repo.old)) }
     requires source_fits { IfSome (S.told source.old) (λ t. FitsRepo (told_files t) (repo_view repo.old) (cached_in repo.old)) }
-    ensures works { Works (TransferEach secret.now) (λ _ h g. Unit {0})
+    ensures works { Works (TransferEach (asked secrets.now options.now.block names.now (S.told source.old)))
+        (λ _. TransferEnds (asked secrets.now options.now.block names.now (S.told source.old)))
         (D.told target.old) (D.told target.new) (D.faults target.old) (D.faults target.new) result }
     ensures same { KeepsTold shelf_failed (S.told source.old) (S.told source.new) result }
     ensures cause { HasCause shelf_failed (S.faults source.old) (S.faults source.new) result }
     ensures entropy { HasCause random_failed (E.faults entropy.old) (E.faults entropy.new) result }
 {
-    let mut store = Store::open(alloc, target, secret)?;
+    let chosen = chosen_names(alloc, repo, names)?;
+    find_names(alloc, repo, &chosen)?;
+    let mut store = Store::open(alloc, target, &secrets.target)?;
     carry(
-        alloc, repo, source, &mut store, target, entropy, names, options,
+        alloc, repo, source, &mut store, target, entropy, &chosen, options,
     )?;
     Ok(())
 }
@@ -121,7 +122,9 @@ fn find_names(alloc: Global, repo: &Repo, names: &[Bytes]) -> Result<(), CarryFa
 }
 
 /// Copies of these names, or of those of all archives where there are none.
-fn chosen_names(alloc: Global, repo: &Repo, names: &[Bytes]) -> Result<Vec<Bytes>, AllocError> {
+fn chosen_names(alloc: Global, repo: &Repo, names: &[Bytes]) -> Result<Vec<Bytes>, AllocError>
+    ensures chosen { IfOk result (λ chosen. chosen.items ≡ chosen_of names.now (repo_view repo.now).manifest) }
+{
     if names.is_empty() {
         return archive_names(alloc, repo);
     }
@@ -129,7 +132,9 @@ fn chosen_names(alloc: Global, repo: &Repo, names: &[Bytes]) -> Result<Vec<Bytes
 }
 
 /// Copies of the names of all archives, in byte order.
-fn archive_names(alloc: Global, repo: &Repo) -> Result<Vec<Bytes>, AllocError> {
+fn archive_names(alloc: Global, repo: &Repo) -> Result<Vec<Bytes>, AllocError>
+    ensures names { IfOk result (λ names. names.items ≡ map (λ (entry : ArchiveRef). entry.name) (repo_view repo.now).manifest.archives) }
+{
     let archives = repo.manifest().archives.as_slice();
     let mut chosen = Vec::new(alloc);
     for place in 0..archives.len() {
@@ -140,7 +145,9 @@ fn archive_names(alloc: Global, repo: &Repo) -> Result<Vec<Bytes>, AllocError> {
 }
 
 /// Copies of names.
-fn copies(alloc: Global, names: &[Bytes]) -> Result<Vec<Bytes>, AllocError> {
+fn copies(alloc: Global, names: &[Bytes]) -> Result<Vec<Bytes>, AllocError>
+    ensures copies { IfOk result (λ copies. copies.items ≡ names.now) }
+{
     let mut chosen = Vec::new(alloc);
     for place in 0..names.len() {
         let name = Vec::from_slice(alloc, names[place].as_slice())?;

@@ -12,3 +12,4 @@ pub mod CommitGainLemmas
 pub mod PlainLemmas
 pub mod LawLemmas
 pub mod StayLemmas
+pub mod TellLemmas

@@ -19,9 +19,10 @@ use Rattle.ferry_write.proofs.ScriptLemmas.{stop_moments, ran_stops}
 use Rattle.ferry_write.proofs.StandLemmas.{all-append}
 use Rattle.ferry_write.proofs.BeginLemmas.{kept_first, removed_first}
 
--- A step replaces no file.
+-- A step replaces no file and tells no line.
 abbrev pub LeavesFiles : Step → Type 0
 LeavesFiles (ReplaceBy name bytes) = ⊥
+LeavesFiles (TellOf line) = ⊥
 LeavesFiles step = Unit {0}
 
 -- ---- one step
@@ -34,7 +35,7 @@ rests_after name file (RemoveOf n) done leaves = refl
 rests_after name file (ReplaceBy other bytes) done leaves = absurd leaves
 rests_after name file SettleAll true leaves = refl
 rests_after name file SettleAll false leaves = refl
-rests_after name file (TellOf line) done leaves = refl
+rests_after name file (TellOf line) done leaves = absurd leaves
 
 pub plain_next : (h : History) (step : Step) (done : Bool) (name : Name) → plain_in (with_act step done h) name ≡ plain_stepped name step done (plain_in h name)
 plain_next h step done name = plain_of-push (file_at h.start name) h.acts (record { step = step; done = done }) name
@@ -78,28 +79,39 @@ removals_leave end (n ∷ ns) = elim (cases_lt n end) [
   | inr le ↦ subst (AllByRecursion LeavesFiles) (sym (removed_first end n ns le)) (tt, removals_leave end ns)
 ]
 
+pub begin_leaves : (end : ℕ) (ns : List ℕ) → AllByRecursion LeavesFiles ((SettleAll ∷ []) ++ removals end ns)
+begin_leaves end ns = (tt, removals_leave end ns)
+
+pub put_leaves : (s : Session) (head blob : List ℕ) → AllByRecursion LeavesFiles (put_steps s head blob)
+put_leaves s head blob =
+    all-append LeavesFiles (room_steps s.last s.size (must_begin s.last s.size s.limit (length head + length blob))) _
+    (room_leaves s.last s.size (must_begin s.last s.size s.limit (length head + length blob))) (tt, (tt, tt))
+
+pub delete_leaves : (s : Session) (entry : List ℕ) → AllByRecursion LeavesFiles (delete_steps s entry)
+delete_leaves s entry =
+    all-append LeavesFiles (room_steps s.last s.size (must_begin s.last s.size s.limit (length entry))) _
+    (room_leaves s.last s.size (must_begin s.last s.size s.limit (length entry))) (tt, tt)
+
+pub commit_leaves : (s : Session) → AllByRecursion LeavesFiles (commit_steps s.last s.size)
+commit_leaves s = all-append LeavesFiles (sync_steps s.last s.size) _ (sync_leaves s.last s.size) (tt, (tt, tt))
+
 -- ---- the calls
 
 pub begin_plain : {T : Type 0} (end : ℕ) (a b : Option Told) (n m : ℕ) (result : Result T WriteFault) → Clears end a b n m result → Between a b KeepsPlain
 begin_plain end a b n m result clears =
-    keeps_plain ((SettleAll ∷ []) ++ removals end clears.numbers) a b n m result (tt, removals_leave end clears.numbers) clears.ran
+    keeps_plain ((SettleAll ∷ []) ++ removals end clears.numbers) a b n m result (begin_leaves end clears.numbers) clears.ran
 
 pub put_plain : {T : Type 0} (s : Session) (head blob : List ℕ) (a b : Option Told) (n m : ℕ) (result : Result T WriteFault)
     → Ran (put_steps s head blob) a b n m result → Between a b KeepsPlain
 put_plain s head blob a b n m result ran =
-    keeps_plain (put_steps s head blob) a b n m result
-    (all-append LeavesFiles (room_steps s.last s.size (must_begin s.last s.size s.limit (length head + length blob))) _
-    (room_leaves s.last s.size (must_begin s.last s.size s.limit (length head + length blob))) (tt, (tt, tt))) ran
+    keeps_plain (put_steps s head blob) a b n m result (put_leaves s head blob) ran
 
 pub delete_plain : {T : Type 0} (s : Session) (entry : List ℕ) (a b : Option Told) (n m : ℕ) (result : Result T WriteFault)
     → Ran (delete_steps s entry) a b n m result → Between a b KeepsPlain
 delete_plain s entry a b n m result ran =
-    keeps_plain (delete_steps s entry) a b n m result
-    (all-append LeavesFiles (room_steps s.last s.size (must_begin s.last s.size s.limit (length entry))) _
-    (room_leaves s.last s.size (must_begin s.last s.size s.limit (length entry))) (tt, tt)) ran
+    keeps_plain (delete_steps s entry) a b n m result (delete_leaves s entry) ran
 
 pub commit_plain : {T : Type 0} (s : Session) (a b : Option Told) (n m : ℕ) (result : Result T WriteFault) → Ran (commit_steps s.last s.size) a b n m result
     → Between a b KeepsPlain
 commit_plain s a b n m result ran =
-    keeps_plain (commit_steps s.last s.size) a b n m result
-    (all-append LeavesFiles (sync_steps s.last s.size) _ (sync_leaves s.last s.size) (tt, (tt, tt))) ran
+    keeps_plain (commit_steps s.last s.size) a b n m result (commit_leaves s) ran

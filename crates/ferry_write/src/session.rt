@@ -6,6 +6,7 @@ ghost use Rattle.ferry_disk.specs.Faults.{EndsAtFault};
 ghost use Rattle.ferry_disk.specs.Moments.{Between};
 ghost use Rattle.ferry_segment.specs.Entry.{PutEntry, DeleteEntry, CommitEntry, spelling};
 ghost use Rattle.ferry_segment.specs.Segment.{magic};
+ghost use Rattle.ferry_stops.specs.Tells.{TellsNothing};
 ghost use Rattle.ferry_write.specs.Fault.{write_failed};
 ghost use Rattle.ferry_write.specs.Room.{behind, must_begin, room_of, room_steps, put_steps, delete_steps, commit_steps, AreUsedUp};
 ghost use Rattle.ferry_write.specs.Room.{after_entry, after_commit};
@@ -54,6 +55,7 @@ impl Session {
         ensures gains { Between (D.told depot.old) (D.told depot.new) BeginBrings }
         ensures rows { IfOk result (λ session. Between (D.told depot.old) (D.told depot.new) (BeginsRows session)) }
         ensures beside { Between (D.told depot.old) (D.told depot.new) KeepsPlain }
+        ensures untold { Between (D.told depot.old) (D.told depot.new) TellsNothing }
         ensures numbers { IsErrOf result Write.Numbers → ⊥ }
         ensures cause { HasCause write_failed (D.faults depot.old) (D.faults depot.new) result }
         ensures ends { EndsAtFault write_failed (D.told depot.old) (D.told depot.new) result }
@@ -91,6 +93,7 @@ impl Session {
         ensures rows { OnOk result (Between (D.told depot.old) (D.told depot.new) (KeepsRows self.old self.new)) }
         ensures stays { Between (D.told depot.old) (D.told depot.new) (OnlyAppends self.old) }
         ensures beside { Between (D.told depot.old) (D.told depot.new) KeepsPlain }
+        ensures untold { Between (D.told depot.old) (D.told depot.new) TellsNothing }
         ensures ok { OnOk result (self.new ≡ after_entry self.old (41 + length blob.now)) }
         ensures done { OnOk result (Between (D.told depot.old) (D.told depot.new) AllDone) }
         ensures err { OnErr result (self.new ≡ record self.old { spent = true }) }
@@ -123,6 +126,7 @@ impl Session {
         ensures rows { OnOk result (Between (D.told depot.old) (D.told depot.new) (KeepsRows self.old self.new)) }
         ensures stays { Between (D.told depot.old) (D.told depot.new) (OnlyAppends self.old) }
         ensures beside { Between (D.told depot.old) (D.told depot.new) KeepsPlain }
+        ensures untold { Between (D.told depot.old) (D.told depot.new) TellsNothing }
         ensures ok { OnOk result (self.new ≡ after_entry self.old 41) }
         ensures done { OnOk result (Between (D.told depot.old) (D.told depot.new) AllDone) }
         ensures err { OnErr result (self.new ≡ record self.old { spent = true }) }
@@ -151,6 +155,7 @@ impl Session {
         ensures rows { OnOk result (Between (D.told depot.old) (D.told depot.new) (KeepsRows self.old self.new)) }
         ensures stays { Between (D.told depot.old) (D.told depot.new) (OnlyAppends self.old) }
         ensures beside { Between (D.told depot.old) (D.told depot.new) KeepsPlain }
+        ensures untold { Between (D.told depot.old) (D.told depot.new) TellsNothing }
         ensures number { IfOk result (λ number. number ≡ behind self.old.last) }
         ensures ok { OnOk result (self.new ≡ after_commit self.old) }
         ensures done { OnOk result (Between (D.told depot.old) (D.told depot.new) AllDone) }

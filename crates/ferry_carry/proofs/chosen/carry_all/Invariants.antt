@@ -1,15 +1,16 @@
-use Rattle.std.proofs.Common.{◌≡◌, false, Ok, IfSome}
+use Rattle.std.proofs.Common.{◌≡◌, false, Ok, IfSome, take}
 use Rattle.ferry_carry.proofs.chosen.carry_all.Given as goal
+use Rattle.ferry_carry.specs.Carrying.{origin}
 use Rattle.ferry_carry.specs.Flight.{IsSettled}
-use Rattle.ferry_carry.specs.Grow.{Grows, KeepsGrowing, KeepsMost}
-use Rattle.ferry_carry.specs.Work.{Works}
+use Rattle.ferry_carry.specs.Grow.{KeepsMost}
+use Rattle.ferry_carry.specs.Telling.{Reports}
 use Rattle.ferry_disk.specs.Device.{heard, told_files}
 use Rattle.ferry_manifest.specs.Manifest.Writing.{IsPackable}
 use Rattle.ferry_repo.specs.Opening.{FitsRepo, cached_in, repo_view}
 use Rattle.ferry_store.specs.Commit.{accepted_in}
 use Rattle.ferry_store.specs.Store.{IsUnspent, StoreFits}
 
--- the archives so far were copied or compared
+-- the archives so far were copied or compared, and told
 abbrev pub invariant-loop-place : goal.invariant-loop-place
 invariant-loop-place g l = record {
   source_fits : IfSome (g.S.Shelf.told l.shelf) (λ t. FitsRepo (told_files t) (repo_view l.source) (cached_in l.source));
@@ -22,6 +23,6 @@ invariant-loop-place g l = record {
   faults : g.S.Shelf.faults l.shelf ≡ g.S.Shelf.faults l.fn.shelf;
   drawn : g.E.Entropy.faults l.entropy ≡ g.E.Entropy.faults l.fn.entropy;
   most : KeepsMost l.fn.store l.store;
-  works : Works {T = Unit {0}} (KeepsGrowing l.fn.store) (λ _. Grows l.fn.store l.store) (g.D.Shelf.told l.fn.depot) (g.D.Shelf.told l.depot)
-      (g.D.Shelf.faults l.fn.depot) (g.D.Shelf.faults l.depot) (Ok tt);
+  works : Reports {T = Unit {0}} (origin (g.S.Shelf.told l.fn.shelf) (repo_view l.fn.source) l.fn.options.block) (take l.place l.names) l.fn.store
+      l.store (g.D.Shelf.told l.fn.depot) (g.D.Shelf.told l.depot) (g.D.Shelf.faults l.fn.depot) (g.D.Shelf.faults l.depot) (Ok tt);
 }

@@ -1,20 +1,59 @@
-use Rattle.std.proofs.Common.{Result}
+use Rattle.std.proofs.Common.{◌≡◌, [], ◌∷◌, ℕ, List, Result, ap, IfErr, subst, sym}
+use Rattle.ferry_carry.proofs.GrowLemmas.{accepts_on}
+use Rattle.ferry_carry.proofs.ReportLemmas.{reports_as, reports_nothing}
 use Rattle.ferry_carry.proofs.TellLemmas.{begin_still}
-use Rattle.ferry_carry.proofs.WorkLemmas.{err_is, grown_nothing}
+use Rattle.ferry_carry.proofs.WorkLemmas.{err_is}
 use Rattle.ferry_carry.proofs.chosen.carry_one.Goals as goal
-use Rattle.ferry_carry.specs.Grow.{Grows, KeepsGrowing}
-use Rattle.ferry_carry.specs.Work.{Works}
+use Rattle.ferry_carry.specs.Carrying.{origin, Origin}
+use Rattle.ferry_carry.specs.Flight.{flown_from}
+use Rattle.ferry_carry.specs.Telling.{Reports}
 use Rattle.ferry_carry.specs.declared.fault.CarryFault.{CarryFault}
+use Rattle.ferry_carry.specs.declared.options.Options.{Options}
+use Rattle.ferry_repo.specs.Opening.{repo_view}
+use Rattle.ferry_carry.specs.Refusals.{RefusesName}
 
 pub returns-in_err-flight-clause-works : goal.returns-in_err-flight-clause-works
 returns-in_err-flight-clause-works g c =
     let store = c.args.store.now in
     let a = g.D.Shelf.told c.args.depot.now in
     let n = g.D.Shelf.faults c.args.depot.now in
+    let from = origin (g.S.Shelf.told c.args.shelf.now) (repo_view c.args.source.now) c.args.options.now.block in
+    let names = c.args.name.now ∷ [] in
     let fault = c.in_err-flight.field-0.0 in
-    err_is c.from_residual.result fault (λ (r : Result (Unit {0}) CarryFault). Works (KeepsGrowing store) (λ _. Grows store store) a a n n r)
-    c.from_residual.ensures.1 (grown_nothing {T = Unit {0}} store store a n fault (begin_still fault c.args.name.now _ c.in_err-flight.ensures.refused))
+    err_is c.from_residual.result fault (λ (r : Result (Unit {0}) CarryFault). Reports from names store store a a n n r)
+    c.from_residual.ensures.1 (reports_nothing {T = Unit {0}} from names store store a n fault (accepts_on store store c.requires.settled)
+    (begin_still fault c.args.name.now _ c.in_err-flight.ensures.refused))
 
 pub carry_flight-requires-clause-flight : goal.carry_flight-requires-clause-flight
 carry_flight-requires-clause-flight g c =
     c.in_ok-flight.ensures.flight (g.S.Shelf.told c.args.shelf.now) (g.D.Shelf.told c.args.depot.now) c.args.store.now
+
+pub carry_flight-requires-clause-called : goal.carry_flight-requires-clause-called
+carry_flight-requires-clause-called g c = sym c.in_ok-flight.ensures.name
+
+pub returns-clause-works : goal.returns-clause-works
+returns-clause-works g c =
+    let told = g.S.Shelf.told c.args.shelf.now in
+    let source = repo_view c.args.source.now in
+    let flight = c.in_ok-flight.flight in
+    let is : flown_from told source flight ≡ origin told source c.args.options.now.block =
+    ap (λ (o : Options). origin told source o.block) c.in_ok-flight.ensures.options in
+    reports_as {T = Unit {0}} (origin told source c.args.options.now.block) (flown_from told source flight) (c.args.name.now ∷ [])
+    (flight.named.name ∷ []) c.args.store.now c.carry_flight.new.store (g.D.Shelf.told c.args.depot.now) (g.D.Shelf.told c.carry_flight.new.depot)
+    (g.D.Shelf.faults c.args.depot.now) (g.D.Shelf.faults c.carry_flight.new.depot) c.carry_flight.result is
+    (ap (λ (n : List ℕ). n ∷ []) c.in_ok-flight.ensures.name) c.carry_flight.ensures.works
+
+pub returns-clause-refused : goal.returns-clause-refused
+returns-clause-refused g c =
+    let told = g.S.Shelf.told c.args.shelf.now in
+    let source = repo_view c.args.source.now in
+    let flight = c.in_ok-flight.flight in
+    let a = g.D.Shelf.told c.args.depot.now in
+    let b = g.D.Shelf.told c.carry_flight.new.depot in
+    let store = c.args.store.now in
+    let now = c.carry_flight.new.store in
+    let is : flown_from told source flight ≡ origin told source c.args.options.now.block =
+    ap (λ (o : Options). origin told source o.block) c.in_ok-flight.ensures.options in
+    subst (λ (f : Origin). IfErr c.carry_flight.result (RefusesName f a store b now c.args.name.now)) is
+    (subst (λ (n : List ℕ). IfErr c.carry_flight.result (RefusesName (flown_from told source flight) a store b now n)) c.in_ok-flight.ensures.name
+    c.carry_flight.ensures.refused)

@@ -1,16 +1,23 @@
-use Rattle.std.proofs.Common.{Bool, true, false, Result, Ok, Err, refl, ◌∙◌, ap}
+use Rattle.std.proofs.Common.{◌≡◌, ℕ, List, [], ◌∷◌, Bool, true, false, Result, Ok, Err, refl, ◌∙◌, ap, IfErr}
+use Rattle.ferry_carry.proofs.FlyLemmas.{flown_as, flown_err, flown_then, origin_kept}
 use Rattle.ferry_carry.proofs.GrowLemmas.{accepts_on, most_here, most_then}
 use Rattle.ferry_carry.proofs.TellLemmas.{settled_committed}
-use Rattle.ferry_carry.proofs.WorkLemmas.{err_is, grown_as, grown_err, grown_none, grown_then}
+use Rattle.ferry_carry.proofs.WorkLemmas.{carried_none, err_is}
 use Rattle.ferry_carry.proofs.chosen.fly.Goals as goal
-use Rattle.ferry_carry.specs.Grow.{Grows, KeepsGrowing}
-use Rattle.ferry_carry.specs.Work.{Works}
+use Rattle.ferry_carry.specs.Flight.{Carries, carried_by, flown_from}
 use Rattle.ferry_carry.specs.declared.fault.CarryFault.{CarryFault}
 use Rattle.ferry_carry.specs.declared.flight.Turn.{Turn}
+use Rattle.ferry_carry.specs.declared.options.Options.{Options}
+use Rattle.ferry_manifest.specs.declared.manifest.ArchiveRef.{ArchiveRef}
+use Rattle.ferry_repo.specs.Opening.{repo_view}
+use Rattle.ferry_carry.proofs.CauseLemmas.{name_refused}
+use Rattle.ferry_carry.specs.Refusals.{RefusesName}
 
 pub loop-init : goal.loop-init
 loop-init g c = record {
   flight = c.requires.flight;
+  named = refl;
+  options = refl;
   source_fits = c.requires.source_fits;
   unspent = c.requires.unspent;
   fits = c.requires.fits;
@@ -21,7 +28,9 @@ loop-init g c = record {
   faults = refl;
   drawn = refl;
   most = most_here c.args.store.now;
-  works = grown_none {T = Unit {0}} c.args.store.now (g.D.Shelf.told c.args.depot.now) (g.D.Shelf.faults c.args.depot.now) tt;
+  works = carried_none {T = Unit {0}} (flown_from (g.S.Shelf.told c.args.shelf.now) (repo_view c.args.source.now) c.args.flight.now)
+      (c.args.flight.now.named.name ∷ []) c.args.store.now (g.D.Shelf.told c.args.depot.now) (g.D.Shelf.faults c.args.depot.now) tt
+      (accepts_on c.args.store.now c.args.store.now c.requires.settled);
 }
 
 pub step-requires-clause-accepts : goal.step-requires-clause-accepts
@@ -41,11 +50,18 @@ returns-in_err-step-clause-works g c =
     let n = g.D.Shelf.faults c.args.depot.now in
     let m = g.D.Shelf.faults c.loop.depot in
     let k = g.D.Shelf.faults c.step.new.depot in
+    let from = flown_from (g.S.Shelf.told c.args.shelf.now) (repo_view c.args.source.now) c.args.flight.now in
+    let other = flown_from (g.S.Shelf.told c.loop.shelf) (repo_view c.loop.source) c.loop.flight in
+    let name = c.args.flight.now.named.name in
+    let same : other ≡ from =
+    origin_kept (g.S.Shelf.told c.args.shelf.now) (g.S.Shelf.told c.loop.shelf) (repo_view c.args.source.now) (repo_view c.loop.source)
+    c.args.flight.now.options.block c.loop.flight.options.block invariant.alike invariant.repo (ap (λ (o : Options). o.block) invariant.options) in
+    let called = ap (λ (e : ArchiveRef). e.name) invariant.named in
     let fault = c.in_err-step.field-0.0 in
-    err_is c.from_residual.result fault (λ (r : Result Bool CarryFault). Works (KeepsGrowing store) (λ _. Grows store now) a d n k r)
-    c.from_residual.ensures.1
-    (grown_then {T = Unit {0}} {U = Bool} store c.loop.store now a b d n m k tt (Err fault) invariant.most invariant.works
-    (grown_err {T = Turn} {U = Bool} c.loop.store now now b d m k fault c.in_err-step.ensures.works))
+    err_is c.from_residual.result fault (λ (r : Result Bool CarryFault). Carries from (name ∷ []) store now a d n k r) c.from_residual.ensures.1
+    (flown_err {U = Bool} from name (name ∷ []) store now now a d n k fault
+    (flown_then from other name c.loop.flight.named.name store c.loop.store now a b d n m k (Err fault) same called invariant.works
+    c.in_err-step.ensures.works))
 
 pub returns-in-Named-clause-works : goal.returns-in-Named-clause-works
 returns-in-Named-clause-works g c =
@@ -58,8 +74,17 @@ returns-in-Named-clause-works g c =
     let n = g.D.Shelf.faults c.args.depot.now in
     let m = g.D.Shelf.faults c.loop.depot in
     let k = g.D.Shelf.faults c.step.new.depot in
-    grown_then {T = Unit {0}} {U = Bool} store c.loop.store now a b d n m k tt (Ok true) invariant.most invariant.works
-    (grown_as {T = Turn} {U = Bool} c.loop.store now b d m k c.in_ok-step.field-0 true c.in_ok-step.ensures.works)
+    let from = flown_from (g.S.Shelf.told c.args.shelf.now) (repo_view c.args.source.now) c.args.flight.now in
+    let other = flown_from (g.S.Shelf.told c.loop.shelf) (repo_view c.loop.source) c.loop.flight in
+    let name = c.args.flight.now.named.name in
+    let same : other ≡ from =
+    origin_kept (g.S.Shelf.told c.args.shelf.now) (g.S.Shelf.told c.loop.shelf) (repo_view c.args.source.now) (repo_view c.loop.source)
+    c.args.flight.now.options.block c.loop.flight.options.block invariant.alike invariant.repo (ap (λ (o : Options). o.block) invariant.options) in
+    let called = ap (λ (e : ArchiveRef). e.name) invariant.named in
+    let turn = c.in_ok-step.field-0 in
+    flown_as {U = Bool} from name (name ∷ []) store now a d n k turn true (ap (λ (t : Turn). carried_by t name) c.in-Named.is)
+    (flown_then from other name c.loop.flight.named.name store c.loop.store now a b d n m k (Ok turn) same called invariant.works
+    c.in_ok-step.ensures.works)
 
 pub returns-in-Present-clause-works : goal.returns-in-Present-clause-works
 returns-in-Present-clause-works g c =
@@ -72,21 +97,42 @@ returns-in-Present-clause-works g c =
     let n = g.D.Shelf.faults c.args.depot.now in
     let m = g.D.Shelf.faults c.loop.depot in
     let k = g.D.Shelf.faults c.step.new.depot in
-    grown_then {T = Unit {0}} {U = Bool} store c.loop.store now a b d n m k tt (Ok false) invariant.most invariant.works
-    (grown_as {T = Turn} {U = Bool} c.loop.store now b d m k c.in_ok-step.field-0 false c.in_ok-step.ensures.works)
+    let from = flown_from (g.S.Shelf.told c.args.shelf.now) (repo_view c.args.source.now) c.args.flight.now in
+    let other = flown_from (g.S.Shelf.told c.loop.shelf) (repo_view c.loop.source) c.loop.flight in
+    let name = c.args.flight.now.named.name in
+    let same : other ≡ from =
+    origin_kept (g.S.Shelf.told c.args.shelf.now) (g.S.Shelf.told c.loop.shelf) (repo_view c.args.source.now) (repo_view c.loop.source)
+    c.args.flight.now.options.block c.loop.flight.options.block invariant.alike invariant.repo (ap (λ (o : Options). o.block) invariant.options) in
+    let called = ap (λ (e : ArchiveRef). e.name) invariant.named in
+    let turn = c.in_ok-step.field-0 in
+    flown_as {U = Bool} from name (name ∷ []) store now a d n k turn false (ap (λ (t : Turn). carried_by t name) c.in-Present.is)
+    (flown_then from other name c.loop.flight.named.name store c.loop.store now a b d n m k (Ok turn) same called invariant.works
+    c.in_ok-step.ensures.works)
 
 pub loop-preserved : goal.loop-preserved
 loop-preserved g c =
     let invariant = c.loop.invariant in
-    let ensures = c.in_ok-step.ensures in
     let store = c.args.store.now in
     let now = c.step.new.store in
+    let a = g.D.Shelf.told c.args.depot.now in
     let b = g.D.Shelf.told c.loop.depot in
     let d = g.D.Shelf.told c.step.new.depot in
+    let n = g.D.Shelf.faults c.args.depot.now in
     let m = g.D.Shelf.faults c.loop.depot in
     let k = g.D.Shelf.faults c.step.new.depot in
+    let from = flown_from (g.S.Shelf.told c.args.shelf.now) (repo_view c.args.source.now) c.args.flight.now in
+    let other = flown_from (g.S.Shelf.told c.loop.shelf) (repo_view c.loop.source) c.loop.flight in
+    let name = c.args.flight.now.named.name in
+    let same : other ≡ from =
+    origin_kept (g.S.Shelf.told c.args.shelf.now) (g.S.Shelf.told c.loop.shelf) (repo_view c.args.source.now) (repo_view c.loop.source)
+    c.args.flight.now.options.block c.loop.flight.options.block invariant.alike invariant.repo (ap (λ (o : Options). o.block) invariant.options) in
+    let called = ap (λ (e : ArchiveRef). e.name) invariant.named in
+    let turn = c.in_ok-step.field-0 in
+    let ensures = c.in_ok-step.ensures in
     record {
       flight = ensures.flight (ap Ok c.in-More.is);
+      named = ensures.name ∙ invariant.named;
+      options = ensures.options ∙ invariant.options;
       source_fits = ensures.source_fits;
       unspent = ensures.unspent;
       fits = ensures.fits;
@@ -97,6 +143,25 @@ loop-preserved g c =
       faults = ensures.cause ∙ invariant.faults;
       drawn = ensures.entropy ∙ invariant.drawn;
       most = most_then store c.loop.store now invariant.most ensures.most;
-      works = grown_then {T = Unit {0}} {U = Unit {0}} store c.loop.store now (g.D.Shelf.told c.args.depot.now) b d (g.D.Shelf.faults c.args.depot.now) m k tt
-          (Ok tt) invariant.most invariant.works (grown_as {T = Turn} {U = Unit {0}} c.loop.store now b d m k c.in_ok-step.field-0 tt ensures.works);
+      works = flown_as {U = Unit {0}} from name [] store now a d n k turn tt (ap (λ (t : Turn). carried_by t name) c.in-More.is)
+          (flown_then from other name c.loop.flight.named.name store c.loop.store now a b d n m k (Ok turn) same called invariant.works ensures.works);
     }
+
+pub returns-in_err-step-clause-refused : goal.returns-in_err-step-clause-refused
+returns-in_err-step-clause-refused g c =
+    let invariant = c.loop.invariant in
+    let store = c.args.store.now in
+    let now = c.step.new.store in
+    let a = g.D.Shelf.told c.args.depot.now in
+    let b = g.D.Shelf.told c.loop.depot in
+    let d = g.D.Shelf.told c.step.new.depot in
+    let from = flown_from (g.S.Shelf.told c.args.shelf.now) (repo_view c.args.source.now) c.args.flight.now in
+    let other = flown_from (g.S.Shelf.told c.loop.shelf) (repo_view c.loop.source) c.loop.flight in
+    let name = c.args.flight.now.named.name in
+    let same : other ≡ from =
+    origin_kept (g.S.Shelf.told c.args.shelf.now) (g.S.Shelf.told c.loop.shelf) (repo_view c.args.source.now) (repo_view c.loop.source)
+    c.args.flight.now.options.block c.loop.flight.options.block invariant.alike invariant.repo (ap (λ (o : Options). o.block) invariant.options) in
+    let fault = c.in_err-step.field-0.0 in
+    err_is c.from_residual.result fault (λ (r : Result Bool CarryFault). IfErr r (RefusesName from a store d now name)) c.from_residual.ensures.1
+    (name_refused {T = Turn} from other a b d _ store c.loop.store now name c.loop.flight.named.name (Err fault) same
+    (ap (λ (e : ArchiveRef). e.name) invariant.named) invariant.works.each invariant.most c.in_err-step.ensures.refused)

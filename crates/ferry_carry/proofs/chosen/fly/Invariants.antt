@@ -1,6 +1,6 @@
-use Rattle.std.proofs.Common.{◌≡◌, false, Ok, IfSome}
+use Rattle.std.proofs.Common.{◌≡◌, [], ◌∷◌, false, Ok, IfSome}
 use Rattle.ferry_carry.proofs.chosen.fly.Given as goal
-use Rattle.ferry_carry.specs.Flight.{FlightFits, IsSettled}
+use Rattle.ferry_carry.specs.Flight.{FlightFits, IsSettled, flown_from}
 use Rattle.ferry_carry.specs.Grow.{Grows, KeepsGrowing, KeepsMost}
 use Rattle.ferry_carry.specs.Work.{Works}
 use Rattle.ferry_disk.specs.Device.{heard, told_files}
@@ -13,6 +13,8 @@ use Rattle.ferry_store.specs.Store.{IsUnspent, StoreFits}
 abbrev pub invariant-loop : goal.invariant-loop
 invariant-loop g l = record {
   flight : FlightFits (g.S.Shelf.told l.shelf) (repo_view l.source) (g.D.Shelf.told l.depot) l.store l.flight;
+  named : l.flight.named ≡ l.fn.flight.named;
+  options : l.flight.options ≡ l.fn.flight.options;
   source_fits : IfSome (g.S.Shelf.told l.shelf) (λ t. FitsRepo (told_files t) (repo_view l.source) (cached_in l.source));
   unspent : IsUnspent l.store;
   fits : IfSome (g.D.Shelf.told l.depot) (λ t. StoreFits false l.store t.history);
@@ -23,6 +25,8 @@ invariant-loop g l = record {
   faults : g.S.Shelf.faults l.shelf ≡ g.S.Shelf.faults l.fn.shelf;
   drawn : g.E.Entropy.faults l.entropy ≡ g.E.Entropy.faults l.fn.entropy;
   most : KeepsMost l.fn.store l.store;
-  works : Works {T = Unit {0}} (KeepsGrowing l.fn.store) (λ _. Grows l.fn.store l.store) (g.D.Shelf.told l.fn.depot) (g.D.Shelf.told l.depot)
-      (g.D.Shelf.faults l.fn.depot) (g.D.Shelf.faults l.depot) (Ok tt);
+  works : Works {T = Unit {0}}
+      (KeepsGrowing (flown_from (g.S.Shelf.told l.fn.shelf) (repo_view l.fn.source) l.fn.flight) (l.fn.flight.named.name ∷ []) l.fn.store)
+      (λ _. Grows (flown_from (g.S.Shelf.told l.fn.shelf) (repo_view l.fn.source) l.fn.flight) [] l.fn.store l.store) (g.D.Shelf.told l.fn.depot)
+      (g.D.Shelf.told l.depot) (g.D.Shelf.faults l.fn.depot) (g.D.Shelf.faults l.depot) (Ok tt);
 }

@@ -1,10 +1,12 @@
-use Rattle.std.proofs.Common.{◌<◌, ◌++◌, [], Result, Ok, Err, OnOk, length, refl, ◌∙◌, arith}
+use Rattle.std.proofs.Common.{◌<◌, ◌++◌, [], Result, Ok, Err, IfErr, OnOk, length, refl, ◌∙◌, arith}
 use Rattle.ferry_carry.proofs.CopyLemmas.{contents_written, nothing_written}
 use Rattle.ferry_carry.proofs.GatherLemmas.{rest_here, rest_then}
+use Rattle.ferry_carry.proofs.RefusalLemmas.{contents_refused}
 use Rattle.ferry_carry.proofs.WorkLemmas.{err_is, gathered_none, gathered_then}
 use Rattle.ferry_carry.proofs.copy.write_contents.Goals as goal
 use Rattle.ferry_carry.specs.Copying.{WritesContents}
 use Rattle.ferry_carry.specs.Gather.{Gathers, KeepsStanding}
+use Rattle.ferry_carry.specs.Refusals.{RefusesContents}
 use Rattle.ferry_carry.specs.Work.{Works}
 use Rattle.ferry_carry.specs.declared.fault.CarryFault.{CarryFault}
 use Rattle.ferry_repo.specs.Opening.{repo_view}
@@ -87,3 +89,15 @@ loop-place-preserved g c =
             next.1.1,
       );
     }
+
+pub returns-in_err-write_content-clause-refused : goal.returns-in_err-write_content-clause-refused
+returns-in_err-write_content-clause-refused g c =
+    let invariant = c.loop-place.invariant in
+    let fault = c.in_err-write_content.field-0.0 in
+    let told = g.S.Shelf.told c.args.shelf.now in
+    let source = repo_view c.args.source.now in
+    let chunks = c.args.chunks.now in
+    let lt : c.loop-place.place < length chunks = omega arith in
+    err_is c.from_residual.result fault (λ (r : Result (Unit {0}) CarryFault). IfErr r (RefusesContents told source chunks)) c.from_residual.ensures.1
+    (contents_refused told (g.S.Shelf.told c.loop-place.shelf) source (repo_view c.loop-place.source) chunks c.loop-place.place _
+    invariant.written.2.contents fault invariant.alike invariant.repo lt invariant.written.2.come c.in_err-write_content.ensures.refused)

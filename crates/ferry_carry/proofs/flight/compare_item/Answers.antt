@@ -1,14 +1,17 @@
-use Rattle.std.proofs.Common.{◌≡◌, ◌∙◌, Result, IfSome, ap}
-use Rattle.ferry_carry.proofs.FlightLemmas.{fits_read, works_read, works_unread}
+use Rattle.std.proofs.Common.{◌≡◌, [], ◌∙◌, Ok, Result, ap, subst}
+use Rattle.ferry_carry.proofs.FlightLemmas.{fits_read, same_read, works_read, works_unread}
 use Rattle.ferry_carry.proofs.WorkLemmas.{err_is}
 use Rattle.ferry_carry.proofs.flight.compare_item.Goals as goal
 use Rattle.ferry_carry.specs.Fault.{compare_fault}
-use Rattle.ferry_carry.specs.Grow.{Grows, KeepsGrowing}
+use Rattle.ferry_carry.specs.Gather.{Gathers, KeepsStanding}
 use Rattle.ferry_carry.specs.Work.{Works}
 use Rattle.ferry_carry.specs.declared.fault.CarryFault.{CarryFault}
+use Rattle.ferry_compare.specs.Compare.{AreEqual, comparison_view, Differ}
 use Rattle.ferry_compare.specs.declared.comparison.Compared.{Compared}
-use Rattle.ferry_repo.specs.Opening.{repo_view}
+use Rattle.ferry_compare.specs.declared.comparison.Compared.TheVariants.{Equal, Differs}
+use Rattle.ferry_repo.specs.Opening.{RepoState, repo_view}
 use Rattle.ferry_store.specs.declared.store.Store.{Store}
+use Rattle.ferry_carry.proofs.CauseLemmas.{differs_there}
 
 pub returns-in_err-compared-clause-works : goal.returns-in_err-compared-clause-works
 returns-in_err-compared-clause-works g c =
@@ -20,7 +23,7 @@ returns-in_err-compared-clause-works g c =
     let now : Store = record store { repo = c.step.new.target } in
     let fault = c.in_err-compared.field-0.0 in
     err_is c.from_residual.result (compare_fault fault)
-    (λ (r : Result Compared CarryFault). Works (KeepsGrowing store) (λ _. Grows store now) a b n m r) c.from_residual.ensures.1
+    (λ (r : Result Compared CarryFault). Works (KeepsStanding store) (λ _. Gathers store [] now) a b n m r) c.from_residual.ensures.1
     (works_unread {U = Compared} Compared store now a b n m fault c.in_err-compared.ensures.target_same c.in_err-compared.ensures.target_cause)
 
 pub returns-in_err-compared-clause-fits : goal.returns-in_err-compared-clause-fits
@@ -39,3 +42,21 @@ pub returns-clause-fits : goal.returns-clause-fits
 returns-clause-fits g c =
     fits_read {T = Compared} c.args.store.now c.step.new.target (g.D.Shelf.told c.args.depot.now) (g.D.Shelf.told c.step.new.other) c.step.result
     (c.step.ensures.target_kept ∙ ap repo_view c.repo.ensures.repo) c.step.ensures.target_same c.step.ensures.target_fits c.requires.fits
+
+pub returns-clause-equal : goal.returns-clause-equal
+returns-clause-equal g c e block =
+    let is : c.in_ok-compared.compared ≡ Equal = cc in
+    same_read {T = Compared} (g.S.Shelf.told c.args.shelf.now) (g.D.Shelf.told c.args.depot.now) (g.D.Shelf.told c.step.new.other)
+    (repo_view c.args.source.now) block (repo_view c.args.store.now.repo) (repo_view c.step.new.target) (comparison_view c.args.comparison.now).name
+    c.in_ok-compared.compared (c.step.ensures.target_kept ∙ ap repo_view c.repo.ensures.repo) c.in_ok-compared.ensures.target_same
+    (subst (λ (r : RepoState). AreEqual (g.S.Shelf.told c.args.shelf.now) (repo_view c.args.source.now) (g.D.Shelf.told c.args.depot.now) r
+    (comparison_view c.args.comparison.now).name) (ap repo_view c.repo.ensures.repo) (c.in_ok-compared.ensures.equal (ap Ok is)))
+
+pub returns-clause-differs_now : goal.returns-clause-differs_now
+returns-clause-differs_now g c e block =
+    let is : c.in_ok-compared.compared ≡ Differs = cc in
+    differs_there {T = Compared} (g.S.Shelf.told c.args.shelf.now) (g.D.Shelf.told c.args.depot.now) (g.D.Shelf.told c.step.new.other)
+    (repo_view c.args.source.now) block (repo_view c.args.store.now.repo) (repo_view c.step.new.target) (comparison_view c.args.comparison.now).name
+    c.in_ok-compared.compared (c.step.ensures.target_kept ∙ ap repo_view c.repo.ensures.repo) c.in_ok-compared.ensures.target_same
+    (subst (λ (r : RepoState). Differ (g.S.Shelf.told c.args.shelf.now) (repo_view c.args.source.now) (g.D.Shelf.told c.args.depot.now) r
+    (comparison_view c.args.comparison.now).name) (ap repo_view c.repo.ensures.repo) (c.in_ok-compared.ensures.differs (ap Ok is)))

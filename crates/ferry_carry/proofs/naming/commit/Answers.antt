@@ -1,20 +1,20 @@
-use Rattle.std.proofs.Common.{Result}
-use Rattle.ferry_carry.proofs.GrowLemmas.{commit_fits, commit_grows, commit_growing}
-use Rattle.ferry_carry.proofs.WorkLemmas.{err_is, works_err, works_ok}
+use Rattle.std.proofs.Common.{◌≡◌, Result, refl, sym, ◌∙◌, ap}
+use Rattle.ferry_carry.proofs.GrowLemmas.{commit_fits}
+use Rattle.ferry_carry.proofs.NamingLemmas.{commit_most, commit_works, commit_works_err}
+use Rattle.ferry_carry.proofs.WorkLemmas.{err_is}
 use Rattle.ferry_carry.proofs.naming.commit.Goals as goal
 use Rattle.ferry_carry.specs.Fault.{target_fault}
-use Rattle.ferry_carry.specs.Grow.{Grows, KeepsGrowing}
-use Rattle.ferry_carry.specs.Work.{Works}
+use Rattle.ferry_carry.specs.Flight.{NamesArchive}
 use Rattle.ferry_carry.specs.declared.fault.CarryFault.{CarryFault}
 use Rattle.ferry_manifest.specs.Manifest.Writing.{manifest_text}
 use Rattle.ferry_next.specs.Next.{written_at}
-use Rattle.ferry_repo.specs.Opening.{repo_view}
-use Rattle.ferry_store.specs.Commit.{Commits, CommitsEntry, accepted_in, manifest_entry}
+use Rattle.ferry_repo.specs.Opening.{RepoState, repo_view}
+use Rattle.ferry_store.specs.Commit.{CommitsEntry, accepted_in, manifest_entry}
 use Rattle.ferry_store.specs.Content.{blob_for}
 use Rattle.ferry_store.specs.Standing.{with_manifest}
 
 pub returns-in_err-commit-clause-works : goal.returns-in_err-commit-clause-works
-returns-in_err-commit-clause-works g c =
+returns-in_err-commit-clause-works g c accepted named one =
     let a = g.D.Shelf.told c.args.depot.now in
     let b = g.D.Shelf.told c.commit.new.depot in
     let n = g.D.Shelf.faults c.args.depot.now in
@@ -23,16 +23,13 @@ returns-in_err-commit-clause-works g c =
     let now = c.commit.new.self in
     let made = c.in_err-commit.ensures.committed in
     let text = written_at (accepted_in store) c.args.timestamp.now in
-    let entry = manifest_entry (repo_view store.repo) store.counter text made.0 in
     let blob = blob_for (repo_view store.repo) store.counter (manifest_text (repo_view store.repo).keys made.0 text) in
     let refusal = c.in_err-commit.field-0.0 in
-    err_is c.from_residual.result (target_fault refusal)
-    (λ (r : Result (Unit {0}) CarryFault). Works (KeepsGrowing store) (λ _. Grows store now) a b n m r) c.from_residual.ensures.1
-    (works_err {T = Unit {0}} (CommitsEntry (with_manifest (repo_view store.repo) text) store.session store.counter entry) (λ _. Commits store entry now)
-    (KeepsGrowing store) (λ _. Grows store now) a b n m refusal (λ h k e. commit_growing store text blob h k c.requires.accepts e) made.1.2)
+    err_is c.from_residual.result (target_fault refusal) (λ (r : Result (Unit {0}) CarryFault). NamesArchive accepted named store now a b n m r)
+    c.from_residual.ensures.1 (commit_works_err accepted named store now text blob a b n m refusal c.requires.accepts refl one c.commit.ensures.untold made.1.2)
 
 pub returns-clause-works : goal.returns-clause-works
-returns-clause-works g c =
+returns-clause-works g c accepted named one =
     let a = g.D.Shelf.told c.args.depot.now in
     let b = g.D.Shelf.told c.commit.new.depot in
     let n = g.D.Shelf.faults c.args.depot.now in
@@ -41,11 +38,11 @@ returns-clause-works g c =
     let now = c.commit.new.self in
     let made = c.in_ok-commit.ensures.committed in
     let text = written_at (accepted_in store) c.args.timestamp.now in
-    let entry = manifest_entry (repo_view store.repo) store.counter text made.0 in
     let blob = blob_for (repo_view store.repo) store.counter (manifest_text (repo_view store.repo).keys made.0 text) in
-    works_ok {T = Unit {0}} {U = Unit {0}} (CommitsEntry (with_manifest (repo_view store.repo) text) store.session store.counter entry)
-    (λ _. Commits store entry now) (KeepsGrowing store) (λ _. Grows store now) a b n m tt tt
-    (λ h k e. commit_growing store text blob h k c.requires.accepts e) (λ h k e. commit_grows store now blob h k e) made.1.2
+    let repo : repo_view now.repo ≡ with_manifest (repo_view store.repo) text = c.in_ok-commit.ensures.repo in
+    let manifest : (repo_view now.repo).manifest ≡ text = ap (λ (r : RepoState). r.manifest) repo in
+    commit_works accepted named store now text blob a b n m c.requires.accepts (commit_most store now text repo c.requires.accepts) refl manifest
+    (c.in_ok-commit.ensures.accepted ∙ sym manifest) one c.commit.ensures.untold made.1.2
 
 pub returns-clause-fits : goal.returns-clause-fits
 returns-clause-fits g c =

@@ -23,7 +23,7 @@ returns-in_err-added-clause-works g c =
     err_is c.from_residual.result (target_fault refusal)
     (λ (r : Result Added CarryFault). Works (KeepsStanding store) (λ _. Gathers store (content ∷ []) now) a b n m r) c.from_residual.ensures.1
     (works_err {T = Added} (KeepsSound store.session store.counter) (Adds store content now) (KeepsStanding store) (λ _. Gathers store (content ∷ []) now)
-    a b n m refusal (add_stands store) c.in_err-added.ensures.did)
+    a b n m refusal (add_stands store) c.add.ensures.untold c.in_err-added.ensures.did)
 
 pub returns-clause-works : goal.returns-clause-works
 returns-clause-works g c =
@@ -44,7 +44,8 @@ returns-clause-works g c =
       accepted = c.add.ensures.accepted;
     } in
     works_ok (KeepsSound store.session store.counter) (Adds store content now) (KeepsStanding store) (λ _. Gathers store (content ∷ []) now) a b n m added added
-    (add_stands store) (λ h k adds. add_gathers store now content added h k so adds) c.in_ok-added.ensures.did
+    (add_stands store) (λ h k adds. add_gathers store now content added h k so adds) c.add.ensures.untold
+    c.in_ok-added.ensures.did
 
 pub returns-clause-fits : goal.returns-clause-fits
 returns-clause-fits g c =

@@ -21,7 +21,7 @@ returns-in_err-checkpoint-clause-works g c =
     err_is c.from_residual.result (target_fault refusal)
     (λ (r : Result (Unit {0}) CarryFault). Works (KeepsStanding store) (λ _. Gathers store [] now) a b n m r) c.from_residual.ensures.1
     (works_err {T = Unit {0}} (CommitsSound store.session store.counter) (λ _. Checkpoints store now) (KeepsStanding store) (λ _. Gathers store [] now)
-    a b n m refusal (checkpoint_stands store) c.in_err-checkpoint.ensures.did)
+    a b n m refusal (checkpoint_stands store) c.checkpoint.ensures.untold c.in_err-checkpoint.ensures.did)
 
 pub returns-clause-works : goal.returns-clause-works
 returns-clause-works g c =
@@ -33,7 +33,8 @@ returns-clause-works g c =
     let now = c.checkpoint.new.self in
     works_ok {T = Unit {0}} {U = Unit {0}} (CommitsSound store.session store.counter) (λ _. Checkpoints store now)
     (KeepsStanding store) (λ _. Gathers store [] now) a b n m tt tt
-    (checkpoint_stands store) (λ h k takes. checkpoint_gathers store now h k c.checkpoint.ensures.repo takes) c.in_ok-checkpoint.ensures.did
+    (checkpoint_stands store) (λ h k takes. checkpoint_gathers store now h k c.checkpoint.ensures.repo takes) c.checkpoint.ensures.untold
+    c.in_ok-checkpoint.ensures.did
 
 pub returns-clause-fits : goal.returns-clause-fits
 returns-clause-fits g c =

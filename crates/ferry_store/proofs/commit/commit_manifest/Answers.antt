@@ -9,6 +9,7 @@ use Rattle.ferry_manifest.specs.Manifest.Text.{manifest_view}
 use Rattle.ferry_manifest.specs.Manifest.Writing.{manifest_text}
 use Rattle.ferry_repo.specs.Opening.{mode_of, repo_view}
 use Rattle.ferry_segment.specs.Entry.{PutEntry}
+use Rattle.ferry_stops.proofs.TellLemmas.{told_both, told_none}
 use Rattle.ferry_store.proofs.RenewLemmas.{manifest_held, nothing_committed, packed_refused, put_commits, put_refused, still_packed}
 use Rattle.ferry_store.proofs.RenewLemmas.{uncommitted_refused, unput_refused}
 use Rattle.ferry_store.proofs.StepLemmas.{err_is}
@@ -151,3 +152,11 @@ returns-clause-committed g c =
         uncommitted_refused put counter (length text) r c.commit.ensures.refused,
       ),
     )
+
+pub returns-in_err-buffer-clause-untold : goal.returns-in_err-buffer-clause-untold
+returns-in_err-buffer-clause-untold g c = told_none (g.D.Shelf.told c.args.depot.now)
+
+pub returns-clause-untold : goal.returns-clause-untold
+returns-clause-untold g c =
+    told_both (g.D.Shelf.told c.args.depot.now) (g.D.Shelf.told c.put_object.new.depot) (g.D.Shelf.told c.commit.new.depot)
+    c.in_ok-put_object.ensures.untold c.commit.ensures.untold

@@ -4,6 +4,7 @@ use Rattle.ferry_blob.specs.declared.mode.Mode.{Mode}
 use Rattle.ferry_disk.specs.Act.{History}
 use Rattle.ferry_mac.specs.declared.keys.Keys.{Keys}
 use Rattle.ferry_repo.specs.Opening.{mode_of, repo_view}
+use Rattle.ferry_stops.proofs.TellLemmas.{told_none}
 use Rattle.ferry_store.proofs.ContentLemmas.{content_put, unput}
 use Rattle.ferry_store.proofs.StepLemmas.{err_is}
 use Rattle.ferry_store.proofs.content.put_content.Goals as goal
@@ -74,3 +75,6 @@ returns-clause-opens g c =
     subst (λ (b : List ℕ). OpensTo keys id b (drop 43 buffer)) same (c.in_ok-place.ensures.opens id (inr named)) in
     subst (OpensTo repo.keys id (blob_for repo counter content)) inside
     (subst (λ (k : Keys). OpensTo k id (blob_for repo counter content) (drop 43 buffer)) c.keys.ensures.keys opens)
+
+pub returns-in_err-buffer-clause-untold : goal.returns-in_err-buffer-clause-untold
+returns-in_err-buffer-clause-untold g c = told_none (g.D.Shelf.told c.args.depot.now)

@@ -5,6 +5,7 @@ use Rattle.ferry_disk.specs.Moments.{Between}
 use Rattle.ferry_log.specs.declared.place.Place.{Place}
 use Rattle.ferry_nonce.specs.Counter.{reserved_for}
 use Rattle.ferry_segment.specs.Entry.{PutEntry}
+use Rattle.ferry_stops.proofs.TellLemmas.{told_both}
 use Rattle.ferry_store.proofs.CallLemmas.{HasPut, draw_err, draw_ok, object_blocks, object_both, object_placed, put_err, put_ok}
 use Rattle.ferry_store.proofs.StepLemmas.{err_is}
 use Rattle.ferry_store.proofs.put.put_object.Goals as goal
@@ -138,3 +139,13 @@ returns-clause-opens g c = λ name named.
     let same : c.seal.new.buffer ≡ sealed c.args.keys.now c.args.mode c.args.counter.now.free content =
     c.seal.ensures.blob ∙ ap (λ (f : ℕ). sealed c.args.keys.now c.args.mode f content) c.in_ok-first.ensures.drawn.0 in
     subst (λ (x : List ℕ). OpensTo c.args.keys.now name x content) same (c.seal.ensures.opens name named)
+
+pub returns-in_err-place-clause-untold : goal.returns-in_err-place-clause-untold
+returns-in_err-place-clause-untold g c =
+    told_both (g.D.Shelf.told c.args.depot.now) (g.D.Shelf.told c.draw.new.depot) (g.D.Shelf.told c.put.new.depot) c.in_ok-first.ensures.untold
+    c.in_err-place.ensures.untold
+
+pub returns-clause-untold : goal.returns-clause-untold
+returns-clause-untold g c =
+    told_both (g.D.Shelf.told c.args.depot.now) (g.D.Shelf.told c.draw.new.depot) (g.D.Shelf.told c.put.new.depot) c.in_ok-first.ensures.untold
+    c.in_ok-place.ensures.untold

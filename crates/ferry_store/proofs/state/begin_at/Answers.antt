@@ -1,6 +1,7 @@
 use Rattle.std.proofs.Common.{Ok, Err, Result}
 use Rattle.ferry_nonce.specs.Fault.{nonce_failed}
 use Rattle.ferry_nonce.specs.declared.counter.Counter.{Counter}
+use Rattle.ferry_stops.proofs.TellLemmas.{told_both}
 use Rattle.ferry_store.proofs.CallLemmas.{begins_here, begun_err, begun_ok, begun_settled, nonce_is, read_first, read_refused}
 use Rattle.ferry_store.proofs.StepLemmas.{after_same, err_is, same_told}
 use Rattle.ferry_store.proofs.state.begin_at.Goals as goal
@@ -77,3 +78,13 @@ returns-clause-clears g c =
     let b = g.D.Shelf.told c.open.new.depot in
     after_same (ClearsAll c.args.after) a b (g.D.Shelf.told c.begin.new.depot)
     (same_told nonce_failed a b (Ok c.in_ok-counter.counter) c.in_ok-counter.ensures.same) c.in_ok-session.ensures.acts
+
+pub returns-in_err-session-clause-untold : goal.returns-in_err-session-clause-untold
+returns-in_err-session-clause-untold g c =
+    told_both (g.D.Shelf.told c.args.depot.now) (g.D.Shelf.told c.open.new.depot) (g.D.Shelf.told c.begin.new.depot) c.in_ok-counter.ensures.untold
+    c.in_err-session.ensures.untold
+
+pub returns-clause-untold : goal.returns-clause-untold
+returns-clause-untold g c =
+    told_both (g.D.Shelf.told c.args.depot.now) (g.D.Shelf.told c.open.new.depot) (g.D.Shelf.told c.begin.new.depot) c.in_ok-counter.ensures.untold
+    c.in_ok-session.ensures.untold

@@ -1,46 +1,40 @@
-use Rattle.std.proofs.Common.{rules, ◌≡◌, Err, Result, IfSome, refl, sym, subst}
+use Rattle.std.proofs.Common.{Result, subst}
 use Rattle.ferry_carry.proofs.FaultLemmas.{source_still}
 use Rattle.ferry_carry.proofs.WorkLemmas.{err_is}
 use Rattle.ferry_carry.specs.Fault.{source_fault}
 use Rattle.ferry_carry.specs.Work.{Works}
 use Rattle.ferry_carry.specs.declared.fault.CarryFault.{CarryFault}
-use Rattle.ferry_carry.specs.declared.fault.CarryFault.TheVariants.{Memory}
-use Rattle.ferry_disk.specs.Act.{History}
-use Rattle.ferry_top.proofs.TransferLemmas.{source_fits, untouched}
+use Rattle.ferry_repo.specs.Fault.{repo_failed}
+use Rattle.ferry_repo.specs.declared.fault.RepoFault.{RepoFault}
+use Rattle.ferry_repo.specs.declared.repo.Repo.{Repo}
+use Rattle.ferry_top.proofs.TransferLemmas.{asked_kept, source_fits, source_opens, untouched}
 use Rattle.ferry_top.proofs.transfer.copy.Goals as goal
-use Rattle.ferry_top.specs.Transfer.{TransferEach}
+use Rattle.ferry_top.specs.Transfer.{Request, TransferEach, TransferEnds, asked}
 
 pub returns-in_err-repo-clause-works : goal.returns-in_err-repo-clause-works
 returns-in_err-repo-clause-works g c =
     let a = g.D.Shelf.told c.args.target.now in
     let n = g.D.Shelf.faults c.args.target.now in
-    let secret = c.args.secrets.now.target in
+    let request = asked c.args.secrets.now c.args.options.now.block c.args.names.now (g.S.Shelf.told c.args.source.now) in
     let fault = source_fault c.in_err-repo.field-0.0 in
     err_is c.from_residual.result fault
-    (λ (r : Result (Unit {0}) CarryFault). Works (TransferEach secret) (λ _ (h : History) (k : History). Unit {0}) a a n n r) c.from_residual.ensures.1
-    (untouched {T = Unit {0}} secret a n fault (source_still c.in_err-repo.field-0.0))
+    (λ (r : Result (Unit {0}) CarryFault). Works (TransferEach request) (λ _. TransferEnds request) a a n n r) c.from_residual.ensures.1
+    (untouched {T = Unit {0}} request a n fault (source_still c.in_err-repo.field-0.0))
 
-pub returns-in_err-chosen-clause-works : goal.returns-in_err-chosen-clause-works
-returns-in_err-chosen-clause-works g c =
-    let a = g.D.Shelf.told c.args.target.now in
-    let n = g.D.Shelf.faults c.args.target.now in
-    let secret = c.args.secrets.now.target in
-    err_is c.from_residual-in_err-chosen.result Memory
-    (λ (r : Result (Unit {0}) CarryFault). Works (TransferEach secret) (λ _ (h : History) (k : History). Unit {0}) a a n n r)
-    c.from_residual-in_err-chosen.ensures.1 (untouched {T = Unit {0}} secret a n Memory refl)
-
-pub returns-in_err-find_names-clause-works : goal.returns-in_err-find_names-clause-works
-returns-in_err-find_names-clause-works g c =
-    let a = g.D.Shelf.told c.args.target.now in
-    let n = g.D.Shelf.faults c.args.target.now in
-    let secret = c.args.secrets.now.target in
-    let fault = c.in_err-find_names.field-0.0 in
-    err_is c.from_residual-in_err-find_names.result fault
-    (λ (r : Result (Unit {0}) CarryFault). Works (TransferEach secret) (λ _ (h : History) (k : History). Unit {0}) a a n n r)
-    c.from_residual-in_err-find_names.ensures.1 (untouched {T = Unit {0}} secret a n fault c.in_err-find_names.ensures.still)
+pub copy_into-requires-clause-source_opens : goal.copy_into-requires-clause-source_opens
+copy_into-requires-clause-source_opens g c =
+    source_opens (g.S.Shelf.told c.args.source.now) (g.S.Shelf.told c.open.new.shelf) c.in_ok-repo.repo c.args.secrets.now.source
+    c.in_ok-repo.ensures.repository c.in_ok-repo.ensures.same
 
 pub copy_into-requires-clause-source_fits : goal.copy_into-requires-clause-source_fits
 copy_into-requires-clause-source_fits g c =
-    source_fits (g.S.Shelf.told c.args.source.now) (g.S.Shelf.told c.open.new.shelf) c.in_ok-repo.repo c.args.secrets.now.source
-    c.in_ok-repo.ensures.repository
-    c.in_ok-repo.ensures.cached c.in_ok-repo.ensures.same
+    source_fits (g.S.Shelf.told c.open.new.shelf) c.in_ok-repo.repo c.args.secrets.now.source
+    (source_opens (g.S.Shelf.told c.args.source.now) (g.S.Shelf.told c.open.new.shelf) c.in_ok-repo.repo c.args.secrets.now.source
+    c.in_ok-repo.ensures.repository c.in_ok-repo.ensures.same) c.in_ok-repo.ensures.cached
+
+pub returns-clause-works : goal.returns-clause-works
+returns-clause-works g c =
+    subst (λ (request : Request). Works (TransferEach request) (λ _. TransferEnds request) (g.D.Shelf.told c.args.target.now)
+    (g.D.Shelf.told c.copy_into.new.target) (g.D.Shelf.faults c.args.target.now) (g.D.Shelf.faults c.copy_into.new.target) c.copy_into.result)
+    (asked_kept {T = Repo} {F = RepoFault} c.args.secrets.now c.args.options.now.block c.args.names.now repo_failed (g.S.Shelf.told c.args.source.now)
+    (g.S.Shelf.told c.open.new.shelf) c.in_ok-repo.repo c.in_ok-repo.ensures.same) c.copy_into.ensures.works

@@ -1,8 +1,13 @@
-use Rattle.std.proofs.Common.{◌≡◌, ◌≤◌, ◌++◌, Bool, true, false, [], Option, Result, Ok, Err, IfOk, IfSome, refl, ap, arith}
+use Rattle.std.proofs.Common.{◌≡◌, ◌≤◌, ◌++◌, Bool, true, false, [], Option, Result, Ok, Err, IfErr, IfOk, IfSome, refl, ◌∙◌, ap, arith}
 use Rattle.ferry_carry.proofs.CopyLemmas.{copied_packable}
+use Rattle.ferry_carry.proofs.GatherLemmas.{rest_here, rest_then}
+use Rattle.ferry_carry.proofs.ProgressLemmas.{err_not, steps_copied, steps_ended}
+use Rattle.ferry_carry.proofs.RefusalLemmas.{item_refused, next_refused}
 use Rattle.ferry_carry.proofs.StepLemmas.{step_copies}
 use Rattle.ferry_carry.proofs.WorkLemmas.{err_is, gathered_as, gathered_err, gathered_none, gathered_nothing, gathered_then}
 use Rattle.ferry_carry.proofs.copy.Copy.step.Goals as goal
+use Rattle.ferry_carry.specs.Carrying.{origin}
+use Rattle.ferry_carry.specs.Refusals.{RefusesStep}
 use Rattle.ferry_carry.specs.Gather.{Gathers, KeepsStanding}
 use Rattle.ferry_carry.specs.Copying.{TakesItem}
 use Rattle.ferry_carry.specs.Step.{StepsOn}
@@ -16,7 +21,7 @@ use Rattle.ferry_item.specs.declared.item.ChunkRefs.{ChunkRefs}
 use Rattle.ferry_item.specs.declared.item.Item.{Item}
 use Rattle.ferry_disk.specs.Device.{told_files}
 use Rattle.ferry_repo.specs.Walk.{walk_view}
-use Rattle.ferry_repo.specs.Opening.{repo_view}
+use Rattle.ferry_repo.specs.Opening.{cached_in, repo_view}
 
 pub returns-in_err-item-clause-works : goal.returns-in_err-item-clause-works
 returns-in_err-item-clause-works g c =
@@ -167,3 +172,92 @@ returns-clause-steps g c =
             c.in_ok-write_item.ensures.again,
       ),
     )
+
+pub returns-in_err-item-clause-copied : goal.returns-in_err-item-clause-copied
+returns-in_err-item-clause-copied g c =
+    λ named is so. absurd (err_not {T = Bool} c.from_residual.result c.in_err-item.field-0.0 true c.from_residual.ensures.1 is)
+
+pub returns-in_default-clause-copied : goal.returns-in_default-clause-copied
+returns-in_default-clause-copied g c = λ named is so. absurd (let no : ⊥ = cc in no)
+
+pub returns-in_err-write_item-clause-copied : goal.returns-in_err-write_item-clause-copied
+returns-in_err-write_item-clause-copied g c =
+    λ named is so.
+    absurd (err_not {T = Bool} c.from_residual-in_err-write_item.result c.in_err-write_item.field-0.0 true c.from_residual-in_err-write_item.ensures.1 is)
+
+pub returns-clause-copied : goal.returns-clause-copied
+returns-clause-copied g c =
+    λ named is so.
+    let store = c.args.store.now in
+    let middle = c.copy_chunks.new.store in
+    let now = c.write_item.new.store in
+    let copy = c.args.self.now in
+    let copy_now = c.write_item.new.self in
+    let steps = returns-clause-steps g c in
+    let archive : copy_now.archive ≡ copy.archive =
+    ap (λ (x : Copy). x.archive) c.in_ok-write_item.ensures.others
+    ∙ (ap (λ (x : Copy). x.archive) c.in_ok-chunks.ensures.others ∙ ap (λ (x : Copy). x.archive) c.in_ok-item.ensures.others) in
+    let block : copy_now.block ≡ copy.block =
+    ap (λ (x : Copy). x.block) c.in_ok-write_item.ensures.others
+    ∙ (ap (λ (x : Copy). x.block) c.in_ok-chunks.ensures.others ∙ ap (λ (x : Copy). x.block) c.in_ok-item.ensures.others) in
+    steps_copied (g.S.Shelf.told c.args.shelf.now) (g.D.Shelf.told c.args.depot.now) (g.D.Shelf.told c.write_item.new.depot)
+    (repo_view c.args.source.now) (cached_in c.args.source.now) named store now copy copy_now steps.0 (g.D.Shelf.faults c.args.depot.now)
+    (g.D.Shelf.faults c.write_item.new.depot) c.requires.source_fits c.requires.fits steps.1.0
+    (rest_then store middle now c.in_ok-chunks.ensures.rest c.in_ok-write_item.ensures.rest) c.requires.ready archive block steps.1.1 so
+
+pub returns-in_err-item-clause-ended : goal.returns-in_err-item-clause-ended
+returns-in_err-item-clause-ended g c =
+    λ named is named_is so. absurd (err_not {T = Bool} c.from_residual.result c.in_err-item.field-0.0 false c.from_residual.ensures.1 is)
+
+pub returns-in_default-clause-ended : goal.returns-in_default-clause-ended
+returns-in_default-clause-ended g c =
+    λ named is named_is so.
+    let store = c.args.store.now in
+    let a = g.D.Shelf.told c.args.depot.now in
+    let n = g.D.Shelf.faults c.args.depot.now in
+    let copy = c.args.self.now in
+    let copy_now = c.next.new.self in
+    let steps = returns-in_default-clause-steps g c in
+    let archive : copy_now.archive ≡ copy.archive = ap (λ (x : Copy). x.archive) c.in_ok-item.ensures.others in
+    let block : copy_now.block ≡ copy.block = ap (λ (x : Copy). x.block) c.in_ok-item.ensures.others in
+    steps_ended (g.S.Shelf.told c.args.shelf.now) a a (repo_view c.args.source.now) named store store copy copy_now steps.0 n n named_is
+    c.requires.fits steps.1.0 (rest_here store) archive block steps.1.1 so
+
+pub returns-in_err-write_item-clause-ended : goal.returns-in_err-write_item-clause-ended
+returns-in_err-write_item-clause-ended g c =
+    λ named is named_is so.
+    absurd (err_not {T = Bool} c.from_residual-in_err-write_item.result c.in_err-write_item.field-0.0 false c.from_residual-in_err-write_item.ensures.1 is)
+
+pub returns-clause-ended : goal.returns-clause-ended
+returns-clause-ended g c = λ named is named_is so. absurd (let no : ⊥ = cc in no)
+
+pub returns-in_err-item-clause-refused : goal.returns-in_err-item-clause-refused
+returns-in_err-item-clause-refused g c =
+    λ named named_is so.
+    let told = g.S.Shelf.told c.args.shelf.now in
+    let source = repo_view c.args.source.now in
+    let copy = c.args.self.now in
+    let heard = g.D.Shelf.told c.args.depot.now in
+    let fault = c.in_err-item.field-0.0 in
+    err_is c.from_residual.result fault (λ (r : Result Bool CarryFault). IfErr r (RefusesStep (origin told source copy.block) heard named.name))
+    c.from_residual.ensures.1
+    (next_refused told heard source copy.block named c.args.store.now copy fault named_is so c.in_err-item.ensures.refused)
+
+pub returns-in_err-chunks-clause-refused : goal.returns-in_err-chunks-clause-refused
+returns-in_err-chunks-clause-refused g c =
+    λ named named_is so.
+    let told = g.S.Shelf.told c.args.shelf.now in
+    let source = repo_view c.args.source.now in
+    let copy = c.args.self.now in
+    let heard = g.D.Shelf.told c.args.depot.now in
+    let fault = c.in_err-chunks.field-0.0 in
+    let block : c.next.new.self.block ≡ copy.block = ap (λ (x : Copy). x.block) c.in_ok-item.ensures.others in
+    let taken =
+    some_holds c.in_ok-item.field-0 c.in-Some.item
+    (λ (item : Item). IfSome told (λ t. TakesItem (told_files t) source (walk_view copy.walk) (item_view item) (walk_view c.next.new.self.walk)))
+    c.in-Some.is c.in_ok-item.ensures.item in
+    err_is c.from_residual-in_err-chunks.result fault
+    (λ (r : Result Bool CarryFault). IfErr r (RefusesStep (origin told source copy.block) heard named.name)) c.from_residual-in_err-chunks.ensures.1
+    (item_refused told (g.S.Shelf.told c.next.new.shelf) heard source (repo_view c.next.new.source) (cached_in c.args.source.now) copy.block
+    c.next.new.self.block named c.args.store.now copy (item_view c.in-Some.item) (walk_view c.next.new.self.walk) fault c.in_ok-item.ensures.same
+    c.in_ok-item.ensures.kept block c.requires.source_fits taken named_is so c.in_err-chunks.ensures.refused)

@@ -1,9 +1,9 @@
-use Rattle.std.proofs.Common.{◌≡◌, ◌∙◌, Result, IfSome, ap}
+use Rattle.std.proofs.Common.{[], ◌∙◌, Result, ap}
 use Rattle.ferry_carry.proofs.FlightLemmas.{fits_read, works_read, works_unread}
 use Rattle.ferry_carry.proofs.WorkLemmas.{err_is}
 use Rattle.ferry_carry.proofs.flight.Flight.begin_comparing.Goals as goal
 use Rattle.ferry_carry.specs.Fault.{compare_fault}
-use Rattle.ferry_carry.specs.Grow.{Grows, KeepsGrowing}
+use Rattle.ferry_carry.specs.Gather.{Gathers, KeepsStanding}
 use Rattle.ferry_carry.specs.Work.{Works}
 use Rattle.ferry_carry.specs.declared.fault.CarryFault.{CarryFault}
 use Rattle.ferry_compare.specs.declared.comparison.Comparison.{Comparison}
@@ -20,7 +20,7 @@ returns-in_err-comparison-clause-works g c =
     let now : Store = record store { repo = c.begin.new.target } in
     let fault = c.in_err-comparison.field-0.0 in
     err_is c.from_residual.result (compare_fault fault)
-    (λ (r : Result Comparison CarryFault). Works (KeepsGrowing store) (λ _. Grows store now) a b n m r) c.from_residual.ensures.1
+    (λ (r : Result Comparison CarryFault). Works (KeepsStanding store) (λ _. Gathers store [] now) a b n m r) c.from_residual.ensures.1
     (works_unread {U = Comparison} Comparison store now a b n m fault c.in_err-comparison.ensures.target_same c.in_err-comparison.ensures.target_cause)
 
 pub returns-in_err-comparison-clause-fits : goal.returns-in_err-comparison-clause-fits

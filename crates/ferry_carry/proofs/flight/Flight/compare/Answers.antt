@@ -1,12 +1,35 @@
-use Rattle.std.proofs.Common.{[]}
-use Rattle.ferry_carry.proofs.FlightLemmas.{grown_so, on_ok, read_rest, rest_accepts}
-use Rattle.ferry_carry.proofs.GrowLemmas.{most_from}
-use Rattle.ferry_carry.proofs.WorkLemmas.{grown_then}
+use Rattle.std.proofs.Common.{◌≡◌, [], ◌∷◌, ℕ, List, Result, Ok, Err, refl, ap, subst, IfErr}
+use Rattle.ferry_carry.proofs.CopyLemmas.{gathered_fault}
+use Rattle.ferry_carry.proofs.FlightLemmas.{on_ok, read_rest, rest_accepts}
+use Rattle.ferry_carry.proofs.FlyLemmas.{flies_as, flies_fault, present_flies, taken_still}
+use Rattle.ferry_carry.proofs.WorkLemmas.{carried_from, err_is}
 use Rattle.ferry_carry.proofs.flight.Flight.compare.Goals as goal
+use Rattle.ferry_carry.specs.Flight.{Flies, IsSame, flown_from}
 use Rattle.ferry_carry.specs.Gather.{KeepsRest}
 use Rattle.ferry_carry.specs.Grow.{AcceptsMore}
+use Rattle.ferry_carry.specs.declared.fault.CarryFault.{CarryFault}
 use Rattle.ferry_carry.specs.declared.flight.Turn.{Turn}
+use Rattle.ferry_carry.specs.declared.flight.Turn.TheVariants.{More}
 use Rattle.ferry_compare.specs.declared.comparison.Compared.{Compared}
+use Rattle.ferry_repo.specs.Opening.{repo_view}
+use Rattle.ferry_carry.proofs.CauseLemmas.{comparing_refused}
+use Rattle.ferry_carry.specs.Carrying.{origin}
+use Rattle.ferry_carry.specs.Refusals.{RefusesComparing, RefusesName}
+
+pub returns-in-More-clause-works : goal.returns-in-More-clause-works
+returns-in-More-clause-works g c =
+    let store = c.args.store.now in
+    let now = c.compare_item.new.store in
+    let from = flown_from (g.S.Shelf.told c.args.shelf.now) (repo_view c.args.source.now) c.args.self.now in
+    let name = c.args.self.now.named.name in
+    let a = g.D.Shelf.told c.args.depot.now in
+    let b = g.D.Shelf.told c.compare_item.new.depot in
+    let n = g.D.Shelf.faults c.args.depot.now in
+    let m = g.D.Shelf.faults c.compare_item.new.depot in
+    let compared = c.in_ok-compare_item.field-0 in
+    flies_as {T = Compared} from name [] store now a b n m compared More refl
+    (carried_from {T = Compared} {U = Compared} from (name ∷ []) store now [] a b n m compared compared c.requires.accepts
+    (read_rest store now c.compare_item.ensures.read) c.in_ok-compare_item.ensures.works)
 
 pub returns-in-More-clause-accepts : goal.returns-in-More-clause-accepts
 returns-in-More-clause-accepts g c =
@@ -16,18 +39,24 @@ returns-in-More-clause-accepts g c =
 
 pub returns-in-Equal-clause-works : goal.returns-in-Equal-clause-works
 returns-in-Equal-clause-works g c =
+    let store = c.args.store.now in
+    let middle = c.compare_item.new.store in
+    let now = c.present.new.store in
+    let from = flown_from (g.S.Shelf.told c.args.shelf.now) (repo_view c.args.source.now) c.args.self.now in
+    let name = c.args.self.now.named.name in
     let a = g.D.Shelf.told c.args.depot.now in
     let b = g.D.Shelf.told c.compare_item.new.depot in
     let d = g.D.Shelf.told c.present.new.depot in
     let n = g.D.Shelf.faults c.args.depot.now in
     let m = g.D.Shelf.faults c.compare_item.new.depot in
     let k = g.D.Shelf.faults c.present.new.depot in
-    let store = c.args.store.now in
-    let middle = c.compare_item.new.store in
-    let now = c.present.new.store in
-    grown_then {T = Compared} {U = Turn} store middle now a b d n m k c.in_ok-compare_item.field-0 c.present.result
-    (most_from store middle (read_rest store middle c.compare_item.ensures.read)) c.in_ok-compare_item.ensures.works
-    (grown_so {T = Turn} middle now [] b d m k c.present.result c.present.ensures.works)
+    let rest = read_rest store middle c.compare_item.ensures.read in
+    let same : IsSame from b (repo_view middle.repo) name =
+    subst (IsSame from b (repo_view middle.repo)) c.requires.same_name
+    (c.in_ok-compare_item.ensures.equal (ap Ok c.in-Equal.is) c.args.self.now.options.block) in
+    present_flies {T = Compared} from name store middle now a b d n m k c.in_ok-compare_item.field-0 c.present.result c.requires.accepts
+    (rest_accepts store middle rest c.requires.accepts) rest c.present.ensures.rest c.present.ensures.pending c.present.ensures.present same
+    c.in_ok-compare_item.ensures.works c.present.ensures.works
 
 pub returns-in-Equal-clause-accepts : goal.returns-in-Equal-clause-accepts
 returns-in-Equal-clause-accepts g c =
@@ -37,3 +66,47 @@ returns-in-Equal-clause-accepts g c =
     on_ok {P = KeepsRest middle now} {Q = AcceptsMore now} c.present.result
     (λ rest. rest_accepts middle now rest (rest_accepts store middle (read_rest store middle c.compare_item.ensures.read) c.requires.accepts))
     c.present.ensures.rest
+
+pub returns-in_err-compare_item-clause-works : goal.returns-in_err-compare_item-clause-works
+returns-in_err-compare_item-clause-works g c =
+    let store = c.args.store.now in
+    let now = c.compare_item.new.store in
+    let from = flown_from (g.S.Shelf.told c.args.shelf.now) (repo_view c.args.source.now) c.args.self.now in
+    let name = c.args.self.now.named.name in
+    let a = g.D.Shelf.told c.args.depot.now in
+    let b = g.D.Shelf.told c.compare_item.new.depot in
+    let n = g.D.Shelf.faults c.args.depot.now in
+    let m = g.D.Shelf.faults c.compare_item.new.depot in
+    let fault = c.in_err-compare_item.field-0.0 in
+    err_is c.from_residual.result fault (λ (r : Result Turn CarryFault). Flies from name store now a b n m r) c.from_residual.ensures.1
+    (flies_fault {T = Compared} from name store now [] a b n m fault c.requires.accepts c.in_err-compare_item.ensures.works)
+
+pub returns-in-Differs-clause-works : goal.returns-in-Differs-clause-works
+returns-in-Differs-clause-works g c =
+    let store = c.args.store.now in
+    let now = c.compare_item.new.store in
+    let from = flown_from (g.S.Shelf.told c.args.shelf.now) (repo_view c.args.source.now) c.args.self.now in
+    let name = c.args.self.now.named.name in
+    let a = g.D.Shelf.told c.args.depot.now in
+    let b = g.D.Shelf.told c.compare_item.new.depot in
+    let n = g.D.Shelf.faults c.args.depot.now in
+    let m = g.D.Shelf.faults c.compare_item.new.depot in
+    flies_fault {T = Compared} from name store now [] a b n m c.taken.result c.requires.accepts
+    (gathered_fault {T = Compared} {U = Compared} store now [] a b n m c.in_ok-compare_item.field-0 c.taken.result
+    (taken_still c.taken.result c.as_slice.result.now c.taken.ensures.taken) c.in_ok-compare_item.ensures.works)
+
+pub returns-in_err-compare_item-clause-refused : goal.returns-in_err-compare_item-clause-refused
+returns-in_err-compare_item-clause-refused g c =
+    let store = c.args.store.now in
+    let now = c.compare_item.new.store in
+    let told = g.S.Shelf.told c.args.shelf.now in
+    let source = repo_view c.args.source.now in
+    let block = c.args.self.now.options.block in
+    let name = c.args.self.now.named.name in
+    let a = g.D.Shelf.told c.args.depot.now in
+    let b = g.D.Shelf.told c.compare_item.new.depot in
+    let fault = c.in_err-compare_item.field-0.0 in
+    err_is c.from_residual.result fault (λ (r : Result Turn CarryFault). IfErr r (RefusesName (origin told source block) a store b now name))
+    c.from_residual.ensures.1
+    (comparing_refused told a b source block name store now fault
+    (subst (λ (n : List ℕ). RefusesComparing told source n fault) c.requires.same_name c.in_err-compare_item.ensures.refused))

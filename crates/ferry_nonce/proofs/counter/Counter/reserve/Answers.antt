@@ -5,6 +5,7 @@ use Rattle.ferry_nonce.specs.Counter.{reservation}
 use Rattle.ferry_nonce.specs.Text.{number_text}
 use Rattle.ferry_nonce.proofs.MomentLemmas.{same_told, replace_told, counts_told, stays_settled}
 use Rattle.ferry_nonce.proofs.counter.Counter.reserve.Goals as goal
+use Rattle.ferry_stops.proofs.TellLemmas.{told_act, told_none}
 
 pub returns-in_default-clause-moments : goal.returns-in_default-clause-moments
 returns-in_default-clause-moments g c =
@@ -36,3 +37,16 @@ pub returns-in-Err-clause-stays_settled : goal.returns-in-Err-clause-stays_settl
 returns-in-Err-clause-stays_settled g c =
     stays_settled (ReplaceBy Nonce c.spell_number.result) (g.D.Shelf.told c.args.depot.now) (g.D.Shelf.told c.replace.new.self) c.replace.result
     c.requires.settled c.replace.ensures.act
+
+pub returns-in_default-clause-untold : goal.returns-in_default-clause-untold
+returns-in_default-clause-untold g c = told_none (g.D.Shelf.told c.args.depot.now)
+
+pub returns-in-Ok-clause-untold : goal.returns-in-Ok-clause-untold
+returns-in-Ok-clause-untold g c =
+    told_act (ReplaceBy Nonce c.spell_number.result) (g.D.Shelf.told c.args.depot.now) (g.D.Shelf.told c.replace.new.self) c.replace.result tt
+    c.replace.ensures.act
+
+pub returns-in-Err-clause-untold : goal.returns-in-Err-clause-untold
+returns-in-Err-clause-untold g c =
+    told_act (ReplaceBy Nonce c.spell_number.result) (g.D.Shelf.told c.args.depot.now) (g.D.Shelf.told c.replace.new.self) c.replace.result tt
+    c.replace.ensures.act

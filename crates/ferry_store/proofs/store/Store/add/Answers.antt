@@ -1,4 +1,5 @@
 use Rattle.std.proofs.Common.{false}
+use Rattle.ferry_stops.proofs.TellLemmas.{told_none}
 use Rattle.ferry_store.proofs.AddLemmas.{same_added}
 use Rattle.ferry_store.proofs.PutLemmas.{keeps_here}
 use Rattle.ferry_store.proofs.StepLemmas.{did_none}
@@ -17,3 +18,6 @@ returns-then-is_known-clause-did g c =
 
 pub returns-clause-did : goal.returns-clause-did
 returns-clause-did g c = c.add_old.ensures.did c.args.content.now
+
+pub returns-then-is_known-clause-untold : goal.returns-then-is_known-clause-untold
+returns-then-is_known-clause-untold g c = told_none (g.D.Shelf.told c.args.depot.now)

@@ -20,6 +20,7 @@ returns-in-Ok-clause-did g c =
     put_did store repo session counter c.saturating_add-self.result content c.args.id a b n m c.in-Ok.field-0 c.requires.named c.requires.new
     c.put_content-put.ensures.cached
     (subst (λ (r : Result (Unit {0}) StoreRefusal). OnOk r (session.after ≡ store.session.after)) c.in-Ok.is c.put_content-put.ensures.after)
+    c.saturating_add-self.ensures
     (subst (λ (r : Result (Unit {0}) StoreRefusal). Did (KeepsSound store.session store.counter)
     (λ _. HasPut (repo_view store.repo) store.session store.counter c.args.id content (repo_view repo) session counter) a b n m r) c.in-Ok.is
     c.put_content-put.ensures.did)

@@ -4,6 +4,7 @@ use Rattle.std.specs.BTreeSet.{Updates}
 use Rattle.ferry_disk.specs.Device.{HasCause, KeepsTold, told_files}
 use Rattle.ferry_log.specs.Live.{key_cmp}
 use Rattle.ferry_repo.specs.Opening.{repo_view}
+use Rattle.ferry_stops.proofs.TellLemmas.{told_kept}
 use Rattle.ferry_store.proofs.AddLemmas.{opened_did}
 use Rattle.ferry_store.proofs.CallLemmas.{read_refused}
 use Rattle.ferry_store.proofs.PutLemmas.{keeps_here}
@@ -46,3 +47,11 @@ returns-in-Err-clause-did g c = λ content.
     (read_refused {T = Added} depot_failed refusal refusal E (Adds store content c.spend.new.self) a b n m refl (keeps_here store.session store.counter)
     (subst (λ (r : Result (Unit {0}) StoreRefusal). KeepsTold depot_failed a b r) c.in-Err.is c.open_content.ensures.same)
     (subst (λ (r : Result (Unit {0}) StoreRefusal). HasCause depot_failed n m r) c.in-Err.is c.open_content.ensures.cause))
+
+pub returns-in-Ok-clause-untold : goal.returns-in-Ok-clause-untold
+returns-in-Ok-clause-untold g c =
+    told_kept depot_failed (g.D.Shelf.told c.args.depot.now) (g.D.Shelf.told c.open_content.new.depot) c.open_content.result c.open_content.ensures.same
+
+pub returns-in-Err-clause-untold : goal.returns-in-Err-clause-untold
+returns-in-Err-clause-untold g c =
+    told_kept depot_failed (g.D.Shelf.told c.args.depot.now) (g.D.Shelf.told c.open_content.new.depot) c.open_content.result c.open_content.ensures.same

@@ -5,6 +5,7 @@ use Rattle.ferry_manifest.specs.Manifest.Writing.{manifest_text}
 use Rattle.ferry_manifest.specs.declared.manifest.Manifest.{Manifest}
 use Rattle.ferry_next.specs.Next.{written_at}
 use Rattle.ferry_repo.specs.Opening.{repo_view}
+use Rattle.ferry_stops.proofs.TellLemmas.{told_none}
 use Rattle.ferry_store.proofs.RenewLemmas.{nothing_committed}
 use Rattle.ferry_store.proofs.StepLemmas.{did_as, err_is}
 use Rattle.ferry_store.proofs.store.Store.commit_accepted.Goals as goal
@@ -70,3 +71,6 @@ returns-clause-committed g c =
         tt,
       ),
     )
+
+pub returns-in_err-manifest-clause-untold : goal.returns-in_err-manifest-clause-untold
+returns-in_err-manifest-clause-untold g c = told_none (g.D.Shelf.told c.args.depot.now)

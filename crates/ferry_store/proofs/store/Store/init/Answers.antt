@@ -1,4 +1,4 @@
-use Rattle.std.proofs.Common.{false, None, Ok, Err, Result, IfErr, IfSome}
+use Rattle.std.proofs.Common.{false, None, Ok, Err, Result, IfErr, IfSome, refl}
 use Rattle.ferry_disk.specs.Device.{HasCause}
 use Rattle.ferry_repo.specs.Fault.{repo_failed}
 use Rattle.ferry_store.proofs.InitLemmas.{still_cause}
@@ -143,4 +143,4 @@ returns-clause-did g c =
     }) a d e n k j
     (init_made secret c.args.iterations c.args.timestamp.now made.0 a b d n m k (Ok (c.in_ok-counter.counter, c.in_ok-counter.session))
     c.in_ok-expect_no_commit.ensures.none c.in_ok-expect_no_commit.ensures.same c.in_ok-expect_no_commit.ensures.cause made.1.1)
-    c.in_ok-repo.ensures.same c.in_ok-repo.ensures.cause c.in_ok-repo.ensures.repository c.in_ok-repo.ensures.cached c.new.ensures.empty
+    c.in_ok-repo.ensures.same c.in_ok-repo.ensures.cause c.in_ok-repo.ensures.repository c.in_ok-repo.ensures.cached c.new.ensures.empty refl

@@ -1,9 +1,10 @@
-use Rattle.std.proofs.Common.{rules, ◌≡◌, ℕ, false, ap, ◌∙◌, None, Some, Ok, Err, Result, IfErr, IfSome, subst}
+use Rattle.std.proofs.Common.{rules, ◌≡◌, ℕ, false, ap, ◌∙◌, None, Some, Ok, Err, Result, IfErr, IfSome, refl, subst}
 use Rattle.ferry_disk.specs.Device.{told_files}
 use Rattle.ferry_disk.specs.Moments.{Between}
 use Rattle.ferry_nonce.specs.declared.counter.Counter.{Counter}
 use Rattle.ferry_repo.specs.Fault.{repo_failed}
 use Rattle.ferry_repo.specs.Opening.{repo_view}
+use Rattle.ferry_stops.proofs.TellLemmas.{told_both, told_kept}
 use Rattle.ferry_store.proofs.OpenLemmas.{begin_told, open_begun, open_unbegun, open_unread}
 use Rattle.ferry_store.proofs.StepLemmas.{err_is, same_told}
 use Rattle.ferry_store.proofs.store.Store.open.Goals as goal
@@ -79,7 +80,23 @@ returns-clause-did g c =
       spent = false;
     }) a b d n m k c.in_ok-repo.ensures.same
     c.in_ok-repo.ensures.cause c.in_ok-repo.ensures.repository c.in_ok-repo.ensures.cached
-    (ap (λ (s : Session). s.after) c.in_ok-counter.ensures.fresh.session_is ∙ ap (λ (t : ℕ). Some t) is) c.new.ensures.empty c.in_ok-counter.ensures.first
+    (ap (λ (s : Session). s.after) c.in_ok-counter.ensures.fresh.session_is ∙ ap (λ (t : ℕ). Some t) is) c.new.ensures.empty refl c.in_ok-counter.ensures.first
     (subst (λ (t : ℕ). Between b d (ClearsAll (Some t))) is c.in_ok-counter.ensures.clears)
     (subst (λ (t : ℕ). Did {T = Counter × Session} (BeginsSound (Some t)) (λ x. Begins (Some t) x.0 x.1) b d m k (Ok (counter, session))) is
     c.in_ok-counter.ensures.did)
+
+pub returns-in_err-repo-clause-untold : goal.returns-in_err-repo-clause-untold
+returns-in_err-repo-clause-untold g c =
+    told_kept repo_failed (g.D.Shelf.told c.args.depot.now) (g.D.Shelf.told c.open.new.shelf) c.open.result c.open.ensures.same
+
+pub returns-in_err-counter-clause-untold : goal.returns-in_err-counter-clause-untold
+returns-in_err-counter-clause-untold g c =
+    let a = g.D.Shelf.told c.args.depot.now in
+    let b = g.D.Shelf.told c.open.new.shelf in
+    told_both a b (g.D.Shelf.told c.begin_at.new.depot) (told_kept repo_failed a b c.open.result c.open.ensures.same) c.in_err-counter.ensures.untold
+
+pub returns-clause-untold : goal.returns-clause-untold
+returns-clause-untold g c =
+    let a = g.D.Shelf.told c.args.depot.now in
+    let b = g.D.Shelf.told c.open.new.shelf in
+    told_both a b (g.D.Shelf.told c.begin_at.new.depot) (told_kept repo_failed a b c.open.result c.open.ensures.same) c.in_ok-counter.ensures.untold

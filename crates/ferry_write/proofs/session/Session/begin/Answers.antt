@@ -1,4 +1,5 @@
 use Rattle.std.proofs.Common.{None, false, Result, Ok, Err, refl}
+use Rattle.ferry_write.proofs.TellLemmas.{begin_untold}
 use Rattle.ferry_write.specs.Room.{behind}
 use Rattle.ferry_write.specs.Session.{ClearsAbove}
 use Rattle.ferry_write.specs.declared.fault.WriteFault.{WriteFault}
@@ -83,3 +84,15 @@ returns-in_err-clear-clause-acts g c =
     err_is c.from_residual.result fault (λ (r : Result Session WriteFault). ClearsAbove c.args.after a b r) c.from_residual.ensures.1
     (begin_acts {T = Unit {0}} c.args.after a b (g.D.Shelf.faults c.args.depot.now) (g.D.Shelf.faults c.clear.new.depot) (Err fault)
     c.in_err-clear.ensures.clears)
+
+pub returns-in_err-clear-clause-untold : goal.returns-in_err-clear-clause-untold
+returns-in_err-clear-clause-untold g c =
+    begin_untold (behind c.args.after) (g.D.Shelf.told c.args.depot.now) (g.D.Shelf.told c.clear.new.depot) (g.D.Shelf.faults c.args.depot.now)
+    (g.D.Shelf.faults c.clear.new.depot)
+    c.clear.result c.clear.ensures.clears
+
+pub returns-clause-untold : goal.returns-clause-untold
+returns-clause-untold g c =
+    begin_untold (behind c.args.after) (g.D.Shelf.told c.args.depot.now) (g.D.Shelf.told c.clear.new.depot) (g.D.Shelf.faults c.args.depot.now)
+    (g.D.Shelf.faults c.clear.new.depot)
+    c.clear.result c.clear.ensures.clears

@@ -4,6 +4,7 @@ use Rattle.ferry_write.proofs.CommitGainLemmas.{commit_brings, commit_rows}
 use Rattle.ferry_write.proofs.PlainLemmas.{commit_plain}
 use Rattle.ferry_write.proofs.ScriptLemmas.{ran_done}
 use Rattle.ferry_write.proofs.StayLemmas.{commit_stays}
+use Rattle.ferry_write.proofs.TellLemmas.{commit_untold}
 use Rattle.ferry_write.proofs.session.Session.commit.Goals as goal
 
 pub returns-in-Ok-clause-moments : goal.returns-in-Ok-clause-moments
@@ -65,3 +66,13 @@ returns-in-Err-clause-stays g c =
     commit_stays c.args.self.now (g.D.Shelf.told c.args.depot.now) (g.D.Shelf.told c.write_commit.new.depot)
     (g.D.Shelf.faults c.args.depot.now) (g.D.Shelf.faults c.write_commit.new.depot)
     (Err c.in-Err.fault) c.in-Err.ensures.ran
+
+pub returns-in-Ok-clause-untold : goal.returns-in-Ok-clause-untold
+returns-in-Ok-clause-untold g c =
+    commit_untold c.args.self.now (g.D.Shelf.told c.args.depot.now) (g.D.Shelf.told c.write_commit.new.depot) (g.D.Shelf.faults c.args.depot.now)
+    (g.D.Shelf.faults c.write_commit.new.depot) (Ok c.in-Ok.number) c.in-Ok.ensures.ran
+
+pub returns-in-Err-clause-untold : goal.returns-in-Err-clause-untold
+returns-in-Err-clause-untold g c =
+    commit_untold c.args.self.now (g.D.Shelf.told c.args.depot.now) (g.D.Shelf.told c.write_commit.new.depot) (g.D.Shelf.faults c.args.depot.now)
+    (g.D.Shelf.faults c.write_commit.new.depot) (Err c.in-Err.fault) c.in-Err.ensures.ran

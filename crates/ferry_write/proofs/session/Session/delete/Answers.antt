@@ -6,6 +6,7 @@ use Rattle.ferry_write.proofs.PlainLemmas.{delete_plain}
 use Rattle.ferry_write.proofs.RoomLemmas.{takes_entry}
 use Rattle.ferry_write.proofs.ScriptLemmas.{ran_done}
 use Rattle.ferry_write.proofs.StayLemmas.{delete_stays}
+use Rattle.ferry_write.proofs.TellLemmas.{delete_untold}
 use Rattle.ferry_write.proofs.session.Session.delete.Goals as goal
 
 pub returns-in-Ok-clause-moments : goal.returns-in-Ok-clause-moments
@@ -82,5 +83,17 @@ returns-in-Ok-clause-stays g c =
 pub returns-in-Err-clause-stays : goal.returns-in-Err-clause-stays
 returns-in-Err-clause-stays g c =
     delete_stays c.args.self.now c.delete_entry-entry.result (g.D.Shelf.told c.args.depot.now) (g.D.Shelf.told c.write_delete.new.depot)
+    (g.D.Shelf.faults c.args.depot.now) (g.D.Shelf.faults c.write_delete.new.depot)
+    (Err c.in-Err.fault) c.in-Err.ensures.ran
+
+pub returns-in-Ok-clause-untold : goal.returns-in-Ok-clause-untold
+returns-in-Ok-clause-untold g c =
+    delete_untold c.args.self.now c.delete_entry-entry.result (g.D.Shelf.told c.args.depot.now) (g.D.Shelf.told c.write_delete.new.depot)
+    (g.D.Shelf.faults c.args.depot.now) (g.D.Shelf.faults c.write_delete.new.depot)
+    (Ok c.in-Ok.room) c.in-Ok.ensures.ran
+
+pub returns-in-Err-clause-untold : goal.returns-in-Err-clause-untold
+returns-in-Err-clause-untold g c =
+    delete_untold c.args.self.now c.delete_entry-entry.result (g.D.Shelf.told c.args.depot.now) (g.D.Shelf.told c.write_delete.new.depot)
     (g.D.Shelf.faults c.args.depot.now) (g.D.Shelf.faults c.write_delete.new.depot)
     (Err c.in-Err.fault) c.in-Err.ensures.ran

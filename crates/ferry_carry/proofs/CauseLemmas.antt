@@ -1,0 +1,223 @@
+-- Lemmas on specs/Refusals.antt: why the archive of a name isn't carried, by what its parts were refused for.
+use Rattle.std.proofs.Common.{◌≡◌, inl, ◌<◌, ◌++◌, ℕ, List, Option, Some, None, Result, Ok, Err, IfErr, IfSome, IsErrAnd, IsSome, length, map, slice_get}
+use Rattle.std.proofs.Common.{refl, sym, ◌∙◌, subst}
+use Rattle.std.proofs.lemmas.Option.{IfSome_then}
+use Rattle.ferry_base.specs.Limits.{content_limit}
+use Rattle.ferry_blob.specs.Blob.{content_id}
+use Rattle.ferry_compare.specs.Compare.{Differ, Says}
+use Rattle.ferry_compare.specs.Fault.{target_failed as other_failed}
+use Rattle.ferry_compare.specs.declared.fault.CompareFault.{CompareFault}
+use Rattle.ferry_disk.specs.Act.{History, files_now}
+use Rattle.ferry_disk.specs.Device.{KeepsTold, Told, told_files}
+use Rattle.ferry_disk.specs.Files.{Files}
+use Rattle.ferry_disk.specs.Moments.{Between}
+use Rattle.ferry_item.specs.declared.item.ChunkRef.{ChunkRef}
+use Rattle.ferry_mac.specs.declared.keys.Keys.{Keys}
+use Rattle.ferry_manifest.specs.Manifest.Text.{ManifestText}
+use Rattle.ferry_manifest.specs.Record.Text.{archive_view}
+use Rattle.ferry_manifest.specs.Record.Writing.{archive_text}
+use Rattle.ferry_manifest.specs.declared.manifest.ArchiveRef.{ArchiveRef}
+use Rattle.ferry_rechunk.specs.Cut.{cut}
+use Rattle.ferry_repo.specs.Archives.{archive_named}
+use Rattle.ferry_repo.specs.Opening.{RepoState, repo_view}
+use Rattle.ferry_repo.specs.Whole.{RefusesWhole}
+use Rattle.ferry_store.specs.declared.store.Store.{Store}
+use Rattle.ferry_carry.proofs.FlightLemmas.{known_read}
+use Rattle.ferry_carry.proofs.ProgressLemmas.{any_told, stream_ids}
+use Rattle.ferry_carry.specs.Carrying.{Origin, SaysIn, origin}
+use Rattle.ferry_carry.specs.Copied.{stream_pieces}
+use Rattle.ferry_carry.specs.Copying.{IsReady}
+use Rattle.ferry_carry.specs.Gather.{chunks_of}
+use Rattle.ferry_carry.specs.Grow.{KeepsMost, KeepsNames}
+use Rattle.ferry_carry.specs.Naming.{copied_archive}
+use Rattle.ferry_carry.specs.Progress.{IsAllCopied}
+use Rattle.ferry_carry.specs.Refusals.{DiffersThere, HasLargeRecord, LacksName, RefusesBegin, RefusesComparing, RefusesEnd, RefusesName, RefusesRecordText}
+use Rattle.ferry_carry.specs.Refusals.{RefusesOne, RefusesStep, WhereTold}
+use Rattle.ferry_carry.specs.declared.copy.Copy.{Copy}
+use Rattle.ferry_carry.specs.declared.fault.CarryFault.{CarryFault}
+use Rattle.ferry_carry.specs.declared.fault.CarryFault.TheVariants.{Source, Target, Taken, NotFound, Pieces, Memory, Record}
+
+-- ---- files that are told
+
+-- what holds of the files of a source, by what its shelf tells
+at_origin : (told : Option Told) (source : RepoState) (block : ℕ) (P : Files → Type 0) → IfSome told (λ t. P (told_files t))
+    → IfSome (origin told source block).files P
+at_origin None source block P known = tt
+at_origin (Some t) source block P known = known
+
+where_first : (told heard : Option Told) (source : RepoState) (block : ℕ) (P : Files → Type 0) → IfSome told (λ t. P (told_files t))
+    → WhereTold (origin told source block) heard P
+where_first told heard source block P known =
+    any_told heard (λ d. IfSome (origin told source block).files P) (λ d. at_origin told source block P known)
+
+-- what holds where a target tells its files later holds where it told them before
+where_back : (from : Origin) (a b : Option Told) (E : History → History → Type 0) (P : Files → Type 0) → Between a b E → WhereTold from b P
+    → WhereTold from a P
+where_back from None b E P between known = tt
+where_back from (Some t) b E P between known = subst (λ (o : Option Told). IfSome o (λ d. IfSome from.files P)) between.1 known
+
+-- ---- names that a target lacks
+
+-- a name that a later manifest lacks was lacked before
+pub lacks_by : (before after : ManifestText) (name : List ℕ) → KeepsNames before after → archive_named name after.archives ≡ None
+    → archive_named name before.archives ≡ None
+lacks_by before after name keeps lacks = by (archive_named name before.archives) refl where
+  by : (o : Option ArchiveRef) → archive_named name before.archives ≡ o → archive_named name before.archives ≡ None
+  by None e = e
+  by (Some entry) e = absurd (let both : None ≡ Some entry = sym lacks ∙ keeps name entry e in let no : ⊥ = cc in no)
+
+-- ---- the archive of a name
+
+-- its record isn't read
+pub begin_refused : (told heard now : Option Told) (source : RepoState) (block : ℕ) (named : ArchiveRef) (store store_now : Store) (fault : CarryFault)
+    → archive_named named.name source.manifest.archives ≡ Some named → RefusesBegin told source named.id fault
+    → RefusesName (origin told source block) heard store now store_now named.name fault
+begin_refused told heard now source block named store store_now (Source fault) named_is refuses = λ of_files.
+    where_first told heard source block (λ there. RefusesWhole there source.log source.keys source.manifest.archives named.name fault)
+    (IfSome_then told (refuses of_files) (λ t r. record { named = named; named_is = named_is; refused = inl r }))
+begin_refused told heard now source block named store store_now (Target refusal) named_is refuses = tt
+begin_refused told heard now source block named store store_now (Taken name) named_is refuses = absurd refuses
+begin_refused told heard now source block named store store_now (NotFound name) named_is refuses = absurd refuses
+begin_refused told heard now source block named store store_now Pieces named_is refuses = absurd refuses
+begin_refused told heard now source block named store store_now Memory named_is refuses = tt
+begin_refused told heard now source block named store store_now Record named_is refuses = absurd refuses
+
+-- it isn't copied
+pub step_refused : (from : Origin) (heard now : Option Told) (store store_now : Store) (name : List ℕ) (fault : CarryFault) → LacksName store name
+    → RefusesStep from heard name fault → RefusesName from heard store now store_now name fault
+step_refused from heard now store store_now name (Source fault) lacks refuses = refuses
+step_refused from heard now store store_now name (Target refusal) lacks refuses = tt
+step_refused from heard now store store_now name (Taken taken) lacks refuses = absurd refuses
+step_refused from heard now store store_now name (NotFound missing) lacks refuses = absurd refuses
+step_refused from heard now store store_now name Pieces lacks refuses = (lacks, refuses)
+step_refused from heard now store store_now name Memory lacks refuses = tt
+step_refused from heard now store store_now name Record lacks refuses = absurd refuses
+
+-- it isn't named
+pub end_refused : (from : Origin) (a b now : Option Told) (E : History → History → Type 0) (store middle store_now : Store) (name : List ℕ)
+    (fault : CarryFault) → Between a b E → (repo_view middle.repo).keys ≡ (repo_view store.repo).keys → LacksName store name
+    → RefusesEnd from b (repo_view middle.repo).keys name fault → RefusesName from a store now store_now name fault
+end_refused from a b now E store middle store_now name (Source fault) between same lacks refuses = absurd (let no : ⊥ = cc in no)
+end_refused from a b now E store middle store_now name (Target refusal) between same lacks refuses = tt
+end_refused from a b now E store middle store_now name (Taken taken) between same lacks refuses = absurd (let no : ⊥ = cc in no)
+end_refused from a b now E store middle store_now name (NotFound missing) between same lacks refuses = absurd (let no : ⊥ = cc in no)
+end_refused from a b now E store middle store_now name Pieces between same lacks refuses = absurd (let no : ⊥ = cc in no)
+end_refused from a b now E store middle store_now name Memory between same lacks refuses = tt
+end_refused from a b now E store middle store_now name Record between same lacks refuses = (
+  lacks,
+  where_back from a b E (λ there. HasLargeRecord there from (repo_view store.repo).keys name) between
+      (subst (λ (k : Keys). WhereTold from b (λ there. HasLargeRecord there from k name)) same refuses),
+)
+
+-- it isn't compared
+pub comparing_refused : (told heard now : Option Told) (source : RepoState) (block : ℕ) (name : List ℕ) (store store_now : Store) (fault : CarryFault)
+    → RefusesComparing told source name fault → RefusesName (origin told source block) heard store now store_now name fault
+comparing_refused told heard now source block name store store_now (Source fault) refuses = λ of_files.
+    where_first told heard source block (λ there. RefusesWhole there source.log source.keys source.manifest.archives name fault) (refuses of_files)
+comparing_refused told heard now source block name store store_now (Target refusal) refuses = tt
+comparing_refused told heard now source block name store store_now (Taken taken) refuses = absurd refuses
+comparing_refused told heard now source block name store store_now (NotFound missing) refuses = absurd refuses
+comparing_refused told heard now source block name store store_now Pieces refuses = absurd refuses
+comparing_refused told heard now source block name store store_now Memory refuses = tt
+comparing_refused told heard now source block name store store_now Record refuses = absurd refuses
+
+-- archives that differ, where the target was only read
+pub differs_there : {T : Type 0} (told a b : Option Told) (source : RepoState) (block : ℕ) (target now : RepoState) (name : List ℕ) (x : T) → now ≡ target
+    → KeepsTold {F = CompareFault} other_failed a b (Ok x) → Differ told source a target name → DiffersThere (origin told source block) b now name
+differs_there {T} told a b source block target now name x same kept differ =
+    subst (λ (r : RepoState). DiffersThere (origin told source block) b r name) (sym same) (record {
+      whole = differ.whole;
+      source = at_origin told source block (λ there. SaysIn there source name differ.whole) differ.first;
+      target_is = known_read {T = T} (λ h. Says (files_now h) target name differ.whole → ⊥) other_failed a b (Ok x) kept differ.second;
+    })
+
+-- ---- from turn to turn
+
+-- what is said of a name by a store is said by one before it that keeps each archive
+pub refused_before : (from : Origin) (a b c : Option Told) (E : History → History → Type 0) (store middle now : Store) (name : List ℕ)
+    (fault : CarryFault) → Between a b E → KeepsMost store middle → RefusesName from b middle c now name fault → RefusesName from a store c now name fault
+refused_before from a b c E store middle now name (Source fault) between most refuses = λ of_files.
+    where_back from a b E (λ there. RefusesWhole there from.repo.log from.repo.keys from.repo.manifest.archives name fault) between (refuses of_files)
+refused_before from a b c E store middle now name (Target refusal) between most refuses = tt
+refused_before from a b c E store middle now name (Taken taken) between most refuses = refuses
+refused_before from a b c E store middle now name (NotFound missing) between most refuses = refuses
+refused_before from a b c E store middle now name Pieces between most refuses = (
+  lacks_by (repo_view store.repo).manifest (repo_view middle.repo).manifest name most.names refuses.0,
+  where_back from a b E _ between refuses.1,
+)
+refused_before from a b c E store middle now name Memory between most refuses = tt
+refused_before from a b c E store middle now name Record between most refuses = (
+  lacks_by (repo_view store.repo).manifest (repo_view middle.repo).manifest name most.names refuses.0,
+  where_back from a b E (λ there. HasLargeRecord there from (repo_view store.repo).keys name) between
+      (subst (λ (k : Keys). WhereTold from b (λ there. HasLargeRecord there from k name)) most.keys refuses.1),
+)
+
+-- the same of a body that ended with a fault, in the words of the source, the name and the store in front
+pub name_refused : {T : Type 0} (from other : Origin) (a b c : Option Told) (E : History → History → Type 0) (store middle now : Store)
+    (name given : List ℕ) (result : Result T CarryFault) → other ≡ from → given ≡ name → Between a b E → KeepsMost store middle
+    → IfErr result (RefusesName other b middle c now given) → IfErr result (RefusesName from a store c now name)
+name_refused {T} from other a b c E store middle now name given (Ok x) same called between most refuses = tt
+name_refused {T} from other a b c E store middle now name given (Err fault) same called between most refuses =
+    refused_before from a b c E store middle now name fault between most
+    (subst (λ (f : Origin). RefusesName f b middle c now name fault) same (subst (λ (n : List ℕ). RefusesName other b middle c now n fault) called refuses))
+
+-- ---- the end of an archive
+
+-- the record of an archive all of whose items were copied isn't put
+pub record_refused : (from : Origin) (heard : Option Told) (named : ArchiveRef) (store : Store) (copy : Copy) (fault : CarryFault) → IsReady copy
+    → IsAllCopied from named heard store copy
+    → RefusesRecordText (repo_view store.repo).keys (copied_archive (archive_view copy.archive) copy.block (map (λ (chunk : ChunkRef). chunk.id)
+    (copy.stream.chunks.items ++ chunks_of (repo_view store.repo).keys (cut copy.stream.cutter.block copy.stream.cutter.piece)))) fault
+    → RefusesEnd from heard (repo_view store.repo).keys named.name fault
+record_refused from heard named store copy (Source fault) ready all refuses = refuses
+record_refused from heard named store copy (Target refusal) ready all refuses = refuses
+record_refused from heard named store copy (Taken name) ready all refuses = refuses
+record_refused from heard named store copy (NotFound name) ready all refuses = refuses
+record_refused from heard named store copy Pieces ready all refuses = refuses
+record_refused from heard named store copy Memory ready all refuses = refuses
+record_refused from heard named store copy Record ready all refuses =
+    let keys = (repo_view store.repo).keys in
+    let archive = archive_view copy.archive in
+    IfSome_then heard all.1 (λ d known. IfSome_then from.files known (λ there c.
+    let IsLarge : ℕ → Type 0 = λ block. content_limit < length (archive_text keys refuses.0
+    (copied_archive archive block (map (content_id keys) (stream_pieces keys block c.wholes)))) in
+    record {
+      whole = record { time = named.time; fields = archive.fields; items = c.wholes };
+      source = c.source_whole;
+      archive = archive;
+      fields = refl;
+      salt = refuses.0;
+      salt_size = refuses.1.0;
+      large = subst IsLarge (sym all.0)
+          (subst (λ (ids : List (List ℕ)). content_limit < length (archive_text keys refuses.0 (copied_archive archive copy.block ids)))
+          (stream_ids (told_files d) (repo_view store.repo) copy c.wholes ready c.writes) refuses.1.1);
+    }))
+
+-- ---- chosen names
+
+-- the archive of one of these names isn't carried
+pub one_refused : (from : Origin) (heard now : Option Told) (store store_now : Store) (names : List (List ℕ)) (place : ℕ) (name : List ℕ)
+    (fault : CarryFault) → slice_get names place ≡ Some name → RefusesName from heard store now store_now name fault
+    → RefusesOne from heard store now store_now names fault
+one_refused from heard now store store_now names place name (Source fault) is refuses = (name, ((place, is), refuses))
+one_refused from heard now store store_now names place name (Target refusal) is refuses = tt
+one_refused from heard now store store_now names place name (Taken taken) is refuses = (name, ((place, is), refuses))
+one_refused from heard now store store_now names place name (NotFound missing) is refuses = (name, ((place, is), refuses))
+one_refused from heard now store store_now names place name Pieces is refuses = (name, ((place, is), refuses))
+one_refused from heard now store store_now names place name Memory is refuses = tt
+one_refused from heard now store store_now names place name Record is refuses = (name, ((place, is), refuses))
+
+-- what is there isn't lacked
+pub not_there : {X : Type 0} {o : Option X} → o ≡ None → IsSome o → ⊥
+not_there {X} {o} lacks is = let none : IsSome {T = X} None = subst IsSome lacks is in let no : ⊥ = cc in no
+
+-- where the source has an archive of each name, none is missing
+pub none_missing : {T : Type 0} (from : Origin) (heard now : Option Told) (store store_now : Store) (names : List (List ℕ)) (result : Result T CarryFault)
+    (fault : CarryFault) (missing : List ℕ)
+    → ((place : ℕ) (name : List ℕ) → slice_get names place ≡ Some name → IsSome (archive_named name from.repo.manifest.archives))
+    → RefusesOne from heard store now store_now names fault → IsErrAnd result (λ y. y ≡ fault) → result ≡ Err (NotFound missing) → ⊥
+none_missing {T} from heard now store store_now names (Ok x) fault missing found refuses e is = absurd e
+none_missing {T} from heard now store store_now names (Err y) fault missing found refuses e is =
+    let same : y ≡ NotFound missing = cc in
+    let one = subst (RefusesOne from heard store now store_now names) (sym e ∙ same) refuses in
+    not_there one.1.1.1 (found one.1.0.0 one.0 one.1.0.1)

@@ -1,0 +1,494 @@
+-- Lemmas on specs/Progress.antt: how far an archive on its way is, from step to step, and what can be named of it at its end.
+use Rattle.std.proofs.Common.{◌≡◌, ℕ, Bool, true, false, List, [], ◌∷◌, ◌++◌, map, Option, Some, None, option_map}
+use Rattle.std.proofs.Common.{Result, Ok, Err, IfSome, IsErrAnd, refl, sym, ◌∙◌, ap, subst, arith}
+use Rattle.std.proofs.lemmas.List.{append-nil, append_assoc, map-append}
+use Rattle.std.proofs.lemmas.Option.{IfSome_then}
+use Rattle.std.specs.List.{AllByRecursion}
+use Rattle.ferry_blob.specs.Blob.{content_id}
+use Rattle.ferry_compare.proofs.StepLemmas.{at_last}
+use Rattle.ferry_disk.specs.Act.{History, files_now}
+use Rattle.ferry_disk.specs.Device.{Heard, Told, heard, heard_of, told_files}
+use Rattle.ferry_disk.specs.Files.{Files}
+use Rattle.ferry_item.specs.Item.{ItemText, is_healed}
+use Rattle.ferry_item.specs.Writing.{field_pairs, item_text}
+use Rattle.ferry_item.specs.declared.item.ChunkRef.{ChunkRef}
+use Rattle.ferry_log.specs.State.{FitsFiles}
+use Rattle.ferry_mac.specs.declared.keys.Keys.{Keys}
+use Rattle.ferry_manifest.specs.Record.Text.{archive_view, as_tagged}
+use Rattle.ferry_manifest.specs.declared.manifest.ArchiveRef.{ArchiveRef}
+use Rattle.ferry_manifest.specs.declared.record.Archive.{Archive}
+use Rattle.ferry_msgpack.specs.Tree.{Tree}
+use Rattle.ferry_rechunk.proofs.CuttingLemmas.{fed_cut, fed_nothing}
+use Rattle.ferry_rechunk.specs.Cut.{cut}
+use Rattle.ferry_rechunk.specs.Cutting.{IsFed}
+use Rattle.ferry_repo.specs.Archives.{HoldsRecord, archive_named}
+use Rattle.ferry_repo.specs.Cached.{Contents}
+use Rattle.ferry_repo.specs.Objects.{HoldsChunk}
+use Rattle.ferry_repo.specs.Opening.{FitsRepo, RepoState, repo_view}
+use Rattle.ferry_repo.specs.Walk.{LeadsOn, WalkState, begin_walk, walk_view}
+use Rattle.ferry_repo.specs.Whole.{HoldsItem, HoldsJoined, WholeItem}
+use Rattle.ferry_store.specs.Standing.{Keeps, entries_of}
+use Rattle.ferry_store.specs.Store.{StoreFits}
+use Rattle.ferry_store.specs.declared.store.Store.{Store}
+use Rattle.ferry_write.proofs.StandLemmas.{all-append}
+use Rattle.ferry_carry.proofs.GatherLemmas.{chunk_on}
+use Rattle.ferry_carry.proofs.HealedLemmas.{taken_whole}
+use Rattle.ferry_carry.proofs.SourceLemmas.{leads_end, leads_then, source_whole, wholes_more}
+use Rattle.ferry_carry.proofs.WholeLemmas.{all_both, all_front, each_to}
+use Rattle.ferry_carry.proofs.WorkLemmas.{works_known}
+use Rattle.ferry_carry.specs.Carrying.{CanBeNamed, HoldsApart, IsReadyToName, Origin, SaysIn, origin}
+use Rattle.ferry_carry.specs.Copied.{IsCopyOf, IsRead, adds_of, contents_of, copied_item, copied_stream, pieces_of, stream_block, stream_pieces}
+use Rattle.ferry_carry.specs.Copying.{CopiesContent, IsReady}
+use Rattle.ferry_carry.specs.Gather.{Gathered, Gathers, HoldsContents, HoldsWithin, IsAmong, KeepsRest, KeepsStanding, NoCollision, chunk_of, chunks_of}
+use Rattle.ferry_carry.specs.Naming.{IsRecord, copied_archive, entry_for}
+use Rattle.ferry_carry.specs.Piece.{WritesOn}
+use Rattle.ferry_carry.specs.Progress.{CopiesAll, CopiesSoFar, IsAllCopied, IsCopiedSoFar, WritesItems}
+use Rattle.ferry_carry.specs.Step.{CopiesItem, EndsItems}
+use Rattle.ferry_carry.specs.Work.{Works}
+use Rattle.ferry_carry.specs.declared.copy.Copy.{Copy}
+use Rattle.ferry_carry.specs.declared.fault.CarryFault.{CarryFault}
+use Rattle.ferry_carry.specs.declared.piece.PieceWriter.{PieceWriter}
+
+-- ---- an item that is taken
+
+-- An item of a source has this content, whose pieces these are, and is this in a target.
+record IsTaken (there : Files) (source : RepoState) (block : ℕ) (keys : Keys) (item : ItemText) (contents : List (List ℕ)) (copied : ItemText)
+    (whole : WholeItem) : Type 0 where
+  holds : HoldsItem there source.log source.keys item whole
+  pieces : contents ≡ pieces_of block whole.content
+  text : copied ≡ copied_item keys block whole
+
+-- items with the same fields and the same chunks are the same
+same_text : (a b : ItemText) → a.fields ≡ b.fields → a.chunks ≡ b.chunks → a ≡ b
+same_text a b fields chunks =
+    ap (λ (f : Tree). record { fields = f; chunks = a.chunks }) fields ∙ ap (λ (c : Option (List ChunkRef)). record { fields = b.fields; chunks = c }) chunks
+
+-- the content of an item that was copied, and the item that is written for it
+item_taken : (t : Told) (source : RepoState) (block : ℕ) (keys : Keys) (item : ItemText) (fields : Tree) (chunks copied : Option (List ChunkRef))
+    (contents : List (List ℕ)) → item.chunks ≡ chunks → fields ≡ item.fields → CopiesContent (Some t) source block keys chunks contents copied
+    → (whole : WholeItem) × IsTaken (told_files t) source block keys item contents (record { fields = fields; chunks = copied }) whole
+item_taken t source block keys item fields None None contents is same copies =
+    let whole : WholeItem = record { fields = item.fields; content = None } in
+    let copied : ItemText = record { fields = fields; chunks = None } in (
+      whole,
+      record {
+        holds = record {
+          fields = refl;
+          content = subst (λ (c : Option (List ChunkRef)). HoldsJoined (told_files t) source.log source.keys c None) (sym is) tt;
+        };
+        pieces = copies;
+        text = same_text copied (copied_item keys block whole) same refl;
+      },
+    )
+item_taken t source block keys item fields None (Some copied) contents is same copies = absurd copies
+item_taken t source block keys item fields (Some chunks) None contents is same copies = absurd copies
+item_taken t source block keys item fields (Some chunks) (Some copied) contents is same copies =
+    let whole : WholeItem = record { fields = item.fields; content = Some copies.0 } in
+    let text : ItemText = record { fields = fields; chunks = Some copied } in (
+      whole,
+      record {
+        holds = record {
+          fields = refl;
+          content = subst (λ (c : Option (List ChunkRef)). HoldsJoined (told_files t) source.log source.keys c (Some copies.0)) (sym is) copies.1.1.1.1;
+        };
+        pieces = copies.1.0;
+        text = same_text text (copied_item keys block whole) same (ap (λ (c : List ChunkRef). Some c) copies.1.1.0);
+      },
+    )
+
+-- ---- the stream and the contents of one item more
+
+-- the stream of one item more
+stream_more : (keys : Keys) (block : ℕ) (wholes : List WholeItem) (whole : WholeItem)
+    → copied_stream keys block (wholes ++ whole ∷ []) ≡ copied_stream keys block wholes ++ item_text (copied_item keys block whole)
+stream_more keys block [] whole = append-nil (item_text (copied_item keys block whole))
+stream_more keys block (w ∷ ws) whole =
+    ap (λ (bytes : List ℕ). item_text (copied_item keys block w) ++ bytes) (stream_more keys block ws whole)
+    ∙ sym (append_assoc (item_text (copied_item keys block w)) (copied_stream keys block ws) (item_text (copied_item keys block whole)))
+
+-- and the contents
+contents_more : (block : ℕ) (wholes : List WholeItem) (whole : WholeItem)
+    → contents_of block (wholes ++ whole ∷ []) ≡ contents_of block wholes ++ pieces_of block whole.content
+contents_more block [] whole = append-nil (pieces_of block whole.content)
+contents_more block (w ∷ ws) whole =
+    ap (λ (contents : List (List ℕ)). pieces_of block w.content ++ contents) (contents_more block ws whole)
+    ∙ sym (append_assoc (pieces_of block w.content) (contents_of block ws) (pieces_of block whole.content))
+
+-- the chunks of pieces have their ids
+ids_of : (keys : Keys) (pieces : List (List ℕ)) → map (λ (chunk : ChunkRef). chunk.id) (chunks_of keys pieces) ≡ map (content_id keys) pieces
+ids_of keys [] = refl
+ids_of keys (p ∷ ps) = ap (λ (ids : List (List ℕ)). content_id keys p ∷ ids) (ids_of keys ps)
+
+-- ---- contents that are there
+
+-- contents that are there stay
+contents_on : (counts : Bool) (store now : Store) (h g : History) (fits : StoreFits counts store h) (fits_now : StoreFits counts now g)
+    → Keeps (entries_of fits.written) (entries_of fits_now.written) → KeepsRest store now → (contents : List (List ℕ))
+    → HoldsContents (files_now h) (repo_view store.repo) contents → HoldsContents (files_now g) (repo_view now.repo) contents
+contents_on counts store now h g fits fits_now keeps rest contents all =
+    each_to _ _ contents (λ content chunk.
+    subst (λ (k : Keys). HoldsChunk (files_now g) (repo_view now.repo).log (repo_view now.repo).keys (content_id k content) content) (sym rest.keys)
+    (chunk_on counts store now h g fits fits_now keeps rest.keys (content_id (repo_view store.repo).keys content) content chunk)) all
+
+-- what is live now was among the same before
+within_before : (counts : Bool) (store now : Store) (h g : History) (fits : StoreFits counts store h) (fits_now : StoreFits counts now g)
+    → Keeps (entries_of fits.written) (entries_of fits_now.written) → KeepsRest store now → (scope : List (List ℕ))
+    → HoldsWithin scope (files_now g) (repo_view now.repo) → HoldsWithin scope (files_now h) (repo_view store.repo)
+within_before counts store now h g fits fits_now keeps rest scope within id content chunk =
+    within id content (chunk_on counts store now h g fits fits_now keeps rest.keys id content chunk)
+
+-- contents that are there where none collide are so later
+held_on : (counts : Bool) (store now : Store) (more contents : List (List ℕ)) (h g : History) (fits : StoreFits counts store h)
+    → Gathered counts store more now h g fits → KeepsRest store now → HoldsApart (files_now h) (repo_view store.repo) contents
+    → HoldsApart (files_now g) (repo_view now.repo) contents
+held_on counts store now more contents h g fits end rest held scope apart all within =
+    contents_on counts store now h g fits end.fits_now end.moved.entries rest contents
+    (held scope (subst (λ (k : Keys). NoCollision k scope) rest.keys apart) all
+    (within_before counts store now h g fits end.fits_now end.moved.entries rest scope within))
+
+-- contents that were there, and behind a part of them those that were added
+held_more : (counts : Bool) (store now : Store) (first last some more : List (List ℕ)) (h g : History) (fits : StoreFits counts store h)
+    → Gathered counts store (some ++ more) now h g fits → KeepsRest store now → HoldsApart (files_now h) (repo_view store.repo) (first ++ last)
+    → HoldsApart (files_now g) (repo_view now.repo) ((first ++ some) ++ (last ++ more))
+held_more counts store now first last some more h g fits end rest held scope apart all within =
+    let P : List ℕ → Type 0 = λ content.
+    HoldsChunk (files_now g) (repo_view now.repo).log (repo_view now.repo).keys (content_id (repo_view now.repo).keys content) content in
+    let halves = all_front (IsAmong scope) (first ++ some) (last ++ more) all in
+    let front = all_front (IsAmong scope) first some halves.0 in
+    let back = all_front (IsAmong scope) last more halves.1 in
+    let old = held_on counts store now (some ++ more) (first ++ last) h g fits end rest held scope apart
+    (all_both (IsAmong scope) first last front.0 back.0) within in
+    let new = (end.brings scope (subst (λ (k : Keys). NoCollision k scope) rest.keys apart) (all_both (IsAmong scope) some more front.1 back.1)
+    (within_before counts store now h g fits end.fits_now end.moved.entries rest scope within)).1 in
+    let olds = all_front P first last old in
+    let news = all_front P some more new in
+    all_both P (first ++ some) (last ++ more) (all_both P first some olds.0 news.0) (all_both P last more olds.1 news.1)
+
+-- ---- WritesItems
+
+-- one item more
+writes_more : (counts : Bool) (store now : Store) (h g : History) (fits : StoreFits counts store h) (copy copy_now : Copy) (wholes : List WholeItem)
+    (whole : WholeItem) (spelled : List (List ℕ)) → Gathered counts store (pieces_of copy.block whole.content ++ spelled) now h g fits
+    → KeepsRest store now → copy.stream.cutter.block ≡ stream_block → copy_now.block ≡ copy.block
+    → WritesOn (repo_view store.repo).keys copy.stream.cutter copy.stream.chunks.items (item_text (copied_item (repo_view store.repo).keys copy.block whole))
+    spelled copy_now.stream.cutter copy_now.stream.chunks.items → IsRead (copied_item (repo_view store.repo).keys copy.block whole)
+    → WritesItems (files_now h) (repo_view store.repo) copy wholes
+    → WritesItems (files_now g) (repo_view now.repo) copy_now (wholes ++ whole ∷ [])
+writes_more counts store now h g fits copy copy_now wholes whole spelled end rest large same wrote read writes =
+    let keys = (repo_view store.repo).keys in
+    let block = copy.block in
+    let piece = copy_now.stream.cutter.piece in
+    let chunks = copy_now.stream.chunks.items in
+    let all = wholes ++ whole ∷ [] in
+    let taken = writes.taken ++ spelled in
+    let IsSo : Keys → ℕ → Type 0 = λ k b.
+    IsFed stream_block (copied_stream k b all) taken piece
+    × ((chunks ≡ chunks_of k taken) × AllByRecursion (λ (w : WholeItem). IsRead (copied_item k b w)) all) in
+    let before : IsFed copy.stream.cutter.block (copied_stream keys block wholes) writes.taken copy.stream.cutter.piece =
+    subst (λ (n : ℕ). IsFed n (copied_stream keys block wholes) writes.taken copy.stream.cutter.piece) (sym large) writes.fed in
+    let after = wrote.fed (copied_stream keys block wholes) writes.taken before in
+    let fed : IsFed stream_block (copied_stream keys block all) taken piece =
+    subst (λ (bytes : List ℕ). IsFed stream_block bytes taken piece) (sym (stream_more keys block wholes whole))
+    (subst (λ (n : ℕ). IsFed n (copied_stream keys block wholes ++ item_text (copied_item keys block whole)) taken piece) large after) in
+    let chunks_are : chunks ≡ chunks_of keys taken =
+    wrote.chunks_are ∙ (ap (λ (cs : List ChunkRef). cs ++ chunks_of keys spelled) writes.chunks ∙ sym (map-append (chunk_of keys) writes.taken spelled)) in
+    let reads : AllByRecursion (λ (w : WholeItem). IsRead (copied_item keys block w)) all =
+    all-append (λ (w : WholeItem). IsRead (copied_item keys block w)) wholes (whole ∷ []) writes.spelled (read, tt) in
+    let so : IsSo (repo_view now.repo).keys copy_now.block =
+    subst (λ (k : Keys). IsSo k copy_now.block) (sym rest.keys) (subst (IsSo keys) (sym same) (fed, (chunks_are, reads))) in
+    let held : HoldsApart (files_now g) (repo_view now.repo) (contents_of block all ++ taken) =
+    subst (λ (cs : List (List ℕ)). HoldsApart (files_now g) (repo_view now.repo) (cs ++ taken)) (sym (contents_more block wholes whole))
+    (held_more counts store now (contents_of block wholes) writes.taken (pieces_of block whole.content) spelled h g fits end rest writes.held) in
+    record {
+      taken = taken;
+      fed = so.0;
+      chunks = so.1.0;
+      spelled = so.1.1;
+      held = subst (λ (b : ℕ). HoldsApart (files_now g) (repo_view now.repo) (contents_of b all ++ taken)) (sym same) held;
+    }
+
+-- the same items, where nothing of the stream has changed
+writes_on : (counts : Bool) (store now : Store) (more : List (List ℕ)) (h g : History) (fits : StoreFits counts store h) (copy copy_now : Copy)
+    (wholes : List WholeItem) → Gathered counts store more now h g fits → KeepsRest store now → copy_now.stream ≡ copy.stream
+    → copy_now.block ≡ copy.block → WritesItems (files_now h) (repo_view store.repo) copy wholes
+    → WritesItems (files_now g) (repo_view now.repo) copy_now wholes
+writes_on counts store now more h g fits copy copy_now wholes end rest stream same writes =
+    let taken = writes.taken in
+    let IsSo : Keys → ℕ → PieceWriter → Type 0 = λ k b s.
+    IsFed stream_block (copied_stream k b wholes) taken s.cutter.piece
+    × ((s.chunks.items ≡ chunks_of k taken) × AllByRecursion (λ (w : WholeItem). IsRead (copied_item k b w)) wholes) in
+    let so : IsSo (repo_view now.repo).keys copy_now.block copy_now.stream =
+    subst (IsSo (repo_view now.repo).keys copy_now.block) (sym stream)
+    (subst (λ (k : Keys). IsSo k copy_now.block copy.stream) (sym rest.keys)
+    (subst (λ (b : ℕ). IsSo (repo_view store.repo).keys b copy.stream) (sym same) (writes.fed, (writes.chunks, writes.spelled)))) in
+    record {
+      taken = taken;
+      fed = so.0;
+      chunks = so.1.0;
+      spelled = so.1.1;
+      held = subst (λ (b : ℕ). HoldsApart (files_now g) (repo_view now.repo) (contents_of b wholes ++ taken)) (sym same)
+          (held_on counts store now more (contents_of copy.block wholes ++ taken) h g fits end rest writes.held);
+    }
+
+-- ---- a step
+
+-- one item more was taken and written
+pub step_copied : (counts : Bool) (t : Told) (source : RepoState) (named : ArchiveRef) (store now : Store) (copy copy_now : Copy) (more : List (List ℕ))
+    (h g : History) (fits : StoreFits counts store h) → FitsFiles (told_files t) source.log → Gathered counts store more now h g fits
+    → KeepsRest store now → IsReady copy → copy_now.archive ≡ copy.archive → copy_now.block ≡ copy.block
+    → CopiesItem (Some t) source (repo_view store.repo).keys copy more copy_now
+    → CopiesSoFar (told_files t) source named (files_now h) (repo_view store.repo) copy
+    → CopiesSoFar (told_files t) source named (files_now g) (repo_view now.repo) copy_now
+step_copied counts t source named store now copy copy_now more h g fits log_fits end rest ready archive same step so =
+    let there = told_files t in
+    let keys = (repo_view store.repo).keys in
+    let items = so.items ++ step.item ∷ [] in
+    let found = item_taken t source copy.block keys step.item step.copied.fields step.item.chunks step.copied.chunks step.contents refl step.fields
+    step.content in
+    let whole = found.0 in
+    let is = found.1 in
+    let healed : is_healed (field_pairs step.copied) ≡ false =
+    ap (λ (f : Tree). is_healed (field_pairs (record { fields = f; chunks = None }))) step.fields
+    ∙ taken_whole there source.log source.keys (walk_view copy.walk) (walk_view copy_now.walk) step.item log_fits step.taken in
+    let read : IsRead (copied_item keys copy.block whole) = subst IsRead is.text (step.again healed) in
+    let pieces : more ≡ pieces_of copy.block whole.content ++ step.spelled =
+    step.pieces ∙ ap (λ (cs : List (List ℕ)). cs ++ step.spelled) is.pieces in
+    let wrote = subst (λ (i : ItemText). WritesOn keys copy.stream.cutter copy.stream.chunks.items (item_text i) step.spelled copy_now.stream.cutter
+    copy_now.stream.chunks.items) is.text step.written.writes in
+    record {
+      items = items;
+      wholes = so.wholes ++ whole ∷ [];
+      record_is = subst (λ (a : Archive). HoldsRecord there source.log source.keys named.id (archive_view a)) (sym archive) so.record_is;
+      leads = subst (λ (a : Archive). LeadsOn there source.log source.keys (begin_walk named.id (archive_view a).items) items (walk_view copy_now.walk))
+          (sym archive)
+          (leads_then there source.log source.keys (begin_walk named.id (archive_view copy.archive).items) (walk_view copy.walk) (walk_view copy_now.walk)
+          so.items (step.item ∷ []) so.leads step.taken);
+      come = wholes_more there source.log source.keys so.items so.wholes step.item whole so.come is.holds;
+      writes = writes_more counts store now h g fits copy copy_now so.wholes whole step.spelled
+          (subst (λ (cs : List (List ℕ)). Gathered counts store cs now h g fits) pieces end) rest ready.stream_block_is same wrote read so.writes;
+    }
+
+-- no item more is to come: all were written
+pub step_ended : (counts : Bool) (t : Told) (source : RepoState) (named : ArchiveRef) (store now : Store) (copy copy_now : Copy) (more : List (List ℕ))
+    (h g : History) (fits : StoreFits counts store h) → archive_named named.name source.manifest.archives ≡ Some named
+    → Gathered counts store more now h g fits → KeepsRest store now → copy_now.archive ≡ copy.archive → copy_now.block ≡ copy.block
+    → EndsItems (Some t) source copy more copy_now → CopiesSoFar (told_files t) source named (files_now h) (repo_view store.repo) copy
+    → CopiesAll (told_files t) source named (files_now g) (repo_view now.repo) copy_now
+step_ended counts t source named store now copy copy_now more h g fits named_is end rest archive same step so =
+    let there = told_files t in
+    let record_is = archive_view copy.archive in
+    let comes = leads_end there source.log source.keys named.id record_is.items so.items (walk_view copy.walk) None so.leads step.end in
+    record {
+      wholes = so.wholes;
+      source_whole = subst (λ (a : Archive). SaysIn there source named.name
+          (record { time = named.time; fields = (archive_view a).fields; items = so.wholes })) (sym archive)
+          (source_whole there source.log source.keys source.manifest.archives named.name named record_is so.items so.wholes named_is so.record_is comes
+          so.come);
+      writes = writes_on counts store now more h g fits copy copy_now so.wholes end rest step.stream same so.writes;
+    }
+
+-- ---- what is known of a step by what the devices tell
+
+-- what was handed on is no value
+pub err_not : {T : Type 0} (r : Result T CarryFault) (fault : CarryFault) (x : T) → IsErrAnd r (λ y. y ≡ fault) → r ≡ Ok x → ⊥
+err_not (Ok y) fault x e is = absurd e
+err_not (Err f) fault x e is = cc
+
+-- what holds of anything
+pub any_told : {T : Type 0} (o : Option T) (P : T → Type 0) → ((x : T) → P x) → IfSome o P
+any_told None P p = tt
+any_told (Some x) P p = p x
+
+-- two facts of something that may be there
+both_known : {T : Type 0} (o : Option T) (P Q : T → Type 0) → IfSome o P → IfSome o Q → IfSome o (λ x. P x × Q x)
+both_known None P Q p q = tt
+both_known (Some x) P Q p q = (p, q)
+
+-- the same over what the shelf and the depot tell
+pub steps_copied : (told a b : Option Told) (source : RepoState) (cached : Contents) (named : ArchiveRef) (store now : Store) (copy copy_now : Copy)
+    (more : List (List ℕ)) (n m : ℕ) → IfSome told (λ t. FitsRepo (told_files t) source cached) → IfSome a (λ d. StoreFits false store d.history)
+    → Works {T = Bool} (KeepsStanding store) (λ _. Gathers store more now) a b n m (Ok true) → KeepsRest store now → IsReady copy
+    → copy_now.archive ≡ copy.archive → copy_now.block ≡ copy.block → CopiesItem told source (repo_view store.repo).keys copy more copy_now
+    → IsCopiedSoFar (origin told source copy.block) named a store copy → IsCopiedSoFar (origin told source copy.block) named b now copy_now
+steps_copied None a b source cached named store now copy copy_now more n m log_fits fits works rest ready archive same step so =
+    (sym same, any_told b (λ d. Unit {0}) (λ d. tt))
+steps_copied (Some t) a b source cached named store now copy copy_now more n m log_fits fits works rest ready archive same step so =
+    let P : History → Type 0 = λ h. CopiesSoFar (told_files t) source named (files_now h) (repo_view store.repo) copy in
+    let R : History → Type 0 = λ h. CopiesSoFar (told_files t) source named (files_now h) (repo_view now.repo) copy_now in (
+      sym same,
+      works_known {T = Bool} (λ h. StoreFits false store h × P h) R (KeepsStanding store) (λ _. Gathers store more now) a b n m true
+          (λ h g known gathers.
+          step_copied false t source named store now copy copy_now more h g known.0 log_fits.log (gathers false known.0) rest ready archive same step known.1)
+          (both_known a (λ d. StoreFits false store d.history) (λ d. P d.history) fits so.1) works,
+    )
+
+-- and of the end
+pub steps_ended : (told a b : Option Told) (source : RepoState) (named : ArchiveRef) (store now : Store) (copy copy_now : Copy)
+    (more : List (List ℕ)) (n m : ℕ) → archive_named named.name source.manifest.archives ≡ Some named → IfSome a (λ d. StoreFits false store d.history)
+    → Works {T = Bool} (KeepsStanding store) (λ _. Gathers store more now) a b n m (Ok false) → KeepsRest store now
+    → copy_now.archive ≡ copy.archive → copy_now.block ≡ copy.block → EndsItems told source copy more copy_now
+    → IsCopiedSoFar (origin told source copy.block) named a store copy → IsAllCopied (origin told source copy.block) named b now copy_now
+steps_ended None a b source named store now copy copy_now more n m named_is fits works rest archive same step so =
+    (sym same, any_told b (λ d. Unit {0}) (λ d. tt))
+steps_ended (Some t) a b source named store now copy copy_now more n m named_is fits works rest archive same step so =
+    let P : History → Type 0 = λ h. CopiesSoFar (told_files t) source named (files_now h) (repo_view store.repo) copy in
+    let R : History → Type 0 = λ h. CopiesAll (told_files t) source named (files_now h) (repo_view now.repo) copy_now in (
+      sym same,
+      works_known {T = Bool} (λ h. StoreFits false store h × P h) R (KeepsStanding store) (λ _. Gathers store more now) a b n m false
+          (λ h g known gathers.
+          step_ended false t source named store now copy copy_now more h g known.0 named_is (gathers false known.0) rest archive same step known.1)
+          (both_known a (λ d. StoreFits false store d.history) (λ d. P d.history) fits so.1) works,
+    )
+
+-- ---- the begin
+
+-- no item was taken
+nothing_taken : (there : Files) (source : RepoState) (named : ArchiveRef) (files : Files) (repo : RepoState) (copy : Copy)
+    → HoldsRecord there source.log source.keys named.id (archive_view copy.archive)
+    → walk_view copy.walk ≡ begin_walk named.id (archive_view copy.archive).items
+    → (copy.stream.cutter.piece ≡ []) × (copy.stream.chunks.items ≡ []) → CopiesSoFar there source named files repo copy
+nothing_taken there source named files repo copy record_is walk stream =
+    let begun = begin_walk named.id (archive_view copy.archive).items in
+    record {
+      items = [];
+      wholes = [];
+      record_is = record_is;
+      leads = subst (λ (w : WalkState). LeadsOn there source.log source.keys begun [] w) (sym walk) (λ items end come. come);
+      come = refl;
+      writes = record {
+        taken = [];
+        fed = subst (λ (piece : List ℕ). IsFed stream_block [] [] piece) (sym stream.0) (fed_nothing stream_block);
+        chunks = stream.1;
+        spelled = tt;
+        held = λ scope apart all within. tt;
+      };
+    }
+
+-- the same where a shelf tells the files of a source
+begun_at : (told : Option Told) (source : RepoState) (named : ArchiveRef) (files : Files) (repo : RepoState) (copy : Copy)
+    → IfSome told (λ t. HoldsRecord (told_files t) source.log source.keys named.id (archive_view copy.archive))
+    → walk_view copy.walk ≡ begin_walk named.id (archive_view copy.archive).items
+    → (copy.stream.cutter.piece ≡ []) × (copy.stream.chunks.items ≡ [])
+    → IfSome (option_map (λ (t : Told). told_files t) told) (λ there. CopiesSoFar there source named files repo copy)
+begun_at None source named files repo copy record_is walk stream = tt
+begun_at (Some t) source named files repo copy record_is walk stream = nothing_taken (told_files t) source named files repo copy record_is walk stream
+
+-- an archive of which nothing was taken is copied so far, in any store
+pub begin_copied : (told later target : Option Told) (source after : RepoState) (block : ℕ) (named : ArchiveRef) (store : Store) (copy : Copy)
+    → heard later ≡ heard told → after ≡ source → block ≡ copy.block
+    → IfSome told (λ t. HoldsRecord (told_files t) source.log source.keys named.id (archive_view copy.archive))
+    → walk_view copy.walk ≡ begin_walk named.id (archive_view copy.archive).items
+    → (copy.stream.cutter.piece ≡ []) × (copy.stream.chunks.items ≡ []) → IsCopiedSoFar (origin later after block) named target store copy
+begin_copied told later target source after block named store copy alike kept same record_is walk stream =
+    let known = at_last told later source after (λ r f. HoldsRecord f r.log r.keys named.id (archive_view copy.archive)) alike kept record_is in (
+      same,
+      any_told target (λ d. IfSome (option_map (λ (t : Told). told_files t) later)
+          (λ there. CopiesSoFar there after named (told_files d) (repo_view store.repo) copy))
+          (λ d. begun_at later after named (told_files d) (repo_view store.repo) copy known walk stream),
+    )
+
+-- the files that a shelf tells, where it tells the same
+files_told : (a b : Option Told) → heard b ≡ heard a → option_map (λ (t : Told). told_files t) b ≡ option_map (λ (t : Told). told_files t) a
+files_told None None alike = refl
+files_told None (Some b) alike = absurd (let no : ⊥ = cc in no)
+files_told (Some a) None alike = absurd (let no : ⊥ = cc in no)
+files_told (Some a) (Some b) alike = let same : heard_of b ≡ heard_of a = cc in ap (λ (h : Heard). Some (files_now h.history)) same
+
+-- a source is the same where its shelf tells the same
+pub origin_later : (told later : Option Told) (source after : RepoState) (block : ℕ) → heard later ≡ heard told → after ≡ source
+    → origin later after block ≡ origin told source block
+origin_later told later source after block alike kept =
+    ap (λ (files : Option Files). record { files = files; repo = after; block = block }) (files_told told later alike)
+    ∙ ap (λ (r : RepoState). record { files = option_map (λ (t : Told). told_files t) told; repo = r; block = block }) kept
+
+-- ---- the end
+
+-- the pieces of a stream are those that became whole, and those of what is left
+stream_taken : (files : Files) (repo : RepoState) (copy : Copy) (wholes : List WholeItem) → IsReady copy → (writes : WritesItems files repo copy wholes)
+    → stream_pieces repo.keys copy.block wholes ≡ writes.taken ++ cut copy.stream.cutter.block copy.stream.cutter.piece
+stream_taken files repo copy wholes ready writes =
+    let piece = copy.stream.cutter.piece in
+    fed_cut stream_block (copied_stream repo.keys copy.block wholes) piece writes.taken (omega arith) writes.fed
+    ∙ ap (λ (n : ℕ). writes.taken ++ cut n piece) (sym ready.stream_block_is)
+
+-- the ids that the record of an archive on its way has are theirs
+pub stream_ids : (files : Files) (repo : RepoState) (copy : Copy) (wholes : List WholeItem) → IsReady copy → WritesItems files repo copy wholes
+    → map (λ (chunk : ChunkRef). chunk.id) (copy.stream.chunks.items ++ chunks_of repo.keys (cut copy.stream.cutter.block copy.stream.cutter.piece))
+    ≡ map (content_id repo.keys) (stream_pieces repo.keys copy.block wholes)
+stream_ids files repo copy wholes ready writes =
+    let keys = repo.keys in
+    let left = cut copy.stream.cutter.block copy.stream.cutter.piece in
+    let chunks : copy.stream.chunks.items ++ chunks_of keys left ≡ chunks_of keys (writes.taken ++ left) =
+    ap (λ (cs : List ChunkRef). cs ++ chunks_of keys left) writes.chunks ∙ sym (map-append (chunk_of keys) writes.taken left) in
+    ap (map (λ (chunk : ChunkRef). chunk.id)) chunks
+    ∙ (ids_of keys (writes.taken ++ left) ∙ ap (map (content_id keys)) (sym (stream_taken files repo copy wholes ready writes)))
+
+-- all that an archive is in a target is there, once what was left of its stream and its record were added
+pub ready_then : (counts : Bool) (there : Files) (from : Origin) (named : ArchiveRef) (store middle : Store) (copy : Copy) (text id : List ℕ)
+    (h g : History) (fits : StoreFits counts store h) → from.block ≡ copy.block → IsReady copy
+    → Gathered counts store (cut copy.stream.cutter.block copy.stream.cutter.piece ++ text ∷ []) middle h g fits → KeepsRest store middle
+    → IsRecord (repo_view store.repo).keys (archive_view copy.archive) copy.block (copy.stream.chunks.items
+    ++ chunks_of (repo_view store.repo).keys (cut copy.stream.cutter.block copy.stream.cutter.piece)) text id
+    → CopiesAll there from.repo named (files_now h) (repo_view store.repo) copy
+    → CanBeNamed there from (files_now g) (repo_view middle.repo) (entry_for named id)
+ready_then counts there from named store middle copy text id h g fits same ready end rest is all =
+    let keys = (repo_view store.repo).keys in
+    let block = copy.block in
+    let wholes = all.wholes in
+    let writes = all.writes in
+    let piece = copy.stream.cutter.piece in
+    let left = cut copy.stream.cutter.block piece in
+    let archive = archive_view copy.archive in
+    let given = copy.stream.chunks.items ++ chunks_of keys left in
+    let pieces : stream_pieces keys block wholes ≡ writes.taken ++ left =
+    stream_taken (files_now h) (repo_view store.repo) copy wholes ready writes in
+    let ids : map (λ (chunk : ChunkRef). chunk.id) given ≡ map (content_id keys) (stream_pieces keys block wholes) =
+    stream_ids (files_now h) (repo_view store.repo) copy wholes ready writes in
+    let copied : IsCopyOf keys block wholes archive.fields text =
+    record {
+      some = omega (arith, ready.least);
+      copied = as_tagged (copied_archive archive block (map (λ (chunk : ChunkRef). chunk.id) given));
+      reads = is.reads;
+      same = refl;
+      items = ids;
+      spelled = writes.spelled;
+    } in
+    let last : stream_pieces keys block wholes ++ text ∷ [] ≡ writes.taken ++ (left ++ text ∷ []) =
+    ap (λ (ps : List (List ℕ)). ps ++ text ∷ []) pieces ∙ append_assoc writes.taken left (text ∷ []) in
+    let adds : (contents_of block wholes ++ []) ++ (writes.taken ++ (left ++ text ∷ [])) ≡ adds_of keys block wholes text =
+    ap (λ (cs : List (List ℕ)). cs ++ (writes.taken ++ (left ++ text ∷ []))) (append-nil (contents_of block wholes))
+    ∙ ap (λ (cs : List (List ℕ)). contents_of block wholes ++ cs) (sym last) in
+    let held : HoldsApart (files_now g) (repo_view middle.repo) (adds_of keys block wholes text) =
+    subst (HoldsApart (files_now g) (repo_view middle.repo)) adds
+    (held_more counts store middle (contents_of block wholes) writes.taken [] (left ++ text ∷ []) h g fits end rest writes.held) in
+    let IsSo : Keys → ℕ → Type 0 = λ k b.
+    IsCopyOf k b wholes archive.fields text × HoldsApart (files_now g) (repo_view middle.repo) (adds_of k b wholes text) in
+    let so : IsSo (repo_view middle.repo).keys from.block =
+    subst (λ (k : Keys). IsSo k from.block) (sym rest.keys) (subst (IsSo keys) (sym same) (copied, held)) in
+    record {
+      whole = record { time = named.time; fields = archive.fields; items = wholes };
+      source = all.source_whole;
+      time = refl;
+      text = text;
+      id = is.id_is ∙ ap (λ (k : Keys). content_id k text) (sym rest.keys);
+      copy = so.0;
+      held = so.1;
+    }
+
+-- the same over what the depot tells
+pub readies : {T : Type 0} (from : Origin) (a b : Option Told) (named : ArchiveRef) (store middle : Store) (copy : Copy) (text id : List ℕ) (n m : ℕ) (x : T)
+    → IfSome a (λ d. StoreFits false store d.history) → IsReady copy
+    → Works (KeepsStanding store) (λ (_ : T). Gathers store (cut copy.stream.cutter.block copy.stream.cutter.piece ++ text ∷ []) middle) a b n m (Ok x)
+    → KeepsRest store middle
+    → IsRecord (repo_view store.repo).keys (archive_view copy.archive) copy.block (copy.stream.chunks.items
+    ++ chunks_of (repo_view store.repo).keys (cut copy.stream.cutter.block copy.stream.cutter.piece)) text id
+    → IsAllCopied from named a store copy → IfSome b (λ d. IsReadyToName from (told_files d) (repo_view middle.repo) (entry_for named id))
+readies {T} from a b named store middle copy text id n m x fits ready works rest is all =
+    let more = cut copy.stream.cutter.block copy.stream.cutter.piece ++ text ∷ [] in
+    let P : History → Type 0 = λ h. IfSome from.files (λ there. CopiesAll there from.repo named (files_now h) (repo_view store.repo) copy) in
+    let R : History → Type 0 = λ h. IsReadyToName from (files_now h) (repo_view middle.repo) (entry_for named id) in
+    works_known {T = T} (λ h. StoreFits false store h × P h) R (KeepsStanding store) (λ (_ : T). Gathers store more middle) a b n m x
+    (λ h g known gathers.
+    IfSome_then from.files known.1
+    (λ there c. ready_then false there from named store middle copy text id h g known.0 all.0 ready (gathers false known.0) rest is c))
+    (both_known a (λ d. StoreFits false store d.history) (λ d. P d.history) fits all.1) works

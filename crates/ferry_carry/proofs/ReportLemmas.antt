@@ -1,0 +1,463 @@
+-- Lemmas on specs/Telling.antt: what was told at each moment, and what is told by bodies one after another.
+use Rattle.std.proofs.Common.{◌≡◌, ◌⊎◌, inl, inr, ℕ, Bool, true, false, List, [], ◌∷◌, ◌++◌, Option, Some, None, Result, Ok, Err, refl, sym, ◌∙◌, ap, subst}
+use Rattle.std.proofs.Common.{append_assoc, ◌≤◌, ◌<◌, ◌+◌, length, take, drop, get_or}
+use Rattle.std.proofs.lemmas.List.{append-nil, append_cancel_left, take-append-drop, take_all, take_more}
+use Rattle.ferry_disk.proofs.MomentLemmas.{all_moments, moments_all, steps_end, steps_end_undone}
+use Rattle.ferry_disk.specs.Act.{Step, TellOf, Act, History, with_act}
+use Rattle.ferry_disk.specs.Device.{Told}
+use Rattle.ferry_disk.specs.Files.{Files}
+use Rattle.ferry_disk.specs.Moments.{IsMoment, Moments, last_undone, with_steps}
+use Rattle.ferry_repo.specs.Opening.{repo_view}
+use Rattle.ferry_stops.proofs.TellLemmas.{line_told, lines-append}
+use Rattle.ferry_stops.specs.Tells.{TellsNothing, line_of, lines_of}
+use Rattle.ferry_store.proofs.SoundLemmas.{stands_now}
+use Rattle.ferry_store.proofs.StepLemmas.{moments_map, moments_then, step_moments}
+use Rattle.ferry_store.specs.Commit.{accepted_in}
+use Rattle.ferry_store.specs.State.{IsSound, IsStep, ShowsStanding}
+use Rattle.ferry_store.specs.Store.{StoreFits}
+use Rattle.ferry_store.specs.declared.store.Store.{Store}
+use Rattle.ferry_write.specs.Script.{AllDone}
+use Rattle.ferry_carry.proofs.GatherLemmas.{rest_here, sound_map, standing_from}
+use Rattle.ferry_carry.proofs.GrowLemmas.{growing_here, grows_from, grows_here, grows_then, on_from, on_then, on_wider}
+use Rattle.ferry_carry.proofs.TellLemmas.{told_gathers, told_stands}
+use Rattle.ferry_carry.proofs.WorkLemmas.{works_as, works_both, works_front, works_none, works_nothing, works_then}
+use Rattle.ferry_carry.specs.Carrying.{Origin}
+use Rattle.ferry_carry.specs.Chosen.{TellsLine}
+use Rattle.ferry_carry.specs.Fault.{target_failed}
+use Rattle.ferry_carry.specs.Flight.{Carries}
+use Rattle.ferry_carry.specs.Gather.{StandsFrom}
+use Rattle.ferry_carry.specs.Grow.{AcceptsMore, Grows, KeepsGrowing, StandsOn}
+use Rattle.ferry_carry.specs.Lines.{name_line, told_of, total_line}
+use Rattle.ferry_carry.specs.Telling.{AreLines, IsReport, IsReported, KeepsReported, Reports, ReportsWhole, ShowsReport, TellsNames, TellsWhole}
+use Rattle.ferry_carry.specs.Work.{Works}
+use Rattle.ferry_carry.specs.declared.fault.CarryFault.{CarryFault}
+use Rattle.ferry_carry.specs.declared.options.Carried.{Carried}
+
+-- ---- lines of names
+
+lines_both : (lines more names others : List (List ℕ)) → AreLines lines names → AreLines more others → AreLines (lines ++ more) (names ++ others)
+lines_both [] more [] others p q = q
+lines_both [] more (name ∷ names) others p q = absurd p
+lines_both (line ∷ lines) more [] others p q = absurd p
+lines_both (line ∷ lines) more (name ∷ names) others p q = (p.0, lines_both lines more names others p.1 q)
+
+-- ---- reports
+
+pub report_none : (done : List (List ℕ)) → IsReport [] done
+report_none done = record { told = []; more = done; reported = []; last = []; split = refl; are = tt; front = refl; total = tt }
+
+-- behind lines that tell other names
+report_then : (lines more some done : List (List ℕ)) → AreLines lines some → IsReport more done → IsReport (lines ++ more) (some ++ done)
+report_then lines more some done are r = record {
+  told = some ++ r.told;
+  more = r.more;
+  reported = lines ++ r.reported;
+  last = r.last;
+  split = ap (λ (l : List (List ℕ)). lines ++ l) r.split ∙ sym (append_assoc lines r.reported r.last);
+  are = lines_both lines r.reported some r.told are r.are;
+  front = ap (λ (l : List (List ℕ)). some ++ l) r.front ∙ sym (append_assoc some r.told r.more);
+  total = r.total;
+}
+
+-- a line of a name, perhaps
+report_one : (copied : Bool) (name : List ℕ) (lines done : List (List ℕ)) → (lines ≡ []) ⊎ (lines ≡ name_line (told_of copied) name ∷ [])
+    → IsReport lines (name ∷ done)
+report_one copied name lines done (inl none) = subst (λ (l : List (List ℕ)). IsReport l (name ∷ done)) (sym none) (report_none (name ∷ done))
+report_one copied name lines done (inr one) =
+    subst (λ (l : List (List ℕ)). IsReport l (name ∷ done)) (sym one) (record {
+      told = name ∷ [];
+      more = done;
+      reported = name_line (told_of copied) name ∷ [];
+      last = [];
+      split = refl;
+      are = ((copied, refl), tt);
+      front = refl;
+      total = tt;
+    })
+
+-- the line of the whole, perhaps
+report_whole : (carried : Carried) (lines done : List (List ℕ)) → (lines ≡ []) ⊎ (lines ≡ total_line carried ∷ []) → IsReport lines done
+report_whole carried lines done (inl none) = subst (λ (l : List (List ℕ)). IsReport l done) (sym none) (report_none done)
+report_whole carried lines done (inr one) =
+    subst (λ (l : List (List ℕ)). IsReport l done) (sym one) (record {
+      told = [];
+      more = done;
+      reported = [];
+      last = total_line carried ∷ [];
+      split = refl;
+      are = tt;
+      front = refl;
+      total = (carried, refl);
+    })
+
+-- all lines of a run that told all names and the whole
+pub whole_report : (names : List (List ℕ)) (h g : History) → lines_of h.acts ≡ [] → TellsWhole names h g → IsReport (lines_of g.acts) names
+whole_report names h g none t = record {
+  told = names;
+  more = [];
+  reported = t.0;
+  last = total_line t.1.0 ∷ [];
+  split = t.1.1.0 ∙ ap (λ (l : List (List ℕ)). l ++ (t.0 ++ total_line t.1.0 ∷ [])) none;
+  are = t.1.1.1;
+  front = sym (append-nil names);
+  total = (t.1.0, refl);
+}
+
+-- ---- what was told at a moment
+
+front_none : (lines more : List (List ℕ)) → lines ++ more ≡ [] → lines ≡ []
+front_none [] more e = refl
+front_none (line ∷ lines) more e = absurd (let no : ⊥ = cc in no)
+
+undone_lines : (acts : List Act) → lines_of (last_undone acts) ≡ lines_of acts
+unfolding lines_of
+undone_lines [] = refl
+undone_lines (act ∷ []) = refl
+undone_lines (act ∷ (next ∷ acts)) = ap (λ (lines : List (List ℕ)). line_of act.step ++ lines) (undone_lines (next ∷ acts))
+
+-- where none was told between, none was told up to a moment between
+untold_moment : (before now moment : History) → TellsNothing before now → IsMoment before now moment → TellsNothing before moment
+untold_moment before now moment untold m = by_form m.moment_is where
+  all : lines_of before.acts ++ (lines_of m.front ++ lines_of m.rest) ≡ lines_of before.acts ++ []
+  all =
+      ap (λ (l : List (List ℕ)). lines_of before.acts ++ l) (sym (lines-append m.front m.rest))
+      ∙ (sym (lines-append before.acts (m.front ++ m.rest))
+      ∙ (ap (λ (h : History). lines_of h.acts) (sym m.now_is) ∙ (untold ∙ sym (append-nil (lines_of before.acts)))))
+
+  none : lines_of m.front ≡ []
+  none =
+      front_none (lines_of m.front) (lines_of m.rest)
+      (append_cancel_left (lines_of before.acts) (lines_of m.front ++ lines_of m.rest) [] all)
+
+  up_to : (acts : List Act) → lines_of acts ≡ [] → lines_of (before.acts ++ acts) ≡ lines_of before.acts
+  up_to acts e =
+      lines-append before.acts acts
+      ∙ (ap (λ (l : List (List ℕ)). lines_of before.acts ++ l) e ∙ append-nil (lines_of before.acts))
+
+  by_form : (moment ≡ record before { acts = before.acts ++ m.front }) ⊎ (moment ≡ record before { acts = before.acts ++ last_undone m.front })
+      → TellsNothing before moment
+  by_form (inl e) = ap (λ (h : History). lines_of h.acts) e ∙ up_to m.front none
+  by_form (inr e) = ap (λ (h : History). lines_of h.acts) e ∙ up_to (last_undone m.front) (undone_lines m.front ∙ none)
+
+pub untold_moments : (P : History → Type 0) (h g : History) → TellsNothing h g → Moments P h g → Moments (λ k. P k × TellsNothing h k) h g
+untold_moments P h g untold m = by_end m.now_is where
+  all : (moment : History) → IsMoment h g moment → P moment × TellsNothing h moment
+  all moment is = (all_moments P h g m moment is, untold_moment h g moment untold is)
+
+  by_end : (g ≡ with_steps m.steps h) ⊎ ((step : Step) × (g ≡ with_act step false (with_steps m.steps h))) → Moments (λ k. P k × TellsNothing h k) h g
+  by_end (inl e) = moments_all (λ k. P k × TellsNothing h k) h g m.steps None (e ∙ steps_end h m.steps) all
+  by_end (inr e) = moments_all (λ k. P k × TellsNothing h k) h g m.steps (Some e.0) (e.1 ∙ steps_end_undone h m.steps e.0) all
+
+-- ---- moments at which something was told
+
+-- where nothing was told
+reported_none : (P : Files → Type 0) (Q : List (List ℕ) → Files → Type 0) (counts : Bool) (h g : History) → ((image : Files) → P image → Q [] image)
+    → TellsNothing h g → Moments (IsSound P counts) h g → Moments (IsReported Q counts h) h g
+reported_none P Q counts h g step untold m =
+    moments_map (λ k. IsSound P counts k × TellsNothing h k) (IsReported Q counts h) h g
+    (λ k s. record { lines = []; told = s.1 ∙ sym (append-nil (lines_of h.acts)); sound = sound_map P (Q []) counts k step s.0 })
+    (untold_moments (IsSound P counts) h g untold m)
+
+-- behind what was told
+reported_behind : (P Q : List (List ℕ) → Files → Type 0) (counts : Bool) (h g i : History) (some : List (List ℕ))
+    → lines_of g.acts ≡ lines_of h.acts ++ some → ((lines : List (List ℕ)) (image : Files) → P lines image → Q (some ++ lines) image)
+    → Moments (IsReported P counts g) g i → Moments (IsReported Q counts h) g i
+reported_behind P Q counts h g i some is step m =
+    moments_map (IsReported P counts g) (IsReported Q counts h) g i
+    (λ k s. record {
+      lines = some ++ s.lines;
+      told = s.told ∙ (ap (λ (l : List (List ℕ)). l ++ s.lines) is ∙ append_assoc (lines_of h.acts) some s.lines);
+      sound = sound_map (P s.lines) (Q (some ++ s.lines)) counts k (step s.lines) s.sound;
+    }) m
+
+reported_map : (P Q : List (List ℕ) → Files → Type 0) (counts : Bool) (h g i : History)
+    → ((lines : List (List ℕ)) (image : Files) → P lines image → Q lines image) → Moments (IsReported P counts h) g i → Moments (IsReported Q counts h) g i
+reported_map P Q counts h g i step m =
+    moments_map (IsReported P counts h) (IsReported Q counts h) g i
+    (λ k s. record { lines = s.lines; told = s.told; sound = sound_map (P s.lines) (Q s.lines) counts k (step s.lines) s.sound }) m
+
+-- a line is told, or isn't: what stands is what stood
+told_moments : (store : Store) (line : List ℕ) (h g : History) (counts : Bool) (fits : StoreFits counts store h) → IsStep (TellOf line) h g
+    → Moments (IsReported (λ lines image. ((lines ≡ []) ⊎ (lines ≡ line ∷ [])) × StandsFrom fits.written image) counts h) h g
+told_moments store line h g counts fits is =
+    step_moments (IsReported Show counts h) (TellOf line) h g (record {
+      lines = [];
+      told = sym (append-nil (lines_of h.acts));
+      sound = sound_map (ShowsStanding fits.written) (Show []) counts h (λ image shown. (inl refl, standing_from counts store h fits image shown))
+          (stands_now counts store.session store.counter fits.written h fits.under_way);
+    }) (λ done. record {
+      lines = line ∷ [];
+      told = line_told h line done;
+      sound = sound_map (ShowsStanding fits.written) (Show (line ∷ [])) counts (with_act (TellOf line) done h)
+          (λ image shown. (inr refl, standing_from counts store h fits image shown))
+          (stands_now counts store.session store.counter fits.written (with_act (TellOf line) done h)
+          (told_stands counts store fits.written line done h fits.under_way));
+    }) is where
+      Show : List (List ℕ) → Files → Type 0
+      Show lines image = ((lines ≡ []) ⊎ (lines ≡ line ∷ [])) × StandsFrom fits.written image
+
+-- ---- bodies that told nothing
+
+pub reported_growing : (from : Origin) (chosen : List (List ℕ)) (store : Store) (h g : History) → KeepsGrowing from chosen store h g
+    → KeepsReported from chosen store h g
+reported_growing from chosen store h g growing counts fits =
+    let accepted = accepted_in store in
+    let repo = repo_view store.repo in
+    reported_none (StandsOn from chosen accepted repo fits.written) (ShowsReport from chosen accepted repo fits.written) counts h g
+    (λ image stands. (stands, report_none stands.done)) growing.0 (growing.1 counts fits)
+
+pub reported_here : (from : Origin) (chosen : List (List ℕ)) (store : Store) (h : History) → AcceptsMore store → KeepsReported from chosen store h h
+reported_here from chosen store h accepts = reported_growing from chosen store h h (growing_here from chosen store h accepts)
+
+names_here : (h : History) → TellsNames [] h h
+names_here h = ([], (sym (append-nil (lines_of h.acts)), tt))
+
+-- ---- one behind another
+
+reported_wider : (from : Origin) (some more : List (List ℕ)) (store : Store) (h g : History) → KeepsReported from some store h g
+    → KeepsReported from (some ++ more) store h g
+unfolding on_wider
+reported_wider from some more store h g reported counts fits =
+    let accepted = accepted_in store in
+    let repo = repo_view store.repo in
+    reported_map (ShowsReport from some accepted repo fits.written) (ShowsReport from (some ++ more) accepted repo fits.written) counts h h g
+    (λ lines image s. (on_wider from some more accepted repo fits.written image s.0, s.1)) (reported counts fits)
+
+reported_then : (from : Origin) (some more : List (List ℕ)) (store middle : Store) (h g i : History) → KeepsReported from (some ++ more) store h g
+    → AllDone h g → Grows from some store middle h g → TellsNames some h g → KeepsReported from more middle g i
+    → KeepsReported from (some ++ more) store h i
+unfolding on_then
+reported_then from some more store middle h g i before done grows told after counts fits =
+    let first = grows counts fits in
+    let accepted = accepted_in store in
+    let between = accepted_in middle in
+    let repo = repo_view store.repo in
+    let next = repo_view middle.repo in
+    moments_then (IsReported (ShowsReport from (some ++ more) accepted repo fits.written) counts h) h g i (before counts fits) done
+    (reported_behind (ShowsReport from more between next first.fits_now.written) (ShowsReport from (some ++ more) accepted repo fits.written) counts h g i
+    told.0 told.1.0 (λ lines image s. (
+      on_then from some more accepted between repo next fits.written first.fits_now.written image first.most.keys first.most.names first.chunks
+          first.config first.carried first.cut first.only s.0,
+      report_then told.0 lines some s.0.done told.1.1 s.1,
+    )) (after counts first.fits_now))
+
+names_then : (some more : List (List ℕ)) (h g i : History) → TellsNames some h g → TellsNames more g i → TellsNames (some ++ more) h i
+names_then some more h g i p q = (
+  p.0 ++ q.0,
+  (
+    q.1.0 ∙ (ap (λ (l : List (List ℕ)). l ++ q.0) p.1.0 ∙ append_assoc (lines_of h.acts) p.0 q.0),
+    lines_both p.0 q.0 some more p.1.1 q.1.1,
+  ),
+)
+
+-- ---- a name is told behind the body that carried its archive
+
+reported_name : (from : Origin) (copied : Bool) (name : List ℕ) (store middle : Store) (h g i : History) → KeepsGrowing from (name ∷ []) store h g
+    → AllDone h g → Grows from (name ∷ []) store middle h g → AcceptsMore middle → IsStep (TellOf (name_line (told_of copied) name)) g i
+    → KeepsReported from (name ∷ []) store h i
+unfolding on_then
+reported_name from copied name store middle h g i growing done grows accepts is counts fits =
+    let line = name_line (told_of copied) name in
+    let first = grows counts fits in
+    let accepted = accepted_in store in
+    let between = accepted_in middle in
+    let repo = repo_view store.repo in
+    let next = repo_view middle.repo in
+    let now = first.fits_now.written in
+    let none : lines_of g.acts ≡ lines_of h.acts ++ [] = growing.0 ∙ sym (append-nil (lines_of h.acts)) in
+    moments_then (IsReported (ShowsReport from (name ∷ []) accepted repo fits.written) counts h) h g i
+    (reported_growing from (name ∷ []) store h g growing counts fits) done
+    (reported_behind (λ lines image. ((lines ≡ []) ⊎ (lines ≡ line ∷ [])) × StandsFrom now image)
+    (ShowsReport from (name ∷ []) accepted repo fits.written) counts h g i [] none (λ lines image s.
+    let stands : StandsOn from [] between next now image = on_from from [] between counts middle g first.fits_now image accepts s.1 in (
+      on_then from (name ∷ []) [] accepted between repo next fits.written now image first.most.keys first.most.names first.chunks first.config
+          first.carried first.cut first.only stands,
+      report_one copied name lines stands.done s.0,
+    )) (told_moments middle line g i counts first.fits_now is))
+
+told_name : (copied : Bool) (name : List ℕ) (h g i : History) → TellsNothing h g → TellsLine (name_line (told_of copied) name) g i
+    → TellsNames (name ∷ []) h i
+told_name copied name h g i untold tells = (
+  name_line (told_of copied) name ∷ [],
+  (
+    ap (λ (k : History). lines_of k.acts) tells
+        ∙ (line_told g (name_line (told_of copied) name) true
+        ∙ ap (λ (l : List (List ℕ)). l ++ name_line (told_of copied) name ∷ []) untold),
+    ((copied, refl), tt),
+  ),
+)
+
+-- a line that is told keeps what was carried
+grows_told : (from : Origin) (some : List (List ℕ)) (store middle : Store) (line : List ℕ) (h g i : History) → Grows from some store middle h g
+    → TellsLine line g i → Grows from some store middle h i
+grows_told from some store middle line h g i grows tells =
+    subst (λ (l : List (List ℕ)). Grows from l store middle h i) (append-nil some)
+    (grows_then from some [] store middle middle h g i grows
+    (grows_from from middle middle [] g i (rest_here middle) (told_gathers middle line g i tells)))
+
+-- ---- the whole is told behind all
+
+reported_whole : (from : Origin) (carried : Carried) (names : List (List ℕ)) (store middle : Store) (h g i : History) → KeepsReported from names store h g
+    → AllDone h g → Grows from names store middle h g → TellsNames names h g → AcceptsMore middle → IsStep (TellOf (total_line carried)) g i
+    → KeepsReported from names store h i
+reported_whole from carried names store middle h g i before done grows told accepts is =
+    subst (λ (l : List (List ℕ)). KeepsReported from l store h i) (append-nil names)
+    (reported_then from names [] store middle h g i (reported_wider from names [] store h g before) done grows told last) where
+      line : List ℕ
+      line = total_line carried
+
+      last : KeepsReported from [] middle g i
+      last counts fits =
+          reported_map (λ lines image. ((lines ≡ []) ⊎ (lines ≡ line ∷ [])) × StandsFrom fits.written image)
+          (ShowsReport from [] (accepted_in middle) (repo_view middle.repo) fits.written) counts g g i (λ lines image s.
+          let stands : StandsOn from [] (accepted_in middle) (repo_view middle.repo) fits.written image =
+          on_from from [] (accepted_in middle) counts middle g fits image accepts s.1 in
+          (stands, report_whole carried lines stands.done s.0)) (told_moments middle line g i counts fits is)
+
+told_whole : (carried : Carried) (names : List (List ℕ)) (h g i : History) → TellsNames names h g → TellsLine (total_line carried) g i
+    → TellsWhole names h i
+told_whole carried names h g i told tells = (
+  told.0,
+  (
+    carried,
+    (
+      ap (λ (k : History). lines_of k.acts) tells
+          ∙ (line_told g (total_line carried) true
+          ∙ (ap (λ (l : List (List ℕ)). l ++ total_line carried ∷ []) told.1.0
+          ∙ append_assoc (lines_of h.acts) told.0 (total_line carried ∷ []))),
+      told.1.1,
+    ),
+  ),
+)
+
+-- ---- what bodies did
+
+-- where no call of the target was made
+pub reports_none : {T : Type 0} (from : Origin) (store : Store) (a : Option Told) (n : ℕ) (x : T) → AcceptsMore store
+    → Reports from [] store store a a n n (Ok x)
+reports_none {T} from store a n x accepts =
+    works_none (KeepsReported from [] store) (λ (_ : T) h g. Grows from [] store store h g × TellsNames [] h g) a n x
+    (λ h. reported_here from [] store h accepts) (λ h. (grows_here from store h, names_here h))
+
+pub reports_nothing : {T : Type 0} (from : Origin) (names : List (List ℕ)) (store now : Store) (a : Option Told) (n : ℕ) (fault : CarryFault)
+    → AcceptsMore store → target_failed fault ≡ false → Reports {T = T} from names store now a a n n (Err fault)
+reports_nothing {T} from names store now a n fault accepts still =
+    works_nothing (KeepsReported from names store) (λ (_ : T) h g. Grows from names store now h g × TellsNames names h g) a n fault still
+    (λ h. reported_here from names store h accepts)
+
+pub whole_nothing : {T : Type 0} (from : Origin) (names : List (List ℕ)) (store now : Store) (a : Option Told) (n : ℕ) (fault : CarryFault)
+    → AcceptsMore store → target_failed fault ≡ false → ReportsWhole {T = T} from names store now a a n n (Err fault)
+whole_nothing {T} from names store now a n fault accepts still =
+    works_nothing (KeepsReported from names store) (λ (_ : T) h g. Grows from names store now h g × TellsWhole names h g) a n fault still
+    (λ h. reported_here from names store h accepts)
+
+-- a fault of a body that told nothing, and of one that told
+pub reports_silent : {T U : Type 0} (from : Origin) (names : List (List ℕ)) (store now : Store) (a b : Option Told) (n m : ℕ) (fault : CarryFault)
+    → Carries {T = T} from names store now a b n m (Err fault) → Reports {T = U} from names store now a b n m (Err fault)
+reports_silent {T} {U} from names store now a b n m fault p =
+    works_front (KeepsGrowing from names store) (λ (_ : T). Grows from names store now) (KeepsReported from names store)
+    (λ (_ : U) h g. Grows from names store now h g × TellsNames names h g) a b n m fault (λ h g e. reported_growing from names store h g e) p
+
+pub whole_err : {T U : Type 0} (from : Origin) (names : List (List ℕ)) (store now : Store) (a b : Option Told) (n m : ℕ) (fault : CarryFault)
+    → Reports {T = T} from names store now a b n m (Err fault) → ReportsWhole {T = U} from names store now a b n m (Err fault)
+whole_err {T} {U} from names store now a b n m fault p =
+    works_front (KeepsReported from names store) (λ (_ : T) h g. Grows from names store now h g × TellsNames names h g) (KeepsReported from names store)
+    (λ (_ : U) h g. Grows from names store now h g × TellsWhole names h g) a b n m fault (λ h g e. e) p
+
+-- a name that is told behind the body that carried its archive
+pub reports_name : {T U : Type 0} (from : Origin) (copied : Bool) (name given : List ℕ) (store middle : Store) (a b c : Option Told) (n m k : ℕ) (x : T)
+    (result : Result U CarryFault) → given ≡ name → AcceptsMore middle → Carries {T = T} from (name ∷ []) store middle a b n m (Ok x)
+    → Works (IsStep (TellOf (name_line (told_of copied) given))) (λ (_ : U). TellsLine (name_line (told_of copied) given)) b c m k result
+    → Reports {T = U} from (name ∷ []) store middle a c n k result
+reports_name {T} {U} from copied name given store middle a b c n m k x result is accepts p q =
+    let line = name_line (told_of copied) name in
+    works_then (KeepsGrowing from (name ∷ []) store)
+    (λ (_ : T) h g. KeepsGrowing from (name ∷ []) store h g × Grows from (name ∷ []) store middle h g) (IsStep (TellOf line)) (λ (_ : U). TellsLine line)
+    (KeepsReported from (name ∷ []) store) (λ (_ : U) h g. Grows from (name ∷ []) store middle h g × TellsNames (name ∷ []) h g) a b c n m k x result
+    (λ h g i e d f r. reported_name from copied name store middle h g i e d f.1 accepts r)
+    (λ _ h g i f r. (grows_told from (name ∷ []) store middle line h g i f.1 r, told_name copied name h g i f.0.0 r))
+    (works_both (KeepsGrowing from (name ∷ []) store) (λ (_ : T). Grows from (name ∷ []) store middle) a b n m (Ok x) p)
+    (subst (λ (l : List ℕ). Works (IsStep (TellOf (name_line (told_of copied) l))) (λ (_ : U). TellsLine (name_line (told_of copied) l)) b c m k result)
+    is q)
+
+-- the whole, behind all names
+pub reports_whole : {T U V : Type 0} (from : Origin) (carried : Carried) (names : List (List ℕ)) (line : List ℕ) (store middle : Store)
+    (a b c : Option Told) (n m k : ℕ) (x : T) (y : U) (z : V) → line ≡ total_line carried → AcceptsMore middle
+    → Reports {T = T} from names store middle a b n m (Ok x) → Works (IsStep (TellOf line)) (λ (_ : U). TellsLine line) b c m k (Ok y)
+    → ReportsWhole {T = V} from names store middle a c n k (Ok z)
+reports_whole {T} {U} {V} from carried names line store middle a b c n m k x y z is accepts p q =
+    let total = total_line carried in
+    let behind = subst (λ (l : List ℕ). Works (IsStep (TellOf l)) (λ (_ : U). TellsLine l) b c m k (Ok y)) is q in
+    works_then (KeepsReported from names store) (λ (_ : T) h g. Grows from names store middle h g × TellsNames names h g) (IsStep (TellOf total))
+    (λ (_ : V). TellsLine total) (KeepsReported from names store) (λ (_ : V) h g. Grows from names store middle h g × TellsWhole names h g)
+    a b c n m k x (Ok z)
+    (λ h g i e d f r. reported_whole from carried names store middle h g i e d f.0 f.1 accepts r)
+    (λ _ h g i f r. (grows_told from names store middle total h g i f.0 r, told_whole carried names h g i f.1 r)) p
+    (works_as (IsStep (TellOf total)) (λ (_ : U). TellsLine total) (IsStep (TellOf total)) (λ (_ : V). TellsLine total) b c m k y z (λ h g e. e)
+    (λ h g e. e) behind)
+
+pub whole_untold : {T U V : Type 0} (from : Origin) (carried : Carried) (names : List (List ℕ)) (line : List ℕ) (store middle : Store)
+    (a b c : Option Told) (n m k : ℕ) (x : T) (fault : CarryFault) → line ≡ total_line carried → AcceptsMore middle
+    → Reports {T = T} from names store middle a b n m (Ok x) → Works (IsStep (TellOf line)) (λ (_ : U). TellsLine line) b c m k (Err fault)
+    → ReportsWhole {T = V} from names store middle a c n k (Err fault)
+whole_untold {T} {U} {V} from carried names line store middle a b c n m k x fault is accepts p q =
+    let total = total_line carried in
+    let behind = subst (λ (l : List ℕ). Works (IsStep (TellOf l)) (λ (_ : U). TellsLine l) b c m k (Err fault)) is q in
+    works_then (KeepsReported from names store) (λ (_ : T) h g. Grows from names store middle h g × TellsNames names h g) (IsStep (TellOf total))
+    (λ (_ : V). TellsLine total) (KeepsReported from names store) (λ (_ : V) h g. Grows from names store middle h g × TellsWhole names h g)
+    a b c n m k x (Err fault)
+    (λ h g i e d f r. reported_whole from carried names store middle h g i e d f.0 f.1 accepts r)
+    (λ _ h g i f r. (grows_told from names store middle total h g i f.0 r, told_whole carried names h g i f.1 r)) p
+    (works_front (IsStep (TellOf total)) (λ (_ : U). TellsLine total) (IsStep (TellOf total)) (λ (_ : V). TellsLine total) b c m k fault (λ h g e. e)
+    behind)
+
+-- what was reported of one source was reported of another that is the same, under a name that is the same
+pub reports_as : {T : Type 0} (from other : Origin) (some others : List (List ℕ)) (store now : Store) (a b : Option Told) (n m : ℕ)
+    (result : Result T CarryFault) → other ≡ from → others ≡ some → Reports other others store now a b n m result
+    → Reports from some store now a b n m result
+reports_as {T} from other some others store now a b n m result is names p =
+    subst (λ (f : Origin). Reports f some store now a b n m result) is
+    (subst (λ (l : List (List ℕ)). Reports other l store now a b n m result) names p)
+
+-- more names behind some
+reports_then : {T U : Type 0} (from : Origin) (some more : List (List ℕ)) (store middle now : Store) (a b c : Option Told) (n m k : ℕ) (x : T)
+    (result : Result U CarryFault) → Reports {T = T} from some store middle a b n m (Ok x) → Reports {T = U} from more middle now b c m k result
+    → Reports {T = U} from (some ++ more) store now a c n k result
+reports_then {T} {U} from some more store middle now a b c n m k x result p q =
+    works_then (KeepsReported from some store) (λ (_ : T) h g. Grows from some store middle h g × TellsNames some h g) (KeepsReported from more middle)
+    (λ (_ : U) h g. Grows from more middle now h g × TellsNames more h g) (KeepsReported from (some ++ more) store)
+    (λ (_ : U) h g. Grows from (some ++ more) store now h g × TellsNames (some ++ more) h g) a b c n m k x result
+    (λ h g i e d f r. reported_then from some more store middle h g i (reported_wider from some more store h g e) d f.0 f.1 r)
+    (λ _ h g i e f. (grows_then from some more store middle now h g i e.0 f.0, names_then some more h g i e.1 f.1)) p q
+
+-- one archive more of those that were chosen
+pub reports_more : (from other : Origin) (names : List (List ℕ)) (place : ℕ) (name d : List ℕ) (store middle now : Store) (a b c : Option Told)
+    (n m k : ℕ) (result : Result (Unit {0}) CarryFault) → other ≡ from → place < length names → name ≡ get_or names place d
+    → Reports {T = Unit {0}} from (take place names) store middle a b n m (Ok tt) → Reports other (name ∷ []) middle now b c m k result
+    → Reports from (take (place + 1) names) store now a c n k result
+reports_more from other names place name d store middle now a b c n m k result is lt named p q =
+    let some = take place names in
+    let more : some ++ name ∷ [] ≡ take (place + 1) names =
+    ap (λ (x : List ℕ). some ++ x ∷ []) named ∙ sym (take_more names place d lt) in
+    reports_as {T = Unit {0}} from from (take (place + 1) names) (some ++ name ∷ []) store now a c n k result refl more
+    (reports_then {T = Unit {0}} {U = Unit {0}} from some (name ∷ []) store middle now a b c n m k tt result p
+    (subst (λ (f : Origin). Reports f (name ∷ []) middle now b c m k result) is q))
+
+-- those that were told before a fault are a front of all
+pub reports_front : {T U : Type 0} (from : Origin) (names : List (List ℕ)) (place : ℕ) (store now : Store) (a b : Option Told) (n m : ℕ)
+    (fault : CarryFault) → Reports {T = T} from (take place names) store now a b n m (Err fault) → Reports {T = U} from names store now a b n m (Err fault)
+reports_front {T} {U} from names place store now a b n m fault p =
+    let some = take place names in
+    let last = λ (l : List (List ℕ)) (_ : U) (h : History) (g : History). Grows from l store now h g × TellsNames l h g in
+    subst (λ (l : List (List ℕ)). Works {T = U} (KeepsReported from l store) (last l) a b n m (Err fault)) (take-append-drop place names)
+    (works_front (KeepsReported from some store) (λ (_ : T) h g. Grows from some store now h g × TellsNames some h g)
+    (KeepsReported from (some ++ drop place names) store) (last (some ++ drop place names)) a b n m fault
+    (λ h g e. reported_wider from some (drop place names) store h g e) p)
+
+-- all were told
+pub reports_all : {T U : Type 0} (from : Origin) (names : List (List ℕ)) (place : ℕ) (store now : Store) (a b : Option Told) (n m : ℕ) (x : T) (y : U)
+    → length names ≤ place → Reports {T = T} from (take place names) store now a b n m (Ok x) → Reports {T = U} from names store now a b n m (Ok y)
+reports_all {T} {U} from names place store now a b n m x y le p =
+    works_as (KeepsReported from names store) (λ (_ : T) h g. Grows from names store now h g × TellsNames names h g) (KeepsReported from names store)
+    (λ (_ : U) h g. Grows from names store now h g × TellsNames names h g) a b n m x y (λ h g e. e) (λ h g e. e)
+    (subst (λ (l : List (List ℕ)). Reports {T = T} from l store now a b n m (Ok x)) (take_all place names le) p)

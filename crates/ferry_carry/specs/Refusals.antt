@@ -1,0 +1,189 @@
+-- Why archives aren't carried: what a refusal says of the source's archive, of the target's archive of the same name, and of what would be written.
+use Rattle.std.specs.Prelude.{◌≡◌, ◌<◌, ◌*◌, ℕ, Bool, true, false, List, [], ◌∷◌, ◌++◌, length, map, sum_by, slice_get, Option, Some, None, IfSome}
+use Rattle.ferry_base.specs.Limits.{content_limit}
+use Rattle.ferry_blob.specs.Blob.{content_id}
+use Rattle.ferry_disk.specs.Device.{Told, told_files}
+use Rattle.ferry_disk.specs.Files.{Files}
+use Rattle.ferry_item.specs.Item.{ItemText}
+use Rattle.ferry_item.specs.declared.item.ChunkRef.{ChunkRef}
+use Rattle.ferry_mac.specs.declared.keys.Keys.{Keys}
+use Rattle.ferry_manifest.specs.Record.Text.{ArchiveText}
+use Rattle.ferry_manifest.specs.Record.Writing.{archive_text}
+use Rattle.ferry_manifest.specs.declared.manifest.ArchiveRef.{ArchiveRef}
+use Rattle.ferry_repo.specs.Archives.{HoldsRecord, IsNoRecord, RefusesContent, RefusesRecord, archive_named}
+use Rattle.ferry_repo.specs.Fault.{IsOfFiles}
+use Rattle.ferry_repo.specs.Opening.{RepoState, repo_view}
+use Rattle.ferry_repo.specs.Walk.{Comes, IsToCome, WalkState}
+use Rattle.ferry_repo.specs.Whole.{RefusesJoined, RefusesWhole, WholeArchive, WholeItem, WholesCome}
+use Rattle.ferry_repo.specs.declared.fault.RepoFault.{RepoFault}
+use Rattle.ferry_store.specs.declared.store.Store.{Store}
+use Rattle.ferry_carry.specs.Carrying.{Origin, SaysIn}
+use Rattle.ferry_carry.specs.Chosen.{IsMissingName}
+use Rattle.ferry_carry.specs.Copied.{stream_pieces}
+use Rattle.ferry_carry.specs.Gather.{IsAmong}
+use Rattle.ferry_carry.specs.Naming.{copied_archive}
+use Rattle.ferry_carry.specs.declared.fault.CarryFault.{CarryFault}
+use Rattle.ferry_carry.specs.declared.fault.CarryFault.TheVariants.{Source, Target, Taken, NotFound, Pieces, Memory, Record}
+
+-- ---- the target
+
+-- whether a fault is the target's, or want of memory
+abbrev pub is_target : CarryFault → Bool
+is_target (Target refusal) = true
+is_target Memory = true
+is_target fault = false
+
+-- ---- the contents of an item
+
+-- the sum of the sizes that chunks state
+abbrev pub total_size : List ChunkRef → ℕ
+total_size chunks = sum_by (λ (chunk : ChunkRef). chunk.size) chunks
+
+-- The chunks of an item state more bytes than as many pieces as an item may have are.
+abbrev pub IsTooLong : ℕ → Option (List ChunkRef) → Type 0
+IsTooLong block None = ⊥
+IsTooLong block (Some chunks) = 4294967295 * block < total_size chunks
+
+-- Why the content of a chunk isn't written.
+abbrev pub RefusesWriting : Option Told → RepoState → ChunkRef → CarryFault → Type 0
+RefusesWriting told source chunk (Source fault) =
+    IsOfFiles fault → IfSome told (λ t. RefusesContent (told_files t) source.log source.keys chunk fault)
+RefusesWriting told source chunk (Target refusal) = Unit {0}
+RefusesWriting told source chunk Memory = Unit {0}
+RefusesWriting told source chunk fault = ⊥
+
+-- Why those of an item's chunks aren't written: the first of them that is refused.
+abbrev pub RefusesContents : Option Told → RepoState → List ChunkRef → CarryFault → Type 0
+RefusesContents told source chunks (Source fault) =
+    IsOfFiles fault → IfSome told (λ t. RefusesJoined (told_files t) source.log source.keys (Some chunks) fault)
+RefusesContents told source chunks (Target refusal) = Unit {0}
+RefusesContents told source chunks Memory = Unit {0}
+RefusesContents told source chunks fault = ⊥
+
+-- Why the content of an item isn't copied: one of its chunks is refused, or they are too long together.
+abbrev pub RefusesCopying : Option Told → RepoState → ℕ → Option (List ChunkRef) → CarryFault → Type 0
+RefusesCopying told source block chunks (Source fault) =
+    IsOfFiles fault → IfSome told (λ t. RefusesJoined (told_files t) source.log source.keys chunks fault)
+RefusesCopying told source block chunks Pieces = IsTooLong block chunks
+RefusesCopying told source block chunks (Target refusal) = Unit {0}
+RefusesCopying told source block chunks Memory = Unit {0}
+RefusesCopying told source block chunks fault = ⊥
+
+-- ---- the record and the items of an archive
+
+-- Why a content isn't read as the record of this id.
+abbrev pub RefusesText : Keys → List ℕ → List ℕ → CarryFault → Type 0
+RefusesText keys id content (Source fault) = IsNoRecord keys id content fault
+RefusesText keys id content Memory = Unit {0}
+RefusesText keys id content fault = ⊥
+
+-- Why the record of this id isn't read.
+abbrev pub RefusesBegin : Option Told → RepoState → List ℕ → CarryFault → Type 0
+RefusesBegin told source id (Source fault) = IsOfFiles fault → IfSome told (λ t. RefusesRecord (told_files t) source.log source.keys id fault)
+RefusesBegin told source id Memory = Unit {0}
+RefusesBegin told source id fault = ⊥
+
+-- Why the next item isn't taken: where the walk stands, its stream ends so.
+abbrev pub RefusesNext : Option Told → RepoState → WalkState → CarryFault → Type 0
+RefusesNext told source walk (Source fault) = IsOfFiles fault → IfSome told (λ t. IsToCome (told_files t) source.log source.keys walk [] (Some fault))
+RefusesNext told source walk Memory = Unit {0}
+RefusesNext told source walk fault = ⊥
+
+-- ---- an archive of a source
+
+-- The archive of a name has an item that is too long, behind items whose contents are there.
+pub record HasLongItem (there : Files) (from : Origin) (name : List ℕ) : Type 0 where
+  pub named : ArchiveRef
+  pub named_is : archive_named name from.repo.manifest.archives ≡ Some named
+  pub archive : ArchiveText
+  pub record_is : HoldsRecord there from.repo.log from.repo.keys named.id archive
+  pub items : List ItemText
+  pub item : ItemText
+  pub behind : List ItemText
+  pub end : Option RepoFault
+  pub comes : Comes there from.repo.log from.repo.keys named.id [] archive.items (items ++ (item ∷ behind)) end
+  pub wholes : List WholeItem
+  pub contents : WholesCome there from.repo.log from.repo.keys items None wholes None
+  pub long : IsTooLong from.block item.chunks
+
+-- The archive of a name is whole in a source, and with some salt of 64 bytes its record in a target with these secrets would be larger than the content
+-- of an object may be.
+pub record HasLargeRecord (there : Files) (from : Origin) (keys : Keys) (name : List ℕ) : Type 0 where
+  pub whole : WholeArchive
+  pub source : SaysIn there from.repo name whole
+  pub archive : ArchiveText
+  pub fields : archive.fields ≡ whole.fields
+  pub salt : List ℕ
+  pub salt_size : length salt ≡ 64
+  pub large : content_limit < length (archive_text keys salt
+      (copied_archive archive from.block (map (content_id keys) (stream_pieces keys from.block whole.items))))
+
+-- What holds of the files of a source, where it and the target tell theirs.
+abbrev pub WhereTold : Origin → Option Told → (Files → Type 0) → Type 0
+WhereTold from heard P = IfSome heard (λ _. IfSome from.files P)
+
+-- Why the archive of a name isn't copied: it isn't whole in the source, or one of its items is too long.
+abbrev pub RefusesStep : Origin → Option Told → List ℕ → CarryFault → Type 0
+RefusesStep from heard name (Source fault) = IsOfFiles fault
+    → WhereTold from heard (λ there. RefusesWhole there from.repo.log from.repo.keys from.repo.manifest.archives name fault)
+RefusesStep from heard name Pieces = WhereTold from heard (λ there. HasLongItem there from name)
+RefusesStep from heard name (Target refusal) = Unit {0}
+RefusesStep from heard name Memory = Unit {0}
+RefusesStep from heard name fault = ⊥
+
+-- Why the record of an archive isn't put: with some salt of 64 bytes it would be larger than the content of an object may be.
+abbrev pub RefusesRecordText : Keys → ArchiveText → CarryFault → Type 0
+RefusesRecordText keys archive Record = (salt : List ℕ) × ((length salt ≡ 64) × (content_limit < length (archive_text keys salt archive)))
+RefusesRecordText keys archive fault = is_target fault ≡ true
+
+-- Why an archive all of whose items were copied isn't named: its record is too large.
+abbrev pub RefusesEnd : Origin → Option Told → Keys → List ℕ → CarryFault → Type 0
+RefusesEnd from heard keys name Record = WhereTold from heard (λ there. HasLargeRecord there from keys name)
+RefusesEnd from heard keys name fault = is_target fault ≡ true
+
+-- ---- the archive of the same name in a target
+
+-- The archive of a name is whole in the source, and the target's isn't, or says something else.
+pub record DiffersThere (from : Origin) (heard : Option Told) (target : RepoState) (name : List ℕ) : Type 0 where
+  pub whole : WholeArchive
+  pub source : IfSome from.files (λ there. SaysIn there from.repo name whole)
+  pub target_is : IfSome heard (λ d. SaysIn (told_files d) target name whole → ⊥)
+
+-- Why the archives of a name aren't compared: that of the source isn't whole.
+abbrev pub RefusesComparing : Option Told → RepoState → List ℕ → CarryFault → Type 0
+RefusesComparing told source name (Source fault) = IsOfFiles fault
+    → IfSome told (λ t. RefusesWhole (told_files t) source.log source.keys source.manifest.archives name fault)
+RefusesComparing told source name (Target refusal) = Unit {0}
+RefusesComparing told source name Memory = Unit {0}
+RefusesComparing told source name fault = ⊥
+
+-- The target has no archive of this name.
+abbrev pub LacksName : Store → List ℕ → Type 0
+LacksName store name = archive_named name (repo_view store.repo).manifest.archives ≡ None
+
+-- ---- archives of names
+
+-- Why the archive of a name isn't carried. The source's archive isn't whole, or has an item that is too long. The target, as it is at the end, has
+-- another archive of this name. The source has none. Or the record that the target would have is too large. An item that is too long and a record that
+-- is too large are causes only where the target has no archive of this name.
+abbrev pub RefusesName : Origin → Option Told → Store → Option Told → Store → List ℕ → CarryFault → Type 0
+RefusesName from heard store now store_now name (Source fault) = RefusesStep from heard name (Source fault)
+RefusesName from heard store now store_now name (Target refusal) = Unit {0}
+RefusesName from heard store now store_now name (Taken taken) = (taken ≡ name) × DiffersThere from now (repo_view store_now.repo) name
+RefusesName from heard store now store_now name (NotFound missing) = (missing ≡ name) × (archive_named name from.repo.manifest.archives ≡ None)
+RefusesName from heard store now store_now name Pieces = LacksName store name × RefusesStep from heard name Pieces
+RefusesName from heard store now store_now name Memory = Unit {0}
+RefusesName from heard store now store_now name Record = LacksName store name × RefusesEnd from heard (repo_view store.repo).keys name Record
+
+-- The archive of one of these names isn't carried, so.
+abbrev pub RefusesOne : Origin → Option Told → Store → Option Told → Store → List (List ℕ) → CarryFault → Type 0
+RefusesOne from heard store now store_now names (Target refusal) = Unit {0}
+RefusesOne from heard store now store_now names Memory = Unit {0}
+RefusesOne from heard store now store_now names fault =
+    (name : List ℕ) × (IsAmong names name × RefusesName from heard store now store_now name fault)
+
+-- Why archives of names aren't carried: that of one of them isn't; or the source lacks one, and this is the first.
+abbrev pub RefusesNames : Origin → Option Told → Store → Option Told → Store → List (List ℕ) → CarryFault → Type 0
+RefusesNames from heard store now store_now names (NotFound missing) =
+    (place : ℕ) × (IsMissingName from.repo.manifest names place × (slice_get names place ≡ Some missing))
+RefusesNames from heard store now store_now names fault = RefusesOne from heard store now store_now names fault

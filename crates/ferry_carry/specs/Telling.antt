@@ -1,0 +1,88 @@
+-- What a transfer tells while archives come: a name is told only once each stop shows it carried.
+use Rattle.std.specs.Prelude.{◌≡◌, ◌++◌, ℕ, Bool, List, [], ◌∷◌, Option, Result}
+use Rattle.ferry_disk.specs.Act.{History}
+use Rattle.ferry_disk.specs.Device.{Told}
+use Rattle.ferry_disk.specs.Files.{Files}
+use Rattle.ferry_disk.specs.Moments.{Moments}
+use Rattle.ferry_manifest.specs.Manifest.Text.{ManifestText}
+use Rattle.ferry_repo.specs.Opening.{RepoState, repo_view}
+use Rattle.ferry_stops.specs.Tells.{lines_of}
+use Rattle.ferry_store.specs.Commit.{accepted_in}
+use Rattle.ferry_store.specs.State.{IsSound, Written}
+use Rattle.ferry_store.specs.Store.{StoreFits}
+use Rattle.ferry_store.specs.declared.store.Store.{Store}
+use Rattle.ferry_carry.specs.Carrying.{Origin}
+use Rattle.ferry_carry.specs.Grow.{Grows, StandsOn}
+use Rattle.ferry_carry.specs.Lines.{name_line, told_of, total_line}
+use Rattle.ferry_carry.specs.Work.{Works}
+use Rattle.ferry_carry.specs.declared.fault.CarryFault.{CarryFault}
+use Rattle.ferry_carry.specs.declared.options.Carried.{Carried}
+
+-- ---- lines
+
+-- A line tells a name, as that of an archive that was copied or of one that was there.
+abbrev pub IsLineOf : List ℕ → List ℕ → Type 0
+IsLineOf line name = (copied : Bool) × (line ≡ name_line (told_of copied) name)
+
+-- These lines tell these names, one each, in this order.
+abbrev pub AreLines : List (List ℕ) → List (List ℕ) → Type 0
+AreLines [] [] = Unit {0}
+AreLines [] (name ∷ names) = ⊥
+AreLines (line ∷ lines) [] = ⊥
+AreLines (line ∷ lines) (name ∷ names) = IsLineOf line name × AreLines lines names
+
+-- Nothing, or the line of the whole.
+abbrev pub IsTotal : List (List ℕ) → Type 0
+IsTotal [] = Unit {0}
+IsTotal (line ∷ []) = (carried : Carried) × (line ≡ total_line carried)
+IsTotal (line ∷ (next ∷ lines)) = ⊥
+
+-- Lines tell the names of a front of these, and behind them perhaps the whole.
+pub record IsReport (lines done : List (List ℕ)) : Type 0 where
+  pub told : List (List ℕ)
+  pub more : List (List ℕ)
+  pub reported : List (List ℕ)
+  pub last : List (List ℕ)
+  pub split : lines ≡ reported ++ last
+  pub are : AreLines reported told
+  pub front : done ≡ told ++ more
+  pub total : IsTotal last
+
+-- ---- at each moment
+
+-- A moment at which each stop shows this, where these lines were told since another, and no counter block serves two blobs.
+pub record IsReported (Show : List (List ℕ) → Files → Type 0) (counts : Bool) (before moment : History) : Type 0 where
+  pub lines : List (List ℕ)
+  pub told : lines_of moment.acts ≡ lines_of before.acts ++ lines
+  pub sound : IsSound (Show lines) counts moment
+
+-- Of the chosen names those of a front were carried, and of these a front was told.
+abbrev pub ShowsReport : Origin → List (List ℕ) → ManifestText → RepoState → Written → List (List ℕ) → Files → Type 0
+ShowsReport from chosen accepted repo written lines image =
+    (stands : StandsOn from chosen accepted repo written image) × IsReport lines stands.done
+
+-- At each moment each stop shows so.
+abbrev pub KeepsReported : Origin → List (List ℕ) → Store → History → History → Type 0
+KeepsReported from chosen store before now = (counts : Bool) (fits : StoreFits counts store before)
+    → Moments (IsReported (ShowsReport from chosen (accepted_in store) (repo_view store.repo) fits.written) counts before) before now
+
+-- ---- at the end
+
+-- These names were told, and nothing else.
+abbrev pub TellsNames : List (List ℕ) → History → History → Type 0
+TellsNames names before now = (lines : List (List ℕ)) × ((lines_of now.acts ≡ lines_of before.acts ++ lines) × AreLines lines names)
+
+-- These names were told, and the whole behind them.
+abbrev pub TellsWhole : List (List ℕ) → History → History → Type 0
+TellsWhole names before now = (lines : List (List ℕ)) × ((carried : Carried)
+    × ((lines_of now.acts ≡ lines_of before.acts ++ (lines ++ total_line carried ∷ [])) × AreLines lines names))
+
+-- What was done of the archives of names, one after another, each of which was told behind it.
+abbrev pub Reports : {T : Type 0} → Origin → List (List ℕ) → Store → Store → Option Told → Option Told → ℕ → ℕ → Result T CarryFault → Type 0
+Reports from chosen store store_now before now count after result =
+    Works (KeepsReported from chosen store) (λ _ h g. Grows from chosen store store_now h g × TellsNames chosen h g) before now count after result
+
+-- The same, and behind them the whole was told.
+abbrev pub ReportsWhole : {T : Type 0} → Origin → List (List ℕ) → Store → Store → Option Told → Option Told → ℕ → ℕ → Result T CarryFault → Type 0
+ReportsWhole from chosen store store_now before now count after result =
+    Works (KeepsReported from chosen store) (λ _ h g. Grows from chosen store store_now h g × TellsWhole chosen h g) before now count after result

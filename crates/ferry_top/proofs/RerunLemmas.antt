@@ -1,0 +1,125 @@
+-- Lemmas on specs/Rerun.antt: what a stop of a transfer leaves meets the conditions of the transfer again.
+use Rattle.std.proofs.Common.{◌≡◌, ◌⊎◌, ◌↔◌, inl, inr, ℕ, List, [], ◌∷◌, ◌++◌, Option, Some, None, refl, sym, ◌∙◌, subst, IfSome}
+use Rattle.std.specs.List.{AllByRecursion}
+use Rattle.ferry_carry.proofs.WholeLemmas.{among_all, among_front}
+use Rattle.ferry_carry.specs.Gather.{IsAmong}
+use Rattle.ferry_carry.specs.Grow.{IsNamedBy, KeepsNames}
+use Rattle.ferry_disk.specs.Files.{Files}
+use Rattle.ferry_manifest.specs.Manifest.Text.{ManifestText}
+use Rattle.ferry_manifest.specs.declared.manifest.ArchiveRef.{ArchiveRef}
+use Rattle.ferry_repo.proofs.LawLemmas.{one_repo}
+use Rattle.ferry_repo.specs.Archives.{archive_named}
+use Rattle.ferry_repo.specs.Opening.{RepoState, OpensFilesTo}
+use Rattle.ferry_repo.specs.Whole.{HasWhole, WholeArchive}
+use Rattle.ferry_top.specs.Rerun.{AreLeftInTurn, EachApart, EachChosen, IsAbsentOrEqual, IsEqualThere, IsNamedOrChosen, LacksName}
+use Rattle.ferry_top.specs.Rerun.{MeetsConditions, NoneCollideIn}
+use Rattle.ferry_top.specs.Transfer.{Arrives, IsChosenFront, KeepsArchives, Request, chosen_of}
+
+-- ---- what arrived is equal
+
+each_equal : (request : Request) (source image : Files) (repo : RepoState) (done : List (List ℕ))
+    → (arrived : AllByRecursion (Arrives request source image repo) done) → EachApart request source image repo done arrived
+    → AllByRecursion (IsEqualThere request source image) done
+each_equal request source image repo [] arrived apart = tt
+each_equal request source image repo (name ∷ done) arrived apart =
+    let a = arrived.0 in
+    let scope = apart.0 in
+    ((a.whole, (a.whole_there, a.there scope.0 scope.1.0 scope.1.1.0 scope.1.1.1)), each_equal request source image repo done arrived.1 apart.1)
+
+-- ---- a stop and a rerun
+
+-- a name that was absent at the start is absent, or it arrived
+absent_again : (request : Request) (source image : Files) (before repo : RepoState) (done : List (List ℕ)) (name : List ℕ)
+    → IsNamedBy before.manifest done repo.manifest → AllByRecursion (IsEqualThere request source image) done → LacksName before.manifest name
+    → (entry : Option ArchiveRef) → archive_named name repo.manifest.archives ≡ entry → IsAbsentOrEqual request source image repo name
+absent_again request source image before repo done name only equal lacks None is = inl is
+absent_again request source image before repo done name only equal lacks (Some entry) is = newly (only name entry is)
+  where
+    newly : (archive_named name before.manifest.archives ≡ Some entry) ⊎ IsAmong done name → IsAbsentOrEqual request source image repo name
+    newly (inl had) = absurd (let no : None ≡ Some entry = sym lacks ∙ had in cc)
+    newly (inr among) = inr (among_all (IsEqualThere request source image) done name equal among)
+
+name_again : (request : Request) (source start image : Files) (before repo : RepoState) (done : List (List ℕ)) (name : List ℕ)
+    → ((whole : WholeArchive) → HasWhole start request.secrets.target name whole → HasWhole image request.secrets.target name whole)
+    → IsNamedBy before.manifest done repo.manifest → AllByRecursion (IsEqualThere request source image) done
+    → IsAbsentOrEqual request source start before name → IsAbsentOrEqual request source image repo name
+name_again request source start image before repo done name wholes only equal (inl lacks) =
+    absent_again request source image before repo done name only equal lacks (archive_named name repo.manifest.archives) refl
+name_again request source start image before repo done name wholes only equal (inr is) = inr (is.0, (is.1.0, wholes is.0 is.1.1))
+
+chosen_again : (request : Request) (start image : Files) (before repo : RepoState) (done : List (List ℕ))
+    → ((name : List ℕ) (whole : WholeArchive) → HasWhole start request.secrets.target name whole → HasWhole image request.secrets.target name whole)
+    → IsNamedBy before.manifest done repo.manifest → (told : Option Files)
+    → (arrived : IfSome told (λ source. AllByRecursion (Arrives request source image repo) done)) → NoneCollideIn request image repo done told arrived
+    → EachChosen request told (λ source name. IsAbsentOrEqual request source start before name)
+    → EachChosen request told (λ source name. IsAbsentOrEqual request source image repo name)
+chosen_again request start image before repo done wholes only None arrived apart chosen = tt
+chosen_again request start image before repo done wholes only (Some source) arrived apart chosen = λ from opens name among.
+    name_again request source start image before repo done name (wholes name) only (each_equal request source image repo done arrived apart)
+    (chosen from opens name among)
+
+-- what a stop leaves of a transfer meets the conditions that its start met
+pub meets_again : (request : Request) (start image : Files) (before : RepoState) (lines : List (List ℕ))
+    → OpensFilesTo start request.secrets.target before → (keeps : KeepsArchives request start before.manifest lines image)
+    → NoneCollideIn request image keeps.repo keeps.done request.source keeps.arrived → MeetsConditions request start → MeetsConditions request image
+meets_again request start image before lines opens keeps apart meets =
+    let same = one_repo start request.secrets.target meets.repo before meets.opens opens in
+    let chosen : EachChosen request request.source (λ source name. IsAbsentOrEqual request source start before name) =
+    subst (λ (r : RepoState). EachChosen request request.source (λ source name. IsAbsentOrEqual request source start r name)) same meets.chosen in
+    record {
+      repo = keeps.repo;
+      opens = keeps.opens;
+      chosen = chosen_again request start image before keeps.repo keeps.done keeps.wholes keeps.only request.source keeps.arrived apart chosen;
+    }
+
+-- and so does each of those that stops and reruns leave in turn
+pub meets_in_turn : (request : Request) (start : Files) (images : List Files) → AreLeftInTurn request start images → MeetsConditions request start
+    → AllByRecursion (MeetsConditions request) images
+meets_in_turn request start [] left meets = tt
+meets_in_turn request start (image ∷ images) left meets =
+    let by = left.0 in
+    let again = meets_again request start image by.before by.lines by.opens by.keeps by.apart meets in
+    (again, meets_in_turn request image images left.1 again)
+
+-- ---- an example
+
+lacks_chosen : (request : Request) (start : Files) (repo : RepoState) (told : Option Files)
+    → EachChosen request told (λ source name. LacksName repo.manifest name)
+    → EachChosen request told (λ source name. IsAbsentOrEqual request source start repo name)
+lacks_chosen request start repo None lacks = tt
+lacks_chosen request start repo (Some source) lacks = λ from opens name among. inl (lacks from opens name among)
+
+-- a target that lacks each chosen name meets the conditions
+pub meets_first : (request : Request) (start : Files) (repo : RepoState) → OpensFilesTo start request.secrets.target repo
+    → EachChosen request request.source (λ source name. LacksName repo.manifest name) → MeetsConditions request start
+meets_first request start repo opens lacks =
+    record { repo = repo; opens = opens; chosen = lacks_chosen request start repo request.source lacks }
+
+-- ---- names
+
+named_then : (request : Request) (from before after : ManifestText) (done rest : List (List ℕ)) (name : List ℕ)
+    → IsNamedBy before done after → chosen_of request.names from ≡ done ++ rest → IsNamedOrChosen request from after name
+    → IsNamedOrChosen request from before name
+named_then request from before after done rest name only front (inr among) = inr among
+named_then request from before after done rest name only front (inl is) = came (only name is.0 is.1)
+  where
+    came : (archive_named name before.archives ≡ Some is.0) ⊎ IsAmong done name → IsNamedOrChosen request from before name
+    came (inl had) = inl (is.0, had)
+    came (inr among) = inr (subst (λ (names : List (List ℕ)). IsAmong names name) (sym front) (among_front done rest name among))
+
+named_now : (request : Request) (from before after : ManifestText) (name : List ℕ) → KeepsNames before after
+    → IsNamedOrChosen request from before name → IsNamedOrChosen request from after name
+named_now request from before after name names (inl is) = inl (is.0, names name is.0 is.1)
+named_now request from before after name names (inr among) = inr among
+
+-- the names of what a stop leaves with the chosen ones are those of the start with the chosen ones
+pub same_names : (request : Request) (start image : Files) (before from : RepoState) (source : Files) (lines : List (List ℕ))
+    → request.source ≡ Some source → OpensFilesTo source request.secrets.source from
+    → (keeps : KeepsArchives request start before.manifest lines image) (name : List ℕ)
+    → IsNamedOrChosen request from.manifest keeps.repo.manifest name ↔ IsNamedOrChosen request from.manifest before.manifest name
+same_names request start image before from source lines told opens keeps name =
+    let front : IsChosenFront request keeps.done source = subst (λ (t : Option Files). IfSome t (IsChosenFront request keeps.done)) told keeps.front in
+    let chosen = front from opens in (
+      named_then request from.manifest before.manifest keeps.repo.manifest keeps.done chosen.0 name keeps.only chosen.1,
+      named_now request from.manifest before.manifest keeps.repo.manifest name keeps.names,
+    )
