@@ -20,9 +20,9 @@ use Rattle.ferry_store.specs.Standing.{entries_committed, live_in}
 use Rattle.ferry_store.specs.State.{with_entry}
 use Rattle.ferry_store.specs.Store.{StoreFits}
 use Rattle.ferry_store.specs.declared.store.Store.{Store}
-use Rattle.ferry_carry.proofs.WholeLemmas.{copied_whole, each_to, whole_kept}
+use Rattle.ferry_carry.proofs.WholeLemmas.{HoldsPiece, copied_whole, each_to, whole_kept}
 use Rattle.ferry_carry.specs.Carrying.{CanBeNamed, CarriesOver, HasLive, IsCarried, IsReadyToName, IsWholeBy, LivesWithin, Origin, SaysIn}
-use Rattle.ferry_carry.specs.Copied.{HoldsPiece, adds_of}
+use Rattle.ferry_carry.specs.Copied.{adds_of}
 use Rattle.ferry_carry.specs.Gather.{HoldsContents}
 use Rattle.ferry_carry.specs.Grow.{KeepsChunks, KeepsNames}
 

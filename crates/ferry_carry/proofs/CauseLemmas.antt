@@ -1,6 +1,6 @@
 -- Lemmas on specs/Refusals.antt: why the archive of a name isn't carried, by what its parts were refused for.
-use Rattle.std.proofs.Common.{◌≡◌, inl, ◌<◌, ◌++◌, ℕ, List, Option, Some, None, Result, Ok, Err, IfErr, IfSome, IsErrAnd, IsSome, length, map, slice_get}
-use Rattle.std.proofs.Common.{refl, sym, ◌∙◌, subst}
+use Rattle.std.proofs.Common.{◌≡◌, ◌⊎◌, inl, inr, ◌<◌, ◌++◌, ℕ, List, Option, Some, None, Result, Ok, Err, IfErr, IfSome, IsErrAnd, IsSome}
+use Rattle.std.proofs.Common.{length, map, slice_get, refl, sym, ◌∙◌, subst}
 use Rattle.std.proofs.lemmas.Option.{IfSome_then}
 use Rattle.ferry_base.specs.Limits.{content_limit}
 use Rattle.ferry_blob.specs.Blob.{content_id}
@@ -23,6 +23,7 @@ use Rattle.ferry_repo.specs.Opening.{RepoState, repo_view}
 use Rattle.ferry_repo.specs.Whole.{RefusesWhole}
 use Rattle.ferry_store.specs.declared.store.Store.{Store}
 use Rattle.ferry_carry.proofs.FlightLemmas.{known_read}
+use Rattle.ferry_carry.proofs.GrowLemmas.{most_then}
 use Rattle.ferry_carry.proofs.ProgressLemmas.{any_told, stream_ids}
 use Rattle.ferry_carry.specs.Carrying.{Origin, SaysIn, origin}
 use Rattle.ferry_carry.specs.Copied.{stream_pieces}
@@ -32,7 +33,7 @@ use Rattle.ferry_carry.specs.Grow.{KeepsMost, KeepsNames}
 use Rattle.ferry_carry.specs.Naming.{copied_archive}
 use Rattle.ferry_carry.specs.Progress.{IsAllCopied}
 use Rattle.ferry_carry.specs.Refusals.{DiffersThere, HasLargeRecord, LacksName, RefusesBegin, RefusesComparing, RefusesEnd, RefusesName, RefusesRecordText}
-use Rattle.ferry_carry.specs.Refusals.{RefusesOne, RefusesStep, WhereTold}
+use Rattle.ferry_carry.specs.Refusals.{RefusesOne, RefusesStep, StopsTarget, TakenAt, WhereTold}
 use Rattle.ferry_carry.specs.declared.copy.Copy.{Copy}
 use Rattle.ferry_carry.specs.declared.fault.CarryFault.{CarryFault}
 use Rattle.ferry_carry.specs.declared.fault.CarryFault.TheVariants.{Source, Target, Taken, NotFound, Pieces, Memory, Record}
@@ -75,7 +76,7 @@ pub begin_refused : (told heard now : Option Told) (source : RepoState) (block :
 begin_refused told heard now source block named store store_now (Source fault) named_is refuses = λ of_files.
     where_first told heard source block (λ there. RefusesWhole there source.log source.keys source.manifest.archives named.name fault)
     (IfSome_then told (refuses of_files) (λ t r. record { named = named; named_is = named_is; refused = inl r }))
-begin_refused told heard now source block named store store_now (Target refusal) named_is refuses = tt
+begin_refused told heard now source block named store store_now (Target refusal) named_is refuses = absurd refuses
 begin_refused told heard now source block named store store_now (Taken name) named_is refuses = absurd refuses
 begin_refused told heard now source block named store store_now (NotFound name) named_is refuses = absurd refuses
 begin_refused told heard now source block named store store_now Pieces named_is refuses = absurd refuses
@@ -84,26 +85,28 @@ begin_refused told heard now source block named store store_now Record named_is 
 
 -- it isn't copied
 pub step_refused : (from : Origin) (heard now : Option Told) (store store_now : Store) (name : List ℕ) (fault : CarryFault) → LacksName store name
-    → RefusesStep from heard name fault → RefusesName from heard store now store_now name fault
-step_refused from heard now store store_now name (Source fault) lacks refuses = refuses
-step_refused from heard now store store_now name (Target refusal) lacks refuses = tt
-step_refused from heard now store store_now name (Taken taken) lacks refuses = absurd refuses
-step_refused from heard now store store_now name (NotFound missing) lacks refuses = absurd refuses
-step_refused from heard now store store_now name Pieces lacks refuses = (lacks, refuses)
-step_refused from heard now store store_now name Memory lacks refuses = tt
-step_refused from heard now store store_now name Record lacks refuses = absurd refuses
+    → StopsTarget now (repo_view store.repo).keys fault → RefusesStep from heard name fault → RefusesName from heard store now store_now name fault
+step_refused from heard now store store_now name (Source fault) lacks stops refuses = refuses
+step_refused from heard now store store_now name (Target refusal) lacks stops refuses = stops
+step_refused from heard now store store_now name (Taken taken) lacks stops refuses = absurd refuses
+step_refused from heard now store store_now name (NotFound missing) lacks stops refuses = absurd refuses
+step_refused from heard now store store_now name Pieces lacks stops refuses = (lacks, refuses)
+step_refused from heard now store store_now name Memory lacks stops refuses = tt
+step_refused from heard now store store_now name Record lacks stops refuses = absurd refuses
 
 -- it isn't named
 pub end_refused : (from : Origin) (a b now : Option Told) (E : History → History → Type 0) (store middle store_now : Store) (name : List ℕ)
     (fault : CarryFault) → Between a b E → (repo_view middle.repo).keys ≡ (repo_view store.repo).keys → LacksName store name
-    → RefusesEnd from b (repo_view middle.repo).keys name fault → RefusesName from a store now store_now name fault
-end_refused from a b now E store middle store_now name (Source fault) between same lacks refuses = absurd (let no : ⊥ = cc in no)
-end_refused from a b now E store middle store_now name (Target refusal) between same lacks refuses = tt
-end_refused from a b now E store middle store_now name (Taken taken) between same lacks refuses = absurd (let no : ⊥ = cc in no)
-end_refused from a b now E store middle store_now name (NotFound missing) between same lacks refuses = absurd (let no : ⊥ = cc in no)
-end_refused from a b now E store middle store_now name Pieces between same lacks refuses = absurd (let no : ⊥ = cc in no)
-end_refused from a b now E store middle store_now name Memory between same lacks refuses = tt
-end_refused from a b now E store middle store_now name Record between same lacks refuses = (
+    → StopsTarget now (repo_view middle.repo).keys fault → RefusesEnd from b (repo_view middle.repo).keys name fault
+    → RefusesName from a store now store_now name fault
+end_refused from a b now E store middle store_now name (Source fault) between same lacks stops refuses = absurd (let no : ⊥ = cc in no)
+end_refused from a b now E store middle store_now name (Target refusal) between same lacks stops refuses =
+    subst (λ (k : Keys). StopsTarget now k (Target refusal)) same stops
+end_refused from a b now E store middle store_now name (Taken taken) between same lacks stops refuses = absurd (let no : ⊥ = cc in no)
+end_refused from a b now E store middle store_now name (NotFound missing) between same lacks stops refuses = absurd (let no : ⊥ = cc in no)
+end_refused from a b now E store middle store_now name Pieces between same lacks stops refuses = absurd (let no : ⊥ = cc in no)
+end_refused from a b now E store middle store_now name Memory between same lacks stops refuses = tt
+end_refused from a b now E store middle store_now name Record between same lacks stops refuses = (
   lacks,
   where_back from a b E (λ there. HasLargeRecord there from (repo_view store.repo).keys name) between
       (subst (λ (k : Keys). WhereTold from b (λ there. HasLargeRecord there from k name)) same refuses),
@@ -111,15 +114,16 @@ end_refused from a b now E store middle store_now name Record between same lacks
 
 -- it isn't compared
 pub comparing_refused : (told heard now : Option Told) (source : RepoState) (block : ℕ) (name : List ℕ) (store store_now : Store) (fault : CarryFault)
-    → RefusesComparing told source name fault → RefusesName (origin told source block) heard store now store_now name fault
-comparing_refused told heard now source block name store store_now (Source fault) refuses = λ of_files.
+    → StopsTarget now (repo_view store.repo).keys fault → RefusesComparing told source name fault
+    → RefusesName (origin told source block) heard store now store_now name fault
+comparing_refused told heard now source block name store store_now (Source fault) stops refuses = λ of_files.
     where_first told heard source block (λ there. RefusesWhole there source.log source.keys source.manifest.archives name fault) (refuses of_files)
-comparing_refused told heard now source block name store store_now (Target refusal) refuses = tt
-comparing_refused told heard now source block name store store_now (Taken taken) refuses = absurd refuses
-comparing_refused told heard now source block name store store_now (NotFound missing) refuses = absurd refuses
-comparing_refused told heard now source block name store store_now Pieces refuses = absurd refuses
-comparing_refused told heard now source block name store store_now Memory refuses = tt
-comparing_refused told heard now source block name store store_now Record refuses = absurd refuses
+comparing_refused told heard now source block name store store_now (Target refusal) stops refuses = stops
+comparing_refused told heard now source block name store store_now (Taken taken) stops refuses = absurd refuses
+comparing_refused told heard now source block name store store_now (NotFound missing) stops refuses = absurd refuses
+comparing_refused told heard now source block name store store_now Pieces stops refuses = absurd refuses
+comparing_refused told heard now source block name store store_now Memory stops refuses = tt
+comparing_refused told heard now source block name store store_now Record stops refuses = absurd refuses
 
 -- archives that differ, where the target was only read
 pub differs_there : {T : Type 0} (told a b : Option Told) (source : RepoState) (block : ℕ) (target now : RepoState) (name : List ℕ) (x : T) → now ≡ target
@@ -131,6 +135,15 @@ differs_there {T} told a b source block target now name x same kept differ =
       target_is = known_read {T = T} (λ h. Says (files_now h) target name differ.whole → ⊥) other_failed a b (Ok x) kept differ.second;
     })
 
+-- it isn't the target's archive of its name
+pub taken_refused : (from : Origin) (heard now : Option Told) (store store_now : Store) (name given : List ℕ) (fault : CarryFault)
+    → (fault ≡ Taken given) ⊎ (fault ≡ Memory) → given ≡ name → DiffersThere from now (repo_view store_now.repo) name → TakenAt store now store_now name
+    → RefusesName from heard store now store_now name fault
+taken_refused from heard now store store_now name given fault (inl is) same differs at =
+    subst (RefusesName from heard store now store_now name) (sym is) (same, (differs, at))
+taken_refused from heard now store store_now name given fault (inr is) same differs at =
+    subst (RefusesName from heard store now store_now name) (sym is) tt
+
 -- ---- from turn to turn
 
 -- what is said of a name by a store is said by one before it that keeps each archive
@@ -138,8 +151,11 @@ pub refused_before : (from : Origin) (a b c : Option Told) (E : History → Hist
     (fault : CarryFault) → Between a b E → KeepsMost store middle → RefusesName from b middle c now name fault → RefusesName from a store c now name fault
 refused_before from a b c E store middle now name (Source fault) between most refuses = λ of_files.
     where_back from a b E (λ there. RefusesWhole there from.repo.log from.repo.keys from.repo.manifest.archives name fault) between (refuses of_files)
-refused_before from a b c E store middle now name (Target refusal) between most refuses = tt
-refused_before from a b c E store middle now name (Taken taken) between most refuses = refuses
+refused_before from a b c E store middle now name (Target refusal) between most refuses =
+    subst (λ (k : Keys). StopsTarget c k (Target refusal)) most.keys refuses
+refused_before from a b c E store middle now name (Taken taken) between most refuses =
+    let at = refuses.1.1 in
+    (refuses.0, (refuses.1.0, record { fits = at.fits; there = at.there; most = most_then store middle now most at.most }))
 refused_before from a b c E store middle now name (NotFound missing) between most refuses = refuses
 refused_before from a b c E store middle now name Pieces between most refuses = (
   lacks_by (repo_view store.repo).manifest (repo_view middle.repo).manifest name most.names refuses.0,
@@ -200,7 +216,7 @@ pub one_refused : (from : Origin) (heard now : Option Told) (store store_now : S
     (fault : CarryFault) → slice_get names place ≡ Some name → RefusesName from heard store now store_now name fault
     → RefusesOne from heard store now store_now names fault
 one_refused from heard now store store_now names place name (Source fault) is refuses = (name, ((place, is), refuses))
-one_refused from heard now store store_now names place name (Target refusal) is refuses = tt
+one_refused from heard now store store_now names place name (Target refusal) is refuses = refuses
 one_refused from heard now store store_now names place name (Taken taken) is refuses = (name, ((place, is), refuses))
 one_refused from heard now store store_now names place name (NotFound missing) is refuses = (name, ((place, is), refuses))
 one_refused from heard now store store_now names place name Pieces is refuses = (name, ((place, is), refuses))

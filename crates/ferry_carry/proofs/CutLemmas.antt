@@ -14,7 +14,7 @@ use Rattle.ferry_carry.specs.Grow.{IsNamedBy, KeepsNames}
 
 -- ---- IsAmong
 
-among_none : (name : List ℕ) → IsAmong [] name → ⊥
+pub among_none : (name : List ℕ) → IsAmong [] name → ⊥
 among_none name among = let none : slice_get [] among.0 ≡ Some name = among.1 in let no : ⊥ = cc in no
 
 among_one : (x name : List ℕ) → IsAmong (x ∷ []) name → x ≡ name
@@ -26,7 +26,7 @@ among_later x name some more (inl among) = inl (suc among.0, among.1)
 among_later x name some more (inr among) = inr among
 
 -- what is among both is among one
-among_either : (some more : List (List ℕ)) (name : List ℕ) → IsAmong (some ++ more) name → IsAmong some name ⊎ IsAmong more name
+pub among_either : (some more : List (List ℕ)) (name : List ℕ) → IsAmong (some ++ more) name → IsAmong some name ⊎ IsAmong more name
 among_either [] more name among = inr among
 among_either (x ∷ xs) more name (zero, is) = inl (zero, is)
 among_either (x ∷ xs) more name (suc place, is) = among_later x name xs more (among_either xs more name (place, is))

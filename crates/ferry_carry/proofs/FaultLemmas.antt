@@ -1,12 +1,15 @@
--- Lemmas on specs/Fault.antt: whose device a fault is.
-use Rattle.std.proofs.Common.{◌≡◌, true, false, refl}
+-- Lemmas on specs/Fault.antt: whose device a fault is, and what it says of the target's files.
+use Rattle.std.proofs.Common.{◌≡◌, true, false, Option, IfSome, refl}
+use Rattle.ferry_disk.specs.Device.{Told, told_files}
+use Rattle.ferry_mac.specs.declared.keys.Keys.{Keys}
 use Rattle.ferry_repo.specs.Fault.{repo_failed}
 use Rattle.ferry_repo.specs.declared.fault.RepoFault.{RepoFault}
 use Rattle.ferry_repo.specs.declared.fault.RepoFault.TheVariants as Repos
 use Rattle.ferry_store.specs.Fault.{depot_failed, source_failed}
 use Rattle.ferry_store.specs.declared.fault.StoreRefusal.{StoreRefusal}
 use Rattle.ferry_store.specs.declared.fault.StoreRefusal.TheVariants as Stores
-use Rattle.ferry_carry.specs.Refusals.{is_target}
+use Rattle.ferry_store.specs.Causes.{StopsAt}
+use Rattle.ferry_carry.specs.Refusals.{StopsTarget, is_target}
 use Rattle.ferry_carry.specs.Fault.{random_failed, shelf_failed, source_fault, target_failed, target_fault}
 
 pub failed_source : (fault : RepoFault) → shelf_failed (source_fault fault) ≡ repo_failed fault
@@ -95,5 +98,16 @@ target_is Stores.Committed = refl
 target_is Stores.TooLarge = refl
 target_is Stores.Entropy = refl
 target_is Stores.Memory = refl
+
+-- what a call of the store says of the files is said of the fault that is handed up
+pub target_stops : (now : Option Told) (keys : Keys) (refusal : StoreRefusal) → IfSome now (λ t. StopsAt (told_files t) keys refusal)
+    → StopsTarget now keys (target_fault refusal)
+target_stops now keys (Stores.Repo fault) stops = stops
+target_stops now keys (Stores.Write fault) stops = stops
+target_stops now keys (Stores.Nonce fault) stops = stops
+target_stops now keys Stores.Committed stops = stops
+target_stops now keys Stores.TooLarge stops = stops
+target_stops now keys Stores.Entropy stops = stops
+target_stops now keys Stores.Memory stops = tt
 
 pub ruleset conversions = (failed_source, source_still, source_undrawn, failed_target, target_still, failed_random, target_is)

@@ -1,5 +1,5 @@
 -- Lemmas on specs/Flight.antt: a target that is only read, and what holds of a store of which nothing was named.
-use Rattle.std.proofs.Common.{◌≡◌, ◌≢◌, inl, inr, ◌<◌, ℕ, Bool, true, false, List, [], ◌∷◌, Option, Some, None, Result, Ok, Err, IfSome, IsSome, OnOk}
+use Rattle.std.proofs.Common.{◌≡◌, ◌≢◌, ◌⊎◌, inl, inr, ◌<◌, ℕ, Bool, true, false, List, [], ◌∷◌, Option, Some, None, Result, Ok, Err, IfSome, IsSome, OnOk}
 use Rattle.std.proofs.Common.{refl, sym, ◌∙◌, ap, subst, arith, ◌^◌, ◌-◌, ◌++◌, min, length}
 use Rattle.std.proofs.lemmas.List.{append-nil}
 use Rattle.std.proofs.lemmas.Slice.Eq.{bytes_eq-Decides}
@@ -43,7 +43,7 @@ use Rattle.ferry_write.specs.Script.{AllDone}
 use Rattle.ferry_carry.proofs.CarryLemmas.{if_some, same_over}
 use Rattle.ferry_carry.proofs.CutLemmas.{cut_same}
 use Rattle.ferry_carry.proofs.GatherLemmas.{moved_here, stands_here}
-use Rattle.ferry_carry.proofs.GrowLemmas.{growing_by, most_from}
+use Rattle.ferry_carry.proofs.GrowLemmas.{growing_by, has_kept, most_from}
 use Rattle.ferry_carry.specs.Fault.{compare_fault, target_failed}
 use Rattle.ferry_carry.specs.Carrying.{CarriesOver, IsCarried, Origin, SaysIn, origin}
 use Rattle.ferry_carry.specs.Flight.{IsCommitted, IsSame, IsSettled, ReadsStore}
@@ -125,6 +125,9 @@ read_fits counts store repo h same repo_fits fits = record {
   manifest = subst (λ (r : RepoState). CommitsManifest r fits.written.committed) (sym same) fits.manifest;
   keeps = fits.keeps;
   pending = fits.pending;
+  learnt = λ id blob apart live.
+      subst (λ (r : RepoState). (live_in id (committed_of fits.written) ≡ Some blob) ⊎ IsSome (get r.log.learnt id)) (sym same)
+      (fits.learnt id blob apart live);
 }
 
 read_gathers : (store : Store) (repo : Repo) (h g : History) → repo_view repo ≡ repo_view store.repo
@@ -134,7 +137,7 @@ read_gathers store repo h g same reads counts fits =
     subst (λ (k : History). FitsRepo (files_now k) (repo_view repo) (cached_in repo) → Gathered counts store [] (with_repo store repo) h k fits)
     (sym reads.0) (λ repo_fits. record {
       fits_now = read_fits counts store repo h same repo_fits fits;
-      moved = moved_here fits.written;
+      moved = moved_here (repo_view store.repo).keys fits.written;
       brings = λ scope apart all within. (subst (λ (r : RepoState). HoldsWithin scope (files_now h) r) (sym same) within, tt);
     }) reads.1
 
@@ -219,6 +222,15 @@ rest_committed store now name rest committed entry is =
 pub rest_settled : (store now : Store) → KeepsRest store now → IsSettled store → IsSettled now
 rest_settled store now rest settled = rest.accepted ∙ (settled ∙ sym rest.manifest)
 
+pub rest_there : (store now : Store) (name : List ℕ) → KeepsRest store now → IsSome (archive_named name (repo_view store.repo).manifest.archives)
+    → IsSome (archive_named name (repo_view now.repo).manifest.archives)
+rest_there store now name rest there = subst (λ (m : ManifestText). IsSome (archive_named name m.archives)) (sym rest.manifest) there
+
+-- what was accepted has each name that the manifest has
+pub there_accepted : (store : Store) (name : List ℕ) → AcceptsMore store → IsSome (archive_named name (repo_view store.repo).manifest.archives)
+    → IsSome (archive_named name (accepted_in store).archives)
+there_accepted store name accepts there = has_kept (repo_view store.repo).manifest (accepted_in store) name accepts there
+
 -- ---- what a store is that has committed all that it accepted
 
 pub settled_committed : (store : Store) (name : List ℕ) → IsSettled store → IsCommitted store name
@@ -240,10 +252,11 @@ no_entries [] none = refl
 no_entries (e ∷ es) none = absurd (omega (arith, none))
 
 same_grows : (from : Origin) (name : List ℕ) (store now : Store) (h g : History) → AcceptsMore store → KeepsRest store now → now.pending ≡ 0
+    → IsSome (archive_named name (repo_view store.repo).manifest.archives)
     → IfSome from.files (λ there. (whole : WholeArchive)
     × (SaysIn there from.repo name whole × SaysIn (files_now h) (repo_view store.repo) name whole))
     → Gathers store [] now h g → Grows from (name ∷ []) store now h g
-same_grows from name store now h g accepts rest pending same gathers counts fits =
+same_grows from name store now h g accepts rest pending there same gathers counts fits =
     let end = gathers counts fits in
     let written = end.fits_now.written in
     let none : written.pending ≡ [] =
@@ -261,6 +274,7 @@ same_grows from name store now h g accepts rest pending same gathers counts fits
     record {
       fits_now = end.fits_now;
       chunks = λ id blob apart live. end.moved.committed id blob live;
+      opening = end.moved.opening;
       config = end.moved.config;
       most = most_from store now rest;
       carried = (
@@ -270,21 +284,22 @@ same_grows from name store now h g accepts rest pending same gathers counts fits
       );
       cut = cut_same (accepted_in store) from (files_now h) (repo_view store.repo) (repo_view now.repo).keys (repo_view now.repo).manifest.archives name
           accepts same;
+      named = (rest_there store now name rest there, tt);
       only = λ other entry is. inl (ap (λ (m : ManifestText). archive_named other m.archives) (sym rest.accepted) ∙ is);
     }
 
 pub same_carried : {T : Type 0} (from : Origin) (name : List ℕ) (store now : Store) (a b : Option Told) (n m : ℕ) (x : T) → AcceptsMore store
-    → KeepsRest store now → now.pending ≡ 0 → IsSame from a (repo_view store.repo) name
-    → Works (KeepsStanding store) (λ (_ : T). Gathers store [] now) a b n m (Ok x)
+    → KeepsRest store now → now.pending ≡ 0 → IsSome (archive_named name (repo_view store.repo).manifest.archives)
+    → IsSame from a (repo_view store.repo) name → Works (KeepsStanding store) (λ (_ : T). Gathers store [] now) a b n m (Ok x)
     → Works (KeepsGrowing from (name ∷ []) store) (λ (_ : T). Grows from (name ∷ []) store now) a b n m (Ok x)
-same_carried {T} from name store now a b n m x accepts rest pending same p = record {
+same_carried {T} from name store now a b n m x accepts rest pending there same p = record {
   each = between_map a b (KeepsStanding store) (KeepsGrowing from (name ∷ []) store)
       (λ h g e. growing_by from (name ∷ []) (accepted_in store) store h g accepts e) p.each;
   end = between_map a b
       (λ h g. IfSome from.files (λ there. (whole : WholeArchive)
       × (SaysIn there from.repo name whole × SaysIn (files_now h) (repo_view store.repo) name whole)) × (AllDone h g × Gathers store [] now h g))
       (λ h g. AllDone h g × Grows from (name ∷ []) store now h g)
-      (λ h g e. (e.1.0, same_grows from name store now h g accepts rest pending e.0 e.1.1))
+      (λ h g e. (e.1.0, same_grows from name store now h g accepts rest pending there e.0 e.1.1))
       (between_known (λ h. IfSome from.files (λ there. (whole : WholeArchive)
       × (SaysIn there from.repo name whole × SaysIn (files_now h) (repo_view store.repo) name whole))) (λ h g. AllDone h g × Gathers store [] now h g) a b
       same p.end);

@@ -1,10 +1,11 @@
 -- Turns of a flight, one after another.
 use Rattle.std.proofs.Common.{◌≡◌, ◌⊎◌, inl, inr, false, ℕ, List, [], ◌∷◌}
-use Rattle.std.proofs.Common.{Option, Some, None, Result, Ok, Err, IfOk, OnOk}
+use Rattle.std.proofs.Common.{Option, Some, None, Result, Ok, Err, IfOk, IsSome, OnOk}
 use Rattle.std.proofs.Common.{refl, sym, ◌∙◌, ap, subst}
 use Rattle.ferry_disk.specs.Act.{files_now}
 use Rattle.ferry_disk.specs.Device.{Heard, Told, heard, heard_of}
 use Rattle.ferry_manifest.specs.declared.manifest.ArchiveRef.{ArchiveRef}
+use Rattle.ferry_repo.specs.Archives.{archive_named}
 use Rattle.ferry_repo.specs.Opening.{RepoState, repo_view}
 use Rattle.ferry_store.specs.declared.store.Store.{Store}
 use Rattle.ferry_carry.proofs.WorkLemmas.{carried_by_then, carried_from, carried_from_err, works_as, works_front}
@@ -79,15 +80,16 @@ flies_err {T} from name some store now other a b n m fault p =
 -- an archive that was there, once nothing is pending
 pub present_flies : {T : Type 0} (from : Origin) (name : List ℕ) (store middle now : Store) (a b c : Option Told) (n m k : ℕ) (x : T)
     (result : Result Turn CarryFault) → AcceptsMore store → AcceptsMore middle → KeepsRest store middle → OnOk result (KeepsRest middle now)
-    → OnOk result (now.pending ≡ 0) → IfOk result (λ turn. turn ≡ Present) → IsSame from b (repo_view middle.repo) name
+    → OnOk result (now.pending ≡ 0) → IfOk result (λ turn. turn ≡ Present)
+    → IsSome (archive_named name (repo_view middle.repo).manifest.archives) → IsSame from b (repo_view middle.repo) name
     → Works (KeepsStanding store) (λ (_ : T). Gathers store [] middle) a b n m (Ok x)
     → Works (KeepsStanding middle) (λ (_ : Turn). Gathers middle [] now) b c m k result → Flies from name store now a c n k result
-present_flies {T} from name store middle now a b c n m k x (Ok turn) accepts accepts_middle rest rest_now pending is same p q =
+present_flies {T} from name store middle now a b c n m k x (Ok turn) accepts accepts_middle rest rest_now pending is there same p q =
     carried_by_then {T = T} {U = Turn} from [] (name ∷ []) (λ t. carried_by t name) store middle now a b c n m k x (Ok turn)
     (carried_from {T = T} {U = T} from (name ∷ []) store middle [] a b n m x x accepts rest p)
     (flies_as {T = Turn} from name (name ∷ []) middle now b c m k turn turn (sym (ap (λ (t : Turn). carried_by t name) is))
-    (same_carried {T = Turn} from name middle now b c m k turn accepts_middle rest_now pending same q))
-present_flies {T} from name store middle now a b c n m k x (Err fault) accepts accepts_middle rest rest_now pending is same p q =
+    (same_carried {T = Turn} from name middle now b c m k turn accepts_middle rest_now pending there same q))
+present_flies {T} from name store middle now a b c n m k x (Err fault) accepts accepts_middle rest rest_now pending is there same p q =
     carried_by_then {T = T} {U = Turn} from [] (name ∷ []) (λ t. carried_by t name) store middle now a b c n m k x (Err fault)
     (carried_from {T = T} {U = T} from (name ∷ []) store middle [] a b n m x x accepts rest p)
     (flies_err {T = Turn} from name [] middle now now b c m k fault

@@ -1,7 +1,6 @@
 -- A store with contents added, one after another.
 use Rattle.std.proofs.Common.{◌≡◌, ◌≢◌, ◌⊎◌, ◌↔◌, IsTrue, inl, inr, ℕ, Bool, true, false, List, [], ◌∷◌, ◌++◌, Option, Some}
 use Rattle.std.proofs.Common.{unwrap_or, Ok, IfSome, refl, sym, ◌∙◌, ap, subst}
-use Rattle.std.specs.List.{AllByRecursion}
 use Rattle.ferry_base.specs.Limits.{zero_id}
 use Rattle.ferry_blob.proofs.CallerLemmas.{opened_id}
 use Rattle.ferry_blob.proofs.LawLemmas.{one_content}
@@ -17,25 +16,54 @@ use Rattle.ferry_manifest.specs.declared.manifest.Manifest.{Manifest}
 use Rattle.ferry_repo.specs.Opening.{RepoState, repo_view}
 use Rattle.ferry_repo.specs.declared.repo.Repo.{Repo}
 use Rattle.ferry_store.specs.Commit.{accepted_or}
-use Rattle.ferry_segment.specs.Entry.{LogEntry, CommitEntry}
+use Rattle.ferry_segment.specs.Entry.{LogEntry, CommitEntry, PutEntry}
 use Rattle.ferry_stops.proofs.TellLemmas.{untold_then}
 use Rattle.ferry_stops.specs.Entries.{Shows}
 use Rattle.ferry_stops.specs.Tells.{TellsNothing}
-use Rattle.ferry_store.proofs.LiveLemmas.{keeps_commit, keeps_put, keeps_same, keeps_then, live_other, live_put, same_or}
+use Rattle.ferry_store.proofs.LiveLemmas.{keeps_commit, keeps_put, keeps_same, keeps_then, live_commit, live_other, live_put, same_or}
 use Rattle.ferry_store.proofs.PutLemmas.{keeps_here}
 use Rattle.ferry_store.proofs.StandingLemmas.{entries_put, live_committed, missing_unlive}
 use Rattle.ferry_store.proofs.StepLemmas.{known_end, known_then, moments_map, moments_then}
 use Rattle.ferry_store.proofs.UseLemmas.{fits_added}
 use Rattle.ferry_store.specs.Adding.{Adds, Checkpoints, entry_of, id_under}
 use Rattle.ferry_store.specs.Content.{IsNew, Learns, blob_for, with_added}
-use Rattle.ferry_store.specs.Standing.{Keeps, committed_of, entries_of, live_in}
+use Rattle.ferry_store.specs.Standing.{Keeps, committed_of, entries_committed, entries_of, live_in}
 use Rattle.ferry_store.specs.State.{CommitsSound, Did, IsSound, KeepsSound, ShowsEither, ShowsStanding, Written}
 use Rattle.ferry_store.specs.Store.{IsKnown, StoreFits}
 use Rattle.ferry_store.specs.declared.content.Added.{Added}
 use Rattle.ferry_store.specs.declared.store.Store.{Store}
 use Rattle.ferry_write.specs.Script.{AllDone}
-use Rattle.ferry_carry.proofs.WholeLemmas.{all_both, all_front}
-use Rattle.ferry_carry.specs.Gather.{Brings, Gathers, HoldsContents, HoldsWithin, IsAmong, KeepsRest, KeepsStanding, Moved, NoCollision, StandsFrom}
+use Rattle.ferry_carry.proofs.WholeLemmas.{all_both, all_front, each_to}
+use Rattle.ferry_carry.specs.Gather.{Brings, BringsOpening, Gathers, HoldsContents, HoldsWithin, IsAmong, KeepsRest, KeepsStanding, Moved, NoCollision}
+use Rattle.ferry_carry.specs.Gather.{StandsFrom}
+
+-- ---- what opens
+
+-- what keeps to the entries before brings nothing
+pub opening_kept : (keys : Keys) (before after : List LogEntry) → Keeps after before → BringsOpening keys before after
+opening_kept keys before after keeps id blob apart live = inl (keeps id blob live)
+
+pub opening_same : (keys : Keys) (entries : List LogEntry) → BringsOpening keys entries entries
+opening_same keys entries = opening_kept keys entries entries (keeps_same entries)
+
+pub opening_then : (keys : Keys) (a b c : List LogEntry) → BringsOpening keys a b → BringsOpening keys b c → BringsOpening keys a c
+opening_then keys a b c first second id blob apart live = by (second id blob apart live) where
+  by : (live_in id b ≡ Some blob) ⊎ ((content : List ℕ) × OpensTo keys id blob content)
+      → (live_in id a ≡ Some blob) ⊎ ((content : List ℕ) × OpensTo keys id blob content)
+  by (inl was) = first id blob apart was
+  by (inr opens) = inr opens
+
+-- a blob that is put opens, and each other one is what it was
+opening_put : (keys : Keys) (id blob content : List ℕ) (entries : List LogEntry) → OpensTo keys id blob content
+    → BringsOpening keys entries (entries ++ PutEntry id blob ∷ [])
+opening_put keys id blob content entries opens other found apart live = by_id (same_or id other) where
+  by_id : (other ≡ id) ⊎ (other ≢ id) → (live_in other entries ≡ Some found) ⊎ ((text : List ℕ) × OpensTo keys other found text)
+  by_id (inl is) =
+      let both : Some blob ≡ Some found =
+      sym (live_put id blob entries) ∙ (ap (λ (i : List ℕ). live_in i (entries ++ PutEntry id blob ∷ [])) (sym is) ∙ live) in
+      let same : blob ≡ found = cc in
+      inr (content, subst (λ (i : List ℕ). OpensTo keys i found content) (sym is) (subst (λ (b : List ℕ). OpensTo keys id b content) same opens))
+  by_id (inr differ) = inl (sym (live_other id blob other entries differ) ∙ live)
 
 -- ---- what stands
 
@@ -44,29 +72,39 @@ committed_some : (counts : Bool) (store : Store) (h : History) (fits : StoreFits
 committed_some counts store h fits = fits.manifest.is ∙ ap Some (sym (ap (λ (c : Option (List LogEntry)). unwrap_or c []) fits.manifest.is))
 
 pub standing_from : (counts : Bool) (store : Store) (h : History) (fits : StoreFits counts store h) (image : Files) → ShowsStanding fits.written image
-    → StandsFrom fits.written image
-standing_from counts store h fits image shown = (
-  committed_of fits.written,
-  (subst (Shows image) (committed_some counts store h fits) shown.0, (keeps_same (committed_of fits.written), shown.1)),
-)
+    → StandsFrom (repo_view store.repo).keys fits.written image
+standing_from counts store h fits image shown = record {
+  entries = committed_of fits.written;
+  shown = subst (Shows image) (committed_some counts store h fits) shown.0;
+  keeps = keeps_same (committed_of fits.written);
+  opening = opening_kept (repo_view store.repo).keys (entries_of fits.written) (committed_of fits.written) fits.keeps;
+  config = shown.1;
+}
 
 -- what stands from later on stands from before
-pub stands_then : (written next : Written) (image : Files) → Moved written next → StandsFrom next image → StandsFrom written image
-stands_then written next image moved stands = (
-  stands.0,
-  (
-    stands.1.0,
-    (keeps_then (committed_of written) (committed_of next) stands.0 moved.committed stands.1.1.0, stands.1.1.1 ∙ moved.config),
-  ),
-)
+pub stands_then : (keys : Keys) (written next : Written) (image : Files) → Moved keys written next → StandsFrom keys next image
+    → StandsFrom keys written image
+stands_then keys written next image moved stands = record {
+  entries = stands.entries;
+  shown = stands.shown;
+  keeps = keeps_then (committed_of written) (committed_of next) stands.entries moved.committed stands.keeps;
+  opening = opening_then keys (entries_of written) (entries_of next) stands.entries moved.opening stands.opening;
+  config = stands.config ∙ moved.config;
+}
 
-pub moved_here : (written : Written) → Moved written written
-moved_here written = record { committed = keeps_same (committed_of written); entries = keeps_same (entries_of written); config = refl }
+pub moved_here : (keys : Keys) (written : Written) → Moved keys written written
+moved_here keys written = record {
+  committed = keeps_same (committed_of written);
+  entries = keeps_same (entries_of written);
+  opening = opening_same keys (entries_of written);
+  config = refl;
+}
 
-pub moved_then : (a b c : Written) → Moved a b → Moved b c → Moved a c
-moved_then a b c p q = record {
+pub moved_then : (keys : Keys) (a b c : Written) → Moved keys a b → Moved keys b c → Moved keys a c
+moved_then keys a b c p q = record {
   committed = keeps_then (committed_of a) (committed_of b) (committed_of c) p.committed q.committed;
   entries = keeps_then (entries_of a) (entries_of b) (entries_of c) p.entries q.entries;
+  opening = opening_then keys (entries_of a) (entries_of b) (entries_of c) p.opening q.opening;
   config = q.config ∙ p.config;
 }
 
@@ -96,15 +134,11 @@ chunk_on counts store now h g fits fits_now keeps keys id content chunk =
       };
     }
 
-all_on : (keys : Keys) (P Q : List ℕ → Type 0) (contents : List (List ℕ)) → ((content : List ℕ) → P content → Q content) → AllByRecursion P contents
-    → AllByRecursion Q contents
-all_on keys P Q [] step all = tt
-all_on keys P Q (content ∷ contents) step all = (step content all.0, all_on keys P Q contents step all.1)
-
 -- ---- one after another
 
 pub gathers_here : (store : Store) (h : History) → Gathers store [] store h h
-gathers_here store h counts fits = record { fits_now = fits; moved = moved_here fits.written; brings = λ scope apart all within. (within, tt) }
+gathers_here store h counts fits =
+    record { fits_now = fits; moved = moved_here (repo_view store.repo).keys fits.written; brings = λ scope apart all within. (within, tt) }
 
 pub gathers_then : (store middle now : Store) (some more : List (List ℕ)) → KeepsRest store middle → KeepsRest middle now → (h g i : History)
     → Gathers store some middle h g → Gathers middle more now g i → Gathers store (some ++ more) now h i
@@ -113,7 +147,8 @@ gathers_then store middle now some more rest rest_now h g i p q counts fits =
     let second = q counts first.fits_now in
     record {
       fits_now = second.fits_now;
-      moved = moved_then fits.written first.fits_now.written second.fits_now.written first.moved second.moved;
+      moved = moved_then (repo_view store.repo).keys fits.written first.fits_now.written second.fits_now.written first.moved
+          (subst (λ (k : Keys). Moved k first.fits_now.written second.fits_now.written) rest.keys second.moved);
       brings = λ scope apart all within.
           let parts = all_front (IsAmong scope) some more all in
           let one = first.brings scope apart parts.0 within in
@@ -125,19 +160,22 @@ gathers_then store middle now some more rest rest_now h g i p q counts fits =
           → Keeps (entries_of fits.written) (entries_of fits_now.written)
           → HoldsContents (files_now g) (repo_view middle.repo) some → HoldsContents (files_now i) (repo_view now.repo) some
       kept counts fits fits_now keeps all =
-          all_on (repo_view store.repo).keys _ _ some (λ content chunk.
+          each_to _ _ some (λ content chunk.
           subst (λ (k : Keys). HoldsChunk (files_now i) (repo_view now.repo).log (repo_view now.repo).keys (content_id k content) content) (sym rest_now.keys)
           (chunk_on counts middle now g i fits fits_now keeps rest_now.keys (content_id (repo_view middle.repo).keys content) content chunk)) all
 
-pub each_then : (store middle : Store) (contents : List (List ℕ)) (h g i : History) → KeepsStanding store h g → AllDone h g → Gathers store contents middle h g
-    → KeepsStanding middle g i → KeepsStanding store h i
-each_then store middle contents h g i before done gathers after = (
+pub each_then : (store middle : Store) (contents : List (List ℕ)) (h g i : History) → (repo_view middle.repo).keys ≡ (repo_view store.repo).keys
+    → KeepsStanding store h g → AllDone h g → Gathers store contents middle h g → KeepsStanding middle g i → KeepsStanding store h i
+each_then store middle contents h g i same before done gathers after = (
   untold_then h g i before.0 after.0,
   λ counts fits.
       let first = gathers counts fits in
-      moments_then (IsSound (StandsFrom fits.written) counts) h g i (before.1 counts fits) done
-      (sound_moments (StandsFrom first.fits_now.written) (StandsFrom fits.written) counts g i
-      (λ image stands. stands_then fits.written first.fits_now.written image first.moved stands) (after.1 counts first.fits_now)),
+      let keys = (repo_view store.repo).keys in
+      moments_then (IsSound (StandsFrom keys fits.written) counts) h g i (before.1 counts fits) done
+      (sound_moments (StandsFrom (repo_view middle.repo).keys first.fits_now.written) (StandsFrom keys fits.written) counts g i
+      (λ image stands.
+      stands_then keys fits.written first.fits_now.written image first.moved
+      (subst (λ (k : Keys). StandsFrom k first.fits_now.written image) same stands)) (after.1 counts first.fits_now)),
 )
 
 -- where nothing is done, what stands is what a sound moment shows
@@ -145,7 +183,8 @@ pub stands_here : (store : Store) (h : History) → KeepsStanding store h h
 stands_here store h = (
   refl,
   λ counts fits.
-      sound_moments (ShowsStanding fits.written) (StandsFrom fits.written) counts h h (λ image shown. standing_from counts store h fits image shown)
+      sound_moments (ShowsStanding fits.written) (StandsFrom (repo_view store.repo).keys fits.written) counts h h
+      (λ image shown. standing_from counts store h fits image shown)
       (keeps_here store.session store.counter h counts fits.written fits.under_way),
 )
 
@@ -281,7 +320,7 @@ brings_old counts store now content h g fits fits_now keys known entries scope a
 added_by : (counts : Bool) (store now : Store) (content : List ℕ) (added : Added) (h g : History) (fits : StoreFits counts store h)
     (fits_now : StoreFits counts now g) (new : Bool) → new ≡ added.new → AddedSo store content now added
     → fits_now.written ≡ with_added new fits.written (entry_of store content)
-    → Moved fits.written fits_now.written × Brings (repo_view store.repo) (content ∷ []) (repo_view now.repo) h g
+    → Moved (repo_view store.repo).keys fits.written fits_now.written × Brings (repo_view store.repo) (content ∷ []) (repo_view now.repo) h g
 added_by counts store now content added h g fits fits_now true is so e =
     let put : IsTrue added.new = sym is in
     let fresh = so.new.0 put in
@@ -293,12 +332,15 @@ added_by counts store now content added h g fits fits_now true is so e =
         committed = subst (λ (w : Written). Keeps (committed_of fits.written) (committed_of w)) (sym e) (keeps_same (committed_of fits.written));
         entries = subst (Keeps (entries_of fits.written)) (sym entries)
             (keeps_put (id_under store content) (blob_for (repo_view store.repo) store.counter content) (entries_of fits.written) unlive);
+        opening = subst (BringsOpening (repo_view store.repo).keys (entries_of fits.written)) (sym entries)
+            (opening_put (repo_view store.repo).keys (id_under store content) (blob_for (repo_view store.repo) store.counter content) content
+            (entries_of fits.written) (so.opens put));
         config = ap (λ (w : Written). w.config) e;
       },
       brings_new counts store now content h g fits fits_now keys fresh.0 (so.opens put) entries,
     )
 added_by counts store now content added h g fits fits_now false is so e = (
-  subst (Moved fits.written) (sym e) (moved_here fits.written),
+  subst (Moved (repo_view store.repo).keys fits.written) (sym e) (moved_here (repo_view store.repo).keys fits.written),
   brings_old counts store now content h g fits fits_now (added_rest store now content added so).keys so.known (ap entries_of e),
 )
 
@@ -314,7 +356,8 @@ pub add_stands : (store : Store) (h g : History) → TellsNothing h g → KeepsS
 add_stands store h g untold keeps = (
   untold,
   λ counts fits.
-      sound_moments (ShowsStanding fits.written) (StandsFrom fits.written) counts h g (λ image shown. standing_from counts store h fits image shown)
+      sound_moments (ShowsStanding fits.written) (StandsFrom (repo_view store.repo).keys fits.written) counts h g
+      (λ image shown. standing_from counts store h fits image shown)
       (keeps counts fits.written fits.under_way),
 )
 
@@ -338,6 +381,7 @@ checkpoint_gathers store now h g repo takes counts fits =
         committed = subst (λ (x : Written). Keeps (committed_of w) (committed_of x)) (sym end.1)
             (keeps_then (committed_of w) (entries_of w) (entries_of w ++ CommitEntry ∷ []) fits.keeps (keeps_commit (entries_of w)));
         entries = λ id blob there. live id ∙ there;
+        opening = opening_kept (repo_view store.repo).keys (entries_of w) (entries_of end.0.written) (λ id blob there. sym (live id) ∙ there);
         config = ap (λ (x : Written). x.config) end.1;
       };
       brings = λ scope apart all within. (
@@ -348,22 +392,24 @@ checkpoint_gathers store now h g repo takes counts fits =
     }
 
 either_from : (counts : Bool) (store : Store) (h : History) (fits : StoreFits counts store h) (image : Files) → ShowsEither fits.written image
-    → StandsFrom fits.written image
+    → StandsFrom (repo_view store.repo).keys fits.written image
 either_from counts store h fits image (inl shown) = standing_from counts store h fits image shown
 either_from counts store h fits image (inr shown) =
-    let w = fits.written in (
-      entries_of w ++ CommitEntry ∷ [],
-      (
-        shown.0,
-        (keeps_then (committed_of w) (entries_of w) (entries_of w ++ CommitEntry ∷ []) fits.keeps (keeps_commit (entries_of w)), shown.1),
-      ),
-    )
+    let w = fits.written in
+    record {
+      entries = entries_committed w;
+      shown = shown.0;
+      keeps = keeps_then (committed_of w) (entries_of w) (entries_committed w) fits.keeps (keeps_commit (entries_of w));
+      opening = opening_kept (repo_view store.repo).keys (entries_of w) (entries_committed w) (λ id blob live. sym (live_commit id (entries_of w)) ∙ live);
+      config = shown.1;
+    }
 
 pub checkpoint_stands : (store : Store) (h g : History) → TellsNothing h g → CommitsSound store.session store.counter h g → KeepsStanding store h g
 checkpoint_stands store h g untold keeps = (
   untold,
   λ counts fits.
-      sound_moments (ShowsEither fits.written) (StandsFrom fits.written) counts h g (λ image shown. either_from counts store h fits image shown)
+      sound_moments (ShowsEither fits.written) (StandsFrom (repo_view store.repo).keys fits.written) counts h g
+      (λ image shown. either_from counts store h fits image shown)
       (keeps counts fits.written fits.under_way),
 )
 

@@ -1,5 +1,5 @@
 -- A target into which archives come, one after another.
-use Rattle.std.proofs.Common.{◌≡◌, ◌⊎◌, inl, inr, ℕ, zero, Bool, true, false, cond, List, [], ◌∷◌, ◌++◌, Option, Some, None, Ok, IfSome}
+use Rattle.std.proofs.Common.{◌≡◌, ◌⊎◌, inl, inr, ℕ, zero, Bool, true, false, cond, List, [], ◌∷◌, ◌++◌, Option, Some, None, Ok, IfSome, IsSome}
 use Rattle.std.proofs.Common.{if◌then◌else◌, unwrap_or, refl, sym, ◌∙◌, ap, subst}
 use Rattle.std.proofs.lemmas.Slice.Eq.{bytes_eq-Decides}
 use Rattle.std.proofs.lemmas.List.{append_assoc}
@@ -20,19 +20,19 @@ use Rattle.ferry_repo.specs.Opening.{RepoState, repo_view}
 use Rattle.ferry_segment.specs.Entry.{LogEntry, PutEntry}
 use Rattle.ferry_stops.proofs.TellLemmas.{untold_then}
 use Rattle.ferry_stops.specs.Tells.{TellsNothing}
-use Rattle.ferry_store.proofs.StandingLemmas.{live_manifest, manifest_kept}
+use Rattle.ferry_store.proofs.StandingLemmas.{live_manifest, live_renewed, manifest_kept}
 use Rattle.ferry_store.proofs.StepLemmas.{known_end, known_then, moments_then}
 use Rattle.ferry_store.specs.Commit.{Commits, CommitsEntry, ShowsManifest, accepted_in}
-use Rattle.ferry_store.specs.Standing.{HoldsManifest, Keeps, committed_of, entries_committed, live_in, with_manifest}
+use Rattle.ferry_store.specs.Standing.{HoldsManifest, Keeps, committed_of, entries_committed, entries_of, live_in, with_manifest}
 use Rattle.ferry_store.specs.State.{Did, IsSound, Written, with_entry}
 use Rattle.ferry_store.specs.Store.{StoreFits}
 use Rattle.ferry_store.specs.declared.store.Store.{Store}
 use Rattle.ferry_write.specs.Script.{AllDone}
 use Rattle.ferry_carry.proofs.CarryLemmas.{all_carried, named_carried}
 use Rattle.ferry_carry.proofs.CutLemmas.{cut_none, cut_one, cut_then}
-use Rattle.ferry_carry.proofs.GatherLemmas.{sound_moments, standing_from, stands_here}
-use Rattle.ferry_carry.proofs.WholeLemmas.{all_both, among_behind, among_front}
-use Rattle.ferry_carry.specs.Gather.{Gathers, IsAmong, KeepsRest, KeepsStanding, StandsFrom}
+use Rattle.ferry_carry.proofs.GatherLemmas.{opening_same, opening_then, sound_moments, standing_from, stands_here}
+use Rattle.ferry_carry.proofs.WholeLemmas.{all_both, among_behind, among_front, each_to}
+use Rattle.ferry_carry.specs.Gather.{BringsOpening, Gathers, IsAmong, KeepsRest, KeepsStanding, StandsFrom}
 use Rattle.ferry_carry.specs.Grow.{AcceptsMore, Grows, GrowsBy, IsNamedBy, KeepsChunks, KeepsGrowing, KeepsGrowingBy, KeepsMost, KeepsNames}
 use Rattle.ferry_carry.specs.Grow.{StandsOn}
 use Rattle.ferry_carry.specs.Carrying.{AreCut, IsCarried, IsReadyToName, Origin}
@@ -45,6 +45,21 @@ names_here manifest name entry is = is
 
 pub names_then : (a b c : ManifestText) → KeepsNames a b → KeepsNames b c → KeepsNames a c
 names_then a b c p q name entry is = q name entry (p name entry is)
+
+-- a name that a manifest has, a manifest has that keeps each archive
+pub has_kept : (before after : ManifestText) (name : List ℕ) → KeepsNames before after → IsSome (archive_named name before.archives)
+    → IsSome (archive_named name after.archives)
+has_kept before after name keeps has = by (archive_named name before.archives) refl has where
+  by : (o : Option ArchiveRef) → archive_named name before.archives ≡ o → IsSome o → IsSome (archive_named name after.archives)
+  by None e is = absurd (let no : ⊥ = cc in no)
+  by (Some entry) e is = subst IsSome (sym (keeps name entry e)) refl
+
+pub all_kept : (before after : ManifestText) (names : List (List ℕ)) → KeepsNames before after
+    → AllByRecursion (λ (name : List ℕ). IsSome (archive_named name before.archives)) names
+    → AllByRecursion (λ (name : List ℕ). IsSome (archive_named name after.archives)) names
+all_kept before after names keeps all =
+    each_to (λ (name : List ℕ). IsSome (archive_named name before.archives)) (λ (name : List ℕ). IsSome (archive_named name after.archives)) names
+    (λ name has. has_kept before after name keeps has) all
 
 pub chunks_then : (a b c : List LogEntry) → KeepsChunks a b → KeepsChunks b c → KeepsChunks a c
 chunks_then a b c p q id blob apart live = q id blob apart (p id blob apart live)
@@ -67,19 +82,20 @@ held_by repo other manifest entries keys holds = record {
 
 -- by entries that keep all that was committed the manifest is the one that was
 pub on_from : (from : Origin) (chosen : List (List ℕ)) (accepted : ManifestText) (counts : Bool) (store : Store) (h : History)
-    (fits : StoreFits counts store h) (image : Files) → KeepsNames (repo_view store.repo).manifest accepted → StandsFrom fits.written image
-    → StandsOn from chosen accepted (repo_view store.repo) fits.written image
+    (fits : StoreFits counts store h) (image : Files) → KeepsNames (repo_view store.repo).manifest accepted
+    → StandsFrom (repo_view store.repo).keys fits.written image → StandsOn from chosen accepted (repo_view store.repo) fits.written image
 on_from from chosen accepted counts store h fits image accepts stands =
     let entries_are : committed_of fits.written ≡ fits.manifest.entries = ap (λ (c : Option (List LogEntry)). unwrap_or c []) fits.manifest.is in
     record {
-      entries = stands.0;
+      entries = stands.entries;
       manifest = (repo_view store.repo).manifest;
-      shown = stands.1.0;
-      chunks = keeps_chunks (committed_of fits.written) stands.0 stands.1.1.0;
-      holds = manifest_kept (repo_view store.repo) (committed_of fits.written) stands.0 stands.1.1.0
+      shown = stands.shown;
+      chunks = keeps_chunks (committed_of fits.written) stands.entries stands.keeps;
+      opening = stands.opening;
+      holds = manifest_kept (repo_view store.repo) (committed_of fits.written) stands.entries stands.keeps
           (subst (HoldsManifest (repo_view store.repo)) (sym entries_are) fits.manifest.holds);
       names = names_here (repo_view store.repo).manifest;
-      config = stands.1.1.1;
+      config = stands.config;
       done = [];
       rest = chosen;
       front = refl;
@@ -93,7 +109,7 @@ pub growing_by : (from : Origin) (chosen : List (List ℕ)) (accepted : Manifest
 growing_by from chosen accepted store h g accepts keeps = (
   keeps.0,
   λ counts fits.
-      sound_moments (StandsFrom fits.written) (StandsOn from chosen accepted (repo_view store.repo) fits.written) counts h g
+      sound_moments (StandsFrom (repo_view store.repo).keys fits.written) (StandsOn from chosen accepted (repo_view store.repo) fits.written) counts h g
       (λ image stands. on_from from chosen accepted counts store h fits image accepts stands) (keeps.1 counts fits),
 )
 
@@ -115,14 +131,17 @@ named_then accepted middle manifest some more p q name entry is = by (q name ent
 unfoldable pub on_then : (from : Origin) (some more : List (List ℕ)) (accepted middle : ManifestText) (repo next : RepoState)
     (written after : Written) (image : Files)
     → next.keys ≡ repo.keys → KeepsNames repo.manifest next.manifest → KeepsChunks (committed_of written) (committed_of after)
-    → after.config ≡ written.config → AllByRecursion (IsCarried from next.keys (committed_of after) next.manifest.archives) some
+    → BringsOpening repo.keys (entries_of written) (entries_of after) → after.config ≡ written.config
+    → AllByRecursion (IsCarried from next.keys (committed_of after) next.manifest.archives) some
     → AreCut accepted from next.keys next.manifest.archives some → IsNamedBy accepted some middle → StandsOn from more middle next after image
     → StandsOn from (some ++ more) accepted repo written image
-on_then from some more accepted middle repo next written after image keys names chunks config carried cut only stands = record {
+on_then from some more accepted middle repo next written after image keys names chunks opening config carried cut only stands = record {
   entries = stands.entries;
   manifest = stands.manifest;
   shown = stands.shown;
   chunks = chunks_then (committed_of written) (committed_of after) stands.entries chunks stands.chunks;
+  opening = opening_then repo.keys (entries_of written) (entries_of after) stands.entries opening
+      (subst (λ (k : Keys). BringsOpening k (entries_of after) stands.entries) keys stands.opening);
   holds = held_by repo next stands.manifest stands.entries keys stands.holds;
   names = names_then repo.manifest next.manifest stands.manifest names stands.names;
   config = stands.config ∙ config;
@@ -145,6 +164,7 @@ on_wider from some more accepted repo written image stands = record {
   manifest = stands.manifest;
   shown = stands.shown;
   chunks = stands.chunks;
+  opening = stands.opening;
   holds = stands.holds;
   names = stands.names;
   config = stands.config;
@@ -192,10 +212,12 @@ grows_from from store now contents h g rest gathers counts fits =
     record {
       fits_now = end.fits_now;
       chunks = keeps_chunks (committed_of fits.written) (committed_of end.fits_now.written) end.moved.committed;
+      opening = end.moved.opening;
       config = end.moved.config;
       most = most_from store now rest;
       carried = tt;
       cut = cut_none (accepted_in store) from (repo_view now.repo).keys (repo_view now.repo).manifest.archives;
+      named = tt;
       only = λ name entry is. inl (ap (λ (m : ManifestText). archive_named name m.archives) (sym rest.accepted) ∙ is);
     }
 
@@ -203,10 +225,12 @@ pub grows_here : (from : Origin) (store : Store) (h : History) → Grows from []
 grows_here from store h counts fits = record {
   fits_now = fits;
   chunks = λ id blob apart live. live;
+  opening = opening_same (repo_view store.repo).keys (entries_of fits.written);
   config = refl;
   most = most_here store;
   carried = tt;
   cut = cut_none (accepted_in store) from (repo_view store.repo).keys (repo_view store.repo).manifest.archives;
+  named = tt;
   only = λ name entry is. inl is;
 }
 
@@ -221,6 +245,9 @@ grows_then from some more store middle now h g i p q counts fits =
     record {
       fits_now = second.fits_now;
       chunks = chunks_then (committed_of fits.written) (committed_of first.fits_now.written) committed first.chunks second.chunks;
+      opening = opening_then (repo_view store.repo).keys (entries_of fits.written) (entries_of first.fits_now.written) (entries_of second.fits_now.written)
+          first.opening
+          (subst (λ (k : Keys). BringsOpening k (entries_of first.fits_now.written) (entries_of second.fits_now.written)) first.most.keys second.opening);
       config = second.config ∙ first.config;
       most = most_then store middle now first.most second.most;
       carried = all_both (IsCarried from keys committed archives) some more
@@ -232,6 +259,8 @@ grows_then from some more store middle now h g i p q counts fits =
           second.most.names
           (subst (λ (k : Keys). AreCut (accepted_in store) from k (repo_view middle.repo).manifest.archives some) (sym second.most.keys) first.cut)
           second.cut;
+      named = all_both (λ (name : List ℕ). IsSome (archive_named name archives)) some more
+          (all_kept (repo_view middle.repo).manifest (repo_view now.repo).manifest some second.most.names first.named) second.named;
       only = named_then (accepted_in store) (accepted_in middle) (accepted_in now) some more first.only second.only;
     }
 
@@ -247,7 +276,7 @@ growing_then from some more store middle h g i before done grows after = (
       (sound_moments (StandsOn from more (accepted_in middle) next first.fits_now.written)
       (StandsOn from (some ++ more) (accepted_in store) repo fits.written) counts g i
       (λ image stands. on_then from some more (accepted_in store) (accepted_in middle) repo next fits.written first.fits_now.written image first.most.keys
-      first.most.names first.chunks first.config first.carried first.cut first.only stands) (after.1 counts first.fits_now)),
+      first.most.names first.chunks first.opening first.config first.carried first.cut first.only stands) (after.1 counts first.fits_now)),
 )
 
 pub growing_here : (from : Origin) (chosen : List (List ℕ)) (store : Store) (h : History) → AcceptsMore store → KeepsGrowing from chosen store h h
@@ -270,6 +299,7 @@ commit_on from accepted entry counts store h fits manifest blob image names arch
       manifest = manifest;
       shown = shown.0.0;
       chunks = λ id old apart live. live_manifest fits.written blob id apart ∙ fits.keeps id old live;
+      opening = λ id old apart live. inl (sym (live_manifest fits.written blob id apart) ∙ live);
       holds = shown.1;
       names = names;
       config = shown.0.1;
@@ -310,6 +340,8 @@ commit_grows from accepted entry store now manifest blob h g most archives manif
       fits_now = end.0;
       chunks = λ id old apart live.
           ap (λ (w : Written). live_in id (committed_of w)) end.1 ∙ (live_manifest fits.written blob id apart ∙ fits.keeps id old live);
+      opening = λ id old apart live.
+          inl (sym (live_renewed fits.written blob id apart) ∙ (ap (λ (w : Written). live_in id (entries_of w)) (sym end.1) ∙ live));
       config = ap (λ (w : Written). w.config) end.1;
       most = most;
       carried = (
@@ -322,6 +354,11 @@ commit_grows from accepted entry store now manifest blob h g most archives manif
       cut = subst (λ (m : ManifestText). AreCut accepted from (repo_view now.repo).keys m.archives (entry.name ∷ [])) (sym manifest_is)
           (subst (λ (k : Keys). AreCut accepted from k manifest.archives (entry.name ∷ [])) (sym most.keys)
           (cut_one accepted from (files_now h) (repo_view store.repo) manifest entry (named entry.name ∙ one.there) ready));
+      named = (
+        subst (λ (m : ManifestText). IsSome (archive_named entry.name m.archives)) (sym manifest_is)
+            (subst IsSome (sym (named entry.name ∙ one.there)) refl),
+        tt,
+      );
       only = λ name other is.
           one.only name other
           (sym (named name) ∙ (ap (λ (m : ManifestText). archive_named name m.archives) (sym (accepted_is ∙ manifest_is)) ∙ is));
@@ -347,6 +384,7 @@ accepted_fits counts store now h same fits =
       manifest = fits.manifest;
       keeps = fits.keeps;
       pending = fits.pending;
+      learnt = fits.learnt;
     })
 
 pub accepted_known : (store now : Store) (a : Option Told) → now ≡ record store { accepted = now.accepted }
@@ -377,6 +415,7 @@ growing_accepted accepted from chosen store middle h g same growing =
             manifest = fits.manifest;
             keeps = fits.keeps;
             pending = fits.pending;
+            learnt = fits.learnt;
           }),
     ))) growing
 
@@ -394,14 +433,17 @@ grows_accepted accepted from chosen store middle now h g same grows =
       manifest = fits.manifest;
       keeps = fits.keeps;
       pending = fits.pending;
+      learnt = fits.learnt;
     }) in
     record {
       fits_now = end.fits_now;
       chunks = end.chunks;
+      opening = end.opening;
       config = end.config;
       most = record { keys = end.most.keys; config = end.most.config; names = end.most.names };
       carried = end.carried;
       cut = end.cut;
+      named = end.named;
       only = end.only;
     })) grows
 

@@ -10,7 +10,6 @@ use Rattle.ferry_disk.specs.Moments.{Between}
 use Rattle.ferry_item.specs.declared.item.ChunkRef.{ChunkRef}
 use Rattle.ferry_mac.specs.declared.keys.Keys.{Keys}
 use Rattle.ferry_manifest.specs.Manifest.Text.{ManifestText}
-use Rattle.ferry_manifest.specs.Manifest.Writing.{IsPackable}
 use Rattle.ferry_manifest.specs.Record.Text.{ArchiveText, archive_of, as_tagged}
 use Rattle.ferry_manifest.specs.declared.manifest.ArchiveRef.{ArchiveRef}
 use Rattle.ferry_repo.specs.Archives.{archive_named}
@@ -61,14 +60,6 @@ record_as r keys other archive block pieces given text same is put =
     (subst (λ (p : List ChunkRef). IfOk r (λ id. IsRecord other archive block p text id)) is put)
 
 -- ---- what contents that were added leave
-
-pub packable_rest : (store now : Store) → KeepsRest store now → IsPackable (accepted_in store) → IsPackable (accepted_in now)
-packable_rest store now rest packable = subst IsPackable (sym rest.accepted) packable
-
-pub accepts_rest : (store now : Store) → KeepsRest store now → AcceptsMore store → AcceptsMore now
-accepts_rest store now rest accepts =
-    subst (λ (m : ManifestText). KeepsNames m (accepted_in now)) (sym rest.manifest)
-    (subst (KeepsNames (repo_view store.repo).manifest) (sym rest.accepted) accepts)
 
 pub unnamed_rest : (store now : Store) (name : List ℕ) → KeepsRest store now → archive_named name (accepted_in store).archives ≡ None
     → archive_named name (accepted_in now).archives ≡ None

@@ -387,20 +387,6 @@ begin_copied told later target source after block named store copy alike kept sa
           (λ d. begun_at later after named (told_files d) (repo_view store.repo) copy known walk stream),
     )
 
--- the files that a shelf tells, where it tells the same
-files_told : (a b : Option Told) → heard b ≡ heard a → option_map (λ (t : Told). told_files t) b ≡ option_map (λ (t : Told). told_files t) a
-files_told None None alike = refl
-files_told None (Some b) alike = absurd (let no : ⊥ = cc in no)
-files_told (Some a) None alike = absurd (let no : ⊥ = cc in no)
-files_told (Some a) (Some b) alike = let same : heard_of b ≡ heard_of a = cc in ap (λ (h : Heard). Some (files_now h.history)) same
-
--- a source is the same where its shelf tells the same
-pub origin_later : (told later : Option Told) (source after : RepoState) (block : ℕ) → heard later ≡ heard told → after ≡ source
-    → origin later after block ≡ origin told source block
-origin_later told later source after block alike kept =
-    ap (λ (files : Option Files). record { files = files; repo = after; block = block }) (files_told told later alike)
-    ∙ ap (λ (r : RepoState). record { files = option_map (λ (t : Told). told_files t) told; repo = r; block = block }) kept
-
 -- ---- the end
 
 -- the pieces of a stream are those that became whole, and those of what is left

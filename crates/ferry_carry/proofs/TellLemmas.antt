@@ -65,6 +65,7 @@ told_stands counts store written line done h u =
     record {
       fits = beside_fits store.session written.committed written.pending h step done tt u.fits;
       rows = beside_rows store.session h step done tt u.rows;
+      ends = u.ends;
       counter_fits = counter_kept store.counter h (with_act step done h) (told_plain line done h) u.counter_fits;
       config = plain_next h step done ConfigFile ∙ u.config;
       readme = plain_next h step done Readme ∙ u.readme;
@@ -87,6 +88,7 @@ told_fits counts store line h fits =
       manifest = fits.manifest;
       keeps = fits.keeps;
       pending = fits.pending;
+      learnt = fits.learnt;
     }
 
 pub told_gathers : (store : Store) (line : List ℕ) (h g : History) → TellsLine line h g → Gathers store [] store h g
@@ -94,7 +96,7 @@ unfolding told_fits
 told_gathers store line h g is counts fits =
     subst (λ (k : History). Gathered counts store [] store h k fits) (sym is) (record {
       fits_now = told_fits counts store line h fits;
-      moved = moved_here fits.written;
+      moved = moved_here (repo_view store.repo).keys fits.written;
       brings = λ scope apart all within. (
         subst (λ (f : Files). HoldsWithin scope f (repo_view store.repo)) (sym (files_told line h)) within,
         tt,
@@ -141,10 +143,6 @@ tell_fits {T} store line a b n m x fits p =
     (λ h g f is. subst (StoreFits false store) (sym is) (told_fits false store line h f)) fits p
 
 -- ---- from body to body
-
--- what was accepted of a settled store is committed
-pub settled_committed : (store : Store) (name : List ℕ) → IsSettled store → IsCommitted store name
-settled_committed store name settled entry is = ap (λ (m : ManifestText). archive_named name m.archives) (sym settled) ∙ is
 
 -- a flight that isn't begun
 pub begin_still : (fault : CarryFault) (name : List ℕ) (P : Type 0) → (fault ≡ Memory) ⊎ ((fault ≡ NotFound name) × P) → target_failed fault ≡ false

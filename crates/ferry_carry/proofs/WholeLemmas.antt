@@ -11,14 +11,32 @@ use Rattle.ferry_item.proofs.StreamLemmas.{first_item}
 use Rattle.ferry_log.specs.State.{LogState}
 use Rattle.ferry_mac.specs.declared.keys.Keys.{Keys}
 use Rattle.ferry_manifest.specs.declared.manifest.ArchiveRef.{ArchiveRef}
+use Rattle.ferry_msgpack.specs.Tree.{Tree}
 use Rattle.ferry_rechunk.specs.Cut.{cut}
 use Rattle.ferry_rechunk.proofs.CutLemmas.{cut_joined}
 use Rattle.ferry_repo.specs.Archives.{archive_named}
 use Rattle.ferry_repo.specs.Objects.{HoldsChunk}
 use Rattle.ferry_repo.specs.Walk.{HoldChunks, IsStream}
 use Rattle.ferry_repo.specs.Whole.{ContentsCome, HoldsJoined, WholesCome, WholeItem, WholeArchive, IsWhole}
-use Rattle.ferry_carry.specs.Copied.{stream_block, stream_pieces, contents_of, pieces_of, copied_item, stream_of, IsRead, HoldsPiece, HoldsCopy}
+use Rattle.ferry_carry.specs.Copied.{IsCopyOf, IsRead, adds_of, contents_of, copied_item, pieces_of, stream_block, stream_of, stream_pieces}
 use Rattle.ferry_carry.specs.Gather.{IsAmong, chunks_of}
+
+-- ---- an archive in a target
+
+-- A content is that of a chunk, under its id.
+abbrev pub HoldsPiece : Files → LogState → Keys → List ℕ → Type 0
+HoldsPiece files log keys piece = HoldsChunk files log keys (content_id keys piece) piece
+
+-- All is there of an archive whose items are these: the pieces of their contents, those of the stream, and the record, whose text is this and
+-- which a manifest names.
+pub record HoldsCopy (files : Files) (log : LogState) (keys : Keys) (block : ℕ) (wholes : List WholeItem) (fields : Tree) (text : List ℕ)
+    (archives : List ArchiveRef) (named : ArchiveRef) : Type 0 where
+  pub entry : ArchiveRef
+  pub entry_is : archive_named named.name archives ≡ Some entry
+  pub time : entry.time ≡ named.time
+  pub id : entry.id ≡ content_id keys text
+  pub copy : IsCopyOf keys block wholes fields text
+  pub there : AllByRecursion (HoldsPiece files log keys) (adds_of keys block wholes text)
 
 -- ---- IsAmong
 

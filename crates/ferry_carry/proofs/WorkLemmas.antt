@@ -126,6 +126,23 @@ works_known P R E Q a b n m x step known p =
     known_end R (λ h g. P h × (AllDone h g × Q x h g)) a b p.ends (λ h g e. step h g e.0 e.1.1)
     (known_then P (λ h g. AllDone h g × Q x h g) a b known p.end)
 
+-- what is known at the begin of what was done
+pub between_known : (P : History → Type 0) (E : History → History → Type 0) (a b : Option Told) → IfSome a (λ t. P t.history) → Between a b E
+    → Between a b (λ h g. P h × E h g)
+between_known P E None b known p = tt
+between_known P E (Some told) b known p = (p.0, p.1, (known, p.2))
+
+-- what was known at the begin is known at the end of a body that is `Ok`
+pub works_from : {T : Type 0} (P : History → Type 0) (E : History → History → Type 0) (Q : T → History → History → Type 0) (a b : Option Told) (n m : ℕ)
+    (x : T) → IfSome a (λ t. P t.history) → Works E Q a b n m (Ok x) → Works E (λ y h g. P h × Q y h g) a b n m (Ok x)
+works_from P E Q a b n m x known p = record {
+  each = p.each;
+  end = between_map a b (λ h g. P h × (AllDone h g × Q x h g)) (λ h g. AllDone h g × (P h × Q x h g)) (λ h g e. (e.1.0, (e.0, e.1.1)))
+      (between_known P (λ h g. AllDone h g × Q x h g) a b known p.end);
+  ends = p.ends;
+  cause = p.cause;
+}
+
 -- ---- contents added one after another
 
 pub gathered_then : {T U : Type 0} (store middle now : Store) (some more : List (List ℕ)) (a b c : Option Told) (n m k : ℕ) (x : T)
@@ -135,12 +152,12 @@ pub gathered_then : {T U : Type 0} (store middle now : Store) (some more : List 
     → Works (KeepsStanding store) (λ (_ : U). Gathers store (some ++ more) now) a c n k result
 gathered_then {T} {U} store middle now some more a b c n m k x (Ok y) rest rest_now p q =
     works_then (KeepsStanding store) (λ (_ : T). Gathers store some middle) (KeepsStanding middle) (λ (_ : U). Gathers middle more now) (KeepsStanding store)
-    (λ (_ : U). Gathers store (some ++ more) now) a b c n m k x (Ok y) (λ h g i e d f r. each_then store middle some h g i e d f r)
+    (λ (_ : U). Gathers store (some ++ more) now) a b c n m k x (Ok y) (λ h g i e d f r. each_then store middle some h g i rest.keys e d f r)
     (λ _ h g i e f. gathers_then store middle now some more rest rest_now h g i e f) p q
 gathered_then {T} {U} store middle now some more a b c n m k x (Err fault) rest rest_now p q =
     let first = works_then (KeepsStanding store) (λ (_ : T). Gathers store some middle) (KeepsStanding middle) (λ (_ : U). Gathers middle more now)
     (KeepsStanding store)
-    (λ (_ : U) (h : History) (g : History). Unit {0}) a b c n m k x (Err fault) (λ h g i e d f r. each_then store middle some h g i e d f r)
+    (λ (_ : U) (h : History) (g : History). Unit {0}) a b c n m k x (Err fault) (λ h g i e d f r. each_then store middle some h g i rest.keys e d f r)
     (λ _ h g i e f. tt) p q in
     record { each = first.each; end = tt; ends = first.ends; cause = first.cause }
 
@@ -251,9 +268,3 @@ pub carried_from_err : {T U : Type 0} (from : Origin) (chosen others : List (Lis
 carried_from_err {T} {U} from chosen others store now other contents a b n m fault accepts p =
     works_front (KeepsStanding store) (λ (_ : T). Gathers store contents now) (KeepsGrowing from chosen store) (λ (_ : U). Grows from others store other)
     a b n m fault (λ h g e. growing_by from chosen (accepted_in store) store h g accepts e) p
-
--- what is known at the begin of what was done
-pub between_known : (P : History → Type 0) (E : History → History → Type 0) (a b : Option Told) → IfSome a (λ t. P t.history) → Between a b E
-    → Between a b (λ h g. P h × E h g)
-between_known P E None b known p = tt
-between_known P E (Some told) b known p = (p.0, p.1, (known, p.2))

@@ -2,18 +2,13 @@
 use Rattle.std.specs.Prelude.{◌≡◌, ◌≤◌, ℕ, List, [], ◌∷◌, ◌++◌, map, Option, Some, None, option_map, Ok}
 use Rattle.std.specs.List.{AllByRecursion, concat, flat_map}
 use Rattle.ferry_blob.specs.Blob.{content_id}
-use Rattle.ferry_disk.specs.Files.{Files}
 use Rattle.ferry_item.specs.Item.{ItemText}
 use Rattle.ferry_item.specs.Stream.{an_item, front_item}
 use Rattle.ferry_item.specs.Writing.{item_text}
-use Rattle.ferry_log.specs.State.{LogState}
 use Rattle.ferry_mac.specs.declared.keys.Keys.{Keys}
 use Rattle.ferry_manifest.specs.Record.Text.{ArchiveText, archive_of}
-use Rattle.ferry_manifest.specs.declared.manifest.ArchiveRef.{ArchiveRef}
 use Rattle.ferry_msgpack.specs.Tree.{Tree}
 use Rattle.ferry_rechunk.specs.Cut.{cut}
-use Rattle.ferry_repo.specs.Archives.{archive_named}
-use Rattle.ferry_repo.specs.Objects.{HoldsChunk}
 use Rattle.ferry_repo.specs.Whole.{WholeItem}
 use Rattle.ferry_carry.specs.Gather.{chunks_of}
 
@@ -62,18 +57,3 @@ pub record IsCopyOf (keys : Keys) (block : ℕ) (wholes : List WholeItem) (field
   pub same : copied.fields ≡ fields
   pub items : copied.items ≡ map (content_id keys) (stream_pieces keys block wholes)
   pub spelled : AllByRecursion (λ (whole : WholeItem). IsRead (copied_item keys block whole)) wholes
-
--- A content is that of a chunk, under its id.
-abbrev pub HoldsPiece : Files → LogState → Keys → List ℕ → Type 0
-HoldsPiece files log keys piece = HoldsChunk files log keys (content_id keys piece) piece
-
--- All is there of an archive whose items are these: the pieces of their contents, those of the stream, and the record, whose text is this and
--- which a manifest names.
-pub record HoldsCopy (files : Files) (log : LogState) (keys : Keys) (block : ℕ) (wholes : List WholeItem) (fields : Tree) (text : List ℕ)
-    (archives : List ArchiveRef) (named : ArchiveRef) : Type 0 where
-  pub entry : ArchiveRef
-  pub entry_is : archive_named named.name archives ≡ Some entry
-  pub time : entry.time ≡ named.time
-  pub id : entry.id ≡ content_id keys text
-  pub copy : IsCopyOf keys block wholes fields text
-  pub there : AllByRecursion (HoldsPiece files log keys) (adds_of keys block wholes text)

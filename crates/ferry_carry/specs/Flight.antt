@@ -1,5 +1,5 @@
 -- An archive on its way, by what was begun of it.
-use Rattle.std.specs.Prelude.{◌≡◌, ◌≤◌, ℕ, List, [], ◌∷◌, Option, Some, None, Result, IfSome}
+use Rattle.std.specs.Prelude.{◌≡◌, ◌≤◌, ℕ, List, [], ◌∷◌, Option, Some, None, Result, IfSome, IsSome}
 use Rattle.ferry_compare.specs.Compare.{FitsTold, comparison_view}
 use Rattle.ferry_disk.specs.Device.{Told, told_files}
 use Rattle.ferry_manifest.specs.Manifest.Text.{ManifestText}
@@ -23,7 +23,7 @@ use Rattle.ferry_carry.specs.declared.flight.Work.{Work}
 use Rattle.ferry_carry.specs.declared.flight.Work.TheVariants.{Waiting, Copying, Comparing}
 use Rattle.ferry_carry.specs.declared.options.Options.{Options}
 
--- The block size and the number of a checkpoint are in their ranges.
+-- The block size is in its range.
 pub record AreRight (options : Options) : Type 0 where
   pub least : 64 ≤ options.block
   pub most : options.block ≤ 8388608
@@ -40,7 +40,7 @@ WorkFits told source heard store named block (Copying copy) = IsReady copy × (a
     × IfSome told (λ t. FitsWalk (told_files t) source.log source.keys (walk_view copy.walk))
     × IsCopiedSoFar (origin told source block) named heard store copy
 WorkFits told source heard store named block (Comparing comparison) = FitsTold told source heard (repo_view store.repo) (comparison_view comparison)
-    × ((comparison_view comparison).name ≡ named.name)
+    × ((comparison_view comparison).name ≡ named.name) × IsSome (archive_named named.name (repo_view store.repo).manifest.archives)
 
 pub record FlightFits (told : Option Told) (source : RepoState) (heard : Option Told) (store : Store) (flight : Flight) : Type 0 where
   pub stands : FlightStands source flight

@@ -1,8 +1,8 @@
 -- What a store is after contents were added, with commits between: each of them is there, and nothing that was live has changed.
-use Rattle.std.specs.Prelude.{◌≡◌, ◌≢◌, ℕ, ◌+◌, Bool, List, length, map, slice_get, Some}
+use Rattle.std.specs.Prelude.{◌≡◌, ◌≢◌, ◌⊎◌, ℕ, ◌+◌, Bool, List, length, map, slice_get, Some}
 use Rattle.std.specs.List.{AllByRecursion}
 use Rattle.ferry_base.specs.Limits.{zero_id}
-use Rattle.ferry_blob.specs.Blob.{content_id}
+use Rattle.ferry_blob.specs.Blob.{OpensTo, content_id}
 use Rattle.ferry_disk.specs.Act.{History, files_now}
 use Rattle.ferry_disk.specs.Files.{Files}
 use Rattle.ferry_disk.specs.Moments.{Moments}
@@ -14,7 +14,7 @@ use Rattle.ferry_segment.specs.Entry.{LogEntry}
 use Rattle.ferry_stops.specs.Entries.{Shows}
 use Rattle.ferry_stops.specs.Tells.{TellsNothing}
 use Rattle.ferry_store.specs.Commit.{accepted_in}
-use Rattle.ferry_store.specs.Standing.{Keeps, committed_of, entries_of}
+use Rattle.ferry_store.specs.Standing.{Keeps, committed_of, entries_of, live_in}
 use Rattle.ferry_store.specs.State.{IsSound, Written}
 use Rattle.ferry_store.specs.Store.{StoreFits}
 use Rattle.ferry_store.specs.declared.store.Store.{Store}
@@ -54,19 +54,30 @@ chunks_of keys pieces = map (chunk_of keys) pieces
 
 -- ---- what stands
 
--- What is live stays, in what is committed and in what is written, and so do the settings.
-pub record Moved (written written_now : Written) : Type 0 where
+-- Each chunk that is live by the second entries is live by the first, with the same blob, or its blob opens.
+abbrev pub BringsOpening : Keys → List LogEntry → List LogEntry → Type 0
+BringsOpening keys before after = (id blob : List ℕ) → id ≢ zero_id → live_in id after ≡ Some blob
+    → (live_in id before ≡ Some blob) ⊎ ((content : List ℕ) × OpensTo keys id blob content)
+
+-- What is live stays, in what is committed and in what is written, what is new opens, and the settings stay.
+pub record Moved (keys : Keys) (written written_now : Written) : Type 0 where
   pub committed : Keeps (committed_of written) (committed_of written_now)
   pub entries : Keeps (entries_of written) (entries_of written_now)
+  pub opening : BringsOpening keys (entries_of written) (entries_of written_now)
   pub config : written_now.config ≡ written.config
 
--- Committed are entries by which all is live that was, with the settings as they were: the manifest too is the one that was.
-abbrev pub StandsFrom : Written → Files → Type 0
-StandsFrom written image = (entries : List LogEntry) × (Shows image (Some entries) × (Keeps (committed_of written) entries × (image.config ≡ written.config)))
+-- Committed are entries by which all is live that was, and what is new opens, with the settings as they were: the manifest too is the one that was.
+pub record StandsFrom (keys : Keys) (written : Written) (image : Files) : Type 0 where
+  pub entries : List LogEntry
+  pub shown : Shows image (Some entries)
+  pub keeps : Keeps (committed_of written) entries
+  pub opening : BringsOpening keys (entries_of written) entries
+  pub config : image.config ≡ written.config
 
 -- At each moment each stop shows so, and no counter block serves two blobs.
 abbrev pub EachStands : Store → History → History → Type 0
-EachStands store before now = (counts : Bool) (fits : StoreFits counts store before) → Moments (IsSound (StandsFrom fits.written) counts) before now
+EachStands store before now = (counts : Bool) (fits : StoreFits counts store before)
+    → Moments (IsSound (StandsFrom (repo_view store.repo).keys fits.written) counts) before now
 
 -- The same where no line was told.
 abbrev pub KeepsStanding : Store → History → History → Type 0
@@ -78,7 +89,7 @@ KeepsStanding store before now = TellsNothing before now × EachStands store bef
 pub record Gathered (counts : Bool) (store : Store) (contents : List (List ℕ)) (store_now : Store) (before now : History)
     (fits : StoreFits counts store before) : Type 0 where
   pub fits_now : StoreFits counts store_now now
-  pub moved : Moved fits.written fits_now.written
+  pub moved : Moved (repo_view store.repo).keys fits.written fits_now.written
   pub brings : Brings (repo_view store.repo) contents (repo_view store_now.repo) before now
 
 abbrev pub Gathers : Store → List (List ℕ) → Store → History → History → Type 0

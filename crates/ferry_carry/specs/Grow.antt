@@ -1,5 +1,5 @@
 -- What a target is as archives come into it: each archive that it had keeps its name and its chunks.
-use Rattle.std.specs.Prelude.{◌≡◌, ◌≢◌, ◌⊎◌, ◌++◌, ℕ, Bool, List, Some}
+use Rattle.std.specs.Prelude.{◌≡◌, ◌≢◌, ◌⊎◌, ◌++◌, ℕ, Bool, List, Some, IsSome}
 use Rattle.std.specs.List.{AllByRecursion}
 use Rattle.ferry_base.specs.Limits.{zero_id}
 use Rattle.ferry_disk.specs.Act.{History}
@@ -13,12 +13,12 @@ use Rattle.ferry_segment.specs.Entry.{LogEntry}
 use Rattle.ferry_stops.specs.Entries.{Shows}
 use Rattle.ferry_stops.specs.Tells.{TellsNothing}
 use Rattle.ferry_store.specs.Commit.{accepted_in}
-use Rattle.ferry_store.specs.Standing.{HoldsManifest, committed_of, live_in, with_manifest}
+use Rattle.ferry_store.specs.Standing.{HoldsManifest, committed_of, entries_of, live_in, with_manifest}
 use Rattle.ferry_store.specs.State.{IsSound, Written}
 use Rattle.ferry_store.specs.Store.{StoreFits}
 use Rattle.ferry_store.specs.declared.store.Store.{Store}
 use Rattle.ferry_carry.specs.Carrying.{AreCut, IsCarried, Origin}
-use Rattle.ferry_carry.specs.Gather.{IsAmong}
+use Rattle.ferry_carry.specs.Gather.{BringsOpening, IsAmong}
 
 -- Each chunk that is live by these entries is live by those, with the same blob.
 abbrev pub KeepsChunks : List LogEntry → List LogEntry → Type 0
@@ -40,13 +40,14 @@ abbrev pub IsNamedBy : ManifestText → List (List ℕ) → ManifestText → Typ
 IsNamedBy accepted done manifest = (name : List ℕ) (entry : ArchiveRef) → archive_named name manifest.archives ≡ Some entry
     → (archive_named name accepted.archives ≡ Some entry) ⊎ IsAmong done name
 
--- Committed are entries that keep each chunk, and a manifest that keeps each archive, with the settings as they were. Of the chosen names those of
--- a front were carried, those that were not accepted are cut so, and beside what was accepted no other is named.
+-- Committed are entries that keep each chunk and bring only such as open, and a manifest that keeps each archive, with the settings as they were. Of
+-- the chosen names those of a front were carried, those that were not accepted are cut so, and beside what was accepted no other is named.
 pub record StandsOn (from : Origin) (chosen : List (List ℕ)) (accepted : ManifestText) (repo : RepoState) (written : Written) (image : Files) : Type 0 where
   pub entries : List LogEntry
   pub manifest : ManifestText
   pub shown : Shows image (Some entries)
   pub chunks : KeepsChunks (committed_of written) entries
+  pub opening : BringsOpening repo.keys (entries_of written) entries
   pub holds : HoldsManifest (with_manifest repo manifest) entries
   pub names : KeepsNames repo.manifest manifest
   pub config : image.config ≡ written.config
@@ -74,11 +75,13 @@ pub record Grown (accepted : ManifestText) (from : Origin) (chosen : List (List 
     (fits : StoreFits counts store before) : Type 0 where
   pub fits_now : StoreFits counts store_now now
   pub chunks : KeepsChunks (committed_of fits.written) (committed_of fits_now.written)
+  pub opening : BringsOpening (repo_view store.repo).keys (entries_of fits.written) (entries_of fits_now.written)
   pub config : fits_now.written.config ≡ fits.written.config
   pub most : KeepsMost store store_now
   pub carried : AllByRecursion (IsCarried from (repo_view store_now.repo).keys (committed_of fits_now.written)
       (repo_view store_now.repo).manifest.archives) chosen
   pub cut : AreCut accepted from (repo_view store_now.repo).keys (repo_view store_now.repo).manifest.archives chosen
+  pub named : AllByRecursion (λ (name : List ℕ). IsSome (archive_named name (repo_view store_now.repo).manifest.archives)) chosen
   pub only : IsNamedBy accepted chosen (accepted_in store_now)
 
 abbrev pub GrowsBy : ManifestText → Origin → List (List ℕ) → Store → Store → History → History → Type 0

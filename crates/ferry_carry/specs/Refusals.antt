@@ -1,5 +1,5 @@
 -- Why archives aren't carried: what a refusal says of the source's archive, of the target's archive of the same name, and of what would be written.
-use Rattle.std.specs.Prelude.{◌≡◌, ◌<◌, ◌*◌, ℕ, Bool, true, false, List, [], ◌∷◌, ◌++◌, length, map, sum_by, slice_get, Option, Some, None, IfSome}
+use Rattle.std.specs.Prelude.{◌≡◌, ◌<◌, ◌*◌, ℕ, Bool, true, false, List, [], ◌∷◌, ◌++◌, length, map, sum_by, slice_get, Option, Some, None, IfSome, IsSome}
 use Rattle.ferry_base.specs.Limits.{content_limit}
 use Rattle.ferry_blob.specs.Blob.{content_id}
 use Rattle.ferry_disk.specs.Device.{Told, told_files}
@@ -16,11 +16,14 @@ use Rattle.ferry_repo.specs.Opening.{RepoState, repo_view}
 use Rattle.ferry_repo.specs.Walk.{Comes, IsToCome, WalkState}
 use Rattle.ferry_repo.specs.Whole.{RefusesJoined, RefusesWhole, WholeArchive, WholeItem, WholesCome}
 use Rattle.ferry_repo.specs.declared.fault.RepoFault.{RepoFault}
+use Rattle.ferry_store.specs.Causes.{StopsAt}
+use Rattle.ferry_store.specs.Store.{StoreFits}
 use Rattle.ferry_store.specs.declared.store.Store.{Store}
 use Rattle.ferry_carry.specs.Carrying.{Origin, SaysIn}
 use Rattle.ferry_carry.specs.Chosen.{IsMissingName}
 use Rattle.ferry_carry.specs.Copied.{stream_pieces}
 use Rattle.ferry_carry.specs.Gather.{IsAmong}
+use Rattle.ferry_carry.specs.Grow.{KeepsMost}
 use Rattle.ferry_carry.specs.Naming.{copied_archive}
 use Rattle.ferry_carry.specs.declared.fault.CarryFault.{CarryFault}
 use Rattle.ferry_carry.specs.declared.fault.CarryFault.TheVariants.{Source, Target, Taken, NotFound, Pieces, Memory, Record}
@@ -32,6 +35,11 @@ abbrev pub is_target : CarryFault → Bool
 is_target (Target refusal) = true
 is_target Memory = true
 is_target fault = false
+
+-- What a refusal of the target says of its files as they are then.
+abbrev pub StopsTarget : Option Told → Keys → CarryFault → Type 0
+StopsTarget now keys (Target refusal) = IfSome now (λ t. StopsAt (told_files t) keys refusal)
+StopsTarget now keys fault = Unit {0}
 
 -- ---- the contents of an item
 
@@ -157,6 +165,12 @@ RefusesComparing told source name (Target refusal) = Unit {0}
 RefusesComparing told source name Memory = Unit {0}
 RefusesComparing told source name fault = ⊥
 
+-- A store that keeps what another has fits, and has an archive of this name.
+pub record TakenAt (store : Store) (now : Option Told) (store_now : Store) (name : List ℕ) : Type 0 where
+  pub fits : IfSome now (λ t. StoreFits false store_now t.history)
+  pub there : IsSome (archive_named name (repo_view store_now.repo).manifest.archives)
+  pub most : KeepsMost store store_now
+
 -- The target has no archive of this name.
 abbrev pub LacksName : Store → List ℕ → Type 0
 LacksName store name = archive_named name (repo_view store.repo).manifest.archives ≡ None
@@ -165,11 +179,12 @@ LacksName store name = archive_named name (repo_view store.repo).manifest.archiv
 
 -- Why the archive of a name isn't carried. The source's archive isn't whole, or has an item that is too long. The target, as it is at the end, has
 -- another archive of this name. The source has none. Or the record that the target would have is too large. An item that is too long and a record that
--- is too large are causes only where the target has no archive of this name.
+-- is too large are causes only where the target has no archive of this name. What a refusal of the target says, it says of its files at the end.
 abbrev pub RefusesName : Origin → Option Told → Store → Option Told → Store → List ℕ → CarryFault → Type 0
 RefusesName from heard store now store_now name (Source fault) = RefusesStep from heard name (Source fault)
-RefusesName from heard store now store_now name (Target refusal) = Unit {0}
-RefusesName from heard store now store_now name (Taken taken) = (taken ≡ name) × DiffersThere from now (repo_view store_now.repo) name
+RefusesName from heard store now store_now name (Target refusal) = StopsTarget now (repo_view store.repo).keys (Target refusal)
+RefusesName from heard store now store_now name (Taken taken) =
+    (taken ≡ name) × (DiffersThere from now (repo_view store_now.repo) name × TakenAt store now store_now name)
 RefusesName from heard store now store_now name (NotFound missing) = (missing ≡ name) × (archive_named name from.repo.manifest.archives ≡ None)
 RefusesName from heard store now store_now name Pieces = LacksName store name × RefusesStep from heard name Pieces
 RefusesName from heard store now store_now name Memory = Unit {0}
@@ -177,7 +192,7 @@ RefusesName from heard store now store_now name Record = LacksName store name ×
 
 -- The archive of one of these names isn't carried, so.
 abbrev pub RefusesOne : Origin → Option Told → Store → Option Told → Store → List (List ℕ) → CarryFault → Type 0
-RefusesOne from heard store now store_now names (Target refusal) = Unit {0}
+RefusesOne from heard store now store_now names (Target refusal) = StopsTarget now (repo_view store.repo).keys (Target refusal)
 RefusesOne from heard store now store_now names Memory = Unit {0}
 RefusesOne from heard store now store_now names fault =
     (name : List ℕ) × (IsAmong names name × RefusesName from heard store now store_now name fault)

@@ -1,10 +1,11 @@
 -- What a transfer tells while archives come: a name is told only once each stop shows it carried.
-use Rattle.std.specs.Prelude.{◌≡◌, ◌++◌, ℕ, Bool, List, [], ◌∷◌, Option, Result}
+use Rattle.std.specs.Prelude.{◌≡◌, ◌⊎◌, ◌++◌, ℕ, Bool, true, false, List, [], ◌∷◌, Option, IsSome, Result}
 use Rattle.ferry_disk.specs.Act.{History}
 use Rattle.ferry_disk.specs.Device.{Told}
 use Rattle.ferry_disk.specs.Files.{Files}
 use Rattle.ferry_disk.specs.Moments.{Moments}
 use Rattle.ferry_manifest.specs.Manifest.Text.{ManifestText}
+use Rattle.ferry_repo.specs.Archives.{archive_named}
 use Rattle.ferry_repo.specs.Opening.{RepoState, repo_view}
 use Rattle.ferry_stops.specs.Tells.{lines_of}
 use Rattle.ferry_store.specs.Commit.{accepted_in}
@@ -12,6 +13,7 @@ use Rattle.ferry_store.specs.State.{IsSound, Written}
 use Rattle.ferry_store.specs.Store.{StoreFits}
 use Rattle.ferry_store.specs.declared.store.Store.{Store}
 use Rattle.ferry_carry.specs.Carrying.{Origin}
+use Rattle.ferry_carry.specs.Gather.{IsAmong}
 use Rattle.ferry_carry.specs.Grow.{Grows, StandsOn}
 use Rattle.ferry_carry.specs.Lines.{name_line, told_of, total_line}
 use Rattle.ferry_carry.specs.Work.{Works}
@@ -20,16 +22,25 @@ use Rattle.ferry_carry.specs.declared.options.Carried.{Carried}
 
 -- ---- lines
 
--- A line tells a name, as that of an archive that was copied or of one that was there.
-abbrev pub IsLineOf : List ℕ → List ℕ → Type 0
-IsLineOf line name = (copied : Bool) × (line ≡ name_line (told_of copied) name)
+-- An accepted manifest, or these names, have a name.
+abbrev pub IsThere : ManifestText → List (List ℕ) → List ℕ → Type 0
+IsThere accepted before name = IsSome (archive_named name accepted.archives) ⊎ IsAmong before name
 
--- These lines tell these names, one each, in this order.
-abbrev pub AreLines : List (List ℕ) → List (List ℕ) → Type 0
-AreLines [] [] = Unit {0}
-AreLines [] (name ∷ names) = ⊥
-AreLines (line ∷ lines) [] = ⊥
-AreLines (line ∷ lines) (name ∷ names) = IsLineOf line name × AreLines lines names
+-- What is told of a name behind these: that its archive was copied where neither the accepted manifest nor these have it, and else that it was there.
+abbrev pub TellsNew : ManifestText → List (List ℕ) → List ℕ → Bool → Type 0
+TellsNew accepted before name true = IsThere accepted before name → ⊥
+TellsNew accepted before name false = IsThere accepted before name
+
+-- A line tells a name behind these.
+abbrev pub IsLineOf : ManifestText → List (List ℕ) → List ℕ → List ℕ → Type 0
+IsLineOf accepted before line name = (copied : Bool) × ((line ≡ name_line (told_of copied) name) × TellsNew accepted before name copied)
+
+-- These lines tell these names behind others, one each, in this order.
+abbrev pub AreLines : ManifestText → List (List ℕ) → List (List ℕ) → List (List ℕ) → Type 0
+AreLines accepted before [] [] = Unit {0}
+AreLines accepted before [] (name ∷ names) = ⊥
+AreLines accepted before (line ∷ lines) [] = ⊥
+AreLines accepted before (line ∷ lines) (name ∷ names) = IsLineOf accepted before line name × AreLines accepted (before ++ name ∷ []) lines names
 
 -- Nothing, or the line of the whole.
 abbrev pub IsTotal : List (List ℕ) → Type 0
@@ -38,13 +49,13 @@ IsTotal (line ∷ []) = (carried : Carried) × (line ≡ total_line carried)
 IsTotal (line ∷ (next ∷ lines)) = ⊥
 
 -- Lines tell the names of a front of these, and behind them perhaps the whole.
-pub record IsReport (lines done : List (List ℕ)) : Type 0 where
+pub record IsReport (accepted : ManifestText) (lines done : List (List ℕ)) : Type 0 where
   pub told : List (List ℕ)
   pub more : List (List ℕ)
   pub reported : List (List ℕ)
   pub last : List (List ℕ)
   pub split : lines ≡ reported ++ last
-  pub are : AreLines reported told
+  pub are : AreLines accepted [] reported told
   pub front : done ≡ told ++ more
   pub total : IsTotal last
 
@@ -59,7 +70,7 @@ pub record IsReported (Show : List (List ℕ) → Files → Type 0) (counts : Bo
 -- Of the chosen names those of a front were carried, and of these a front was told.
 abbrev pub ShowsReport : Origin → List (List ℕ) → ManifestText → RepoState → Written → List (List ℕ) → Files → Type 0
 ShowsReport from chosen accepted repo written lines image =
-    (stands : StandsOn from chosen accepted repo written image) × IsReport lines stands.done
+    (stands : StandsOn from chosen accepted repo written image) × IsReport accepted lines stands.done
 
 -- At each moment each stop shows so.
 abbrev pub KeepsReported : Origin → List (List ℕ) → Store → History → History → Type 0
@@ -69,20 +80,23 @@ KeepsReported from chosen store before now = (counts : Bool) (fits : StoreFits c
 -- ---- at the end
 
 -- These names were told, and nothing else.
-abbrev pub TellsNames : List (List ℕ) → History → History → Type 0
-TellsNames names before now = (lines : List (List ℕ)) × ((lines_of now.acts ≡ lines_of before.acts ++ lines) × AreLines lines names)
+abbrev pub TellsNames : ManifestText → List (List ℕ) → History → History → Type 0
+TellsNames accepted names before now =
+    (lines : List (List ℕ)) × ((lines_of now.acts ≡ lines_of before.acts ++ lines) × AreLines accepted [] lines names)
 
 -- These names were told, and the whole behind them.
-abbrev pub TellsWhole : List (List ℕ) → History → History → Type 0
-TellsWhole names before now = (lines : List (List ℕ)) × ((carried : Carried)
-    × ((lines_of now.acts ≡ lines_of before.acts ++ (lines ++ total_line carried ∷ [])) × AreLines lines names))
+abbrev pub TellsWhole : ManifestText → List (List ℕ) → History → History → Type 0
+TellsWhole accepted names before now = (lines : List (List ℕ)) × ((carried : Carried)
+    × ((lines_of now.acts ≡ lines_of before.acts ++ (lines ++ total_line carried ∷ [])) × AreLines accepted [] lines names))
 
 -- What was done of the archives of names, one after another, each of which was told behind it.
 abbrev pub Reports : {T : Type 0} → Origin → List (List ℕ) → Store → Store → Option Told → Option Told → ℕ → ℕ → Result T CarryFault → Type 0
 Reports from chosen store store_now before now count after result =
-    Works (KeepsReported from chosen store) (λ _ h g. Grows from chosen store store_now h g × TellsNames chosen h g) before now count after result
+    Works (KeepsReported from chosen store) (λ _ h g. Grows from chosen store store_now h g × TellsNames (accepted_in store) chosen h g)
+    before now count after result
 
 -- The same, and behind them the whole was told.
 abbrev pub ReportsWhole : {T : Type 0} → Origin → List (List ℕ) → Store → Store → Option Told → Option Told → ℕ → ℕ → Result T CarryFault → Type 0
 ReportsWhole from chosen store store_now before now count after result =
-    Works (KeepsReported from chosen store) (λ _ h g. Grows from chosen store store_now h g × TellsWhole chosen h g) before now count after result
+    Works (KeepsReported from chosen store) (λ _ h g. Grows from chosen store store_now h g × TellsWhole (accepted_in store) chosen h g)
+    before now count after result

@@ -1,13 +1,13 @@
 //! The chosen archives, one after another.
-ghost use Rattle.std.specs.Prelude.{◌≡◌, ◌⊎◌, ℕ, List, [], ◌∷◌, None, Some, Err, true, false, slice_get, IfErr, IfSome, IsSome, OnOk};
+ghost use Rattle.std.specs.Prelude.{◌≡◌, ◌⊎◌, ℕ, List, [], ◌∷◌, None, Some, Err, true, false, slice_get, IfErr, IfOk, IfSome, IsSome, OnOk};
 ghost use Rattle.ferry_carry.specs.Chosen.{IsMissingName, TellsLine};
 ghost use Rattle.ferry_carry.specs.Fault.{random_failed, shelf_failed};
 ghost use Rattle.ferry_carry.specs.Carrying.{origin};
 ghost use Rattle.ferry_carry.specs.Flight.{AreRight, Carries, FlightFits, IsSettled, flown_from};
 ghost use Rattle.ferry_carry.specs.Grow.{KeepsMost};
 ghost use Rattle.ferry_carry.specs.Lines.{name_line, told_of};
-ghost use Rattle.ferry_carry.specs.Refusals.{RefusesName, RefusesNames, RefusesOne, is_target};
-ghost use Rattle.ferry_carry.specs.Telling.{Reports, ReportsWhole};
+ghost use Rattle.ferry_carry.specs.Refusals.{RefusesName, RefusesNames, RefusesOne, StopsTarget, is_target};
+ghost use Rattle.ferry_carry.specs.Telling.{Reports, ReportsWhole, TellsNew};
 ghost use Rattle.ferry_carry.specs.Work.{Works};
 ghost use Rattle.ferry_disk.specs.Act.{TellOf};
 ghost use Rattle.ferry_disk.specs.Device.{HasCause, KeepsTold, told_files};
@@ -252,6 +252,7 @@ fn fly<S: Shelf, D: Depot, E: Entropy>(
     ensures unspent { OnOk result (IsUnspent store.new) }
     ensures works { Carries (flown_from (S.told shelf.old) (repo_view source.old) flight.old) (flight.old.named.name ∷ []) store.old store.new
         (D.told depot.old) (D.told depot.new) (D.faults depot.old) (D.faults depot.new) result }
+    ensures word { IfOk result (λ copied. TellsNew (accepted_in store.old) [] flight.old.named.name copied) }
     ensures refused { IfErr result (RefusesName (flown_from (S.told shelf.old) (repo_view source.old) flight.old) (D.told depot.old) store.old
         (D.told depot.new) store.new flight.old.named.name) }
     ensures most { OnOk result (KeepsMost store.old store.new) }
@@ -284,6 +285,7 @@ fn tell_name<D: Depot>(
     ensures works { Works (IsStep (TellOf (name_line (told_of named) name.now))) (λ _. TellsLine (name_line (told_of named) name.now))
         (D.told depot.old) (D.told depot.new) (D.faults depot.old) (D.faults depot.new) result }
     ensures fits { OnOk result (IfSome (D.told depot.new) (λ t. StoreFits false store.now t.history)) }
+    ensures stops { IfErr result (StopsTarget (D.told depot.new) (repo_view store.now.repo).keys) }
     ensures shelf { IfErr result (λ fault. shelf_failed fault ≡ false) }
     ensures target { IfErr result (λ fault. is_target fault ≡ true) }
     ensures drawn { IfErr result (λ fault. random_failed fault ≡ false) }
@@ -305,6 +307,7 @@ fn tell<D: Depot>(store: &Store, depot: &mut D, line: &[u8]) -> Result<(), Carry
     ensures works { Works (IsStep (TellOf line.now)) (λ _. TellsLine line.now)
         (D.told depot.old) (D.told depot.new) (D.faults depot.old) (D.faults depot.new) result }
     ensures fits { OnOk result (IfSome (D.told depot.new) (λ t. StoreFits false store.now t.history)) }
+    ensures stops { IfErr result (StopsTarget (D.told depot.new) (repo_view store.now.repo).keys) }
     ensures shelf { IfErr result (λ fault. shelf_failed fault ≡ false) }
     ensures target { IfErr result (λ fault. is_target fault ≡ true) }
     ensures drawn { IfErr result (λ fault. random_failed fault ≡ false) }

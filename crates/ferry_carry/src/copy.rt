@@ -7,7 +7,7 @@ ghost use Rattle.ferry_carry.specs.Copying.{CopiesContent, IsReady, TakesItem, W
 ghost use Rattle.ferry_carry.specs.Fault.{random_failed, shelf_failed, target_failed};
 ghost use Rattle.ferry_carry.specs.Gather.{Gathers, KeepsRest, KeepsStanding};
 ghost use Rattle.ferry_carry.specs.Progress.{IsAllCopied, IsCopiedSoFar};
-ghost use Rattle.ferry_carry.specs.Refusals.{RefusesBegin, RefusesContents, RefusesCopying, RefusesNext, RefusesStep, RefusesText, RefusesWriting};
+ghost use Rattle.ferry_carry.specs.Refusals.{RefusesBegin, RefusesContents, RefusesCopying, RefusesNext, RefusesStep, RefusesText, RefusesWriting, StopsTarget};
 ghost use Rattle.ferry_carry.specs.Refusals.{is_target, total_size};
 ghost use Rattle.ferry_carry.specs.Step.{StepsOn};
 ghost use Rattle.ferry_carry.specs.Work.{Works};
@@ -127,6 +127,7 @@ impl Copy {
             FitsWalk (told_files t) (repo_view source.new).log (repo_view source.new).keys (walk_view self.new.walk))) }
         ensures rest { OnOk result (KeepsRest store.old store.new) }
         ensures fits { OnOk result (IfSome (D.told depot.new) (λ t. StoreFits false store.new t.history)) }
+        ensures stops { IfErr result (StopsTarget (D.told depot.new) (repo_view store.old.repo).keys) }
         ensures unspent { OnOk result (IsUnspent store.new) }
         ensures source_fits { IfSome (S.told shelf.new) (λ t. FitsRepo (told_files t) (repo_view source.new) (cached_in source.new)) }
         ensures kept { repo_view source.new ≡ repo_view source.old }
@@ -193,6 +194,7 @@ impl Copy {
         ensures others { OnOk result (self.new ≡ record self.old { stream = self.new.stream }) }
         ensures rest { OnOk result (KeepsRest store.old store.new) }
         ensures fits { OnOk result (IfSome (D.told depot.new) (λ t. StoreFits false store.new t.history)) }
+        ensures stops { IfErr result (StopsTarget (D.told depot.new) (repo_view store.old.repo).keys) }
         ensures unspent { OnOk result (IsUnspent store.new) }
         ensures target { IfErr result (λ fault. is_target fault ≡ true) }
         ensures shelf { IfErr result (λ fault. shelf_failed fault ≡ false) }
@@ -224,6 +226,7 @@ impl Copy {
         ensures others { OnOk result (self.new ≡ record self.old { contents = self.new.contents }) }
         ensures rest { OnOk result (KeepsRest store.old store.new) }
         ensures fits { OnOk result (IfSome (D.told depot.new) (λ t. StoreFits false store.new t.history)) }
+        ensures stops { IfErr result (StopsTarget (D.told depot.new) (repo_view store.old.repo).keys) }
         ensures unspent { OnOk result (IsUnspent store.new) }
         ensures source_fits { IfSome (S.told shelf.new) (λ t. FitsRepo (told_files t) (repo_view source.new) (cached_in source.new)) }
         ensures kept { repo_view source.new ≡ repo_view source.old }
@@ -262,6 +265,7 @@ impl Copy {
         ensures others { OnOk result (self.new ≡ record self.old { contents = self.new.contents }) }
         ensures rest { OnOk result (KeepsRest store.old store.new) }
         ensures fits { OnOk result (IfSome (D.told depot.new) (λ t. StoreFits false store.new t.history)) }
+        ensures stops { IfErr result (StopsTarget (D.told depot.new) (repo_view store.old.repo).keys) }
         ensures unspent { OnOk result (IsUnspent store.new) }
         ensures source_fits { IfSome (S.told shelf.new) (λ t. FitsRepo (told_files t) (repo_view source.new) (cached_in source.new)) }
         ensures kept { repo_view source.new ≡ repo_view source.old }
@@ -302,6 +306,7 @@ fn write_contents<S: Shelf, D: Depot>(
     ensures refused { IfErr result (RefusesContents (S.told shelf.old) (repo_view source.old) chunks.now) }
     ensures rest { OnOk result (KeepsRest store.old store.new) }
     ensures fits { OnOk result (IfSome (D.told depot.new) (λ t. StoreFits false store.new t.history)) }
+    ensures stops { IfErr result (StopsTarget (D.told depot.new) (repo_view store.old.repo).keys) }
     ensures unspent { OnOk result (IsUnspent store.new) }
     ensures source_fits { IfSome (S.told shelf.new) (λ t. FitsRepo (told_files t) (repo_view source.new) (cached_in source.new)) }
     ensures kept { repo_view source.new ≡ repo_view source.old }
@@ -337,6 +342,7 @@ fn write_content<S: Shelf, D: Depot>(
     ensures refused { IfErr result (RefusesWriting (S.told shelf.old) (repo_view source.old) chunk.now) }
     ensures rest { OnOk result (KeepsRest store.old store.new) }
     ensures fits { OnOk result (IfSome (D.told depot.new) (λ t. StoreFits false store.new t.history)) }
+    ensures stops { IfErr result (StopsTarget (D.told depot.new) (repo_view store.old.repo).keys) }
     ensures unspent { OnOk result (IsUnspent store.new) }
     ensures source_fits { IfSome (S.told shelf.new) (λ t. FitsRepo (told_files t) (repo_view source.new) (cached_in source.new)) }
     ensures kept { repo_view source.new ≡ repo_view source.old }

@@ -7,7 +7,7 @@ ghost use Rattle.ferry_carry.specs.Copying.{IsReady};
 ghost use Rattle.ferry_carry.specs.Gather.{Gathers, KeepsRest, KeepsStanding};
 ghost use Rattle.ferry_carry.specs.Grow.{AcceptsMore, KeepsMost};
 ghost use Rattle.ferry_carry.specs.Progress.{IsCopiedSoFar};
-ghost use Rattle.ferry_carry.specs.Refusals.{DiffersThere, RefusesComparing, RefusesName, is_target};
+ghost use Rattle.ferry_carry.specs.Refusals.{DiffersThere, RefusesComparing, RefusesName, StopsTarget, is_target};
 ghost use Rattle.ferry_carry.specs.Work.{Works};
 ghost use Rattle.ferry_compare.specs.Compare.{Differ, FitsTold, comparison_view};
 ghost use Rattle.ferry_disk.specs.Device.{HasCause, KeepsTold, Told, told_files};
@@ -138,6 +138,10 @@ impl Flight {
         ensures cause { HasCause shelf_failed (S.faults shelf.old) (S.faults shelf.new) result }
         ensures entropy { HasCause random_failed (E.faults entropy.old) (E.faults entropy.new) result }
         ensures flight { result ≡ Ok Turn.More → FlightFits (S.told shelf.new) (repo_view source.new) (D.told depot.new) store.new self.new }
+        // An archive is named whose name was in no archive that the store had accepted, and answered as present where its name was in one.
+        ensures more { result ≡ Ok Turn.More → accepted_in store.new ≡ accepted_in store.old }
+        ensures new { result ≡ Ok Turn.Named → archive_named self.old.named.name (accepted_in store.old).archives ≡ None }
+        ensures there { result ≡ Ok Turn.Present → IsSome (archive_named self.old.named.name (accepted_in store.old).archives) }
         ensures name { self.new.named ≡ self.old.named }
         ensures options { self.new.options ≡ self.old.options }
     {
@@ -181,6 +185,9 @@ impl Flight {
         ensures cause { HasCause shelf_failed (S.faults shelf.old) (S.faults shelf.new) result }
         ensures entropy { HasCause random_failed (E.faults entropy.old) (E.faults entropy.new) result }
         ensures flight { result ≡ Ok Turn.More → FlightFits (S.told shelf.new) (repo_view source.new) (D.told depot.new) store.new self.new }
+        ensures more { result ≡ Ok Turn.More → accepted_in store.new ≡ accepted_in store.old }
+        ensures new { result ≡ Ok Turn.Named → archive_named self.old.named.name (accepted_in store.old).archives ≡ None }
+        ensures there { result ≡ Ok Turn.Present → IsSome (archive_named self.old.named.name (accepted_in store.old).archives) }
         ensures name { self.new.named ≡ self.old.named }
         ensures options { self.new.options ≡ self.old.options }
     {
@@ -232,6 +239,9 @@ impl Flight {
         ensures cause { HasCause shelf_failed (S.faults shelf.old) (S.faults shelf.new) result }
         ensures entropy { HasCause random_failed (E.faults entropy.old) (E.faults entropy.new) result }
         ensures flight { result ≡ Ok Turn.More → FlightFits (S.told shelf.new) (repo_view source.new) (D.told depot.new) store.new self.new }
+        ensures more { result ≡ Ok Turn.More → accepted_in store.new ≡ accepted_in store.old }
+        ensures new { result ≡ Ok Turn.Named → archive_named self.old.named.name (accepted_in store.old).archives ≡ None }
+        ensures there { result ≡ Ok Turn.Present → IsSome (archive_named self.old.named.name (accepted_in store.old).archives) }
         ensures name { self.new.named ≡ self.old.named }
         ensures options { self.new.options ≡ self.old.options }
     {
@@ -271,6 +281,7 @@ impl Flight {
         requires flight { FlightStands (repo_view source.old) self.old }
         requires comparison { FitsTold (S.told shelf.old) (repo_view source.old) (D.told depot.old) (repo_view store.old.repo) (comparison_view comparison) }
         requires same_name { (comparison_view comparison).name ≡ self.old.named.name }
+        requires there { IsSome (archive_named self.old.named.name (repo_view store.old.repo).manifest.archives) }
         ensures works { Flies (flown_from (S.told shelf.old) (repo_view source.old) self.old) self.old.named.name store.old store.new
             (D.told depot.old) (D.told depot.new) (D.faults depot.old) (D.faults depot.new) result }
         ensures refused { IfErr result (RefusesName (flown_from (S.told shelf.old) (repo_view source.old) self.old) (D.told depot.old) store.old
@@ -288,6 +299,9 @@ impl Flight {
         ensures cause { HasCause shelf_failed (S.faults shelf.old) (S.faults shelf.new) result }
         ensures drawn { IfErr result (λ fault. random_failed fault ≡ false) }
         ensures flight { result ≡ Ok Turn.More → FlightFits (S.told shelf.new) (repo_view source.new) (D.told depot.new) store.new self.new }
+        ensures more { result ≡ Ok Turn.More → accepted_in store.new ≡ accepted_in store.old }
+        ensures new { result ≡ Ok Turn.Named → archive_named self.old.named.name (accepted_in store.old).archives ≡ None }
+        ensures there { result ≡ Ok Turn.Present → IsSome (archive_named self.old.named.name (accepted_in store.old).archives) }
         ensures name { self.new.named ≡ self.old.named }
         ensures options { self.new.options ≡ self.old.options }
     {
@@ -323,6 +337,7 @@ impl Flight {
         ensures name { IfOk result (λ comparison. (comparison_view comparison).name ≡ self.now.named.name) }
         ensures refused { IfErr result (RefusesComparing (S.told shelf.old) (repo_view source.old) self.now.named.name) }
         ensures fits { IfSome (D.told depot.new) (λ t. StoreFits false store.new t.history) }
+        ensures stops { IfErr result (StopsTarget (D.told depot.new) (repo_view store.old.repo).keys) }
         ensures source_fits { IfSome (S.told shelf.new) (λ t. FitsRepo (told_files t) (repo_view source.new) (cached_in source.new)) }
         ensures kept { repo_view source.new ≡ repo_view source.old }
         ensures same { KeepsTold shelf_failed (S.told shelf.old) (S.told shelf.new) result }
@@ -361,6 +376,7 @@ fn compare_item<S: Shelf, D: Depot>(
         (D.told depot.new) (repo_view store.new.repo) (comparison_view comparison.old).name }
     ensures refused { IfErr result (RefusesComparing (S.told shelf.old) (repo_view source.old) (comparison_view comparison.old).name) }
     ensures fits { IfSome (D.told depot.new) (λ t. StoreFits false store.new t.history) }
+    ensures stops { IfErr result (StopsTarget (D.told depot.new) (repo_view store.old.repo).keys) }
     ensures source_fits { IfSome (S.told shelf.new) (λ t. FitsRepo (told_files t) (repo_view source.new) (cached_in source.new)) }
     ensures kept { repo_view source.new ≡ repo_view source.old }
     ensures same { KeepsTold shelf_failed (S.told shelf.old) (S.told shelf.new) result }
@@ -381,6 +397,7 @@ fn present<D: Depot>(store: &mut Store, depot: &mut D) -> Result<Turn, CarryFaul
     ensures pending { OnOk result (store.new.pending ≡ 0) }
     ensures rest { OnOk result (KeepsRest store.old store.new) }
     ensures fits { OnOk result (IfSome (D.told depot.new) (λ t. StoreFits false store.new t.history)) }
+    ensures stops { IfErr result (StopsTarget (D.told depot.new) (repo_view store.old.repo).keys) }
     ensures unspent { OnOk result (IsUnspent store.new) }
     ensures target { IfErr result (λ fault. is_target fault ≡ true) }
     ensures drawn { IfErr result (λ fault. random_failed fault ≡ false) }

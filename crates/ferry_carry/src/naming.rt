@@ -1,5 +1,5 @@
 //! The end of an archive: its record, its name in the manifest, and the commit of both.
-ghost use Rattle.std.specs.Prelude.{◌≡◌, ◌≤◌, ◌∷◌, ◌++◌, [], ℕ, List, None, Ok, true, false, length, map, option_map, IfErr, IfOk, IfSome, OnOk};
+ghost use Rattle.std.specs.Prelude.{◌≡◌, ◌≤◌, ◌∷◌, ◌++◌, [], ℕ, List, Option, None, Ok, true, false, length, map, option_map, IfErr, IfOk, IfSome, OnOk};
 ghost use Rattle.ferry_base.specs.Limits.{content_limit};
 ghost use Rattle.ferry_blob.specs.Blob.{content_id};
 ghost use Rattle.ferry_carry.specs.Copying.{IsReady};
@@ -10,10 +10,11 @@ ghost use Rattle.ferry_carry.specs.Flight.{AcceptsOne, Carries, NamesArchive};
 ghost use Rattle.ferry_carry.specs.Grow.{AcceptsMore, KeepsMost};
 ghost use Rattle.ferry_carry.specs.Progress.{IsAllCopied};
 ghost use Rattle.ferry_carry.specs.Naming.{IsRecord, copied_archive, entry_for, fixed_params};
-ghost use Rattle.ferry_carry.specs.Refusals.{RefusesEnd, RefusesRecordText, is_target};
+ghost use Rattle.ferry_carry.specs.Refusals.{RefusesEnd, RefusesRecordText, StopsTarget, is_target};
 ghost use Rattle.ferry_msgpack.specs.View.{value_view};
 ghost use Rattle.ferry_carry.specs.Work.{Works};
-ghost use Rattle.ferry_disk.specs.Device.{HasCause};
+ghost use Rattle.ferry_disk.specs.Device.{HasCause, Told};
+ghost use Rattle.ferry_mac.specs.declared.keys.Keys.{Keys};
 ghost use Rattle.ferry_manifest.specs.Manifest.Text.{ManifestText};
 ghost use Rattle.ferry_manifest.specs.Manifest.Writing.{IsPackable};
 ghost use Rattle.ferry_manifest.specs.declared.manifest.ArchiveRef.{ArchiveRef};
@@ -97,6 +98,7 @@ fn record_text(
     ensures reads { IfOk result (λ text. archive_of keys.now text.items ≡ Ok (as_tagged (archive_view archive.now))) }
     ensures small { IfOk result (λ text. length text.items ≤ content_limit) }
     ensures refused { IfErr result (RefusesRecordText keys.now (archive_view archive.now)) }
+    ensures stops { IfErr result (λ fault. (now : Option Told) (secrets : Keys) → StopsTarget now secrets fault) }
     ensures shelf { IfErr result (λ fault. shelf_failed fault ≡ false) }
     ensures still { IfErr result (λ fault. target_failed fault ≡ false) }
     ensures drawn { IfErr result (λ fault. random_failed fault ≡ false) }
@@ -120,6 +122,7 @@ fn tagged_record<E: Entropy>(
     ensures reads { IfOk result (λ text. archive_of keys.now text.items ≡ Ok (as_tagged (archive_view archive.now))) }
     ensures small { IfOk result (λ text. length text.items ≤ content_limit) }
     ensures refused { IfErr result (RefusesRecordText keys.now (archive_view archive.now)) }
+    ensures stops { IfErr result (λ fault. (now : Option Told) (secrets : Keys) → StopsTarget now secrets fault) }
     ensures shelf { IfErr result (λ fault. shelf_failed fault ≡ false) }
     ensures still { IfErr result (λ fault. target_failed fault ≡ false) }
     ensures entropy { HasCause random_failed (E.faults entropy.old) (E.faults entropy.new) result }
@@ -139,6 +142,7 @@ fn add_record<D: Depot>(store: &mut Store, depot: &mut D, text: &[u8]) -> Result
     ensures id { IfOk result (λ id. id ≡ content_id (repo_view store.old.repo).keys text.now) }
     ensures rest { OnOk result (KeepsRest store.old store.new) }
     ensures fits { OnOk result (IfSome (D.told depot.new) (λ t. StoreFits false store.new t.history)) }
+    ensures stops { IfErr result (StopsTarget (D.told depot.new) (repo_view store.old.repo).keys) }
     ensures unspent { OnOk result (IsUnspent store.new) }
     ensures drawn { IfErr result (λ fault. random_failed fault ≡ false) }
     ensures target { IfErr result (λ fault. is_target fault ≡ true) }
@@ -175,6 +179,7 @@ fn put_record<D: Depot, E: Entropy>(
         × (archive_of (repo_view store.old.repo).keys text ≡ Ok (as_tagged (archive_view archive.now))))) }
     ensures rest { OnOk result (KeepsRest store.old store.new) }
     ensures fits { OnOk result (IfSome (D.told depot.new) (λ t. StoreFits false store.new t.history)) }
+    ensures stops { IfErr result (StopsTarget (D.told depot.new) (repo_view store.old.repo).keys) }
     ensures unspent { OnOk result (IsUnspent store.new) }
     ensures entropy { HasCause random_failed (E.faults entropy.old) (E.faults entropy.new) result }
     ensures refused { IfErr result (RefusesRecordText (repo_view store.old.repo).keys (archive_view archive.now)) }
@@ -202,6 +207,7 @@ fn put_copied<D: Depot, E: Entropy>(
         × IfOk result (λ id. IsRecord (repo_view store.old.repo).keys (archive_view archive) block pieces.now text id)) }
     ensures rest { OnOk result (KeepsRest store.old store.new) }
     ensures fits { OnOk result (IfSome (D.told depot.new) (λ t. StoreFits false store.new t.history)) }
+    ensures stops { IfErr result (StopsTarget (D.told depot.new) (repo_view store.old.repo).keys) }
     ensures unspent { OnOk result (IsUnspent store.new) }
     ensures entropy { HasCause random_failed (E.faults entropy.old) (E.faults entropy.new) result }
     ensures refused { IfErr result (RefusesRecordText (repo_view store.old.repo).keys
@@ -235,6 +241,7 @@ fn end_stream<D: Depot, E: Entropy>(
         ++ chunks_of (repo_view store.old.repo).keys (cut stream.old.cutter.block stream.old.cutter.piece)) text id)) }
     ensures rest { OnOk result (KeepsRest store.old store.new) }
     ensures fits { OnOk result (IfSome (D.told depot.new) (λ t. StoreFits false store.new t.history)) }
+    ensures stops { IfErr result (StopsTarget (D.told depot.new) (repo_view store.old.repo).keys) }
     ensures unspent { OnOk result (IsUnspent store.new) }
     ensures entropy { HasCause random_failed (E.faults entropy.old) (E.faults entropy.new) result }
     ensures refused { IfErr result (RefusesRecordText (repo_view store.old.repo).keys (copied_archive (archive_view archive) block
@@ -270,6 +277,7 @@ fn name_record<D: Depot, E: Entropy>(
     ensures accepted { OnOk result (accepted_in store.new ≡ (repo_view store.new.repo).manifest) }
     ensures packable { OnOk result (IsPackable (accepted_in store.new)) }
     ensures fits { OnOk result (IfSome (D.told depot.new) (λ t. StoreFits false store.new t.history)) }
+    ensures stops { IfErr result (StopsTarget (D.told depot.new) (repo_view store.old.repo).keys) }
     ensures unspent { OnOk result (IsUnspent store.new) }
     ensures entropy { HasCause random_failed (E.faults entropy.old) (E.faults entropy.new) result }
     ensures target { IfErr result (λ fault. is_target fault ≡ true) }
@@ -309,6 +317,7 @@ pub(crate) fn end_copy<D: Depot, E: Entropy>(
     ensures accepted { OnOk result (accepted_in store.new ≡ (repo_view store.new.repo).manifest) }
     ensures packable { OnOk result (IsPackable (accepted_in store.new)) }
     ensures fits { OnOk result (IfSome (D.told depot.new) (λ t. StoreFits false store.new t.history)) }
+    ensures stops { IfErr result (StopsTarget (D.told depot.new) (repo_view store.old.repo).keys) }
     ensures unspent { OnOk result (IsUnspent store.new) }
     ensures entropy { HasCause random_failed (E.faults entropy.old) (E.faults entropy.new) result }
     ensures refused { (from : Origin) → IsAllCopied from named.now (D.told depot.old) store.old copy
@@ -351,6 +360,7 @@ fn commit_named<D: Depot, E: Entropy>(
     ensures accepted { OnOk result (accepted_in store.new ≡ (repo_view store.new.repo).manifest) }
     ensures packable { OnOk result (IsPackable (accepted_in store.new)) }
     ensures fits { OnOk result (IfSome (D.told depot.new) (λ t. StoreFits false store.new t.history)) }
+    ensures stops { IfErr result (StopsTarget (D.told depot.new) (repo_view store.old.repo).keys) }
     ensures unspent { OnOk result (IsUnspent store.new) }
     ensures entropy { HasCause random_failed (E.faults entropy.old) (E.faults entropy.new) result }
     ensures target { IfErr result (λ fault. is_target fault ≡ true) }
@@ -379,6 +389,7 @@ fn commit<D: Depot, E: Entropy>(
     ensures accepted { OnOk result (accepted_in store.new ≡ (repo_view store.new.repo).manifest) }
     ensures packable { OnOk result (IsPackable (accepted_in store.new)) }
     ensures fits { OnOk result (IfSome (D.told depot.new) (λ t. StoreFits false store.new t.history)) }
+    ensures stops { IfErr result (StopsTarget (D.told depot.new) (repo_view store.old.repo).keys) }
     ensures unspent { OnOk result (IsUnspent store.new) }
     ensures entropy { HasCause random_failed (E.faults entropy.old) (E.faults entropy.new) result }
     ensures target { IfErr result (λ fault. is_target fault ≡ true) }

@@ -5,7 +5,7 @@ ghost use Rattle.ferry_blob.specs.Blob.{content_id};
 ghost use Rattle.ferry_carry.specs.Fault.{random_failed, shelf_failed};
 ghost use Rattle.ferry_carry.specs.Gather.{Gathers, KeepsRest, KeepsStanding, chunk_of, chunks_of};
 ghost use Rattle.ferry_carry.specs.Piece.{WritesOn};
-ghost use Rattle.ferry_carry.specs.Refusals.{is_target};
+ghost use Rattle.ferry_carry.specs.Refusals.{StopsTarget, is_target};
 ghost use Rattle.ferry_carry.specs.Work.{Works};
 ghost use Rattle.ferry_rechunk.specs.Cut.{cut};
 ghost use Rattle.ferry_repo.specs.Opening.{repo_view};
@@ -37,6 +37,7 @@ fn add_piece<D: Depot>(
     ensures id { IfOk result (λ added. added.id ≡ content_id (repo_view store.old.repo).keys piece.now) }
     ensures rest { OnOk result (KeepsRest store.old store.new) }
     ensures fits { OnOk result (IfSome (D.told depot.new) (λ t. StoreFits false store.new t.history)) }
+    ensures stops { IfErr result (StopsTarget (D.told depot.new) (repo_view store.old.repo).keys) }
     ensures unspent { OnOk result (IsUnspent store.new) }
     ensures shelf { IfErr result (λ fault. shelf_failed fault ≡ false) }
     ensures target { IfErr result (λ fault. is_target fault ≡ true) }
@@ -59,6 +60,7 @@ fn make_room<D: Depot>(
         (D.told depot.old) (D.told depot.new) (D.faults depot.old) (D.faults depot.new) result }
     ensures rest { OnOk result (KeepsRest store.old store.new) }
     ensures fits { OnOk result (IfSome (D.told depot.new) (λ t. StoreFits false store.new t.history)) }
+    ensures stops { IfErr result (StopsTarget (D.told depot.new) (repo_view store.old.repo).keys) }
     ensures unspent { OnOk result (IsUnspent store.new) }
     ensures shelf { IfErr result (λ fault. shelf_failed fault ≡ false) }
     ensures target { IfErr result (λ fault. is_target fault ≡ true) }
@@ -80,6 +82,7 @@ pub(crate) fn commit_pieces<D: Depot>(store: &mut Store, depot: &mut D) -> Resul
     ensures rest { OnOk result (KeepsRest store.old store.new) }
     ensures pending { OnOk result (store.new.pending ≡ 0) }
     ensures fits { OnOk result (IfSome (D.told depot.new) (λ t. StoreFits false store.new t.history)) }
+    ensures stops { IfErr result (StopsTarget (D.told depot.new) (repo_view store.old.repo).keys) }
     ensures unspent { OnOk result (IsUnspent store.new) }
     ensures shelf { IfErr result (λ fault. shelf_failed fault ≡ false) }
     ensures target { IfErr result (λ fault. is_target fault ≡ true) }
@@ -104,6 +107,7 @@ pub(crate) fn add<D: Depot>(
     ensures id { IfOk result (λ added. added.id ≡ content_id (repo_view store.old.repo).keys content.now) }
     ensures rest { OnOk result (KeepsRest store.old store.new) }
     ensures fits { OnOk result (IfSome (D.told depot.new) (λ t. StoreFits false store.new t.history)) }
+    ensures stops { IfErr result (StopsTarget (D.told depot.new) (repo_view store.old.repo).keys) }
     ensures unspent { OnOk result (IsUnspent store.new) }
     ensures shelf { IfErr result (λ fault. shelf_failed fault ≡ false) }
     ensures target { IfErr result (λ fault. is_target fault ≡ true) }
@@ -169,6 +173,7 @@ impl PieceWriter {
             self.new.cutter self.new.chunks.items)) }
         ensures rest { OnOk result (KeepsRest store.old store.new) }
         ensures fits { OnOk result (IfSome (D.told depot.new) (λ t. StoreFits false store.new t.history)) }
+        ensures stops { IfErr result (StopsTarget (D.told depot.new) (repo_view store.old.repo).keys) }
         ensures unspent { OnOk result (IsUnspent store.new) }
         ensures shelf { IfErr result (λ fault. shelf_failed fault ≡ false) }
         ensures target { IfErr result (λ fault. is_target fault ≡ true) }
@@ -204,6 +209,7 @@ impl PieceWriter {
         ensures block { self.new.cutter.block ≡ self.old.cutter.block }
         ensures rest { OnOk result (KeepsRest store.old store.new) }
         ensures fits { OnOk result (IfSome (D.told depot.new) (λ t. StoreFits false store.new t.history)) }
+        ensures stops { IfErr result (StopsTarget (D.told depot.new) (repo_view store.old.repo).keys) }
         ensures unspent { OnOk result (IsUnspent store.new) }
         ensures shelf { IfErr result (λ fault. shelf_failed fault ≡ false) }
         ensures target { IfErr result (λ fault. is_target fault ≡ true) }
@@ -228,6 +234,7 @@ impl PieceWriter {
         ensures block { self.new.cutter.block ≡ self.old.cutter.block }
         ensures rest { OnOk result (KeepsRest store.old store.new) }
         ensures fits { OnOk result (IfSome (D.told depot.new) (λ t. StoreFits false store.new t.history)) }
+        ensures stops { IfErr result (StopsTarget (D.told depot.new) (repo_view store.old.repo).keys) }
         ensures unspent { OnOk result (IsUnspent store.new) }
         ensures shelf { IfErr result (λ fault. shelf_failed fault ≡ false) }
         ensures target { IfErr result (λ fault. is_target fault ≡ true) }
@@ -254,6 +261,7 @@ impl PieceWriter {
         ensures block { self.new.cutter.block ≡ self.old.cutter.block }
         ensures rest { OnOk result (KeepsRest store.old store.new) }
         ensures fits { OnOk result (IfSome (D.told depot.new) (λ t. StoreFits false store.new t.history)) }
+        ensures stops { IfErr result (StopsTarget (D.told depot.new) (repo_view store.old.repo).keys) }
         ensures unspent { OnOk result (IsUnspent store.new) }
         ensures shelf { IfErr result (λ fault. shelf_failed fault ≡ false) }
         ensures target { IfErr result (λ fault. is_target fault ≡ true) }

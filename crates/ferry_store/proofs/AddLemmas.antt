@@ -3,7 +3,6 @@ use Rattle.std.proofs.Common.{◌≡◌, ◌≢◌, ◌⊎◌, inl, inr, ◌<◌
 use Rattle.std.proofs.Common.{Ok, IfSome, IsSome, refl, sym, ◌∙◌, ap, subst, arith}
 use Rattle.std.proofs.lemmas.List.{length-append}
 use Rattle.std.specs.BTreeSet.{contains, Updates}
-use Rattle.std.specs.Cmp.{eq_by_cmp_equiv}
 use Rattle.std.specs.Cmp.Lexicographic.{nat_list_cmp_total}
 use Rattle.std.specs.FinMap.{get, get-insert, nat_cmp-IsAntisymmetric, slice_cmp-IsAntisymmetric}
 use Rattle.std.proofs.Common.{BTreeSet}
@@ -30,6 +29,7 @@ use Rattle.ferry_repo.specs.Objects.{HoldsChunk, IsMissing, KeepsBlobs}
 use Rattle.ferry_repo.specs.Opening.{FitsRepo, RepoState, cached_in, repo_view}
 use Rattle.ferry_repo.specs.declared.repo.Repo.{Repo}
 use Rattle.ferry_segment.specs.Entry.{LogEntry, PutEntry}
+use Rattle.ferry_store.proofs.LearntLemmas.{AllLearnt, learnt_here, learnt_put}
 use Rattle.ferry_store.proofs.PutLemmas.{keeps_here}
 use Rattle.ferry_store.proofs.StandingLemmas.{entries_put, holds_put, keeps_more, manifest_learnt, missing_unlive}
 use Rattle.ferry_store.proofs.StepLemmas.{Reads, did_as, known_then, same_told}
@@ -135,6 +135,7 @@ opened_added store repo opened content id h same noted there repo_fits counts fi
     manifest = subst (λ (r : RepoState). CommitsManifest r fits.written.committed) (sym same) fits.manifest;
     keeps = fits.keeps;
     pending = fits.pending;
+    learnt = subst (λ (r : RepoState). AllLearnt fits.written r.log) (sym same) fits.learnt;
   },
   refl,
 )
@@ -221,6 +222,8 @@ put_added store repo session counter pending content h g chunk missing cached af
         keeps = keeps_more fits.written id blob
             (missing_unlive (files_now h) before.log (entries_of fits.written) id chunk missing fits.holds) fits.keeps;
         pending = counted ∙ pending_more store.pending fits.written (entry_of store content) fits.pending;
+        learnt = subst (λ (r : RepoState). AllLearnt (with_entry fits.written (PutEntry id blob)) r.log) (sym put.learnt)
+            (learnt_put fits.written before.log id blob place fits.learnt);
       },
       refl,
     )
@@ -286,9 +289,7 @@ put_did store repo session counter pending content id a b n m x named new cached
 -- an id that was learnt is known
 pub learnt_known : (repo now : RepoState) (id : List ℕ) → Learns repo id true now → IsSome (get now.log.learnt id)
 learnt_known repo now id learns =
-    let found = get-insert nat_list_cmp_total repo.log.learnt id learns.0 id
-    ∙ ap (λ b. cond b (Some learns.0) (get repo.log.learnt id)) ((eq_by_cmp_equiv nat_list_cmp_total).refl id) in
-    subst (λ (r : RepoState). IsSome (get r.log.learnt id)) (sym learns.1) (subst IsSome (sym found) refl)
+    subst (λ (r : RepoState). IsSome (get r.log.learnt id)) (sym learns.1) (learnt_here repo.log id learns.0)
 
 -- an id that is known isn't new
 known_old : (counts : Bool) (store : Store) (id : List ℕ) (h : History) → StoreFits counts store h → IsKnown store id → IsNew (repo_view store.repo) id → ⊥

@@ -49,11 +49,11 @@ use Rattle.ferry_store.specs.New.{FirstSound, IsOpenable, Makes, MakesSound, Sho
 use Rattle.ferry_store.specs.Fault.{depot_failed, nonce_refusal, write_refusal, store_refusal}
 use Rattle.ferry_store.specs.State.{Begins, BeginsSound, CommitsSound, Did, IsSound, IsStep, IsUnderWay, KeepsSound, SettingsSound, ShowsEither}
 use Rattle.ferry_store.specs.State.{IsPlaced, ShowsStanding, TakesCommit, TakesEntry, TakesSettings, Written, found}
-use Rattle.ferry_store.specs.State.{RefusesLog, readme_text, with_settings}
+use Rattle.ferry_store.specs.State.{EndsAtCommit, RefusesLog, readme_text, with_settings}
 use Rattle.ferry_store.specs.declared.fault.StoreRefusal.{StoreRefusal}
 use Rattle.ferry_write.specs.Fault.{write_failed}
 use Rattle.ferry_write.specs.Rows.{BeginBrings, BeginsRows, Brings, BringsNone, KeepsRows}
-use Rattle.ferry_write.specs.Room.{behind}
+use Rattle.ferry_write.specs.Room.{after_commit, after_entry, behind, room_of}
 use Rattle.ferry_write.specs.Script.{AllDone, clear_steps, numbers_from}
 use Rattle.ferry_write.specs.Session.{BeginKeeps, Begins as SessionBegins, BeginBySettle, ClearsAbove, ClearsAll, Commits, Keeps, KeepsOrCommits}
 use Rattle.ferry_write.specs.Session.{KeepsPlain, Lies, OnlyAppends, Puts, SettlesFirst, Stays}
@@ -133,8 +133,9 @@ pub begun_ok : (after : Option ℕ) (counter : Counter) (session : Session) (a b
     → IfSome a (λ t. (plain_in t.history NonceFile).perhaps ≡ None → CounterFits counter t.history)
     → Between b c (BeginKeeps after) → Between b c BeginBrings → Between b c KeepsPlain → Between b c (SessionBegins after session)
     → Between b c (BeginsRows session) → ClearsAbove after b c (Ok session) → HasCause write_failed m k (Ok session)
-    → EndsAtFault write_failed b c (Ok session) → Did (BeginsSound after) (λ (x : Counter × Session). Begins after x.0 x.1) a c n k (Ok (counter, session))
-begun_ok after counter session a b c n m k same opened number fits keeps brings plain begins rows acts caused ends =
+    → EndsAtFault write_failed b c (Ok session) → EndsAtCommit session
+    → Did (BeginsSound after) (λ (x : Counter × Session). Begins after x.0 x.1) a c n k (Ok (counter, session))
+begun_ok after counter session a b c n m k same opened number fits keeps brings plain begins rows acts caused ends at_commit =
     let here = same_told nonce_failed a b (Ok counter) same in
     let first = keeps_end nonce_failed a b (Ok counter) same in
     let Q : History → History → Type 0 = λ h g. AllDone h g × (SessionBegins after session h g
@@ -147,7 +148,7 @@ begun_ok after counter session a b c n m k same opened number fits keeps brings 
     record {
       each = after_same (BeginsSound after) a b c here (begun_sound after b c keeps brings plain);
       end = between_map a c _ (λ h g. AllDone h g × Begins after counter session h g)
-          (λ h g x. (x.1.1.0, begin_stands after counter session h g x.0 x.1.0 x.1.1.1.0 x.1.1.1.1.0 x.1.1.1.1.1.0 x.1.1.1.1.1.1))
+          (λ h g x. (x.1.1.0, begin_stands after counter session h g x.0 x.1.0 x.1.1.1.0 x.1.1.1.1.0 x.1.1.1.1.1.0 x.1.1.1.1.1.1 at_commit))
           (known_then (λ h. IsNonce (file_at (files_now h) NonceFile) counter.free) _ a c number
           (known_then (λ h. (plain_in h NonceFile).perhaps ≡ None → CounterFits counter h) Q a c fits (after_same Q a b c here all)));
       ends = ends ∙ first;
@@ -299,6 +300,18 @@ settings_both config text a b c n m k result is p q =
     (config_stands counts session counter (record written { readme = Some readme_text }) text g (readme_then counts session counter written h g first u))))
     p q
 
+-- ---- a session whose last segment is that of the commit, where it writes none
+
+pub begin_ends : (session : Session) (after : Option ℕ) → session.last ≡ after → session.after ≡ after → EndsAtCommit session
+begin_ends session after last is none = last ∙ sym is
+
+pub commit_ends : (session now : Session) → now ≡ after_commit session → EndsAtCommit now
+commit_ends session now is = begin_ends now (Some (behind session.last)) (ap (λ (s : Session). s.last) is) (ap (λ (s : Session). s.after) is)
+
+pub entry_ends : (session now : Session) (more : ℕ) → now ≡ after_entry session more → EndsAtCommit now
+entry_ends session now more is none =
+    let both : None ≡ Some ((room_of session more).at + more) = sym none ∙ ap (λ (s : Session). s.size) is in absurd (let no : ⊥ = cc in no)
+
 -- ---- an object
 
 -- what a draw leaves, whether it replaces the file or not
@@ -314,7 +327,7 @@ fit_or counter blocks = by_bool (ltb counter.reserved (counter.free + blocks)) r
   by_bool false e = let within = ltb-false counter.reserved (counter.free + blocks) e in inl (omega (arith, within))
   by_bool true e = let above = ltb-true counter.reserved (counter.free + blocks) e in inr (λ f. let no : ⊥ = omega (arith, above, f) in no)
 
-reserved_step : {T : Type 0} (number : ℕ) (a b : Option Told) (result : Result T NonceFault) → Reserves number a b result
+pub reserved_step : {T : Type 0} (number : ℕ) (a b : Option Told) (result : Result T NonceFault) → Reserves number a b result
     → Between a b (IsStep (reserves number))
 reserved_step number a b (Ok x) e =
     between_map a b (λ h g. g ≡ with_act (reserves number) true h) (IsStep (reserves number)) (λ h g is. inr (true, is))
@@ -392,7 +405,7 @@ abbrev pub PutsAt : Session → LogEntry → History → History → Type 0
 PutsAt session entry h g = Keeps session h g × (Brings session entry h g × KeepsPlain h g)
 
 abbrev pub HasPut : Session → LogEntry → Session → History → History → Type 0
-HasPut session entry now h g = Puts session now entry h g × (KeepsRows session now h g × (Brings session entry h g × KeepsPlain h g))
+HasPut session entry now h g = EndsAtCommit now × (Puts session now entry h g × (KeepsRows session now h g × (Brings session entry h g × KeepsPlain h g)))
 
 puts_at : (session : Session) (entry : LogEntry) (a b : Option Told) → Between a b (Keeps session) → Between a b (Brings session entry)
     → Between a b KeepsPlain → Between a b (PutsAt session entry)
@@ -402,13 +415,16 @@ puts_at session entry a b keeps brings plain =
 
 pub put_ok : {T : Type 0} (session now : Session) (entry : LogEntry) (x : T) (a b : Option Told) (n m : ℕ) → Between a b (Keeps session)
     → Between a b (Puts session now entry) → Between a b (Brings session entry) → Between a b (KeepsRows session now) → Between a b KeepsPlain
-    → Between a b AllDone → m ≡ n → failed_told b ≡ failed_told a → Did {T = T} (PutsAt session entry) (λ _. HasPut session entry now) a b n m (Ok x)
-put_ok session now entry x a b n m keeps puts brings rows plain done caused ends = record {
+    → Between a b AllDone → m ≡ n → failed_told b ≡ failed_told a → EndsAtCommit now
+    → Did {T = T} (PutsAt session entry) (λ _. HasPut session entry now) a b n m (Ok x)
+put_ok session now entry x a b n m keeps puts brings rows plain done caused ends at_commit = record {
   each = puts_at session entry a b keeps brings plain;
   end = between_both a b AllDone (HasPut session entry now) done
+      (between_map a b (λ h g. Puts session now entry h g × (KeepsRows session now h g × (Brings session entry h g × KeepsPlain h g)))
+      (HasPut session entry now) (λ h g e. (at_commit, e))
       (between_both a b (Puts session now entry) (λ h g. KeepsRows session now h g × (Brings session entry h g × KeepsPlain h g)) puts
       (between_both a b (KeepsRows session now) (λ h g. Brings session entry h g × KeepsPlain h g) rows
-      (between_both a b (Brings session entry) KeepsPlain brings plain)));
+      (between_both a b (Brings session entry) KeepsPlain brings plain))));
   ends = ends;
   cause = caused;
 }
@@ -438,7 +454,7 @@ object_both session now counter drawn entry number first a b c n m k result bloc
     (draw_stands counts session counter drawn written number h g u numbers.0 order numbers.1) f.0 f.1.0 f.1.1))
     (λ y h g i numbers f counts written u.
     put_stands counts session now counter.free drawn written entry g i blocks
-    (draw_stands counts session counter drawn written number h g u numbers.0 order numbers.1) f.0 f.1.0 f.1.1.0 f.1.1.1)
+    (draw_stands counts session counter drawn written number h g u numbers.0 order numbers.1) f.1.0 f.1.1.0 f.1.1.1.0 f.1.1.1.1 f.0)
     p q
 
 -- the file of the counter replaced, or not, leaves the segments
@@ -455,6 +471,10 @@ stays_drawn after h g i same stays = record {
       (rest.0, rest.1 ∙ ap (λ m. unwrap_or (get m n) [] ++ rest.0) same);
 }
 
+-- Each segment has what it had, and perhaps more behind it, where a session and a counter fitted before.
+abbrev pub OnlyGrows : Session → Counter → History → History → Type 0
+OnlyGrows session counter h g = (counts : Bool) (written : Written) → IsUnderWay counts session counter written h → Stays session.after h g
+
 pub object_placed : (session : Session) (counter drawn : Counter) (number : ℕ) (blob : List ℕ) (place : Place) (first : ℕ) (a b c : Option Told) (n m : ℕ)
     → counter.free ≤ drawn.free → Did {T = ℕ} (Draws counter number) (λ _. HasNumbers counter drawn number) a b n m (Ok first)
     → Between b c (Lies session place blob) → Between b c (OnlyAppends session) → Between a c (IsPlaced session counter blob place)
@@ -468,6 +488,17 @@ object_placed session counter drawn number blob place first a b c n m order p li
       stays = stays_drawn session.after h g i (segments_drawn number h g e.1.0) (f.1 written.committed written.pending drew.fits);
     })
     p.end (between_both b c (Lies session place blob) (OnlyAppends session) lies stays)
+
+-- segments of which one is written have what they had, whether the draw replaced the file or not
+pub object_grows : (session : Session) (counter drawn : Counter) (number first : ℕ) (a b c : Option Told) (n m : ℕ) → counter.free ≤ drawn.free
+    → Did {T = ℕ} (Draws counter number) (λ _. HasNumbers counter drawn number) a b n m (Ok first) → Between b c (OnlyAppends session)
+    → Between a c (OnlyGrows session counter)
+object_grows session counter drawn number first a b c n m order p stays =
+    between_then a b c (λ h g. AllDone h g × HasNumbers counter drawn number h g) (OnlyAppends session) (OnlyGrows session counter)
+    (λ h g i e f counts written u.
+    stays_drawn session.after h g i (segments_drawn number h g e.1.0)
+    (f written.committed written.pending (draw_stands counts session counter drawn written number h g u e.1.0 order e.1.1).fits))
+    p.end stays
 
 -- the blocks of a sealed content
 pub sealed_blocks : (keys : Keys) (mode : Mode) (first : ℕ) (id content : List ℕ) (behind : ℕ) → first < 2 ^ 64 → behind ≡ first + blocks (length content)
@@ -494,9 +525,9 @@ object_blocks keys mode counter now n first id buffer blob e fits is count draws
 
 pub committed_ok : {T : Type 0} (session now : Session) (counter : Counter) (x : T) (a b : Option Told) (n m : ℕ) → Between a b (KeepsOrCommits session)
     → Between a b (Commits session now) → Between a b (BringsNone session) → Between a b (KeepsRows session now) → Between a b KeepsPlain
-    → Between a b AllDone → m ≡ n → failed_told b ≡ failed_told a
+    → Between a b AllDone → m ≡ n → failed_told b ≡ failed_told a → EndsAtCommit now
     → Did {T = T} (CommitsSound session counter) (λ _. TakesCommit session counter now) a b n m (Ok x)
-committed_ok session now counter x a b n m keeps commits brings rows plain done caused ends = record {
+committed_ok session now counter x a b n m keeps commits brings rows plain done caused ends at_commit = record {
   each = between_map a b (λ h g. KeepsOrCommits session h g × (BringsNone session h g × KeepsPlain h g)) (CommitsSound session counter)
       (λ h g all counts written u. commit_sound counts session counter written h g u all.0 all.1.0 all.1.1)
       (between_both a b (KeepsOrCommits session) (λ h g. BringsNone session h g × KeepsPlain h g) keeps
@@ -504,7 +535,7 @@ committed_ok session now counter x a b n m keeps commits brings rows plain done 
   end = between_both a b AllDone (TakesCommit session counter now) done
       (between_map a b (λ h g. Commits session now h g × (KeepsRows session now h g × (BringsNone session h g × KeepsPlain h g)))
       (TakesCommit session counter now)
-      (λ h g all counts written u. commit_stands counts session now counter written h g u all.0 all.1.0 all.1.1.0 all.1.1.1)
+      (λ h g all counts written u. commit_stands counts session now counter written h g u all.0 all.1.0 all.1.1.0 all.1.1.1 at_commit)
       (between_both a b (Commits session now) (λ h g. KeepsRows session now h g × (BringsNone session h g × KeepsPlain h g)) commits
       (between_both a b (KeepsRows session now) (λ h g. BringsNone session h g × KeepsPlain h g) rows
       (between_both a b (BringsNone session) KeepsPlain brings plain))));

@@ -6,6 +6,7 @@ use Rattle.ferry_disk.specs.Device.{Told}
 use Rattle.ferry_disk.specs.Moments.{Between}
 use Rattle.ferry_repo.specs.Opening.{cached_in, repo_view}
 use Rattle.ferry_store.proofs.AddLemmas.{blobs_stay, repo_stays, there_kept}
+use Rattle.ferry_store.proofs.LearntLemmas.{learnt_nil}
 use Rattle.ferry_store.proofs.LiveLemmas.{keeps_nil}
 use Rattle.ferry_store.proofs.StandingLemmas.{holds_later, live_committed, manifest_later}
 use Rattle.ferry_store.specs.Adding.{Checkpoints}
@@ -92,6 +93,7 @@ checkpointed store session h g is takes stays counts fits =
         manifest = manifest_later repo fits.written fits.keeps fits.manifest;
         keeps = keeps_nil (entries_committed fits.written);
         pending = refl;
+        learnt = learnt_nil (all_committed fits.written) repo.log refl;
       },
       refl,
     )

@@ -4,6 +4,7 @@ pub mod BasisLemmas
 pub mod ManifestLemmas
 pub mod LiveLemmas
 pub mod StandingLemmas
+pub mod LearntLemmas
 pub mod NewLemmas
 pub mod KnownLemmas
 pub mod SoundLemmas
@@ -14,6 +15,7 @@ pub mod StoreLemmas
 pub mod OpenLemmas
 pub mod ContentLemmas
 pub mod AddLemmas
+pub mod CauseLemmas
 pub mod CommitLemmas
 pub mod UseLemmas
 pub mod RenewLemmas

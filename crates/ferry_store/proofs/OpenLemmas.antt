@@ -31,6 +31,7 @@ use Rattle.ferry_stops.specs.Blobs.{AllTraced}
 use Rattle.ferry_stops.specs.Entries.{ShowsAt}
 use Rattle.ferry_store.proofs.CallLemmas.{first_here, read_refused}
 use Rattle.ferry_store.proofs.KnownLemmas.{nothing_known}
+use Rattle.ferry_store.proofs.LearntLemmas.{learnt_nil}
 use Rattle.ferry_store.proofs.LiveLemmas.{keeps_nil}
 use Rattle.ferry_store.proofs.SoundLemmas.{stands_begun}
 use Rattle.ferry_store.proofs.StandingLemmas.{fits_state, holds_opened, opened_manifest}
@@ -162,6 +163,7 @@ store_opened secret store h g opens empty begins clears after none uncounted cou
         };
         keeps = keeps_nil entries;
         pending = uncounted;
+        learnt = learnt_nil (found (Some entries) (files_now h)) repo.log refl;
       };
       found_is = refl;
     }

@@ -21,6 +21,7 @@ use Rattle.ferry_repo.specs.declared.repo.Repo.{Repo}
 use Rattle.ferry_segment.specs.Entry.{LogEntry, PutEntry}
 use Rattle.ferry_store.proofs.AddLemmas.{blobs_stay, repo_stays, there_kept}
 use Rattle.ferry_store.proofs.CommitLemmas.{did_beside}
+use Rattle.ferry_store.proofs.LearntLemmas.{learnt_nil}
 use Rattle.ferry_store.proofs.LiveLemmas.{keeps_nil}
 use Rattle.ferry_store.proofs.PutLemmas.{err_of, keeps_here}
 use Rattle.ferry_store.proofs.StandingLemmas.{holds_later, live_renewed, manifest_renewed}
@@ -243,6 +244,7 @@ store_committed store repo session counter blob manifest h g view cached done co
             (record { entries = entries_committed next; is = refl; holds = done.holds fits.written });
         keeps = keeps_nil (entries_committed next);
         pending = refl;
+        learnt = learnt_nil (all_committed next) (repo_view repo).log refl;
       },
       refl,
     )

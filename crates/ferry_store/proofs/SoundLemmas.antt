@@ -22,7 +22,7 @@ use Rattle.ferry_stops.specs.Counters.{IsNonce, AreApart, TakenBelow, IsAbove, I
 use Rattle.ferry_stops.specs.Entries.{Shows}
 use Rattle.ferry_store.proofs.StepLemmas.{moments_map, moments_both, moments_start, moments_settled, step_moments}
 use Rattle.ferry_store.specs.State.{AreTaken, IsUnderWay, IsSound, Written, BeginsSound, Begins, with_entry, all_committed, IsStep, ShowsEither}
-use Rattle.ferry_store.specs.State.{ShowsStanding, found}
+use Rattle.ferry_store.specs.State.{EndsAtCommit, ShowsStanding, found}
 use Rattle.ferry_write.proofs.LawLemmas.{beside_fits, beside_rows, beside_blobs}
 use Rattle.ferry_write.specs.Room.{behind}
 use Rattle.ferry_write.specs.Rows.{SessionRows, BeginBrings, BringsNone, BeginsRows, Brings, KeepsRows, IsPutOf}
@@ -204,8 +204,8 @@ taken_later free h g back taken = record { apart = apart_as h g back taken.apart
 
 pub begin_stands : (after : Option ℕ) (counter : Counter) (session : Session) (h g : History) → IsNonce (file_at (files_now h) NonceFile) counter.free
     → ((plain_in h NonceFile).perhaps ≡ None → CounterFits counter h) → SessionBegins after session h g → BeginsRows session h g → BeginBrings h g
-    → KeepsPlain h g → Begins after counter session h g
-begin_stands after counter session h g number opened begins rows brings plain counts committed begun =
+    → KeepsPlain h g → EndsAtCommit session → Begins after counter session h g
+begin_stands after counter session h g number opened begins rows brings plain ends counts committed begun =
     let e = begun.no_acts in
     let rest = plain_begun h NonceFile e in
     let same = files_begun h e in
@@ -213,6 +213,7 @@ begin_stands after counter session h g number opened begins rows brings plain co
     record {
       fits = begins committed begun.shown;
       rows = rows e;
+      ends = ends;
       counter_fits = counter_kept counter h g plain (opened (ap (λ (f : PlainFate). f.perhaps) rest));
       config = (plain ConfigFile (file_at h.start ConfigFile) (plain_begun h ConfigFile e)).last ∙ ap (λ (f : Files). rests_at f.config) (sym same);
       readme = (plain Readme (file_at h.start Readme) (plain_begun h Readme e)).last ∙ ap (λ (f : Files). rests_at f.readme) (sym same);
@@ -286,10 +287,11 @@ put_sound counts session first counter written entry h g blocks u keeps brings p
 
 pub put_stands : (counts : Bool) (session now : Session) (first : ℕ) (counter : Counter) (written : Written) (entry : LogEntry) (h g : History)
     → TakesBlocks entry first counter.free → HasDrawn counts session first counter written h → Puts session now entry h g → KeepsRows session now h g
-    → Brings session entry h g → KeepsPlain h g → IsUnderWay counts now counter (with_entry written entry) g
-put_stands counts session now first counter written entry h g blocks u puts rows brings plain = record {
+    → Brings session entry h g → KeepsPlain h g → EndsAtCommit now → IsUnderWay counts now counter (with_entry written entry) g
+put_stands counts session now first counter written entry h g blocks u puts rows brings plain ends = record {
   fits = puts written.committed written.pending u.fits;
   rows = rows written.committed written.pending u.fits u.rows;
+  ends = ends;
   counter_fits = counter_kept counter h g plain u.counter_fits;
   config = (plain ConfigFile written.config u.config).last;
   readme = (plain Readme written.readme u.readme).last;
@@ -325,6 +327,7 @@ readme_stands counts session counter written bytes h u =
     record {
       fits = beside_fits session written.committed written.pending h step true tt u.fits;
       rows = beside_rows session h step true tt u.rows;
+      ends = u.ends;
       counter_fits = fits_left counter h step true tt u.counter_fits;
       config = plain_next h step true ConfigFile ∙ u.config;
       readme = plain_next h step true Readme;
@@ -340,6 +343,7 @@ config_stands counts session counter written bytes h u =
     record {
       fits = beside_fits session written.committed written.pending h step true tt u.fits;
       rows = beside_rows session h step true tt u.rows;
+      ends = u.ends;
       counter_fits = fits_left counter h step true tt u.counter_fits;
       config = plain_next h step true ConfigFile;
       readme = plain_next h step true Readme ∙ u.readme;
@@ -448,10 +452,11 @@ commit_sound counts session counter written h g u keeps brings plain =
 
 pub commit_stands : (counts : Bool) (session now : Session) (counter : Counter) (written : Written) (h g : History)
     → IsUnderWay counts session counter written h → Commits session now h g → KeepsRows session now h g → BringsNone session h g → KeepsPlain h g
-    → IsUnderWay counts now counter (all_committed written) g
-commit_stands counts session now counter written h g u commits rows brings plain = record {
+    → EndsAtCommit now → IsUnderWay counts now counter (all_committed written) g
+commit_stands counts session now counter written h g u commits rows brings plain ends = record {
   fits = commits written.committed written.pending u.fits;
   rows = rows written.committed written.pending u.fits u.rows;
+  ends = ends;
   counter_fits = counter_kept counter h g plain u.counter_fits;
   config = (plain ConfigFile written.config u.config).last;
   readme = (plain Readme written.readme u.readme).last;

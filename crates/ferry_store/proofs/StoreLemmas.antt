@@ -27,6 +27,7 @@ use Rattle.ferry_stops.specs.Counters.{IsKept}
 use Rattle.ferry_stops.specs.Entries.{Shows, ShowsSomething}
 use Rattle.ferry_store.proofs.CallLemmas.{first_here, read_refused}
 use Rattle.ferry_store.proofs.KnownLemmas.{below_commit, nothing_known}
+use Rattle.ferry_store.proofs.LearntLemmas.{learnt_nil}
 use Rattle.ferry_store.proofs.LiveLemmas.{keeps_nil}
 use Rattle.ferry_store.proofs.NewLemmas.{opens_new}
 use Rattle.ferry_store.proofs.SoundLemmas.{traced_begun, image_begun}
@@ -143,6 +144,7 @@ store_fits secret iterations timestamp bytes store h g none made opens empty uno
       manifest = record { entries = entries; is = refl; holds = opened_manifest files secret repo entries opens shows };
       keeps = keeps_nil entries;
       pending = uncounted;
+      learnt = learnt_nil (first_written made.basis.config blob) repo.log refl;
     }
 
 -- ---- the steps of `init`

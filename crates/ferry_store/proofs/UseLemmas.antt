@@ -50,4 +50,5 @@ fits_named store now (Some t) same fits =
       manifest = fits.manifest;
       keeps = fits.keeps;
       pending = fits.pending;
+      learnt = fits.learnt;
     })

@@ -8,4 +8,4 @@ pub mod Content
 pub mod Store
 pub mod Adding
 pub mod Commit
-pub mod Flight
+pub mod Causes

@@ -63,11 +63,16 @@ pub record AreTaken (free : ℕ) (history : History) : Type 0 where
   pub apart : AreApart (BlobOf history)
   pub below : TakenBelow free history
 
--- A repository is written: the session and the counter fit, nothing of the plain files is in doubt, and, where the blocks of the runs
--- before count, each block that was taken is below the counter.
+-- Where a session writes no segment, its last one is that of the commit.
+abbrev pub EndsAtCommit : Session → Type 0
+EndsAtCommit session = session.size ≡ None → session.last ≡ session.after
+
+-- A repository is written: the session and the counter fit, a session that writes no segment ends at its commit, nothing of the plain
+-- files is in doubt, and, where the blocks of the runs before count, each block that was taken is below the counter.
 pub record IsUnderWay (counts : Bool) (session : Session) (counter : Counter) (written : Written) (history : History) : Type 0 where
   pub fits : SessionFits session written.committed written.pending history
   pub rows : SessionRows session history
+  pub ends : EndsAtCommit session
   pub counter_fits : CounterFits counter history
   pub config : plain_in history ConfigFile ≡ rests_at written.config
   pub readme : plain_in history Readme ≡ rests_at written.readme

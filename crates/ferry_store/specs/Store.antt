@@ -22,7 +22,7 @@ use Rattle.ferry_store.specs.Content.{IsThere}
 use Rattle.ferry_store.specs.Init.{RefusesMaking}
 use Rattle.ferry_store.specs.Key.{RefusesGiven}
 use Rattle.ferry_store.specs.New.{IsMade, IsNothingOrNew, OpensNew}
-use Rattle.ferry_store.specs.Standing.{CommitsManifest, HoldsLive, Keeps, committed_of, entries_of}
+use Rattle.ferry_store.specs.Standing.{CommitsManifest, HoldsLive, Keeps, committed_of, entries_of, live_in}
 use Rattle.ferry_store.specs.State.{IsUnderWay, RefusesBegin, ShowsStanding, Written, found}
 use Rattle.ferry_store.specs.declared.fault.StoreRefusal.{StoreRefusal}
 use Rattle.ferry_store.specs.declared.fault.StoreRefusal.TheVariants.{Repo, Write, Nonce, Committed, TooLarge, Entropy, Memory}
@@ -37,8 +37,8 @@ IsKnown store id = (id ≡ zero_id) ⊎ (IsSome (get (repo_view store.repo).log.
 
 -- A store fits what its depot told: what was written stands, the repository fits the files and is that of a commit below those of the session,
 -- and each chunk that the store knows is there. The repository's chunks are those of the entries that are written, what is committed holds its
--- manifest, and what was put since keeps all that is live, and is counted, up to the largest number of 64 bits. With `counts` each counter
--- block that was taken is below the store's counter.
+-- manifest, and what was put since keeps all that is live, is learnt, and is counted, up to the largest number of 64 bits. With `counts` each
+-- counter block that was taken is below the store's counter.
 pub record StoreFits (counts : Bool) (store : Store) (history : History) : Type 0 where
   pub written : Written
   pub under_way : IsUnderWay counts store.session store.counter written history
@@ -49,6 +49,8 @@ pub record StoreFits (counts : Bool) (store : Store) (history : History) : Type 
   pub manifest : CommitsManifest (repo_view store.repo) written.committed
   pub keeps : Keeps (committed_of written) (entries_of written)
   pub pending : store.pending ≡ min (length written.pending) (2 ^ 64 - 1)
+  pub learnt : (id blob : List ℕ) → id ≢ zero_id → live_in id (entries_of written) ≡ Some blob
+      → (live_in id (committed_of written) ≡ Some blob) ⊎ IsSome (get (repo_view store.repo).log.learnt id)
 
 -- No call on the store answered that it is spent.
 pub record IsUnspent (store : Store) : Type 0 where

@@ -7,6 +7,7 @@ ghost use Rattle.ferry_manifest.specs.Manifest.Text.{manifest_view};
 ghost use Rattle.ferry_manifest.specs.Manifest.Writing.{IsPackable, manifest_text};
 ghost use Rattle.ferry_repo.specs.Opening.{repo_view};
 ghost use Rattle.ferry_stops.specs.Tells.{TellsNothing};
+ghost use Rattle.ferry_store.specs.Causes.{Stops};
 ghost use Rattle.ferry_store.specs.Commit.{CommitsEntry, HasCommitted, RefusesManifestOf, manifest_entry};
 ghost use Rattle.ferry_store.specs.Fault.{source_failed};
 ghost use Rattle.ferry_store.specs.Standing.{with_manifest};
@@ -47,6 +48,7 @@ pub(crate) fn commit_manifest<D: Depot, E: Entropy>(
     ensures untold { Between (D.told depot.old) (D.told depot.new) TellsNothing }
     ensures session { OnOk result (session.new.spent ≡ false) }
     ensures counter { OnOk result (counter.new.spent ≡ false) }
+    ensures stops { IfErr result (λ refusal. Between (D.told depot.old) (D.told depot.new) (Stops session.old counter.old refusal)) }
     ensures cause { HasCause source_failed (E.faults entropy.old) (E.faults entropy.new) result }
 {
     let mut buffer = packed(alloc, entropy, repo.keys(), manifest)?;

@@ -10,6 +10,7 @@ ghost use Rattle.ferry_log.specs.Live.{key_cmp};
 ghost use Rattle.ferry_repo.specs.Objects.{IsMissing};
 ghost use Rattle.ferry_repo.specs.Opening.{FitsRepo, cached_in, repo_view};
 ghost use Rattle.ferry_stops.specs.Tells.{TellsNothing};
+ghost use Rattle.ferry_store.specs.Causes.{Stops};
 ghost use Rattle.ferry_store.specs.Content.{blob_for, HasPut, IsThere, Learns, RefusesNew, RefusesOld};
 ghost use Rattle.ferry_store.specs.Fault.{depot_failed, source_failed};
 ghost use Rattle.ferry_store.specs.State.{Did, KeepsSound};
@@ -58,6 +59,7 @@ pub(crate) fn put_content<D: Depot>(
     ensures after { OnOk result (session.new.after ≡ session.old.after) }
     ensures counter { OnOk result (counter.new.spent ≡ false) }
     ensures refused { IfErr result (RefusesNew session.old counter.old content.now) }
+    ensures stops { IfErr result (λ refusal. Between (D.told depot.old) (D.told depot.new) (Stops session.old counter.old refusal)) }
 {
     let mut buffer = behind_head(alloc, content)?;
     let mode = repo.mode();

@@ -13,6 +13,7 @@ ghost use Rattle.ferry_nonce.specs.declared.fault.NonceFault.TheVariants as Nonc
 ghost use Rattle.ferry_repo.specs.Opening.{mode_of};
 ghost use Rattle.ferry_segment.specs.Entry.{PutEntry};
 ghost use Rattle.ferry_stops.specs.Tells.{TellsNothing};
+ghost use Rattle.ferry_store.specs.Causes.{Stops};
 ghost use Rattle.ferry_store.specs.Fault.{source_failed};
 ghost use Rattle.ferry_store.specs.New.{IsPacked, PutsManifest, first_manifest};
 ghost use Rattle.ferry_store.specs.State.{Did, IsPlaced, KeepsSound, RefusesManifest, RefusesPut, TakesEntry};
@@ -63,6 +64,7 @@ pub(crate) fn put_object<D: Depot>(
     ensures counter { OnOk result (counter.new.spent ≡ false) }
     ensures refused { IfErr result (RefusesPut session.old (41 + length buffer.old)) }
     ensures exhausted { IsErrOf result (Refusal.Nonce Nonces.Exhausted) ↔ IsExhausted counter.old (blocks (length buffer.old - 43)) }
+    ensures stops { IfErr result (λ refusal. Between (D.told depot.old) (D.told depot.new) (Stops session.old counter.old refusal)) }
 {
     let blocks = blocks_of((buffer.len() - HEAD) as u64);
     let first = counter.draw(depot, blocks)?;

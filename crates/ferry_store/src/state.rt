@@ -11,6 +11,7 @@ ghost use Rattle.ferry_disk.specs.declared.name.Name.TheVariants as FileName;
 ghost use Rattle.ferry_log.specs.Log.{IsUncommitted};
 ghost use Rattle.ferry_stops.specs.Counters.{IsNonce};
 ghost use Rattle.ferry_stops.specs.Tells.{TellsNothing};
+ghost use Rattle.ferry_store.specs.Causes.{Stops};
 ghost use Rattle.ferry_store.specs.Fault.{depot_failed, source_failed};
 ghost use Rattle.ferry_store.specs.State.{Begins, BeginsSound, CommitsSound, Did, IsFirst, IsStep, IsTarget};
 ghost use Rattle.ferry_store.specs.State.{RefusesBegin, RefusesCommit, RefusesLog, SettingsSound, TakesCommit, TakesSettings};
@@ -111,6 +112,7 @@ pub(crate) fn commit<D: Depot>(depot: &mut D, session: &mut Session) -> Result<(
     ensures untold { Between (D.told depot.old) (D.told depot.new) TellsNothing }
     ensures session { OnOk result (session.new ≡ after_commit session.old) }
     ensures refused { IfErr result (RefusesCommit session.old) }
+    ensures stops { (counter : Counter) → IfErr result (λ refusal. Between (D.told depot.old) (D.told depot.new) (Stops session.old counter refusal)) }
     ensures numbers { IsErrOf result (Refusal.Write Writes.Numbers) ↔ AreUsedUp session.old.last }
 {
     session.commit(depot)?;

@@ -14,6 +14,7 @@ ghost use Rattle.ferry_repo.specs.Opening.{OpensFilesTo, cached_in, repo_view};
 ghost use Rattle.ferry_repo.specs.contracts.repo.Repo.{the_row as row_of_repo};
 ghost use Rattle.ferry_stops.specs.Tells.{TellsNothing};
 ghost use Rattle.ferry_store.specs.Adding.{Adds, Checkpoints, RefusesAdd, id_under, pending_after};
+ghost use Rattle.ferry_store.specs.Causes.{Stops, StopsAt};
 ghost use Rattle.ferry_store.specs.Commit.{Commits, CommitsEntry, HasCommitted, RefusesManifestOf, accepted_in, manifest_entry};
 ghost use Rattle.ferry_blob.specs.Blob.{OpensTo};
 ghost use Rattle.ferry_store.specs.Content.{IsNew, Learns, RefusesNew, RefusesOld, blob_for};
@@ -192,6 +193,7 @@ impl Store {
         ensures accepted { self.new.accepted ≡ self.old.accepted }
         ensures pending { IfOk result (λ added. self.new.pending ≡ pending_after self.old.pending added.new) }
         ensures refused { IfErr result (λ refusal. IfSome (D.told depot.old) (λ t. RefusesAdd self.old content.now (told_files t) refusal)) }
+        ensures stops { IfErr result (λ refusal. IfSome (D.told depot.new) (λ t. StopsAt (told_files t) (repo_view self.old.repo).keys refusal)) }
         ensures drawn { IfErr result (λ refusal. source_failed refusal ≡ false) }
         ensures unspent { OnOk result (IsUnspent self.new) }
         ensures spent { IfErr result (λ refusal. self.new.spent ≡ spends refusal) }
@@ -228,6 +230,7 @@ impl Store {
         ensures accepted { self.new.accepted ≡ self.old.accepted }
         ensures pending { OnOk result (self.new.pending ≡ pending_after self.old.pending true) }
         ensures refused { IfErr result (RefusesNew self.old.session self.old.counter content.now) }
+        ensures stops { IfErr result (λ refusal. IfSome (D.told depot.new) (λ t. StopsAt (told_files t) (repo_view self.old.repo).keys refusal)) }
         ensures unspent { OnOk result (IsUnspent self.new) }
         ensures spent { IfErr result (λ refusal. self.new.spent ≡ spends refusal) }
     {
@@ -253,6 +256,7 @@ impl Store {
     fn add_old<D: Depot>(&mut self, depot: &mut D, id: Id) -> Result<Added, StoreRefusal>
         requires unspent { IsUnspent self.old }
         requires chunk { id ≢ zero_id }
+        requires unknown { IsKnown self.old id → ⊥ }
         requires live { IsMissing (repo_view self.old.repo).log id → ⊥ }
         requires fits { IfSome (D.told depot.old) (λ t. StoreFits false self.old t.history) }
         ensures did { (content : List ℕ) → Did (KeepsSound self.old.session self.old.counter) (Adds self.old content self.new)
@@ -264,6 +268,7 @@ impl Store {
         ensures accepted { self.new.accepted ≡ self.old.accepted }
         ensures pending { self.new.pending ≡ self.old.pending }
         ensures refused { IfErr result (λ refusal. IfSome (D.told depot.old) (λ t. RefusesOld (told_files t) (repo_view self.old.repo) id refusal)) }
+        ensures stops { IfErr result (λ refusal. IfSome (D.told depot.new) (λ t. StopsAt (told_files t) (repo_view self.old.repo).keys refusal)) }
         ensures drawn { IfErr result (λ refusal. source_failed refusal ≡ false) }
         ensures unspent { OnOk result (IsUnspent self.new) }
         ensures spent { IfErr result (λ refusal. self.new.spent ≡ spends refusal) }
@@ -284,6 +289,9 @@ impl Store {
         ensures accepted { self.new.accepted ≡ self.old.accepted }
         ensures pending { OnOk result (self.new.pending ≡ 0) }
         ensures refused { IfErr result (RefusesCommit self.old.session) }
+        // The same of the files, where the store fits.
+        ensures stops { IfSome (D.told depot.old) (λ t. StoreFits false self.old t.history)
+            → IfErr result (λ refusal. IfSome (D.told depot.new) (λ t. StopsAt (told_files t) (repo_view self.old.repo).keys refusal)) }
         ensures numbers { IsErrOf result (Refusal.Write Writes.Numbers) ↔ AreUsedUp self.old.session.last }
         ensures unspent { OnOk result (IsUnspent self.new) }
         ensures spent { OnErr result (self.new.spent ≡ true) }
@@ -331,6 +339,7 @@ impl Store {
         ensures manifest { IfOk result (λ manifest. manifest_view manifest ≡ written_at (accepted_in self.old) timestamp.now) }
         ensures packable { IfOk result (λ manifest. IsPackable (manifest_view manifest)) }
         ensures rest { self.new ≡ record self.old { session = self.new.session; counter = self.new.counter } }
+        ensures stops { IfErr result (λ refusal. Between (D.told depot.old) (D.told depot.new) (Stops self.old.session self.old.counter refusal)) }
         ensures session { OnOk result (self.new.session.spent ≡ false) }
         ensures counter { OnOk result (self.new.counter.spent ≡ false) }
         ensures entropy { HasCause source_failed (E.faults entropy.old) (E.faults entropy.new) result }
@@ -449,6 +458,7 @@ impl Store {
         ensures pending { OnOk result (self.new.pending ≡ 0) }
         ensures unspent { OnOk result (IsUnspent self.new) }
         ensures spent { IfErr result (λ refusal. self.new.spent ≡ spends refusal) }
+        ensures stops { IfErr result (λ refusal. IfSome (D.told depot.new) (λ t. StopsAt (told_files t) (repo_view self.old.repo).keys refusal)) }
         ensures entropy { HasCause source_failed (E.faults entropy.old) (E.faults entropy.new) result }
     {
         match self.commit_accepted(depot, entropy, timestamp) {

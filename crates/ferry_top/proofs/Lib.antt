@@ -7,3 +7,5 @@ pub mod InitLemmas
 pub mod RunLemmas
 pub mod TransferLemmas
 pub mod RerunLemmas
+pub mod LeftLemmas
+pub mod TransferCauseLemmas

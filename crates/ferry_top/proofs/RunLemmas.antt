@@ -1,11 +1,14 @@
 -- Lemmas on specs/Run.antt: which statuses a command ends with, and what they say of devices that it doesn't use.
 use Rattle.std.proofs.Common.{◌≡◌, ◌⊎◌, inl, inr, ℕ, true, false, List, Option, Some, None, Result, Ok, Err, IfSome, refl, sym, subst}
+use Rattle.ferry_carry.specs.declared.fault.CarryFault.TheVariants as CarryFault
+use Rattle.ferry_disk.proofs.MomentLemmas.{between_map}
 use Rattle.ferry_disk.specs.Device.{Told, Rose}
 use Rattle.ferry_disk.specs.Files.{Files}
 use Rattle.ferry_disk.specs.Moments.{Between}
 use Rattle.ferry_repo.specs.declared.secret.Secret.{Secret}
 use Rattle.ferry_top.proofs.InitLemmas.{each_command}
 use Rattle.ferry_top.proofs.StatusLemmas.{IsOfStore, of_store}
+use Rattle.ferry_top.proofs.TransferCauseLemmas.{ends_done, left_of, memory_refused}
 use Rattle.ferry_top.proofs.TransferLemmas.{each_untouched}
 use Rattle.ferry_top.specs.Check.{Checks}
 use Rattle.ferry_top.specs.Devices.{Devices, HasCauses, Written}
@@ -16,7 +19,8 @@ use Rattle.ferry_top.specs.Init.{CommandEach, IsRefused, time_or}
 use Rattle.ferry_top.specs.MakeKey.{PrintsKey}
 use Rattle.ferry_top.specs.Run.{DoesCommand, Prints, PrintsAsRead, Reports, Runs}
 use Rattle.ferry_top.specs.Status.{source_failed, target_failed, entropy_failed, output_failed}
-use Rattle.ferry_top.specs.Transfer.{Request, TransferEach, asked}
+use Rattle.ferry_top.specs.Transfer.{Request, TransferEach, TransferLeaves, asked}
+use Rattle.ferry_top.specs.TransferCauses.{IsRefusedSo}
 use Rattle.ferry_top.specs.declared.status.Refusal.{Refusal}
 use Rattle.ferry_top.specs.declared.status.Secrets.{Secrets}
 use Rattle.ferry_top.specs.declared.status.Status.{Status}
@@ -253,9 +257,16 @@ does_nothing (Ok (Init iterations timestamp)) secrets all = record {
 }
 does_nothing (Ok (MakeKey iterations)) secrets all = record { source = refl; target = refl; prints = inl refl }
 does_nothing (Ok (Transfer block checkpoint timestamp names)) secrets all =
+    let request = asked secrets block names all.source.told in
+    let told = all.target.told in
+    let refused : IsRefusedSo request told told Memory =
+    record { fault = CarryFault.Memory; status_is = refl; refuses = memory_refused request told told } in
     record {
       output = refl;
-      each = transfer_told (asked secrets block names all.source.told) all.target.told;
+      completes = ends_done request told told Memory (inr refused);
+      refused = inr refused;
       ended = λ e. absurd (let no : ⊥ = cc in no);
+      left = between_map told told (TransferEach request) (TransferLeaves request) (left_of request) (transfer_told request told);
+      each = transfer_told request told;
     }
 does_nothing (Err word) secrets all = refl

@@ -1,12 +1,14 @@
 -- A transfer: what each stop leaves opens, with each archive that was there and those of a front of the chosen names, and at the end with all of them.
-use Rattle.std.proofs.Common.{◌≡◌, ◌↔◌, inl, ℕ, suc, map, Bool, true, false, List, [], ◌∷◌, ◌++◌, Option, Some, None, Ok}
-use Rattle.std.proofs.Common.{Err, unwrap_or, option_map, refl, sym, ◌∙◌, ap, subst, IfSome}
+use Rattle.std.proofs.Common.{◌≡◌, ◌↔◌, ◌⊎◌, inl, inr, ℕ, suc, map, Bool, true, false, List, [], ◌∷◌, ◌++◌, Option, Some, None, Ok}
+use Rattle.std.proofs.Common.{Err, unwrap_or, option_map, slice_get, refl, sym, ◌∙◌, ap, subst, IfSome}
 use Rattle.std.proofs.lemmas.List.{append-nil}
 use Rattle.std.specs.List.{AllByRecursion}
+use Rattle.ferry_blob.specs.Blob.{OpensTo as OpensBlob}
 use Rattle.ferry_carry.proofs.ReportLemmas.{report_none, untold_moments, whole_report}
 use Rattle.ferry_carry.proofs.WholeLemmas.{each_to, whole_kept}
 use Rattle.ferry_carry.proofs.WorkLemmas.{works_both, works_err, works_nothing, works_ok, works_then}
 use Rattle.ferry_carry.specs.Carrying.{AreCut, CarriesOver, IsCarried, Origin, origin}
+use Rattle.ferry_carry.specs.Gather.{BringsOpening}
 use Rattle.ferry_carry.specs.Grow.{Grown, Grows, IsNamedBy, KeepsChunks, KeepsNames, StandsOn}
 use Rattle.ferry_carry.specs.Telling.{IsReport, IsReported, KeepsReported, ReportsWhole, ShowsReport, TellsWhole}
 use Rattle.ferry_carry.specs.Lines.{total_line}
@@ -26,6 +28,7 @@ use Rattle.ferry_log.specs.Log.{Located}
 use Rattle.ferry_log.specs.State.{LogState}
 use Rattle.ferry_manifest.specs.Manifest.Text.{ManifestText}
 use Rattle.ferry_repo.proofs.LawLemmas.{one_repo, opens_fits}
+use Rattle.ferry_repo.specs.Archives.{archive_named}
 use Rattle.ferry_repo.specs.Objects.{HasBlob, HoldsChunk}
 use Rattle.ferry_repo.specs.Fault.{repo_failed}
 use Rattle.ferry_repo.specs.Opening.{FitsRepo, OpensFilesTo, RepoState, cached_in, repo_view}
@@ -43,12 +46,13 @@ use Rattle.ferry_store.proofs.OpenLemmas.{each_here}
 use Rattle.ferry_store.proofs.StandingLemmas.{manifest_learnt, opened_manifest, opened_unlocks, opens_live, state_live}
 use Rattle.ferry_store.proofs.StepLemmas.{did_known, first_kept, moments_map, moments_then}
 use Rattle.ferry_store.specs.Commit.{accepted_in}
-use Rattle.ferry_store.specs.Standing.{OpensLive, UnlocksSettings, committed_of, live_in, with_manifest}
+use Rattle.ferry_store.specs.Standing.{OpensLive, UnlocksSettings, committed_of, entries_of, live_in, with_manifest}
 use Rattle.ferry_store.specs.State.{Did, IsSound, ShowsStanding, Written, found}
 use Rattle.ferry_store.specs.Store.{OpenEach, OpenFits, OpensFound, StoreFits}
 use Rattle.ferry_store.specs.declared.fault.StoreRefusal.{StoreRefusal}
 use Rattle.ferry_store.specs.declared.store.Store.{Store}
-use Rattle.ferry_top.specs.Transfer.{Arrives, IsChosen, IsChosenFront, KeepsArchives, Request, TransferEach, TransferEnds, TransferShows}
+use Rattle.ferry_top.specs.Transfer.{AreCutThere, Arrives, BringsWhatOpens, IsChosen, IsChosenFront, KeepsArchives, Request}
+use Rattle.ferry_top.specs.Transfer.{TransferEach, TransferEnds, TransferShows}
 use Rattle.ferry_top.specs.Transfer.{asked, chosen_of}
 use Rattle.ferry_top.specs.declared.status.Secrets.{Secrets}
 use Rattle.ferry_write.proofs.LawLemmas.{fits_now}
@@ -86,6 +90,22 @@ whole_in start image secret repo committed entries manifest live opens shown chu
           (names name is.named is.named_is ∙ sym is.named_is);
     }
 
+-- what chunks these files have, by entries whose chunks were live in the start or open
+brings_opening : (request : Request) (start image : Files) (repo next : RepoState) (committed entries : List LogEntry) (log : LogState)
+    → OpensFilesTo start request.secrets.target repo → Shows start (Some committed) → BringsOpening repo.keys committed entries
+    → ((id blob : List ℕ) → HasBlob image log id blob → live_in id entries ≡ Some blob)
+    → BringsWhatOpens request start image (record next { log = log })
+brings_opening request start image repo next committed entries log opens shown opening blobs before other id blob apart has =
+    so (opening id blob apart (blobs id blob has))
+  where
+    same : repo ≡ before
+    same = one_repo start request.secrets.target repo before opens other
+
+    so : (live_in id committed ≡ Some blob) ⊎ ((content : List ℕ) × OpensBlob repo.keys id blob content)
+        → HasBlob start before.log id blob ⊎ ((content : List ℕ) × OpensBlob before.keys id blob content)
+    so (inl live) = inl ((state_live start before.log committed other.opens.unlocks.reads shown id blob).1 live)
+    so (inr opens_to) = inr (opens_to.0, subst (λ (r : RepoState). OpensBlob r.keys id blob opens_to.0) same opens_to.1)
+
 -- none of the chosen names
 front_here : (request : Request) (source : Option Files) → IfSome source (IsChosenFront request [])
 front_here request None = tt
@@ -95,6 +115,12 @@ none_arrived : (request : Request) (image : Files) (repo : RepoState) (source : 
     → IfSome source (λ files. AllByRecursion (Arrives request files image repo) [])
 none_arrived request image repo None = tt
 none_arrived request image repo (Some files) = tt
+
+none_cut : (request : Request) (before : ManifestText) (repo : RepoState) (source : Option Files)
+    → IfSome source (AreCutThere request before repo [])
+none_cut request before repo None = tt
+none_cut request before repo (Some files) = λ name among none.
+    let got : slice_get [] among.0 ≡ Some name = among.1 in absurd (let no : ⊥ = cc in no)
 
 pub shown_keeps : (request : Request) (start image : Files) (repo : RepoState) (committed : List LogEntry)
     → OpensFilesTo start request.secrets.target repo → Shows start (Some committed) → ShowsStanding (found (Some committed) start) image
@@ -107,13 +133,17 @@ shown_keeps request start image repo committed opens shown standing =
     record {
       repo = record repo { log = live.log };
       opens = live.opens;
+      config = standing.1;
       names = λ name entry is. is;
       wholes = whole_in start image secret repo committed committed repo.manifest live opens shown (λ id blob apart e. e) (λ name entry is. is);
       done = [];
       front = front_here request request.source;
       arrived = none_arrived request image (record repo { log = live.log }) request.source;
+      cut = none_cut request repo.manifest (record repo { log = live.log }) request.source;
       only = λ name entry is. inl is;
-      told = report_none [];
+      opening = brings_opening request start image repo repo committed committed live.log opens shown (λ id blob apart e. inl e)
+          (λ id blob has. (live.blobs id blob).0 has);
+      told = report_none repo.manifest [];
     }
 
 -- ---- the names that were carried
@@ -130,7 +160,10 @@ arrives : (request : Request) (there image : Files) (source next : RepoState) (e
 arrives request there image source next entries log name source_opens opens blobs c = record {
   whole = c.whole;
   whole_there = record { repo = source; opens = source_opens; is = c.source };
+  entry = c.entry;
+  entry_is = c.entry_is;
   text = c.text;
+  id = c.id;
   record_is = c.record_is;
   there = λ scope apart adds within.
       record {
@@ -171,13 +204,31 @@ module _ (secrets : Secrets) (block : ℕ) (names : List (List ℕ)) (source : R
       (Arrives (asked secrets block names (Some t)) (told_files t) image (record next { log = log })) done
       (λ name c. arrives (asked secrets block names (Some t)) (told_files t) image source next entries log name source_opens opens blobs c) carried
 
+  all_cut : (told : Option Told) (accepted before : ManifestText) (next : RepoState) (log : LogState) (done : List (List ℕ)) → SourceOpens told
+      → accepted ≡ before → AreCut accepted (origin told source block) next.keys next.manifest.archives done
+      → IfSome (asked secrets block names told).source (AreCutThere (asked secrets block names told) before (record next { log = log }) done)
+  all_cut None accepted before next log done source_opens same cut = tt
+  all_cut (Some t) accepted before next log done source_opens same cut = λ name among none.
+      let c = cut name among (ap (λ (m : ManifestText). archive_named name m.archives) same ∙ none) in
+      record {
+        whole = c.whole;
+        whole_there = record { repo = source; opens = source_opens; is = c.source };
+        entry = c.entry;
+        entry_is = c.entry_is;
+        text = c.text;
+        id = c.id;
+        copy = c.copy;
+      }
+
   -- what stands keeps the archives, with those that were carried
   stands_keeps : (told : Option Told) (chosen : List (List ℕ)) (accepted : ManifestText) (start image : Files) (repo : RepoState) (written : Written)
       (committed : List LogEntry) → SourceOpens told → chosen ≡ chosen_of names source.manifest → accepted ≡ repo.manifest
-      → OpensFilesTo start secrets.target repo → Shows start (Some committed) → committed_of written ≡ committed → written.config ≡ start.config
-      → (lines : List (List ℕ)) → (stands : StandsOn (origin told source block) chosen accepted repo written image) → IsReport lines stands.done
+      → OpensFilesTo start secrets.target repo → Shows start (Some committed) → committed_of written ≡ committed → entries_of written ≡ committed
+      → written.config ≡ start.config → (lines : List (List ℕ)) → (stands : StandsOn (origin told source block) chosen accepted repo written image)
+      → IsReport accepted lines stands.done
       → (keeps : KeepsArchives (asked secrets block names told) start repo.manifest lines image) × (keeps.done ≡ stands.done)
-  stands_keeps told chosen accepted start image repo written committed source_opens chosen_is accepted_is opens shown same config lines stands report =
+  stands_keeps told chosen accepted start image repo written committed source_opens chosen_is accepted_is opens shown same all config lines stands
+      report =
       let secret = secrets.target in
       let next = with_manifest repo stands.manifest in
       let unlocks : UnlocksSettings secret image.config repo.config repo.keys =
@@ -188,13 +239,17 @@ module _ (secrets : Secrets) (block : ℕ) (names : List (List ℕ)) (source : R
         record {
           repo = record next { log = live.log };
           opens = live.opens;
+          config = stands.config ∙ config;
           names = stands.names;
           wholes = whole_in start image secret repo committed stands.entries stands.manifest live opens shown chunks stands.names;
           done = stands.done;
           front = front_of told stands.done stands.rest source_opens (sym chosen_is ∙ stands.front);
           arrived = all_arrived told image next stands.entries live.log stands.done source_opens live.opens live.blobs stands.carried;
+          cut = all_cut told accepted repo.manifest next live.log stands.done source_opens accepted_is stands.cut;
           only = subst (λ (m : ManifestText). IsNamedBy m stands.done stands.manifest) accepted_is stands.only;
-          told = report;
+          opening = brings_opening (asked secrets block names told) start image repo next committed stands.entries live.log opens shown
+              (subst (λ (c : List LogEntry). BringsOpening repo.keys c stands.entries) all stands.opening) (λ id blob has. (live.blobs id blob).0 has);
+          told = subst (λ (m : ManifestText). IsReport m lines stands.done) accepted_is report;
         },
         refl,
       )
@@ -251,6 +306,8 @@ grown_stands from chosen accepted store now h g fits settled grown =
         manifest = manifest;
         shown = subst (λ (c : Option (List LogEntry)). Shows (files_now g) c) commits.is shown;
         chunks = subst (λ (c : List LogEntry). KeepsChunks (committed_of fits.written) c) entries_are grown.chunks;
+        opening = λ id blob apart live. grown.opening id blob apart
+            (fits_then.keeps id blob (subst (λ (c : List LogEntry). live_in id c ≡ Some blob) (sym entries_are) live));
         holds = commits.holds;
         names = grown.most.names;
         config = config ∙ grown.config;
@@ -280,11 +337,12 @@ module _ (secrets : Secrets) (block : ℕ) (names : List (List ℕ)) (source : R
   stands_opened : (store : Store) (h g : History) (lines : List (List ℕ)) (image : Files) → IsSettled store
       → OpensFilesTo (files_now h) secrets.target (repo_view store.repo)
       → (o : OpensFound false store h g) → (stands : StandsOn from chosen (accepted_in store) (repo_view store.repo) o.fits.written image)
-      → IsReport lines stands.done
+      → IsReport (accepted_in store) lines stands.done
       → (keeps : KeepsArchives request (files_now h) (repo_view store.repo).manifest lines image) × (keeps.done ≡ stands.done)
   stands_opened store h g lines image settled opens o stands report =
       stands_keeps secrets block names source told chosen (accepted_in store) (files_now h) image (repo_view store.repo) o.fits.written o.committed
-      source_opens chosen_is settled opens o.shown (ap committed_of o.found_is) (ap (λ (w : Written). w.config) o.found_is) lines stands report
+      source_opens chosen_is settled opens o.shown (ap committed_of o.found_is) (ap entries_of o.found_is ∙ append-nil o.committed)
+      (ap (λ (w : Written). w.config) o.found_is) lines stands report
 
   -- the same at a moment, by all lines that were told
   kept_at : (store : Store) (h g k : History) → h.acts ≡ [] → TellsNothing h g → IsSettled store
@@ -325,11 +383,11 @@ module _ (secrets : Secrets) (block : ℕ) (names : List (List ℕ)) (source : R
 
   ends_then : (store now : Store) (h g i : History) → IsSettled store → IsSettled now
       → OpensFilesTo (files_now h) secrets.target (repo_view store.repo) → TellsNothing h g → OpenFits store h g → Grows from chosen store now g i
-      → TellsWhole chosen g i → TransferEnds request h i
+      → TellsWhole (accepted_in store) chosen g i → TransferEnds request h i
   ends_then store now h g i settled settled_now opens untold fits grows told_then begun =
       let o = fits false begun (λ c. absurd (let no : ⊥ = cc in no)) in
       let stands = grown_stands from chosen (accepted_in store) store now g i o.fits settled_now (grows false o.fits) in
-      let whole : TellsWhole chosen h i = (
+      let whole : TellsWhole (accepted_in store) chosen h i = (
         told_then.0,
         (
           told_then.1.0,
@@ -339,14 +397,16 @@ module _ (secrets : Secrets) (block : ℕ) (names : List (List ℕ)) (source : R
           ),
         ),
       ) in
-      let report = subst (λ (l : List (List ℕ)). IsReport (lines_of i.acts) l) (sym stands.1) (whole_report chosen h i (untold_yet h begun) whole) in
+      let report = subst (λ (l : List (List ℕ)). IsReport (accepted_in store) (lines_of i.acts) l) (sym stands.1)
+      (whole_report (accepted_in store) chosen h i (untold_yet h begun) whole) in
       let kept = stands_opened store h g (lines_of i.acts) (files_now i) settled opens o stands.0 report in
       record {
         repo = repo_view store.repo;
         opens = opens;
         keeps = kept.0;
         all = all_of secrets block names source told kept.0.done source_opens (kept.1 ∙ (stands.1 ∙ chosen_is));
-        told_all = subst (λ (l : List (List ℕ)). TellsWhole l h i) (sym (kept.1 ∙ stands.1)) whole;
+        told_all = subst (λ (m : ManifestText). TellsWhole m kept.0.done h i) settled
+            (subst (λ (l : List (List ℕ)). TellsWhole (accepted_in store) l h i) (sym (kept.1 ∙ stands.1)) whole);
       }
 
   -- the store that was opened, over the files that opened to its repository
@@ -375,8 +435,8 @@ module _ (secrets : Secrets) (block : ℕ) (names : List (List ℕ)) (source : R
       → Works (TransferEach request) (λ (_ : U). TransferEnds request) a c n k (Ok y)
   copied_all {T} {U} store now a b c n m k x y settled settled_now opens untold opened carried =
       let all = works_then OpensUntold OpensToUntold (KeepsReported from chosen store)
-      (λ (_ : T) h g. Grows from chosen store now h g × TellsWhole chosen h g) (TransferEach request) (λ (_ : T). TransferEnds request) a b c n m k store
-      (Ok x)
+      (λ (_ : T) h g. Grows from chosen store now h g × TellsWhole (accepted_in store) chosen h g) (TransferEach request)
+      (λ (_ : T). TransferEnds request) a b c n m k store (Ok x)
       (λ h g i each done fits reported. transfer_then store h g i settled fits.1.0 each.0 each.1 done fits.1.1 reported)
       (λ _ h g i fits end. ends_then store now h g i settled settled_now fits.1.0 fits.0.0 fits.1.1 end.0 end.1)
       (opened_works store a b n m opens untold opened) carried in
@@ -389,7 +449,7 @@ module _ (secrets : Secrets) (block : ℕ) (names : List (List ℕ)) (source : R
       → Works (TransferEach request) (λ (_ : U). TransferEnds request) a c n k (Err fault)
   copied_some {T} {U} store now a b c n m k fault settled opens untold opened carried =
       let all = works_then OpensUntold OpensToUntold (KeepsReported from chosen store)
-      (λ (_ : T) h g. Grows from chosen store now h g × TellsWhole chosen h g) (TransferEach request)
+      (λ (_ : T) h g. Grows from chosen store now h g × TellsWhole (accepted_in store) chosen h g) (TransferEach request)
       (λ (_ : T) (h : History) (g : History). Unit {0}) a b c n m k store (Err fault)
       (λ h g i each done fits reported. transfer_then store h g i settled fits.1.0 each.0 each.1 done fits.1.1 reported) (λ _ h g i e f. tt)
       (opened_works store a b n m opens untold opened) carried in

@@ -11,3 +11,5 @@ pub mod Status
 pub mod Words
 pub mod Transfer
 pub mod Rerun
+pub mod TransferCauses
+pub mod Transferring

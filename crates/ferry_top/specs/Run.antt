@@ -15,7 +15,8 @@ use Rattle.ferry_top.specs.MakeKey.{MakesKey}
 use Rattle.ferry_view.specs.Items.{RefusesItems, RefusesFile}
 use Rattle.ferry_top.specs.Items.{ShowsItems, ShowsItemsFront, ShowsFile, ShowsFileFront, RefusesShowing, LacksArchive, LacksPath}
 use Rattle.ferry_top.specs.Status.{fault_line, RefusesKeys}
-use Rattle.ferry_top.specs.Transfer.{Transfers, asked}
+use Rattle.ferry_top.specs.Transfer.{asked}
+use Rattle.ferry_top.specs.Transferring.{Transfers}
 use Rattle.ferry_words.specs.declared.command.Command.{Command}
 use Rattle.ferry_words.specs.declared.command.Command.TheVariants.{Keys, Key, List as ListArchives, ListItems, Extract, Check, Init, MakeKey, Transfer}
 use Rattle.ferry_top.specs.declared.status.Refusal.{Refusal}

@@ -1,8 +1,10 @@
 -- What the command that copies archives leaves in its target, whatever a stop of the machine does, and what it has copied at its end.
-use Rattle.std.specs.Prelude.{◌≡◌, ℕ, List, [], ◌∷◌, ◌++◌, map, Option, option_map, IfSome}
+use Rattle.std.specs.Prelude.{◌≡◌, ◌≢◌, ◌⊎◌, ℕ, List, [], ◌∷◌, ◌++◌, map, Option, Some, None, option_map, IfSome}
 use Rattle.std.specs.List.{AllByRecursion}
+use Rattle.ferry_base.specs.Limits.{zero_id}
+use Rattle.ferry_blob.specs.Blob.{OpensTo, content_id}
 use Rattle.ferry_carry.specs.Carrying.{IsRecordText}
-use Rattle.ferry_carry.specs.Copied.{adds_of}
+use Rattle.ferry_carry.specs.Copied.{IsCopyOf, adds_of}
 use Rattle.ferry_carry.specs.Gather.{HoldsWithin, IsAmong, NoCollision}
 use Rattle.ferry_carry.specs.Grow.{IsNamedBy, KeepsNames}
 use Rattle.ferry_carry.specs.Telling.{IsReport, TellsWhole}
@@ -12,15 +14,14 @@ use Rattle.ferry_disk.specs.Files.{Files}
 use Rattle.ferry_disk.specs.Moments.{Between, Moments}
 use Rattle.ferry_manifest.specs.Manifest.Text.{ManifestText}
 use Rattle.ferry_manifest.specs.declared.manifest.ArchiveRef.{ArchiveRef}
+use Rattle.ferry_repo.specs.Archives.{archive_named}
+use Rattle.ferry_repo.specs.Objects.{HasBlob}
 use Rattle.ferry_repo.specs.Opening.{RepoState, OpensFilesTo}
 use Rattle.ferry_repo.specs.Whole.{HasWhole, WholeArchive}
 use Rattle.ferry_stops.specs.Chance.{EachStop}
 use Rattle.ferry_stops.specs.Tells.{lines_of}
 use Rattle.ferry_store.specs.Store.{InitKeeps}
-use Rattle.ferry_top.specs.Devices.{Devices}
 use Rattle.ferry_top.specs.declared.status.Secrets.{Secrets}
-use Rattle.ferry_top.specs.declared.status.Status.{Status}
-use Rattle.ferry_top.specs.declared.status.Status.TheVariants.{Done}
 use Rattle.ferry_write.specs.Session.{SettlesFirst}
 
 -- ---- what is asked for
@@ -49,31 +50,59 @@ asked secrets block names told =
 pub record Arrives (request : Request) (source image : Files) (repo : RepoState) (name : List ℕ) : Type 0 where
   pub whole : WholeArchive
   pub whole_there : HasWhole source request.secrets.source name whole
+  pub entry : ArchiveRef
+  pub entry_is : archive_named name repo.manifest.archives ≡ Some entry
   pub text : List ℕ
+  pub id : entry.id ≡ content_id repo.keys text
   pub record_is : IsRecordText repo.keys text whole
   pub there : (scope : List (List ℕ)) → NoCollision repo.keys scope
       → AllByRecursion (IsAmong scope) (adds_of repo.keys request.block whole.items text) → HoldsWithin scope image repo
       → HasWhole image request.secrets.target name whole
+
+-- The archive of a name is whole in the source. In the target its entry has the id of a record with its fields, and with the ids of the pieces of its stream,
+-- which spells its items with the chunks of their contents, cut.
+pub record IsCutThere (request : Request) (source : Files) (repo : RepoState) (name : List ℕ) : Type 0 where
+  pub whole : WholeArchive
+  pub whole_there : HasWhole source request.secrets.source name whole
+  pub entry : ArchiveRef
+  pub entry_is : archive_named name repo.manifest.archives ≡ Some entry
+  pub text : List ℕ
+  pub id : entry.id ≡ content_id repo.keys text
+  pub copy : IsCopyOf repo.keys request.block whole.items whole.fields text
+
+-- Of these names each is cut so that a manifest lacks.
+abbrev pub AreCutThere : Request → ManifestText → RepoState → List (List ℕ) → Files → Type 0
+AreCutThere request before repo done source = (name : List ℕ) → IsAmong done name → archive_named name before.archives ≡ None
+    → IsCutThere request source repo name
+
+-- Each chunk that is live in these files was live in those that they began with, with the same blob, or its blob opens.
+abbrev pub BringsWhatOpens : Request → Files → Files → RepoState → Type 0
+BringsWhatOpens request start image repo = (before : RepoState) → OpensFilesTo start request.secrets.target before → (id blob : List ℕ) → id ≢ zero_id
+    → HasBlob image repo.log id blob → HasBlob start before.log id blob ⊎ ((content : List ℕ) × OpensTo before.keys id blob content)
 
 -- Where the source's files open, these names are a front of those that are chosen.
 abbrev pub IsChosenFront : Request → List (List ℕ) → Files → Type 0
 IsChosenFront request done files = (repo : RepoState) → OpensFilesTo files request.secrets.source repo
     → (rest : List (List ℕ)) × (chosen_of request.names repo.manifest ≡ done ++ rest)
 
--- Files open under the target's secret, and each archive that these had is named there, and says the same where it was whole. Of the chosen names
--- those of a front arrived, and beside them and those that were there no other is named. These lines tell a front of those that arrived, and behind
--- them perhaps the whole.
+-- Files open under the target's secret, with the settings that these had, and each archive of these is named there, and says the same where it was
+-- whole. Of the chosen names
+-- those of a front arrived, cut anew where they weren't there, and beside them and those that were there no other is named. What chunks came, open.
+-- These lines tell a front of those that arrived, and behind them perhaps the whole.
 pub record KeepsArchives (request : Request) (start : Files) (before : ManifestText) (lines : List (List ℕ)) (image : Files) : Type 0 where
   pub repo : RepoState
   pub opens : OpensFilesTo image request.secrets.target repo
+  pub config : image.config ≡ start.config
   pub names : KeepsNames before repo.manifest
   pub wholes : (name : List ℕ) (whole : WholeArchive) → HasWhole start request.secrets.target name whole
       → HasWhole image request.secrets.target name whole
   pub done : List (List ℕ)
   pub front : IfSome request.source (IsChosenFront request done)
   pub arrived : IfSome request.source (λ files. AllByRecursion (Arrives request files image repo) done)
+  pub cut : IfSome request.source (AreCutThere request before repo done)
   pub only : IsNamedBy before done repo.manifest
-  pub told : IsReport lines done
+  pub opening : BringsWhatOpens request start image repo
+  pub told : IsReport before lines done
 
 -- ---- each stop
 
@@ -100,16 +129,15 @@ pub record HasTransferred (request : Request) (before now : History) : Type 0 wh
   pub opens : OpensFilesTo (files_now before) request.secrets.target repo
   pub keeps : KeepsArchives request (files_now before) repo.manifest (lines_of now.acts) (files_now now)
   pub all : IfSome request.source (IsChosen request keeps.done)
-  pub told_all : TellsWhole keeps.done before now
+  pub told_all : TellsWhole repo.manifest keeps.done before now
 
 -- The same of a run that had made no act.
 abbrev pub TransferEnds : Request → History → History → Type 0
 TransferEnds request before now = before.acts ≡ [] → HasTransferred request before now
 
--- Archives are copied into the target. Whatever a stop leaves at any moment opens, with each archive that the target had and those of a front of the
--- chosen names, those that were told among them; the counter blocks of the runs before stay apart. Where it is done, all chosen archives are there and
--- were told. The output is not used.
-pub record Transfers (request : Request) (before : Devices) (status : Status) (after : Devices) : Type 0 where
-  pub output : after.output ≡ before.output
-  pub each : Between before.target.told after.target.told (TransferEach request)
-  pub ended : status ≡ Done → Between before.target.told after.target.told (TransferEnds request)
+-- ---- at each end
+
+-- Over files that opened, behind a run that had made no act, what is read of them keeps the archives, however it ended.
+abbrev pub TransferLeaves : Request → History → History → Type 0
+TransferLeaves request before now = before.acts ≡ [] → (repo : RepoState) → OpensFilesTo (files_now before) request.secrets.target repo
+    → KeepsArchives request (files_now before) repo.manifest (lines_of now.acts) (files_now now)

@@ -1,13 +1,19 @@
 //! Laws of what `run` says, each the contract of a function with nothing to do.
 ghost use Rattle.std.specs.Prelude.{◌≡◌, ◌↔◌, List, [], ℕ, Some};
 ghost use Rattle.std.specs.List.{AllByRecursion};
+ghost use Rattle.ferry_carry.specs.Gather.{IsAmong};
 ghost use Rattle.ferry_disk.specs.Device.{Told, told_files};
-ghost use Rattle.ferry_disk.specs.Files.{Files};
+ghost use Rattle.ferry_disk.specs.Files.{Files, file_at};
+ghost use Rattle.ferry_disk.specs.declared.name.Name.TheVariants.{Nonce};
 ghost use Rattle.ferry_repo.specs.Opening.{OpensFilesTo, RepoState};
 ghost use Rattle.ferry_repo.specs.declared.secret.Secret.{Secret};
+ghost use Rattle.ferry_repo.specs.Whole.{HasWhole, WholeArchive};
+ghost use Rattle.ferry_stops.specs.Counters.{SpellsNumber};
+ghost use Rattle.ferry_store.specs.New.{OpensNew};
 ghost use Rattle.ferry_top.specs.Init.{IsFault, IsReady, IsRefused};
 ghost use Rattle.ferry_top.specs.Rerun.{AreLeftInTurn, EachChosen, IsNamedOrChosen, LacksName, MeetsConditions, NoneCollideIn};
-ghost use Rattle.ferry_top.specs.Transfer.{KeepsArchives, Request};
+ghost use Rattle.ferry_top.specs.Transfer.{KeepsArchives, Request, chosen_of};
+ghost use Rattle.ferry_top.specs.TransferCauses.{IsReadyFor};
 ghost use Rattle.ferry_top.specs.declared.status.Status.{Status as TheStatus};
 
 /// Where nothing is committed, the key file reads and opens where there is one, `nonce` has a number, and no limit is met, `init` is refused by
@@ -33,7 +39,18 @@ pub fn transfer_laws()
         → request.source ≡ Some source → OpensFilesTo source request.secrets.source from
         → (keeps : KeepsArchives request start before.manifest lines image) (name : List ℕ)
         → IsNamedOrChosen request from.manifest keeps.repo.manifest name ↔ IsNamedOrChosen request from.manifest before.manifest name }
+    // The same of all that a transfer asks so that it is done, where the file `nonce` has a number.
+    ensures ready { (request : Request) (source start image : Files) (lines : List (List ℕ)) → request.source ≡ Some source
+        → (ready : IsReadyFor request source start) → (keeps : KeepsArchives request start ready.repo.manifest lines image)
+        → NoneCollideIn request image keeps.repo keeps.done request.source keeps.arrived → (text : List ℕ) (number : ℕ)
+        → file_at image Nonce ≡ Some text → SpellsNumber text number → IsReadyFor request source image }
     // A target that opens and lacks each chosen name meets the conditions.
     ensures first { (request : Request) (start : Files) (repo : RepoState) → OpensFilesTo start request.secrets.target repo
         → EachChosen request request.source (λ source name. LacksName repo.manifest name) → MeetsConditions request start }
+    // A new repository is ready for archives that are whole in the source.
+    ensures fresh { (request : Request) (source start : Files) (from : RepoState) → OpensFilesTo source request.secrets.source from
+        → ((name : List ℕ) → IsAmong (chosen_of request.names from.manifest) name
+        → (whole : WholeArchive) × HasWhole source request.secrets.source name whole)
+        → OpensNew request.secrets.target start → (text : List ℕ) (number : ℕ) → file_at start Nonce ≡ Some text → SpellsNumber text number
+        → IsReadyFor request source start }
 {}

@@ -1,5 +1,6 @@
 //! The command that copies archives.
-ghost use Rattle.std.specs.Prelude.{◌≡◌, ℕ, [], false, map, IfErr, IfOk, IfSome};
+ghost use Rattle.std.specs.Prelude.{◌≡◌, ◌⊎◌, ℕ, List, [], false, map, slice_get, IfErr, IfOk, IfSome, Some};
+ghost use Rattle.ferry_carry.specs.Chosen.{IsMissingName};
 ghost use Rattle.ferry_carry.specs.Fault.{random_failed, shelf_failed, target_failed as depot_failed};
 ghost use Rattle.ferry_carry.specs.Flight.{AreRight};
 ghost use Rattle.ferry_carry.specs.Work.{Works};
@@ -9,7 +10,8 @@ ghost use Rattle.ferry_disk.specs.Moments.{Between};
 ghost use Rattle.ferry_manifest.specs.declared.manifest.ArchiveRef.{ArchiveRef};
 ghost use Rattle.ferry_repo.specs.Opening.{FitsRepo, OpensFilesTo, cached_in, repo_view};
 ghost use Rattle.ferry_top.specs.Status.{entropy_failed, output_failed, source_failed, target_failed};
-ghost use Rattle.ferry_top.specs.Transfer.{TransferEach, TransferEnds, asked, chosen_of};
+ghost use Rattle.ferry_top.specs.Transfer.{TransferEach, TransferEnds, TransferLeaves, asked, chosen_of};
+ghost use Rattle.ferry_top.specs.TransferCauses.{EndsDone, IsRefusedSo, RefusesAsked};
 
 use crate::status::{Secrets, Status, of_carry, of_repo};
 use ferry_base::Bytes;
@@ -36,6 +38,11 @@ pub(crate) fn transfer<S: Shelf, D: Depot, E: Entropy>(
         (TransferEach (asked secrets.now options.now.block names.now (S.told source.old))) }
     ensures ended { result ≡ Status.Done → Between (D.told target.old) (D.told target.new)
         (TransferEnds (asked secrets.now options.now.block names.now (S.told source.old))) }
+    ensures refused { (result ≡ Status.Done) ⊎ IsRefusedSo (asked secrets.now options.now.block names.now (S.told source.old))
+        (D.told target.old) (D.told target.new) result }
+    ensures completes { EndsDone (asked secrets.now options.now.block names.now (S.told source.old)) (D.told target.old) (D.told target.new) result }
+    ensures left { Between (D.told target.old) (D.told target.new)
+        (TransferLeaves (asked secrets.now options.now.block names.now (S.told source.old))) }
     ensures same { KeptWhere (source_failed result) (heard (S.told source.old)) (S.told source.new) }
     ensures cause { RoseWhere (source_failed result) (S.faults source.old) (S.faults source.new) }
     ensures ends { FailedWhere (target_failed result) (D.told target.old) (D.told target.new) }
@@ -66,6 +73,8 @@ fn copy<S: Shelf, D: Depot, E: Entropy>(
     ensures works { Works (TransferEach (asked secrets.now options.now.block names.now (S.told source.old)))
         (λ _. TransferEnds (asked secrets.now options.now.block names.now (S.told source.old)))
         (D.told target.old) (D.told target.new) (D.faults target.old) (D.faults target.new) result }
+    ensures refused { IfErr result (RefusesAsked (asked secrets.now options.now.block names.now (S.told source.old))
+        (D.told target.old) (D.told target.new)) }
     ensures same { KeepsTold shelf_failed (S.told source.old) (S.told source.new) result }
     ensures cause { HasCause shelf_failed (S.faults source.old) (S.faults source.new) result }
     ensures entropy { HasCause random_failed (E.faults entropy.old) (E.faults entropy.new) result }
@@ -95,6 +104,8 @@ fn copy_into<S: Shelf, D: Depot, E: Entropy>(
     ensures works { Works (TransferEach (asked secrets.now options.now.block names.now (S.told source.old)))
         (λ _. TransferEnds (asked secrets.now options.now.block names.now (S.told source.old)))
         (D.told target.old) (D.told target.new) (D.faults target.old) (D.faults target.new) result }
+    ensures refused { IfErr result (RefusesAsked (asked secrets.now options.now.block names.now (S.told source.old))
+        (D.told target.old) (D.told target.new)) }
     ensures same { KeepsTold shelf_failed (S.told source.old) (S.told source.new) result }
     ensures cause { HasCause shelf_failed (S.faults source.old) (S.faults source.new) result }
     ensures entropy { HasCause random_failed (E.faults entropy.old) (E.faults entropy.new) result }
@@ -110,6 +121,8 @@ fn copy_into<S: Shelf, D: Depot, E: Entropy>(
 
 /// Answers `NotFound` where the source lacks one of these names.
 fn find_names(alloc: Global, repo: &Repo, names: &[Bytes]) -> Result<(), CarryFault>
+    ensures refused { IfErr result (λ fault. (fault ≡ CarryFault.Memory) ⊎ ((place : ℕ) × ((name : List ℕ)
+        × (IsMissingName (repo_view repo.now).manifest names.now place × ((slice_get names.now place ≡ Some name) × (fault ≡ CarryFault.NotFound name)))))) }
     ensures shelf { IfErr result (λ fault. shelf_failed fault ≡ false) }
     ensures still { IfErr result (λ fault. depot_failed fault ≡ false) }
     ensures drawn { IfErr result (λ fault. random_failed fault ≡ false) }

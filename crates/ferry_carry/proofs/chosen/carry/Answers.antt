@@ -65,7 +65,7 @@ returns-in_err-tell-clause-works g c =
     let from = origin (g.S.Shelf.told c.args.shelf.now) (repo_view c.args.source.now) c.args.options.now.block in
     err_is c.from_residual-in_err-tell.result fault (λ (r : Result Carried CarryFault). ReportsWhole from names store now a d n k r)
     c.from_residual-in_err-tell.ensures.1
-    (whole_untold {T = Unit {0}} {U = Unit {0}} {V = Carried} from carried names line store now a b d n m k tt fault is
+    (whole_untold {T = Unit {0}} {U = Unit {0}} {V = Carried} from carried names line store now a b d n m k tt fault is c.requires.settled
     (accepts_on now now ensures.settled) ensures.works c.in_err-tell.ensures.works)
 
 pub returns-clause-works : goal.returns-clause-works
@@ -85,7 +85,7 @@ returns-clause-works g c =
     let ensures = c.in_ok-carry_all.ensures in
     let from = origin (g.S.Shelf.told c.args.shelf.now) (repo_view c.args.source.now) c.args.options.now.block in
     reports_whole {T = Unit {0}} {U = Unit {0}} {V = Carried} from carried names line store now a b d n m k tt tt carried is
-    (accepts_on now now ensures.settled) ensures.works c.in_ok-tell.ensures.works
+    c.requires.settled (accepts_on now now ensures.settled) ensures.works c.in_ok-tell.ensures.works
 
 pub returns-in_err-carry_all-clause-nothing : goal.returns-in_err-carry_all-clause-nothing
 returns-in_err-carry_all-clause-nothing g c =

@@ -57,7 +57,8 @@ loop-place-preserved g c =
       works = reports_more (origin told source block) (origin later after block) c.args.names.now c.loop-place.place name _ store c.loop-place.store now
           (g.D.Shelf.told c.args.depot.now) (g.D.Shelf.told c.loop-place.depot) (g.D.Shelf.told c.carry_one.new.depot)
           (g.D.Shelf.faults c.args.depot.now) (g.D.Shelf.faults c.loop-place.depot) (g.D.Shelf.faults c.carry_one.new.depot) (Ok tt)
-          (origin_kept told later source after block block invariant.alike invariant.repo refl) lt named invariant.works ensures.works;
+          (origin_kept told later source after block block invariant.alike invariant.repo refl) lt named c.requires.settled
+          (accepts_on c.loop-place.store c.loop-place.store invariant.settled) c.requires.fits invariant.works ensures.works;
     }
 
 pub returns-in_err-carry_one-clause-works : goal.returns-in_err-carry_one-clause-works
@@ -85,7 +86,8 @@ returns-in_err-carry_one-clause-works g c =
     (reports_front {T = Unit {0}} {U = Unit {0}} from names (c.loop-place.place + 1) store now a d n k fault
     (reports_more from (origin later after block) names c.loop-place.place name _ store c.loop-place.store now a (g.D.Shelf.told c.loop-place.depot) d n
     (g.D.Shelf.faults c.loop-place.depot) k (Err fault) (origin_kept told later source after block block invariant.alike invariant.repo refl) lt
-    named invariant.works c.in_err-carry_one.ensures.works))
+    named c.requires.settled (accepts_on c.loop-place.store c.loop-place.store invariant.settled) c.requires.fits invariant.works
+    c.in_err-carry_one.ensures.works))
 
 pub returns-clause-works : goal.returns-clause-works
 returns-clause-works g c =

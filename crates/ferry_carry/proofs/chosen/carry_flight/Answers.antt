@@ -39,7 +39,7 @@ returns-in_err-tell_name-clause-works g c =
     err_is c.from_residual-in_err-tell_name.result fault (λ (r : Result (Unit {0}) CarryFault). Reports from (name ∷ []) store now a d n k r)
     c.from_residual-in_err-tell_name.ensures.1
     (reports_name {T = Bool} {U = Unit {0}} from c.in_ok-named.named name c.args.name.now store now a b d n m k c.in_ok-named.named (Err fault)
-    c.requires.called (accepts_on now now ensures.settled) ensures.works c.in_err-tell_name.ensures.works)
+    c.requires.called (accepts_on now now ensures.settled) ensures.word ensures.works c.in_err-tell_name.ensures.works)
 
 pub returns-clause-works : goal.returns-clause-works
 returns-clause-works g c =
@@ -55,4 +55,4 @@ returns-clause-works g c =
     let name = c.args.flight.now.named.name in
     let ensures = c.in_ok-named.ensures in
     reports_name {T = Bool} {U = Unit {0}} from c.in_ok-named.named name c.args.name.now store now a b d n m k c.in_ok-named.named (Ok tt)
-    c.requires.called (accepts_on now now ensures.settled) ensures.works c.in_ok-tell_name.ensures.works
+    c.requires.called (accepts_on now now ensures.settled) ensures.word ensures.works c.in_ok-tell_name.ensures.works

@@ -1,7 +1,8 @@
-use Rattle.std.proofs.Common.{◌≡◌, ℕ, List, [], ◌∷◌, Bool, true, false, Result, Ok, Err, refl, ◌∙◌, ap, IfErr}
+use Rattle.std.proofs.Common.{◌≡◌, ℕ, List, [], ◌∷◌, Bool, true, false, None, Result, Ok, Err, IsSome, refl, ◌∙◌, ap, subst, IfErr}
 use Rattle.ferry_carry.proofs.FlyLemmas.{flown_as, flown_err, flown_then, origin_kept}
 use Rattle.ferry_carry.proofs.GrowLemmas.{accepts_on, most_here, most_then}
-use Rattle.ferry_carry.proofs.TellLemmas.{settled_committed}
+use Rattle.ferry_carry.proofs.FlightLemmas.{settled_committed}
+use Rattle.ferry_carry.proofs.ReportLemmas.{tells_named, tells_present}
 use Rattle.ferry_carry.proofs.WorkLemmas.{carried_none, err_is}
 use Rattle.ferry_carry.proofs.chosen.fly.Goals as goal
 use Rattle.ferry_carry.specs.Flight.{Carries, carried_by, flown_from}
@@ -9,7 +10,10 @@ use Rattle.ferry_carry.specs.declared.fault.CarryFault.{CarryFault}
 use Rattle.ferry_carry.specs.declared.flight.Turn.{Turn}
 use Rattle.ferry_carry.specs.declared.options.Options.{Options}
 use Rattle.ferry_manifest.specs.declared.manifest.ArchiveRef.{ArchiveRef}
+use Rattle.ferry_manifest.specs.Manifest.Text.{ManifestText}
+use Rattle.ferry_repo.specs.Archives.{archive_named}
 use Rattle.ferry_repo.specs.Opening.{repo_view}
+use Rattle.ferry_store.specs.Commit.{accepted_in}
 use Rattle.ferry_carry.proofs.CauseLemmas.{name_refused}
 use Rattle.ferry_carry.specs.Refusals.{RefusesName}
 
@@ -23,6 +27,7 @@ loop-init g c = record {
   fits = c.requires.fits;
   packable = c.requires.packable;
   settled = c.requires.settled;
+  accepted = refl;
   repo = refl;
   alike = refl;
   faults = refl;
@@ -138,6 +143,7 @@ loop-preserved g c =
       fits = ensures.fits;
       packable = ensures.packable;
       settled = ensures.settled invariant.settled;
+      accepted = ensures.more (ap Ok c.in-More.is) ∙ invariant.accepted;
       repo = ensures.kept ∙ invariant.repo;
       alike = ensures.same ∙ invariant.alike;
       faults = ensures.cause ∙ invariant.faults;
@@ -165,3 +171,21 @@ returns-in_err-step-clause-refused g c =
     err_is c.from_residual.result fault (λ (r : Result Bool CarryFault). IfErr r (RefusesName from a store d now name)) c.from_residual.ensures.1
     (name_refused {T = Turn} from other a b d _ store c.loop.store now name c.loop.flight.named.name (Err fault) same
     (ap (λ (e : ArchiveRef). e.name) invariant.named) invariant.works.each invariant.most c.in_err-step.ensures.refused)
+
+pub returns-in-Named-clause-word : goal.returns-in-Named-clause-word
+returns-in-Named-clause-word g c =
+    let invariant = c.loop.invariant in
+    let name = c.args.flight.now.named.name in
+    tells_named (accepted_in c.args.store.now) name
+    (subst (λ (m : ManifestText). archive_named name m.archives ≡ None) invariant.accepted
+    (subst (λ (e : ArchiveRef). archive_named e.name (accepted_in c.loop.store).archives ≡ None) invariant.named
+    (c.in_ok-step.ensures.new (ap Ok c.in-Named.is))))
+
+pub returns-in-Present-clause-word : goal.returns-in-Present-clause-word
+returns-in-Present-clause-word g c =
+    let invariant = c.loop.invariant in
+    let name = c.args.flight.now.named.name in
+    tells_present (accepted_in c.args.store.now) name
+    (subst (λ (m : ManifestText). IsSome (archive_named name m.archives)) invariant.accepted
+    (subst (λ (e : ArchiveRef). IsSome (archive_named e.name (accepted_in c.loop.store).archives)) invariant.named
+    (c.in_ok-step.ensures.there (ap Ok c.in-Present.is))))

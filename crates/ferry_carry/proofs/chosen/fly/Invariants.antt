@@ -20,6 +20,7 @@ invariant-loop g l = record {
   fits : IfSome (g.D.Shelf.told l.depot) (λ t. StoreFits false l.store t.history);
   packable : IsPackable (accepted_in l.store);
   settled : IsSettled l.store;
+  accepted : accepted_in l.store ≡ accepted_in l.fn.store;
   repo : repo_view l.source ≡ repo_view l.fn.source;
   alike : heard (g.S.Shelf.told l.shelf) ≡ heard (g.S.Shelf.told l.fn.shelf);
   faults : g.S.Shelf.faults l.shelf ≡ g.S.Shelf.faults l.fn.shelf;

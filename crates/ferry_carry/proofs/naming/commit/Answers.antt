@@ -1,10 +1,12 @@
-use Rattle.std.proofs.Common.{◌≡◌, Result, refl, sym, ◌∙◌, ap}
+use Rattle.std.proofs.Common.{◌≡◌, Result, IfErr, refl, sym, ◌∙◌, ap}
+use Rattle.ferry_carry.proofs.FaultLemmas.{target_stops}
 use Rattle.ferry_carry.proofs.GrowLemmas.{commit_fits}
 use Rattle.ferry_carry.proofs.NamingLemmas.{commit_most, commit_works, commit_works_err}
 use Rattle.ferry_carry.proofs.WorkLemmas.{err_is}
 use Rattle.ferry_carry.proofs.naming.commit.Goals as goal
 use Rattle.ferry_carry.specs.Fault.{target_fault}
 use Rattle.ferry_carry.specs.Flight.{NamesArchive}
+use Rattle.ferry_carry.specs.Refusals.{StopsTarget}
 use Rattle.ferry_carry.specs.declared.fault.CarryFault.{CarryFault}
 use Rattle.ferry_manifest.specs.Manifest.Writing.{manifest_text}
 use Rattle.ferry_next.specs.Next.{written_at}
@@ -55,3 +57,11 @@ returns-clause-fits g c =
     commit_fits (CommitsEntry (with_manifest (repo_view store.repo) text) store.session store.counter entry) store now blob
     (g.D.Shelf.told c.args.depot.now) (g.D.Shelf.told c.commit.new.depot) (g.D.Shelf.faults c.args.depot.now) (g.D.Shelf.faults c.commit.new.depot)
     c.requires.fits made.1.2
+
+pub returns-in_err-commit-clause-stops : goal.returns-in_err-commit-clause-stops
+returns-in_err-commit-clause-stops g c =
+    let b = g.D.Shelf.told c.commit.new.depot in
+    let keys = (repo_view c.args.store.now.repo).keys in
+    let refusal = c.in_err-commit.field-0.0 in
+    err_is c.from_residual.result (target_fault refusal) (λ (r : Result (Unit {0}) CarryFault). IfErr r (StopsTarget b keys)) c.from_residual.ensures.1
+    (target_stops b keys refusal c.in_err-commit.ensures.stops)

@@ -1,6 +1,7 @@
 use Rattle.std.proofs.Common.{ℕ, List, [], ◌∷◌, ◌++◌, Result, Ok, Err, IfErr}
 use Rattle.ferry_carry.proofs.GrowLemmas.{most_from, most_then}
-use Rattle.ferry_carry.proofs.NamingLemmas.{accepts_rest, packable_rest, unnamed_rest}
+use Rattle.ferry_carry.proofs.FlightLemmas.{rest_accepts, rest_packable}
+use Rattle.ferry_carry.proofs.NamingLemmas.{unnamed_rest}
 use Rattle.ferry_carry.proofs.ProgressLemmas.{readies}
 use Rattle.ferry_carry.proofs.WorkLemmas.{carried_as, carried_err, carried_from, carried_from_err, carried_then, err_is}
 use Rattle.ferry_carry.proofs.naming.end_copy.Goals as goal
@@ -30,10 +31,10 @@ returns-in_err-id-clause-works g c =
     c.requires.accepts ended.1.0)
 
 pub name_record-requires-clause-packable : goal.name_record-requires-clause-packable
-name_record-requires-clause-packable g c = packable_rest c.args.store.now c.end_stream.new.store c.in_ok-id.ensures.rest c.requires.packable
+name_record-requires-clause-packable g c = rest_packable c.args.store.now c.end_stream.new.store c.in_ok-id.ensures.rest c.requires.packable
 
 pub name_record-requires-clause-accepts : goal.name_record-requires-clause-accepts
-name_record-requires-clause-accepts g c = accepts_rest c.args.store.now c.end_stream.new.store c.in_ok-id.ensures.rest c.requires.accepts
+name_record-requires-clause-accepts g c = rest_accepts c.args.store.now c.end_stream.new.store c.in_ok-id.ensures.rest c.requires.accepts
 
 pub name_record-requires-clause-unnamed : goal.name_record-requires-clause-unnamed
 name_record-requires-clause-unnamed g c =

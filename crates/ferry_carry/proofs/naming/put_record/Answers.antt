@@ -1,9 +1,10 @@
-use Rattle.std.proofs.Common.{◌≡◌, ℕ, List, [], ◌∷◌, Result, Ok, IfOk}
+use Rattle.std.proofs.Common.{◌≡◌, ℕ, List, [], ◌∷◌, Result, Ok, IfErr, IfOk}
 use Rattle.ferry_blob.specs.Blob.{content_id}
 use Rattle.ferry_carry.proofs.NamingLemmas.{record_put}
 use Rattle.ferry_carry.proofs.WorkLemmas.{err_is, gathered_nothing}
 use Rattle.ferry_carry.proofs.naming.put_record.Goals as goal
 use Rattle.ferry_carry.specs.Gather.{Gathers, KeepsStanding}
+use Rattle.ferry_carry.specs.Refusals.{StopsTarget}
 use Rattle.ferry_carry.specs.Work.{Works}
 use Rattle.ferry_carry.specs.declared.fault.CarryFault.{CarryFault}
 use Rattle.ferry_manifest.specs.Record.Text.{archive_of, archive_view, as_tagged}
@@ -33,3 +34,10 @@ returns-clause-put g c =
             c.keys.ensures.keys c.deref.ensures.value c.add_record.ensures.id c.in_ok-text.ensures.reads,
       ),
     )
+
+pub returns-in_err-text-clause-stops : goal.returns-in_err-text-clause-stops
+returns-in_err-text-clause-stops g c =
+    let a = g.D.Shelf.told c.args.depot.now in
+    let keys = (repo_view c.args.store.now.repo).keys in
+    err_is c.from_residual.result c.in_err-text.field-0.0 (λ (r : Result (List ℕ) CarryFault). IfErr r (StopsTarget a keys)) c.from_residual.ensures.1
+    (c.in_err-text.ensures.stops a keys)

@@ -1,11 +1,14 @@
-use Rattle.std.proofs.Common.{◌∷◌, [], Result}
+use Rattle.std.proofs.Common.{◌∷◌, [], Result, IfErr}
+use Rattle.ferry_carry.proofs.FaultLemmas.{target_stops}
 use Rattle.ferry_carry.proofs.GatherLemmas.{AddedSo, add_gathers, add_stands, added_fits}
 use Rattle.ferry_carry.proofs.WorkLemmas.{err_is, works_err, works_ok}
 use Rattle.ferry_carry.proofs.piece.add.Goals as goal
 use Rattle.ferry_carry.specs.Fault.{target_fault}
 use Rattle.ferry_carry.specs.Gather.{Gathers, KeepsStanding}
+use Rattle.ferry_carry.specs.Refusals.{StopsTarget}
 use Rattle.ferry_carry.specs.Work.{Works}
 use Rattle.ferry_carry.specs.declared.fault.CarryFault.{CarryFault}
+use Rattle.ferry_repo.specs.Opening.{repo_view}
 use Rattle.ferry_store.specs.Adding.{Adds}
 use Rattle.ferry_store.specs.State.{KeepsSound}
 use Rattle.ferry_store.specs.declared.content.Added.{Added}
@@ -51,3 +54,11 @@ pub returns-clause-fits : goal.returns-clause-fits
 returns-clause-fits g c =
     added_fits c.args.store.now c.add.new.self c.args.content.now c.in_ok-added.added (g.D.Shelf.told c.args.depot.now) (g.D.Shelf.told c.add.new.depot)
     (g.D.Shelf.faults c.args.depot.now) (g.D.Shelf.faults c.add.new.depot) c.requires.fits c.in_ok-added.ensures.did
+
+pub returns-in_err-added-clause-stops : goal.returns-in_err-added-clause-stops
+returns-in_err-added-clause-stops g c =
+    let b = g.D.Shelf.told c.add.new.depot in
+    let keys = (repo_view c.args.store.now.repo).keys in
+    let refusal = c.in_err-added.field-0.0 in
+    err_is c.from_residual.result (target_fault refusal) (λ (r : Result Added CarryFault). IfErr r (StopsTarget b keys)) c.from_residual.ensures.1
+    (target_stops b keys refusal c.in_err-added.ensures.stops)

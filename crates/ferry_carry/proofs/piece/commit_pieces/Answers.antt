@@ -1,11 +1,14 @@
-use Rattle.std.proofs.Common.{[], Result}
+use Rattle.std.proofs.Common.{[], Result, IfErr}
+use Rattle.ferry_carry.proofs.FaultLemmas.{target_stops}
 use Rattle.ferry_carry.proofs.GatherLemmas.{checkpoint_fits, checkpoint_gathers, checkpoint_stands}
 use Rattle.ferry_carry.proofs.WorkLemmas.{err_is, works_err, works_ok}
 use Rattle.ferry_carry.proofs.piece.commit_pieces.Goals as goal
 use Rattle.ferry_carry.specs.Fault.{target_fault}
 use Rattle.ferry_carry.specs.Gather.{Gathers, KeepsStanding}
+use Rattle.ferry_carry.specs.Refusals.{StopsTarget}
 use Rattle.ferry_carry.specs.Work.{Works}
 use Rattle.ferry_carry.specs.declared.fault.CarryFault.{CarryFault}
+use Rattle.ferry_repo.specs.Opening.{repo_view}
 use Rattle.ferry_store.specs.Adding.{Checkpoints}
 use Rattle.ferry_store.specs.State.{CommitsSound}
 
@@ -40,3 +43,11 @@ pub returns-clause-fits : goal.returns-clause-fits
 returns-clause-fits g c =
     checkpoint_fits c.args.store.now c.checkpoint.new.self (g.D.Shelf.told c.args.depot.now) (g.D.Shelf.told c.checkpoint.new.depot)
     (g.D.Shelf.faults c.args.depot.now) (g.D.Shelf.faults c.checkpoint.new.depot) c.requires.fits c.in_ok-checkpoint.ensures.did
+
+pub returns-in_err-checkpoint-clause-stops : goal.returns-in_err-checkpoint-clause-stops
+returns-in_err-checkpoint-clause-stops g c =
+    let b = g.D.Shelf.told c.checkpoint.new.depot in
+    let keys = (repo_view c.args.store.now.repo).keys in
+    let refusal = c.in_err-checkpoint.field-0.0 in
+    err_is c.from_residual.result (target_fault refusal) (λ (r : Result (Unit {0}) CarryFault). IfErr r (StopsTarget b keys)) c.from_residual.ensures.1
+    (target_stops b keys refusal (c.in_err-checkpoint.ensures.stops c.requires.fits))

@@ -3,6 +3,7 @@ use Rattle.ferry_base.specs.Limits.{zero_id}
 use Rattle.ferry_blob.specs.Blob.{OpensTo, sealed}
 use Rattle.ferry_blob.specs.declared.mode.Mode.{Mode}
 use Rattle.ferry_disk.specs.Act.{History}
+use Rattle.ferry_disk.specs.Moments.{Between}
 use Rattle.ferry_log.specs.declared.place.Place.{Place}
 use Rattle.ferry_mac.specs.declared.keys.Keys.{Keys}
 use Rattle.ferry_manifest.specs.Manifest.Text.{manifest_view}
@@ -10,10 +11,12 @@ use Rattle.ferry_manifest.specs.Manifest.Writing.{manifest_text}
 use Rattle.ferry_repo.specs.Opening.{mode_of, repo_view}
 use Rattle.ferry_segment.specs.Entry.{PutEntry}
 use Rattle.ferry_stops.proofs.TellLemmas.{told_both, told_none}
+use Rattle.ferry_store.proofs.CauseLemmas.{packed_stops, put_stops}
 use Rattle.ferry_store.proofs.RenewLemmas.{manifest_held, nothing_committed, packed_refused, put_commits, put_refused, still_packed}
 use Rattle.ferry_store.proofs.RenewLemmas.{uncommitted_refused, unput_refused}
 use Rattle.ferry_store.proofs.StepLemmas.{err_is}
 use Rattle.ferry_store.proofs.commit.commit_manifest.Goals as goal
+use Rattle.ferry_store.specs.Causes.{Stops}
 use Rattle.ferry_store.specs.Commit.{CommitsEntry, HasCommitted, RefusesManifestOf, manifest_entry}
 use Rattle.ferry_store.specs.Content.{blob_for}
 use Rattle.ferry_store.proofs.PutLemmas.{always}
@@ -160,3 +163,24 @@ pub returns-clause-untold : goal.returns-clause-untold
 returns-clause-untold g c =
     told_both (g.D.Shelf.told c.args.depot.now) (g.D.Shelf.told c.put_object.new.depot) (g.D.Shelf.told c.commit.new.depot)
     c.in_ok-put_object.ensures.untold c.commit.ensures.untold
+
+pub returns-in_err-buffer-clause-stops : goal.returns-in_err-buffer-clause-stops
+returns-in_err-buffer-clause-stops g c =
+    let a = g.D.Shelf.told c.args.depot.now in
+    let made = c.in_err-buffer.ensures.made in
+    let f = c.in_err-buffer.field-0.0 in
+    let session = c.args.session.now in
+    let counter = c.args.counter.now in
+    err_is c.from_residual.result f (λ (r : Result (Unit {0}) StoreRefusal). IfErr r (λ x. Between a a (Stops session counter x))) c.from_residual.ensures.1
+    (packed_stops session counter _ f a made.1.3)
+
+pub returns-clause-stops : goal.returns-clause-stops
+returns-clause-stops g c =
+    let a = g.D.Shelf.told c.args.depot.now in
+    let b = g.D.Shelf.told c.put_object.new.depot in
+    let d = g.D.Shelf.told c.commit.new.depot in
+    let n = g.D.Shelf.faults c.args.depot.now in
+    let m = g.D.Shelf.faults c.put_object.new.depot in
+    let drawn = c.put_object.new.counter in
+    put_stops {T = Place} {U = Unit {0}} c.args.session.now c.put_object.new.session c.args.counter.now drawn _ c.in_ok-put_object.field-0 a b d n m
+    c.commit.result c.in_ok-put_object.ensures.did (c.commit.ensures.stops drawn)

@@ -1,16 +1,21 @@
-use Rattle.std.proofs.Common.{rules, ◌≡◌, ℕ, inr, List, Result, drop, sym, ap, ◌∙◌, subst}
+use Rattle.std.proofs.Common.{rules, ◌≡◌, ℕ, inr, List, Result, drop, sym, ap, ◌∙◌, subst, IfErr, refl}
 use Rattle.ferry_blob.specs.Blob.{OpensTo, content_id, sealed}
 use Rattle.ferry_blob.specs.declared.mode.Mode.{Mode}
 use Rattle.ferry_disk.specs.Act.{History}
+use Rattle.ferry_disk.specs.Moments.{Between}
 use Rattle.ferry_mac.specs.declared.keys.Keys.{Keys}
 use Rattle.ferry_repo.specs.Opening.{mode_of, repo_view}
 use Rattle.ferry_stops.proofs.TellLemmas.{told_none}
+use Rattle.ferry_stops.specs.Tells.{TellsNothing}
+use Rattle.ferry_store.proofs.CauseLemmas.{memory_stops}
 use Rattle.ferry_store.proofs.ContentLemmas.{content_put, unput}
 use Rattle.ferry_store.proofs.StepLemmas.{err_is}
 use Rattle.ferry_store.proofs.content.put_content.Goals as goal
+use Rattle.ferry_store.specs.Causes.{Stops}
 use Rattle.ferry_store.specs.Content.{HasPut, blob_for}
 use Rattle.ferry_store.specs.State.{Did, KeepsSound}
 use Rattle.ferry_store.specs.declared.fault.StoreRefusal.{StoreRefusal}
+use Rattle.ferry_store.specs.declared.fault.StoreRefusal.TheVariants.{Memory}
 
 pub returns-in_err-buffer-clause-did : goal.returns-in_err-buffer-clause-did
 returns-in_err-buffer-clause-did g c =
@@ -78,3 +83,21 @@ returns-clause-opens g c =
 
 pub returns-in_err-buffer-clause-untold : goal.returns-in_err-buffer-clause-untold
 returns-in_err-buffer-clause-untold g c = told_none (g.D.Shelf.told c.args.depot.now)
+
+pub returns-in_err-buffer-clause-stops : goal.returns-in_err-buffer-clause-stops
+returns-in_err-buffer-clause-stops g c =
+    let a = g.D.Shelf.told c.args.depot.now in
+    let session = c.args.session.now in
+    let counter = c.args.counter.now in
+    let refusal = c.in_err-buffer.field-0.0 in
+    err_is c.from_residual.result refusal (λ (r : Result (Unit {0}) StoreRefusal). IfErr r (λ f. Between a a (Stops session counter f)))
+    c.from_residual.ensures.1 (memory_stops session counter refusal TellsNothing a a c.in_err-buffer.ensures.refused (told_none a))
+
+pub returns-in_err-learn-clause-stops : goal.returns-in_err-learn-clause-stops
+returns-in_err-learn-clause-stops g c =
+    let a = g.D.Shelf.told c.args.depot.now in
+    let b = g.D.Shelf.told c.put_object.new.depot in
+    let session = c.args.session.now in
+    let counter = c.args.counter.now in
+    err_is c.from_residual-in_err-learn.result Memory (λ (r : Result (Unit {0}) StoreRefusal). IfErr r (λ f. Between a b (Stops session counter f)))
+    c.from_residual-in_err-learn.ensures.1 (memory_stops session counter Memory TellsNothing a b refl c.in_ok-place.ensures.untold)

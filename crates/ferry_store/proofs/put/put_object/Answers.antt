@@ -1,14 +1,16 @@
-use Rattle.std.proofs.Common.{rules, List, ◌≡◌, ◌+◌, ◌-◌, ◌≤◌, ◌<◌, ◌^◌, ℕ, Ok, Err, Result, drop, length, sym, ap, ◌∙◌, subst, arith}
+use Rattle.std.proofs.Common.{rules, List, ◌≡◌, ◌+◌, ◌-◌, ◌≤◌, ◌<◌, ◌^◌, ℕ, Ok, Err, Result, drop, length, sym, ap, ◌∙◌, subst, arith, IfErr}
 use Rattle.ferry_blob.proofs.CallerLemmas.{blocks_from, blocks_most}
 use Rattle.ferry_blob.specs.Blob.{OpensTo, sealed}
 use Rattle.ferry_disk.specs.Moments.{Between}
 use Rattle.ferry_log.specs.declared.place.Place.{Place}
-use Rattle.ferry_nonce.specs.Counter.{reserved_for}
+use Rattle.ferry_nonce.specs.Counter.{reserved_for, FitIn}
 use Rattle.ferry_segment.specs.Entry.{PutEntry}
 use Rattle.ferry_stops.proofs.TellLemmas.{told_both}
-use Rattle.ferry_store.proofs.CallLemmas.{HasPut, draw_err, draw_ok, object_blocks, object_both, object_placed, put_err, put_ok}
+use Rattle.ferry_store.proofs.CallLemmas.{HasPut, draw_err, draw_ok, entry_ends, object_blocks, object_both, object_grows, object_placed, put_err, put_ok}
+use Rattle.ferry_store.proofs.CauseLemmas.{draw_stops, fault_of, write_stops}
 use Rattle.ferry_store.proofs.StepLemmas.{err_is}
 use Rattle.ferry_store.proofs.put.put_object.Goals as goal
+use Rattle.ferry_store.specs.Causes.{Stops}
 use Rattle.ferry_store.specs.Fault.{nonce_refusal, write_refusal}
 use Rattle.ferry_store.specs.State.{Did, IsPlaced, KeepsSound, TakesEntry}
 use Rattle.ferry_store.specs.declared.fault.StoreRefusal.{StoreRefusal}
@@ -105,7 +107,8 @@ returns-clause-did g c =
     (draw_ok counter drawn blocks first a b n m (λ fit. ap g.D.Shelf.told (c.in_ok-first.ensures.kept fit).1) c.in_ok-first.ensures.replaced
     c.in_ok-first.ensures.moments c.in_ok-first.ensures.fits c.in_ok-first.ensures.cause c.in_ok-first.ensures.ends)
     (put_ok {T = Place} session now (PutEntry id blob) place b d m k c.in_ok-place.ensures.moments c.in_ok-place.ensures.put c.in_ok-place.ensures.gains
-    c.in_ok-place.ensures.rows c.in_ok-place.ensures.beside c.in_ok-place.ensures.done c.in_ok-place.ensures.cause c.in_ok-place.ensures.ends))
+    c.in_ok-place.ensures.rows c.in_ok-place.ensures.beside c.in_ok-place.ensures.done c.in_ok-place.ensures.cause c.in_ok-place.ensures.ends
+    (entry_ends session now _ c.in_ok-place.ensures.ok)))
 
 pub returns-clause-placed : goal.returns-clause-placed
 returns-clause-placed g c =
@@ -149,3 +152,42 @@ pub returns-clause-untold : goal.returns-clause-untold
 returns-clause-untold g c =
     told_both (g.D.Shelf.told c.args.depot.now) (g.D.Shelf.told c.draw.new.depot) (g.D.Shelf.told c.put.new.depot) c.in_ok-first.ensures.untold
     c.in_ok-place.ensures.untold
+
+pub returns-in_err-first-clause-stops : goal.returns-in_err-first-clause-stops
+returns-in_err-first-clause-stops g c =
+    let a = g.D.Shelf.told c.args.depot.now in
+    let b = g.D.Shelf.told c.draw.new.depot in
+    let session = c.args.session.now in
+    let counter = c.args.counter.now in
+    let fault = c.in_err-first.field-0.0 in
+    let number = c.blocks_of-blocks.result in
+    let most = blocks_most (length c.args.buffer.now - 43) (let small = c.requires.size in omega (arith, small)) in
+    let few : number ≤ 2097152 = subst (λ (n : ℕ). n ≤ 2097152) (sym c.blocks_of-blocks.ensures.blocks) (omega (arith, most)) in
+    let unfit : FitIn counter number → ⊥ = λ fit. let kept = (c.in_err-first.ensures.kept fit).0 in let no : ⊥ = cc in no in
+    err_is c.from_residual.result (nonce_refusal fault) (λ (r : Result Place StoreRefusal). IfErr r (λ f. Between a b (Stops session counter f)))
+    c.from_residual.ensures.1
+    (draw_stops session counter number (reserved_for counter number) fault a b few (c.in_err-first.ensures.replaced unfit) c.in_err-first.ensures.exhausted)
+
+pub returns-in_err-place-clause-stops : goal.returns-in_err-place-clause-stops
+returns-in_err-place-clause-stops g c =
+    let a = g.D.Shelf.told c.args.depot.now in
+    let b = g.D.Shelf.told c.draw.new.depot in
+    let d = g.D.Shelf.told c.put.new.depot in
+    let n = g.D.Shelf.faults c.args.depot.now in
+    let m = g.D.Shelf.faults c.draw.new.depot in
+    let session = c.args.session.now in
+    let counter = c.args.counter.now in
+    let drawn = c.draw.new.self in
+    let first = c.in_ok-first.first in
+    let blocks = c.blocks_of-blocks.result in
+    let fits : first < 2 ^ 64 = search rules in
+    let taken = object_blocks c.args.keys.now c.args.mode counter drawn blocks first c.args.id.now c.args.buffer.now c.seal.new.buffer
+    c.in_ok-first.ensures.drawn.0 fits c.seal.ensures.blob c.blocks_of-blocks.ensures.blocks c.in_ok-first.ensures.drawn.1 in
+    let fault = c.in_err-place.field-0.0 in
+    err_is c.from_residual-in_err-place.result (write_refusal fault)
+    (λ (r : Result Place StoreRefusal). IfErr r (λ f. Between a d (Stops session counter f))) c.from_residual-in_err-place.ensures.1
+    (write_stops session counter fault a d (λ is. (c.in_err-place.ensures.numbers.0 (ap (fault_of {T = Place}) is)).1)
+    (object_grows session counter drawn (reserved_for counter blocks) first a b d n m taken.1
+    (draw_ok counter drawn blocks first a b n m (λ fit. ap g.D.Shelf.told (c.in_ok-first.ensures.kept fit).1) c.in_ok-first.ensures.replaced
+    c.in_ok-first.ensures.moments c.in_ok-first.ensures.fits c.in_ok-first.ensures.cause c.in_ok-first.ensures.ends)
+    c.in_err-place.ensures.stays))

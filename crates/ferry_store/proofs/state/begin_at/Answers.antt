@@ -1,8 +1,8 @@
-use Rattle.std.proofs.Common.{Ok, Err, Result}
+use Rattle.std.proofs.Common.{Ok, Err, Result, ap}
 use Rattle.ferry_nonce.specs.Fault.{nonce_failed}
 use Rattle.ferry_nonce.specs.declared.counter.Counter.{Counter}
 use Rattle.ferry_stops.proofs.TellLemmas.{told_both}
-use Rattle.ferry_store.proofs.CallLemmas.{begins_here, begun_err, begun_ok, begun_settled, nonce_is, read_first, read_refused}
+use Rattle.ferry_store.proofs.CallLemmas.{begin_ends, begins_here, begun_err, begun_ok, begun_settled, nonce_is, read_first, read_refused}
 use Rattle.ferry_store.proofs.StepLemmas.{after_same, err_is, same_told}
 use Rattle.ferry_store.proofs.state.begin_at.Goals as goal
 use Rattle.ferry_store.specs.Fault.{nonce_refusal, write_refusal}
@@ -59,6 +59,8 @@ returns-clause-did g c =
     c.in_ok-counter.ensures.same c.in_ok-counter.ensures.cause c.in_ok-counter.ensures.opened c.in_ok-counter.ensures.counts
     c.in_ok-session.ensures.moments c.in_ok-session.ensures.gains c.in_ok-session.ensures.beside c.in_ok-session.ensures.begun c.in_ok-session.ensures.rows
     c.in_ok-session.ensures.acts c.in_ok-session.ensures.cause c.in_ok-session.ensures.ends
+    (begin_ends c.in_ok-session.session c.args.after (ap (λ (s : Session). s.last) c.in_ok-session.ensures.fresh)
+    (ap (λ (s : Session). s.after) c.in_ok-session.ensures.fresh))
 
 pub returns-clause-settled : goal.returns-clause-settled
 returns-clause-settled g c =

@@ -1,9 +1,12 @@
-use Rattle.std.proofs.Common.{Result}
+use Rattle.std.proofs.Common.{Result, IfErr, ℕ, ap}
 use Rattle.ferry_disk.specs.Act.{History}
-use Rattle.ferry_store.proofs.CallLemmas.{committed_err, committed_ok}
+use Rattle.ferry_disk.specs.Moments.{Between}
+use Rattle.ferry_store.proofs.CallLemmas.{commit_ends, committed_err, committed_ok}
+use Rattle.ferry_store.proofs.CauseLemmas.{fault_of, only_appends, write_stops}
 use Rattle.ferry_store.proofs.CommitLemmas.{did_beside}
 use Rattle.ferry_store.proofs.StepLemmas.{err_is}
 use Rattle.ferry_store.proofs.state.commit.Goals as goal
+use Rattle.ferry_store.specs.Causes.{Stops}
 use Rattle.ferry_store.specs.Fault.{write_refusal}
 use Rattle.ferry_store.specs.State.{CommitsSound, Did, TakesCommit}
 use Rattle.ferry_store.specs.declared.fault.StoreRefusal.{StoreRefusal}
@@ -35,4 +38,15 @@ returns-clause-did g c counter =
     c.in_ok-commit.ensures.stays
     (committed_ok {T = Unit {0}} session now counter tt a b n m c.in_ok-commit.ensures.moments c.in_ok-commit.ensures.committed
     c.in_ok-commit.ensures.gains c.in_ok-commit.ensures.rows c.in_ok-commit.ensures.beside c.in_ok-commit.ensures.done c.in_ok-commit.ensures.cause
-    c.in_ok-commit.ensures.ends)
+    c.in_ok-commit.ensures.ends (commit_ends session now c.in_ok-commit.ensures.ok))
+
+pub returns-in_err-commit-clause-stops : goal.returns-in_err-commit-clause-stops
+returns-in_err-commit-clause-stops g c counter =
+    let a = g.D.Shelf.told c.args.depot.now in
+    let b = g.D.Shelf.told c.commit.new.depot in
+    let session = c.args.session.now in
+    let fault = c.in_err-commit.field-0.0 in
+    err_is c.from_residual.result (write_refusal fault) (λ (r : Result (Unit {0}) StoreRefusal). IfErr r (λ f. Between a b (Stops session counter f)))
+    c.from_residual.ensures.1
+    (write_stops session counter fault a b (λ is. c.in_err-commit.ensures.numbers.0 (ap (fault_of {T = ℕ}) is))
+    (only_appends session counter a b c.in_err-commit.ensures.stays))

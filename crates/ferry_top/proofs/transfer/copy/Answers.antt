@@ -10,6 +10,9 @@ use Rattle.ferry_repo.specs.declared.repo.Repo.{Repo}
 use Rattle.ferry_top.proofs.TransferLemmas.{asked_kept, source_fits, source_opens, untouched}
 use Rattle.ferry_top.proofs.transfer.copy.Goals as goal
 use Rattle.ferry_top.specs.Transfer.{Request, TransferEach, TransferEnds, asked}
+use Rattle.std.proofs.Common.{IfErr}
+use Rattle.ferry_top.proofs.TransferCauseLemmas.{asked_source, unread_refused}
+use Rattle.ferry_top.specs.TransferCauses.{RefusesAsked}
 
 pub returns-in_err-repo-clause-works : goal.returns-in_err-repo-clause-works
 returns-in_err-repo-clause-works g c =
@@ -38,3 +41,18 @@ returns-clause-works g c =
     (g.D.Shelf.told c.copy_into.new.target) (g.D.Shelf.faults c.args.target.now) (g.D.Shelf.faults c.copy_into.new.target) c.copy_into.result)
     (asked_kept {T = Repo} {F = RepoFault} c.args.secrets.now c.args.options.now.block c.args.names.now repo_failed (g.S.Shelf.told c.args.source.now)
     (g.S.Shelf.told c.open.new.shelf) c.in_ok-repo.repo c.in_ok-repo.ensures.same) c.copy_into.ensures.works
+
+pub returns-in_err-repo-clause-refused : goal.returns-in_err-repo-clause-refused
+returns-in_err-repo-clause-refused g c =
+    let a = g.D.Shelf.told c.args.target.now in
+    let told = g.S.Shelf.told c.args.source.now in
+    let request = asked c.args.secrets.now c.args.options.now.block c.args.names.now told in
+    let fault = c.in_err-repo.field-0.0 in
+    err_is c.from_residual.result (source_fault fault) (λ (r : Result (Unit {0}) CarryFault). IfErr r (RefusesAsked request a a)) c.from_residual.ensures.1
+    (unread_refused request a a fault (asked_source c.args.secrets.now c.args.options.now.block c.args.names.now told fault c.in_err-repo.ensures.refused))
+
+pub returns-clause-refused : goal.returns-clause-refused
+returns-clause-refused g c =
+    subst (λ (request : Request). IfErr c.copy_into.result (RefusesAsked request (g.D.Shelf.told c.args.target.now) (g.D.Shelf.told c.copy_into.new.target)))
+    (asked_kept {T = Repo} {F = RepoFault} c.args.secrets.now c.args.options.now.block c.args.names.now repo_failed (g.S.Shelf.told c.args.source.now)
+    (g.S.Shelf.told c.open.new.shelf) c.in_ok-repo.repo c.in_ok-repo.ensures.same) c.copy_into.ensures.refused

@@ -12,6 +12,10 @@ use Rattle.ferry_store.specs.Store.{OpenEach, OpenFits}
 use Rattle.ferry_top.proofs.TransferLemmas.{copied_all, copied_some, unopened, untouched}
 use Rattle.ferry_top.proofs.transfer.copy_into.Goals as goal
 use Rattle.ferry_top.specs.Transfer.{TransferEach, TransferEnds, asked}
+use Rattle.std.proofs.Common.{IfErr}
+use Rattle.ferry_top.proofs.TransferCauseLemmas.{memory_refused, missing_refused, names_refused, unopened_refused}
+use Rattle.ferry_top.specs.TransferCauses.{RefusesAsked}
+use Rattle.ferry_stops.specs.Tells.{TellsNothing}
 
 pub returns-in_err-chosen-clause-works : goal.returns-in_err-chosen-clause-works
 returns-in_err-chosen-clause-works g c =
@@ -78,3 +82,53 @@ returns-clause-works g c =
     (g.D.Shelf.faults c.args.target.now) (g.D.Shelf.faults c.open.new.depot) (g.D.Shelf.faults c.carry.new.depot) c.in_ok-carry.field-0 tt
     (ap (accepted_or (repo_view store.repo).manifest) c.in_ok-store.ensures.accepted) c.in_ok-carry.ensures.settled c.in_ok-store.ensures.opened
     c.open.ensures.untold c.in_ok-store.ensures.did c.in_ok-carry.ensures.works
+
+pub returns-in_err-chosen-clause-refused : goal.returns-in_err-chosen-clause-refused
+returns-in_err-chosen-clause-refused g c =
+    let a = g.D.Shelf.told c.args.target.now in
+    let request = asked c.args.secrets.now c.args.options.now.block c.args.names.now (g.S.Shelf.told c.args.source.now) in
+    err_is c.from_residual.result Memory (λ (r : Result (Unit {0}) CarryFault). IfErr r (RefusesAsked request a a)) c.from_residual.ensures.1
+    (memory_refused request a a)
+
+pub returns-in_err-find_names-clause-refused : goal.returns-in_err-find_names-clause-refused
+returns-in_err-find_names-clause-refused g c =
+    let a = g.D.Shelf.told c.args.target.now in
+    let told = g.S.Shelf.told c.args.source.now in
+    let request = asked c.args.secrets.now c.args.options.now.block c.args.names.now told in
+    let fault = c.in_err-find_names.field-0.0 in
+    err_is c.from_residual-in_err-find_names.result fault (λ (r : Result (Unit {0}) CarryFault). IfErr r (RefusesAsked request a a))
+    c.from_residual-in_err-find_names.ensures.1
+    (missing_refused c.args.secrets.now c.args.options.now.block c.args.names.now (repo_view c.args.repo.now) told a a c.deref.result.now
+    c.requires.source_opens (c.deref.ensures.value ∙ c.in_ok-chosen.ensures.chosen) fault c.in_err-find_names.ensures.refused)
+
+pub returns-in_err-store-clause-refused : goal.returns-in_err-store-clause-refused
+returns-in_err-store-clause-refused g c =
+    let a = g.D.Shelf.told c.args.target.now in
+    let b = g.D.Shelf.told c.open.new.depot in
+    let request = asked c.args.secrets.now c.args.options.now.block c.args.names.now (g.S.Shelf.told c.args.source.now) in
+    let refusal = c.in_err-store.field-0.0 in
+    err_is c.from_residual-in_err-store.result (target_fault refusal) (λ (r : Result (Unit {0}) CarryFault). IfErr r (RefusesAsked request a b))
+    c.from_residual-in_err-store.ensures.1 (unopened_refused request a b refusal c.in_err-store.ensures.refused)
+
+pub returns-in_err-carry-clause-refused : goal.returns-in_err-carry-clause-refused
+returns-in_err-carry-clause-refused g c =
+    let a = g.D.Shelf.told c.args.target.now in
+    let b = g.D.Shelf.told c.open.new.depot in
+    let d = g.D.Shelf.told c.carry.new.depot in
+    let n = g.D.Shelf.faults c.args.target.now in
+    let m = g.D.Shelf.faults c.open.new.depot in
+    let k = g.D.Shelf.faults c.carry.new.depot in
+    let told = g.S.Shelf.told c.args.source.now in
+    let request = asked c.args.secrets.now c.args.options.now.block c.args.names.now told in
+    let store = c.in_ok-store.store in
+    let fault = c.in_err-carry.field-0.0 in
+    let chosen_is = c.deref-2.ensures.value ∙ c.in_ok-chosen.ensures.chosen in
+    let works = copied_some c.args.secrets.now c.args.options.now.block c.args.names.now (repo_view c.args.repo.now) told c.deref-2.result.now
+    c.requires.source_opens chosen_is {T = Carried} {U = Unit {0}} store c.carry.new.store a b d n m k fault
+    (ap (accepted_or (repo_view store.repo).manifest) c.in_ok-store.ensures.accepted) c.in_ok-store.ensures.opened c.open.ensures.untold
+    c.in_ok-store.ensures.did c.in_err-carry.ensures.works in
+    err_is c.from_residual-in_err-carry.result fault (λ (r : Result (Unit {0}) CarryFault). IfErr r (RefusesAsked request a d))
+    c.from_residual-in_err-carry.ensures.1
+    (names_refused c.args.secrets.now c.args.options.now.block c.args.names.now (repo_view c.args.repo.now) told a b d c.deref-2.result.now store
+    c.carry.new.store c.requires.source_opens chosen_is c.in_ok-store.ensures.opened TellsNothing c.open.ensures.untold works.each fault
+    c.in_err-carry.ensures.refused)

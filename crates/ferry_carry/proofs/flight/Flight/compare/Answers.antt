@@ -1,7 +1,8 @@
-use Rattle.std.proofs.Common.{◌≡◌, [], ◌∷◌, ℕ, List, Result, Ok, Err, refl, ap, subst, IfErr}
+use Rattle.std.proofs.Common.{◌≡◌, [], ◌∷◌, ℕ, List, Result, Ok, Err, refl, sym, ap, subst, IfErr, IsSome}
 use Rattle.ferry_carry.proofs.CopyLemmas.{gathered_fault}
-use Rattle.ferry_carry.proofs.FlightLemmas.{on_ok, read_rest, rest_accepts}
+use Rattle.ferry_carry.proofs.FlightLemmas.{on_ok, read_rest, rest_accepts, rest_there, there_accepted}
 use Rattle.ferry_carry.proofs.FlyLemmas.{flies_as, flies_fault, present_flies, taken_still}
+use Rattle.ferry_carry.proofs.GrowLemmas.{most_from}
 use Rattle.ferry_carry.proofs.WorkLemmas.{carried_from, err_is}
 use Rattle.ferry_carry.proofs.flight.Flight.compare.Goals as goal
 use Rattle.ferry_carry.specs.Flight.{Flies, IsSame, flown_from}
@@ -11,10 +12,11 @@ use Rattle.ferry_carry.specs.declared.fault.CarryFault.{CarryFault}
 use Rattle.ferry_carry.specs.declared.flight.Turn.{Turn}
 use Rattle.ferry_carry.specs.declared.flight.Turn.TheVariants.{More}
 use Rattle.ferry_compare.specs.declared.comparison.Compared.{Compared}
-use Rattle.ferry_repo.specs.Opening.{repo_view}
-use Rattle.ferry_carry.proofs.CauseLemmas.{comparing_refused}
+use Rattle.ferry_repo.specs.Archives.{archive_named}
+use Rattle.ferry_repo.specs.Opening.{RepoState, repo_view}
+use Rattle.ferry_carry.proofs.CauseLemmas.{comparing_refused, taken_refused}
 use Rattle.ferry_carry.specs.Carrying.{origin}
-use Rattle.ferry_carry.specs.Refusals.{RefusesComparing, RefusesName}
+use Rattle.ferry_carry.specs.Refusals.{DiffersThere, RefusesComparing, RefusesName}
 
 pub returns-in-More-clause-works : goal.returns-in-More-clause-works
 returns-in-More-clause-works g c =
@@ -55,7 +57,8 @@ returns-in-Equal-clause-works g c =
     subst (IsSame from b (repo_view middle.repo)) c.requires.same_name
     (c.in_ok-compare_item.ensures.equal (ap Ok c.in-Equal.is) c.args.self.now.options.block) in
     present_flies {T = Compared} from name store middle now a b d n m k c.in_ok-compare_item.field-0 c.present.result c.requires.accepts
-    (rest_accepts store middle rest c.requires.accepts) rest c.present.ensures.rest c.present.ensures.pending c.present.ensures.present same
+    (rest_accepts store middle rest c.requires.accepts) rest c.present.ensures.rest c.present.ensures.pending c.present.ensures.present
+    (rest_there store middle name rest c.requires.there) same
     c.in_ok-compare_item.ensures.works c.present.ensures.works
 
 pub returns-in-Equal-clause-accepts : goal.returns-in-Equal-clause-accepts
@@ -108,5 +111,29 @@ returns-in_err-compare_item-clause-refused g c =
     let fault = c.in_err-compare_item.field-0.0 in
     err_is c.from_residual.result fault (λ (r : Result Turn CarryFault). IfErr r (RefusesName (origin told source block) a store b now name))
     c.from_residual.ensures.1
-    (comparing_refused told a b source block name store now fault
+    (comparing_refused told a b source block name store now fault c.in_err-compare_item.ensures.stops
     (subst (λ (n : List ℕ). RefusesComparing told source n fault) c.requires.same_name c.in_err-compare_item.ensures.refused))
+
+pub returns-in-Differs-clause-refused : goal.returns-in-Differs-clause-refused
+returns-in-Differs-clause-refused g c =
+    let store = c.args.store.now in
+    let now = c.compare_item.new.store in
+    let from = flown_from (g.S.Shelf.told c.args.shelf.now) (repo_view c.args.source.now) c.args.self.now in
+    let name = c.args.self.now.named.name in
+    let a = g.D.Shelf.told c.args.depot.now in
+    let b = g.D.Shelf.told c.compare_item.new.depot in
+    let read = c.compare_item.ensures.read in
+    let differs : DiffersThere from b (repo_view now.repo) name =
+    subst (DiffersThere from b (repo_view now.repo)) c.requires.same_name
+    (c.in_ok-compare_item.ensures.differs_now (ap Ok c.in-Differs.is) c.args.self.now.options.block) in
+    taken_refused from a b store now name c.as_slice.result.now c.taken.result c.taken.ensures.taken c.as_slice.ensures differs (record {
+      fits = c.compare_item.ensures.fits;
+      there = subst (λ (r : RepoState). IsSome (archive_named name r.manifest.archives)) (sym read.repo) c.requires.there;
+      most = most_from store now (read_rest store now read);
+    })
+
+pub returns-in-More-clause-more : goal.returns-in-More-clause-more
+returns-in-More-clause-more g c = λ _. (read_rest c.args.store.now c.compare_item.new.store c.compare_item.ensures.read).accepted
+
+pub returns-in-Equal-clause-there : goal.returns-in-Equal-clause-there
+returns-in-Equal-clause-there g c = λ _. there_accepted c.args.store.now c.args.self.now.named.name c.requires.accepts c.requires.there

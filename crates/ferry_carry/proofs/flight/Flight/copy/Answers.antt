@@ -163,7 +163,7 @@ returns-in_err-more-clause-refused g c =
     let lacks = lacks_by (repo_view store.repo).manifest (accepted_in store) named.name c.requires.accepts c.requires.unnamed in
     err_is c.from_residual.result fault (λ (r : Result Turn CarryFault). IfErr r (RefusesName (origin told source block) a store b now named.name))
     c.from_residual.ensures.1
-    (step_refused (origin told source block) a b store now named.name fault lacks
+    (step_refused (origin told source block) a b store now named.name fault lacks c.in_err-more.ensures.stops
     (subst (λ (n : ℕ). RefusesStep (origin told source n) a named.name fault) (sym c.requires.copied.0) refused))
 
 pub returns-in_err-self-clause-refused : goal.returns-in_err-self-clause-refused
@@ -188,4 +188,4 @@ returns-in_err-self-clause-refused g c =
     err_is c.from_residual-in_err-self.result fault (λ (r : Result Turn CarryFault). IfErr r (RefusesName from a store d now named.name))
     c.from_residual-in_err-self.ensures.1
     (end_refused from a b d (KeepsStanding store) store middle now named.name fault c.in_ok-more.ensures.works.1.each c.in_ok-more.ensures.rest.keys lacks
-    (c.in_err-self.ensures.refused from ended))
+    c.in_err-self.ensures.stops (c.in_err-self.ensures.refused from ended))

@@ -119,7 +119,8 @@ returns-in_err-comparison-clause-refused g c =
     err_is c.from_residual.result fault
     (λ (r : Result Turn CarryFault). IfErr r (RefusesName (origin told source flight.options.block) a store b now flight.named.name))
     c.from_residual.ensures.1
-    (comparing_refused told a b source flight.options.block flight.named.name store now fault c.in_err-comparison.ensures.refused)
+    (comparing_refused told a b source flight.options.block flight.named.name store now fault c.in_err-comparison.ensures.stops
+    c.in_err-comparison.ensures.refused)
 
 pub returns-in_ok-comparison-clause-refused : goal.returns-in_ok-comparison-clause-refused
 returns-in_ok-comparison-clause-refused g c =

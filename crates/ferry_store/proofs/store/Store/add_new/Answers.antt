@@ -1,7 +1,11 @@
-use Rattle.std.proofs.Common.{◌≡◌, inl, inr, true, OnOk, Result, subst}
+use Rattle.std.proofs.Common.{◌≡◌, inl, inr, true, OnOk, Result, subst, IfErr, IfSome, sym}
+use Rattle.ferry_disk.specs.Device.{told_files}
+use Rattle.ferry_disk.specs.Moments.{Between}
 use Rattle.ferry_repo.specs.Opening.{repo_view}
 use Rattle.ferry_store.proofs.AddLemmas.{learnt_known, put_did}
+use Rattle.ferry_store.proofs.CauseLemmas.{store_stops}
 use Rattle.ferry_store.proofs.store.Store.add_new.Goals as goal
+use Rattle.ferry_store.specs.Causes.{Stops, StopsAt}
 use Rattle.ferry_store.specs.Content.{HasPut, Learns}
 use Rattle.ferry_store.specs.State.{Did, KeepsSound}
 use Rattle.ferry_store.specs.declared.fault.StoreRefusal.{StoreRefusal}
@@ -32,3 +36,22 @@ returns-in-Ok-clause-known g c =
     inr (inl (learnt_known (repo_view store.repo) (repo_view repo) c.args.id
     (subst (λ (r : Result (Unit {0}) StoreRefusal). OnOk r (Learns (repo_view store.repo) c.args.id true (repo_view repo))) c.in-Ok.is
     c.put_content-put.ensures.learns)))
+
+pub returns-in-Err-clause-stops : goal.returns-in-Err-clause-stops
+returns-in-Err-clause-stops g c =
+    let a = g.D.Shelf.told c.args.depot.now in
+    let b = g.D.Shelf.told c.put_content-put.new.depot in
+    let n = g.D.Shelf.faults c.args.depot.now in
+    let m = g.D.Shelf.faults c.put_content-put.new.depot in
+    let store = c.args.self.now in
+    let repo = c.put_content-put.new.repo in
+    let session = c.put_content-put.new.session in
+    let counter = c.put_content-put.new.counter in
+    let refusal = c.in-Err.refusal in
+    let did = subst (λ (r : Result (Unit {0}) StoreRefusal). Did (KeepsSound store.session store.counter)
+    (λ _. HasPut (repo_view store.repo) store.session store.counter c.args.id c.args.content.now (repo_view repo) session counter) a b n m r) c.in-Err.is
+    c.put_content-put.ensures.did in
+    let stops = subst (λ (r : Result (Unit {0}) StoreRefusal). IfErr r (λ f. Between a b (Stops store.session store.counter f))) c.in-Err.is
+    c.put_content-put.ensures.stops in
+    subst (λ (f : StoreRefusal). IfSome b (λ t. StopsAt (told_files t) (repo_view store.repo).keys f)) (sym c.spend.ensures.same)
+    (store_stops store refusal a b c.requires.fits did.ends stops)

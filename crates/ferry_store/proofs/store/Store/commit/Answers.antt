@@ -1,15 +1,19 @@
-use Rattle.std.proofs.Common.{◌≡◌, None, sym, ap, ◌∙◌, subst}
+use Rattle.std.proofs.Common.{◌≡◌, None, sym, ap, ◌∙◌, subst, IfSome}
+use Rattle.ferry_disk.specs.Device.{told_files}
 use Rattle.ferry_manifest.specs.Manifest.Text.{ManifestText, manifest_view}
 use Rattle.ferry_manifest.specs.Manifest.Writing.{manifest_text}
 use Rattle.ferry_next.specs.Next.{written_at}
 use Rattle.ferry_repo.specs.Opening.{cached_in, repo_view}
 use Rattle.ferry_repo.specs.declared.repo.Repo.{Repo}
+use Rattle.ferry_store.proofs.CauseLemmas.{store_stops}
 use Rattle.ferry_store.proofs.RenewLemmas.{store_committed, with_commit}
 use Rattle.ferry_store.proofs.StepLemmas.{did_as}
 use Rattle.ferry_store.proofs.store.Store.commit.Goals as goal
+use Rattle.ferry_store.specs.Causes.{StopsAt}
 use Rattle.ferry_store.specs.Commit.{Commits, CommitsEntry, HasCommitted, accepted_in, manifest_entry}
 use Rattle.ferry_store.specs.Content.{blob_for}
 use Rattle.ferry_store.specs.Standing.{with_manifest}
+use Rattle.ferry_store.specs.declared.fault.StoreRefusal.{StoreRefusal}
 use Rattle.ferry_store.specs.declared.store.Store.{Store}
 
 pub returns-in-Ok-clause-committed : goal.returns-in-Ok-clause-committed
@@ -50,3 +54,12 @@ returns-in-Ok-clause-committed g c =
         tt,
       ),
     )
+
+pub returns-in-Err-clause-stops : goal.returns-in-Err-clause-stops
+returns-in-Err-clause-stops g c =
+    let a = g.D.Shelf.told c.args.depot.now in
+    let b = g.D.Shelf.told c.commit_accepted.new.depot in
+    let store = c.args.self.now in
+    let made = c.in-Err.ensures.committed in
+    subst (λ (f : StoreRefusal). IfSome b (λ t. StopsAt (told_files t) (repo_view store.repo).keys f)) (sym c.spend.ensures.same)
+    (store_stops store c.in-Err.refusal a b c.requires.fits made.1.2.ends c.in-Err.ensures.stops)

@@ -1,14 +1,18 @@
 use Rattle.std.proofs.Common.{◌≡◌, ◌++◌, ℕ, List, Ok, Result, replicate, length, IfErr, OnOk, option_map, refl, sym, ap, subst}
 use Rattle.ferry_disk.specs.Act.{History}
+use Rattle.ferry_disk.specs.Moments.{Between}
 use Rattle.ferry_manifest.specs.Manifest.Text.{ManifestText}
 use Rattle.ferry_manifest.specs.Manifest.Writing.{manifest_text}
 use Rattle.ferry_manifest.specs.declared.manifest.Manifest.{Manifest}
 use Rattle.ferry_next.specs.Next.{written_at}
 use Rattle.ferry_repo.specs.Opening.{repo_view}
 use Rattle.ferry_stops.proofs.TellLemmas.{told_none}
+use Rattle.ferry_stops.specs.Tells.{TellsNothing}
+use Rattle.ferry_store.proofs.CauseLemmas.{memory_stops}
 use Rattle.ferry_store.proofs.RenewLemmas.{nothing_committed}
 use Rattle.ferry_store.proofs.StepLemmas.{did_as, err_is}
 use Rattle.ferry_store.proofs.store.Store.commit_accepted.Goals as goal
+use Rattle.ferry_store.specs.Causes.{Stops}
 use Rattle.ferry_store.specs.Commit.{CommitsEntry, HasCommitted, RefusesManifestOf, accepted_in, manifest_entry}
 use Rattle.ferry_store.specs.Fault.{depot_failed}
 use Rattle.ferry_store.specs.Standing.{with_manifest}
@@ -74,3 +78,11 @@ returns-clause-committed g c =
 
 pub returns-in_err-manifest-clause-untold : goal.returns-in_err-manifest-clause-untold
 returns-in_err-manifest-clause-untold g c = told_none (g.D.Shelf.told c.args.depot.now)
+
+pub returns-in_err-manifest-clause-stops : goal.returns-in_err-manifest-clause-stops
+returns-in_err-manifest-clause-stops g c =
+    let a = g.D.Shelf.told c.args.depot.now in
+    let store = c.args.self.now in
+    let f = c.in_err-manifest.field-0.0 in
+    err_is c.from_residual.result f (λ (r : Result Manifest StoreRefusal). IfErr r (λ x. Between a a (Stops store.session store.counter x)))
+    c.from_residual.ensures.1 (memory_stops store.session store.counter f TellsNothing a a c.in_err-manifest.ensures.refused (told_none a))
