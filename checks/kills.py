@@ -6,9 +6,9 @@ system; COUNT calls are taken, 50 where it isn't given, evenly spread over all t
 `list` and `check` of the target end well; the names that were told are there; those that are there are a front of the chosen ones; what `list NAME` and
 `extract` say of them is what they say of the source; and the same words run again end with 0 and leave all three, each told once. The same is looked at
 where a file may not grow beyond a size, where the target's folder can't be written, and where standard output is closed; there the status isn't 0 either.
-Where RANDOM is given, so many transfers are killed besides, each at a random time, as SEED has it; one path of each archive is then extracted, and each
-hundredth target is checked with `borg check --verify-data`, where Borg is installed. And where file systems may be mounted, the target lies on one that is too
-small, and on one that becomes read only.
+Where RANDOM is given, so many transfers are killed besides, each at a random time, as SEED has it, and one path of each archive is extracted; where Borg is
+installed the source of all is one that Borg wrote, and each hundredth target is checked with `borg check --verify-data`. And where file systems may be mounted,
+the target lies on one that is too small, and on one that becomes read only.
 One line for each thing that differs, and at the end 'N passed, M failed'; status 1 where M isn't 0.
 """
 import os
@@ -67,6 +67,30 @@ def make_source(root):
         with open(path, "wb") as file:
             file.write(content)
     return {name: [item.path for item in those if item.contents is not None] for name, those in items.items()}
+
+
+def run_borg(root, *words):
+    """Runs Borg in a folder, with the secret of the source or the target, whichever the words name."""
+    secret = SECRETS["BORG_PASSPHRASE" if "target" in words else "BORG_OTHER_PASSPHRASE"]
+    settings = {"BORG_PASSPHRASE": secret, "BORG_BASE_DIR": os.path.join(root, "borg"), "BORG_RELOCATED_REPO_ACCESS_IS_OK": "yes"}
+    return subprocess.run(["borg", *words], cwd=root, env={**os.environ, **settings}, stdout=subprocess.DEVNULL, stderr=subprocess.PIPE)
+
+
+def make_borg_source(root):
+    """The same of a source that Borg writes, with the contents of the other one."""
+    for name, items in archives(Keys()).items():
+        folder = os.path.join(root, "tree", name)
+        os.makedirs(folder)
+        for item in items:
+            if item.contents is not None:
+                with open(os.path.join(folder, item.path.decode()), "wb") as file:
+                    file.write(b"".join(item.contents))
+        os.symlink("file 0", os.path.join(folder, "symbolic"))
+    run_borg(root, "init", "--encryption=repokey", "source")
+    for name in NAMES:
+        ran = run_borg(root, "create", "--compression=none", "--chunker-params=fixed,3000", f"source::{name}", f"tree/{name}")
+        judge(ran.returncode == 0, f"borg create {name} ends with {ran.returncode}: {ran.stderr}")
+    return {name: [f"tree/{name}/{file}" for file in os.listdir(os.path.join(root, "tree", name)) if file != "symbolic"] for name in NAMES}
 
 
 class Trial:
@@ -152,13 +176,9 @@ def calls_of(trial):
 
 def borg_checks(trial, what):
     """Whether Borg finds the target right, where it is installed."""
-    if shutil.which("borg") is None:
-        return
-    settings = {"BORG_PASSPHRASE": SECRETS["BORG_PASSPHRASE"], "BORG_BASE_DIR": trial.path("borg"), "BORG_UNKNOWN_UNENCRYPTED_REPO_ACCESS_IS_OK": "yes",
-        "BORG_RELOCATED_REPO_ACCESS_IS_OK": "yes"}
-    ran = subprocess.run(["borg", "check", "--verify-data", "target"], cwd=trial.root, env={**os.environ, **settings}, stdout=subprocess.DEVNULL,
-        stderr=subprocess.PIPE)
-    judge(ran.returncode == 0, f"{what}: borg check ends with {ran.returncode}: {ran.stderr}")
+    if shutil.which("borg") is not None:
+        ran = run_borg(trial.root, "check", "--verify-data", "target")
+        judge(ran.returncode == 0, f"{what}: borg check ends with {ran.returncode}: {ran.stderr}")
 
 
 def random_kills(trial):
@@ -205,7 +225,7 @@ def unmounted(trial):
 
 def small_systems(trial):
     """Targets on file systems that become full, and on one that becomes read only."""
-    for size in range(12, 200, 4):
+    for size in range(32, 300, 4):
         if not mounted(trial, f"size={size}k"):
             return
         status, told = trial.transfer()
@@ -229,7 +249,7 @@ def small_systems(trial):
 
 def main():
     with tempfile.TemporaryDirectory() as root:
-        trial = Trial(root, make_source(root))
+        trial = Trial(root, make_borg_source(root) if RANDOM > 0 and shutil.which("borg") else make_source(root))
         total = calls_of(trial)
         count = min(COUNT, total)
         for number in sorted({1 + place * (total - 1) // max(count - 1, 1) for place in range(count)}):
