@@ -1,12 +1,14 @@
 -- Lemmas on specs/Refusals.antt: why the archive of a name isn't carried, by what its parts were refused for.
 use Rattle.std.proofs.Common.{◌≡◌, ◌⊎◌, inl, inr, ◌<◌, ◌++◌, ℕ, List, Option, Some, None, Result, Ok, Err, IfErr, IfSome, IsErrAnd, IsSome}
-use Rattle.std.proofs.Common.{length, map, slice_get, refl, sym, ◌∙◌, subst}
+use Rattle.std.proofs.Common.{◌+◌, [], ◌∷◌, Bool, true, false, append_assoc, ap, drop, get_or, length, map, slice_get, take, refl, sym, ◌∙◌, subst}
+use Rattle.std.proofs.lemmas.List.{take-append-drop, take_more}
 use Rattle.std.proofs.lemmas.Option.{IfSome_then}
 use Rattle.ferry_base.specs.Limits.{content_limit}
 use Rattle.ferry_blob.specs.Blob.{content_id}
 use Rattle.ferry_compare.specs.Compare.{Differ, Says}
 use Rattle.ferry_compare.specs.Fault.{target_failed as other_failed}
 use Rattle.ferry_compare.specs.declared.fault.CompareFault.{CompareFault}
+use Rattle.ferry_disk.proofs.MomentLemmas.{between_then}
 use Rattle.ferry_disk.specs.Act.{History, files_now}
 use Rattle.ferry_disk.specs.Device.{KeepsTold, Told, told_files}
 use Rattle.ferry_disk.specs.Files.{Files}
@@ -21,10 +23,13 @@ use Rattle.ferry_rechunk.specs.Cut.{cut}
 use Rattle.ferry_repo.specs.Archives.{archive_named}
 use Rattle.ferry_repo.specs.Opening.{RepoState, repo_view}
 use Rattle.ferry_repo.specs.Whole.{RefusesWhole}
+use Rattle.ferry_stops.specs.Tells.{TellsNothing}
+use Rattle.ferry_store.specs.Commit.{accepted_in}
 use Rattle.ferry_store.specs.declared.store.Store.{Store}
 use Rattle.ferry_carry.proofs.FlightLemmas.{known_read}
 use Rattle.ferry_carry.proofs.GrowLemmas.{most_then}
 use Rattle.ferry_carry.proofs.ProgressLemmas.{any_told, stream_ids}
+use Rattle.ferry_carry.proofs.WholeLemmas.{among_next}
 use Rattle.ferry_carry.specs.Carrying.{Origin, SaysIn, origin}
 use Rattle.ferry_carry.specs.Copied.{stream_pieces}
 use Rattle.ferry_carry.specs.Copying.{IsReady}
@@ -33,7 +38,8 @@ use Rattle.ferry_carry.specs.Grow.{KeepsMost, KeepsNames}
 use Rattle.ferry_carry.specs.Naming.{copied_archive}
 use Rattle.ferry_carry.specs.Progress.{IsAllCopied}
 use Rattle.ferry_carry.specs.Refusals.{DiffersThere, HasLargeRecord, LacksName, RefusesBegin, RefusesComparing, RefusesEnd, RefusesName, RefusesRecordText}
-use Rattle.ferry_carry.specs.Refusals.{RefusesOne, RefusesStep, StopsTarget, TakenAt, WhereTold}
+use Rattle.ferry_carry.specs.Refusals.{RefusesNames, RefusesOne, RefusesStep, StopsPieces, StopsTarget, TakenAt, WhereTold, is_of_telling, is_target}
+use Rattle.ferry_carry.specs.Telling.{TellsNames}
 use Rattle.ferry_carry.specs.declared.copy.Copy.{Copy}
 use Rattle.ferry_carry.specs.declared.fault.CarryFault.{CarryFault}
 use Rattle.ferry_carry.specs.declared.fault.CarryFault.TheVariants.{Source, Target, Taken, NotFound, Pieces, Memory, Record}
@@ -41,15 +47,15 @@ use Rattle.ferry_carry.specs.declared.fault.CarryFault.TheVariants.{Source, Targ
 -- ---- files that are told
 
 -- what holds of the files of a source, by what its shelf tells
-at_origin : (told : Option Told) (source : RepoState) (block : ℕ) (P : Files → Type 0) → IfSome told (λ t. P (told_files t))
-    → IfSome (origin told source block).files P
-at_origin None source block P known = tt
-at_origin (Some t) source block P known = known
+at_origin : (told : Option Told) (source : RepoState) (block most : ℕ) (P : Files → Type 0) → IfSome told (λ t. P (told_files t))
+    → IfSome (origin told source block most).files P
+at_origin None source block most P known = tt
+at_origin (Some t) source block most P known = known
 
-where_first : (told heard : Option Told) (source : RepoState) (block : ℕ) (P : Files → Type 0) → IfSome told (λ t. P (told_files t))
-    → WhereTold (origin told source block) heard P
-where_first told heard source block P known =
-    any_told heard (λ d. IfSome (origin told source block).files P) (λ d. at_origin told source block P known)
+where_first : (told heard : Option Told) (source : RepoState) (block most : ℕ) (P : Files → Type 0) → IfSome told (λ t. P (told_files t))
+    → WhereTold (origin told source block most) heard P
+where_first told heard source block most P known =
+    any_told heard (λ d. IfSome (origin told source block most).files P) (λ d. at_origin told source block most P known)
 
 -- what holds where a target tells its files later holds where it told them before
 where_back : (from : Origin) (a b : Option Told) (E : History → History → Type 0) (P : Files → Type 0) → Between a b E → WhereTold from b P
@@ -70,24 +76,24 @@ lacks_by before after name keeps lacks = by (archive_named name before.archives)
 -- ---- the archive of a name
 
 -- its record isn't read
-pub begin_refused : (told heard now : Option Told) (source : RepoState) (block : ℕ) (named : ArchiveRef) (store store_now : Store) (fault : CarryFault)
+pub begin_refused : (told heard now : Option Told) (source : RepoState) (block most : ℕ) (named : ArchiveRef) (store store_now : Store) (fault : CarryFault)
     → archive_named named.name source.manifest.archives ≡ Some named → RefusesBegin told source named.id fault
-    → RefusesName (origin told source block) heard store now store_now named.name fault
-begin_refused told heard now source block named store store_now (Source fault) named_is refuses = λ of_files.
-    where_first told heard source block (λ there. RefusesWhole there source.log source.keys source.manifest.archives named.name fault)
+    → RefusesName (origin told source block most) heard store now store_now named.name fault
+begin_refused told heard now source block most named store store_now (Source fault) named_is refuses = λ of_files.
+    where_first told heard source block most (λ there. RefusesWhole there source.log source.keys source.manifest.archives named.name fault)
     (IfSome_then told (refuses of_files) (λ t r. record { named = named; named_is = named_is; refused = inl r }))
-begin_refused told heard now source block named store store_now (Target refusal) named_is refuses = absurd refuses
-begin_refused told heard now source block named store store_now (Taken name) named_is refuses = absurd refuses
-begin_refused told heard now source block named store store_now (NotFound name) named_is refuses = absurd refuses
-begin_refused told heard now source block named store store_now Pieces named_is refuses = absurd refuses
-begin_refused told heard now source block named store store_now Memory named_is refuses = tt
-begin_refused told heard now source block named store store_now Record named_is refuses = absurd refuses
+begin_refused told heard now source block most named store store_now (Target refusal) named_is refuses = absurd refuses
+begin_refused told heard now source block most named store store_now (Taken name) named_is refuses = absurd refuses
+begin_refused told heard now source block most named store store_now (NotFound name) named_is refuses = absurd refuses
+begin_refused told heard now source block most named store store_now Pieces named_is refuses = absurd refuses
+begin_refused told heard now source block most named store store_now Memory named_is refuses = tt
+begin_refused told heard now source block most named store store_now Record named_is refuses = absurd refuses
 
 -- it isn't copied
 pub step_refused : (from : Origin) (heard now : Option Told) (store store_now : Store) (name : List ℕ) (fault : CarryFault) → LacksName store name
-    → StopsTarget now (repo_view store.repo).keys fault → RefusesStep from heard name fault → RefusesName from heard store now store_now name fault
+    → StopsPieces now (repo_view store.repo).keys fault → RefusesStep from heard name fault → RefusesName from heard store now store_now name fault
 step_refused from heard now store store_now name (Source fault) lacks stops refuses = refuses
-step_refused from heard now store store_now name (Target refusal) lacks stops refuses = stops
+step_refused from heard now store store_now name (Target refusal) lacks stops refuses = IfSome_then now stops (λ t s. s.1)
 step_refused from heard now store store_now name (Taken taken) lacks stops refuses = absurd refuses
 step_refused from heard now store store_now name (NotFound missing) lacks stops refuses = absurd refuses
 step_refused from heard now store store_now name Pieces lacks stops refuses = (lacks, refuses)
@@ -113,25 +119,39 @@ end_refused from a b now E store middle store_now name Record between same lacks
 )
 
 -- it isn't compared
-pub comparing_refused : (told heard now : Option Told) (source : RepoState) (block : ℕ) (name : List ℕ) (store store_now : Store) (fault : CarryFault)
-    → StopsTarget now (repo_view store.repo).keys fault → RefusesComparing told source name fault
-    → RefusesName (origin told source block) heard store now store_now name fault
-comparing_refused told heard now source block name store store_now (Source fault) stops refuses = λ of_files.
-    where_first told heard source block (λ there. RefusesWhole there source.log source.keys source.manifest.archives name fault) (refuses of_files)
-comparing_refused told heard now source block name store store_now (Target refusal) stops refuses = stops
-comparing_refused told heard now source block name store store_now (Taken taken) stops refuses = absurd refuses
-comparing_refused told heard now source block name store store_now (NotFound missing) stops refuses = absurd refuses
-comparing_refused told heard now source block name store store_now Pieces stops refuses = absurd refuses
-comparing_refused told heard now source block name store store_now Memory stops refuses = tt
-comparing_refused told heard now source block name store store_now Record stops refuses = absurd refuses
+pub comparing_refused : (told heard now : Option Told) (source : RepoState) (block most : ℕ) (name : List ℕ) (store store_now : Store) (fault : CarryFault)
+    → StopsPieces now (repo_view store.repo).keys fault → RefusesComparing told source name fault
+    → RefusesName (origin told source block most) heard store now store_now name fault
+comparing_refused told heard now source block most name store store_now (Source fault) stops refuses = λ of_files.
+    where_first told heard source block most (λ there. RefusesWhole there source.log source.keys source.manifest.archives name fault) (refuses of_files)
+comparing_refused told heard now source block most name store store_now (Target refusal) stops refuses = IfSome_then now stops (λ t s. s.1)
+comparing_refused told heard now source block most name store store_now (Taken taken) stops refuses = absurd refuses
+comparing_refused told heard now source block most name store store_now (NotFound missing) stops refuses = absurd refuses
+comparing_refused told heard now source block most name store store_now Pieces stops refuses = absurd refuses
+comparing_refused told heard now source block most name store store_now Memory stops refuses = tt
+comparing_refused told heard now source block most name store store_now Record stops refuses = absurd refuses
+
+-- what pends isn't committed
+pub pending_refused : {T : Type 0} (from : Origin) (heard now : Option Told) (store store_now : Store) (keys : Keys) (name : List ℕ)
+    (result : Result T CarryFault) → keys ≡ (repo_view store.repo).keys → IfErr result (λ fault. is_target fault ≡ true) → IfErr result (StopsPieces now keys)
+    → IfErr result (RefusesName from heard store now store_now name)
+pending_refused {T} from heard now store store_now keys name (Ok x) same target stops = tt
+pending_refused {T} from heard now store store_now keys name (Err (Source fault)) same target stops = absurd (let no : ⊥ = cc in no)
+pending_refused {T} from heard now store store_now keys name (Err (Target refusal)) same target stops =
+    subst (λ (k : Keys). StopsTarget now k (Target refusal)) same (IfSome_then now stops (λ t s. s.1))
+pending_refused {T} from heard now store store_now keys name (Err (Taken taken)) same target stops = absurd (let no : ⊥ = cc in no)
+pending_refused {T} from heard now store store_now keys name (Err (NotFound missing)) same target stops = absurd (let no : ⊥ = cc in no)
+pending_refused {T} from heard now store store_now keys name (Err Pieces) same target stops = absurd (let no : ⊥ = cc in no)
+pending_refused {T} from heard now store store_now keys name (Err Memory) same target stops = tt
+pending_refused {T} from heard now store store_now keys name (Err Record) same target stops = absurd (let no : ⊥ = cc in no)
 
 -- archives that differ, where the target was only read
-pub differs_there : {T : Type 0} (told a b : Option Told) (source : RepoState) (block : ℕ) (target now : RepoState) (name : List ℕ) (x : T) → now ≡ target
-    → KeepsTold {F = CompareFault} other_failed a b (Ok x) → Differ told source a target name → DiffersThere (origin told source block) b now name
-differs_there {T} told a b source block target now name x same kept differ =
-    subst (λ (r : RepoState). DiffersThere (origin told source block) b r name) (sym same) (record {
+pub differs_there : {T : Type 0} (told a b : Option Told) (source : RepoState) (block most : ℕ) (target now : RepoState) (name : List ℕ) (x : T) → now ≡ target
+    → KeepsTold {F = CompareFault} other_failed a b (Ok x) → Differ told source a target name → DiffersThere (origin told source block most) b now name
+differs_there {T} told a b source block most target now name x same kept differ =
+    subst (λ (r : RepoState). DiffersThere (origin told source block most) b r name) (sym same) (record {
       whole = differ.whole;
-      source = at_origin told source block (λ there. SaysIn there source name differ.whole) differ.first;
+      source = at_origin told source block most (λ there. SaysIn there source name differ.whole) differ.first;
       target_is = known_read {T = T} (λ h. Says (files_now h) target name differ.whole → ⊥) other_failed a b (Ok x) kept differ.second;
     })
 
@@ -180,18 +200,18 @@ name_refused {T} from other a b c E store middle now name given (Err fault) same
 -- ---- the end of an archive
 
 -- the record of an archive all of whose items were copied isn't put
-pub record_refused : (from : Origin) (heard : Option Told) (named : ArchiveRef) (store : Store) (copy : Copy) (fault : CarryFault) → IsReady copy
-    → IsAllCopied from named heard store copy
+pub record_refused : (from : Origin) (heard : Option Told) (named : ArchiveRef) (store : Store) (copy : Copy) (added : List (List ℕ)) (fault : CarryFault)
+    → IsReady copy → IsAllCopied from named heard store copy added
     → RefusesRecordText (repo_view store.repo).keys (copied_archive (archive_view copy.archive) copy.block (map (λ (chunk : ChunkRef). chunk.id)
     (copy.stream.chunks.items ++ chunks_of (repo_view store.repo).keys (cut copy.stream.cutter.block copy.stream.cutter.piece)))) fault
     → RefusesEnd from heard (repo_view store.repo).keys named.name fault
-record_refused from heard named store copy (Source fault) ready all refuses = refuses
-record_refused from heard named store copy (Target refusal) ready all refuses = refuses
-record_refused from heard named store copy (Taken name) ready all refuses = refuses
-record_refused from heard named store copy (NotFound name) ready all refuses = refuses
-record_refused from heard named store copy Pieces ready all refuses = refuses
-record_refused from heard named store copy Memory ready all refuses = refuses
-record_refused from heard named store copy Record ready all refuses =
+record_refused from heard named store copy added (Source fault) ready all refuses = refuses
+record_refused from heard named store copy added (Target refusal) ready all refuses = refuses
+record_refused from heard named store copy added (Taken name) ready all refuses = refuses
+record_refused from heard named store copy added (NotFound name) ready all refuses = refuses
+record_refused from heard named store copy added Pieces ready all refuses = refuses
+record_refused from heard named store copy added Memory ready all refuses = refuses
+record_refused from heard named store copy added Record ready all refuses =
     let keys = (repo_view store.repo).keys in
     let archive = archive_view copy.archive in
     IfSome_then heard all.1 (λ d known. IfSome_then from.files known (λ there c.
@@ -204,30 +224,82 @@ record_refused from heard named store copy Record ready all refuses =
       fields = refl;
       salt = refuses.0;
       salt_size = refuses.1.0;
-      large = subst IsLarge (sym all.0)
+      large = subst IsLarge (sym all.0.block)
           (subst (λ (ids : List (List ℕ)). content_limit < length (archive_text keys refuses.0 (copied_archive archive copy.block ids)))
-          (stream_ids (told_files d) (repo_view store.repo) copy c.wholes ready c.writes) refuses.1.1);
+          (stream_ids (told_files d) (repo_view store.repo) copy c.wholes added ready c.writes) refuses.1.1);
     }))
 
 -- ---- chosen names
 
--- the archive of one of these names isn't carried
-pub one_refused : (from : Origin) (heard now : Option Told) (store store_now : Store) (names : List (List ℕ)) (place : ℕ) (name : List ℕ)
-    (fault : CarryFault) → slice_get names place ≡ Some name → RefusesName from heard store now store_now name fault
-    → RefusesOne from heard store now store_now names fault
-one_refused from heard now store store_now names place name (Source fault) is refuses = (name, ((place, is), refuses))
-one_refused from heard now store store_now names place name (Target refusal) is refuses = refuses
-one_refused from heard now store store_now names place name (Taken taken) is refuses = (name, ((place, is), refuses))
-one_refused from heard now store store_now names place name (NotFound missing) is refuses = (name, ((place, is), refuses))
-one_refused from heard now store store_now names place name Pieces is refuses = (name, ((place, is), refuses))
-one_refused from heard now store store_now names place name Memory is refuses = tt
-one_refused from heard now store store_now names place name Record is refuses = (name, ((place, is), refuses))
+-- the names in front of one, and those behind it
+pub split_at : (names : List (List ℕ)) (place : ℕ) (name d : List ℕ) → place < length names → name ≡ get_or names place d
+    → names ≡ take place names ++ name ∷ drop (place + 1) names
+split_at names place name d lt named =
+    sym (take-append-drop (place + 1) names)
+    ∙ (ap (λ (l : List (List ℕ)). l ++ drop (place + 1) names)
+    (take_more names place d lt ∙ ap (λ (n : List ℕ). take place names ++ n ∷ []) (sym named))
+    ∙ append_assoc (take place names) (name ∷ []) (drop (place + 1) names))
+
+-- names that were told, behind which nothing was
+pub told_still : (accepted : ManifestText) (names : List (List ℕ)) (a b c : Option Told) → Between a b (TellsNames accepted names)
+    → Between b c TellsNothing → IfSome a (λ x. IfSome c (λ y. TellsNames accepted names x.history y.history))
+told_still accepted names a b c told untold =
+    both_ends a (between_then a b c (TellsNames accepted names) TellsNothing (TellsNames accepted names)
+    (λ h g i p q. (p.0, (q ∙ p.1.0, p.1.1))) told untold) where
+      both_ends : (o : Option Told) → Between o c (TellsNames accepted names)
+          → IfSome o (λ x. IfSome c (λ y. TellsNames accepted names x.history y.history))
+      both_ends None p = tt
+      both_ends (Some x) p = subst (λ (o : Option Told). IfSome o (λ y. TellsNames accepted names x.history y.history)) (sym p.1) p.2
+
+-- what a refusal of the archive of a name says of the target's files
+pub name_stops : (from : Origin) (heard now : Option Told) (store store_now : Store) (name : List ℕ) (fault : CarryFault)
+    → RefusesName from heard store now store_now name fault → StopsTarget now (repo_view store.repo).keys fault
+name_stops from heard now store store_now name (Source fault) refused = tt
+name_stops from heard now store store_now name (Target refusal) refused = refused
+name_stops from heard now store store_now name (Taken taken) refused = tt
+name_stops from heard now store store_now name (NotFound missing) refused = tt
+name_stops from heard now store store_now name Pieces refused = tt
+name_stops from heard now store store_now name Memory refused = tt
+name_stops from heard now store store_now name Record refused = tt
+
+-- behind a front of these names the archive of the next isn't carried
+pub one_refused : (from : Origin) (heard now : Option Told) (store store_now : Store) (names done : List (List ℕ)) (name : List ℕ)
+    (rest : List (List ℕ)) (fault : CarryFault) → names ≡ done ++ name ∷ rest
+    → (is_of_telling fault ≡ false → IfSome heard (λ b. IfSome now (λ t. TellsNames (accepted_in store) done b.history t.history)))
+    → RefusesName from heard store now store_now name fault → RefusesOne from heard store now store_now names fault
+one_refused from heard now store store_now names done name rest fault split told refused = by (is_of_telling fault) refl where
+  by : (telling : Bool) → is_of_telling fault ≡ telling → RefusesOne from heard store now store_now names fault
+  by true is = inr (is, name_stops from heard now store store_now name fault refused)
+  by false is = inl (record { done = done; name = name; rest = rest; split = split; told = told is; refused = refused })
+
+-- nor is one where a line isn't told
+pub line_refused : {T : Type 0} (from : Origin) (heard now : Option Told) (store store_now : Store) (names : List (List ℕ)) (keys : Keys)
+    (result : Result T CarryFault) (fault : CarryFault) → IsErrAnd result (λ y. y ≡ fault) → keys ≡ (repo_view store.repo).keys
+    → is_of_telling fault ≡ true → StopsTarget now keys fault → IfErr result (RefusesNames from heard store now store_now names)
+line_refused {T} from heard now store store_now names keys (Ok x) fault e same telling stops = tt
+line_refused {T} from heard now store store_now names keys (Err y) fault e same telling stops =
+    subst (RefusesNames from heard store now store_now names) (sym e) (by fault telling (subst (λ (k : Keys). StopsTarget now k fault) same stops)) where
+      by : (f : CarryFault) → is_of_telling f ≡ true → StopsTarget now (repo_view store.repo).keys f → RefusesNames from heard store now store_now names f
+      by (Source f) is s = absurd (let no : ⊥ = cc in no)
+      by (Target refusal) is s = inr (is, s)
+      by (Taken taken) is s = absurd (let no : ⊥ = cc in no)
+      by (NotFound missing) is s = absurd (let no : ⊥ = cc in no)
+      by Pieces is s = absurd (let no : ⊥ = cc in no)
+      by Memory is s = inr (is, s)
+      by Record is s = absurd (let no : ⊥ = cc in no)
 
 -- what is there isn't lacked
 pub not_there : {X : Type 0} {o : Option X} → o ≡ None → IsSome o → ⊥
 not_there {X} {o} lacks is = let none : IsSome {T = X} None = subst IsSome lacks is in let no : ⊥ = cc in no
 
 -- where the source has an archive of each name, none is missing
+found_all : (from : Origin) (heard now : Option Told) (store store_now : Store) (names : List (List ℕ)) (missing : List ℕ)
+    → ((place : ℕ) (name : List ℕ) → slice_get names place ≡ Some name → IsSome (archive_named name from.repo.manifest.archives))
+    → RefusesOne from heard store now store_now names (NotFound missing) → ⊥
+found_all from heard now store store_now names missing found (inl one) =
+    let among = among_next names one.done one.rest one.name one.split in not_there one.refused.1 (found among.0 one.name among.1)
+found_all from heard now store store_now names missing found (inr untold) = absurd (let is = untold.0 in let no : ⊥ = cc in no)
+
 pub none_missing : {T : Type 0} (from : Origin) (heard now : Option Told) (store store_now : Store) (names : List (List ℕ)) (result : Result T CarryFault)
     (fault : CarryFault) (missing : List ℕ)
     → ((place : ℕ) (name : List ℕ) → slice_get names place ≡ Some name → IsSome (archive_named name from.repo.manifest.archives))
@@ -235,5 +307,16 @@ pub none_missing : {T : Type 0} (from : Origin) (heard now : Option Told) (store
 none_missing {T} from heard now store store_now names (Ok x) fault missing found refuses e is = absurd e
 none_missing {T} from heard now store store_now names (Err y) fault missing found refuses e is =
     let same : y ≡ NotFound missing = cc in
-    let one = subst (RefusesOne from heard store now store_now names) (sym e ∙ same) refuses in
-    not_there one.1.1.1 (found one.1.0.0 one.0 one.1.0.1)
+    found_all from heard now store store_now names missing found (subst (RefusesOne from heard store now store_now names) (sym e ∙ same) refuses)
+
+-- and names are refused as one of them is
+pub names_refused : (from : Origin) (heard now : Option Told) (store store_now : Store) (names : List (List ℕ)) (fault : CarryFault)
+    → ((place : ℕ) (name : List ℕ) → slice_get names place ≡ Some name → IsSome (archive_named name from.repo.manifest.archives))
+    → RefusesOne from heard store now store_now names fault → RefusesNames from heard store now store_now names fault
+names_refused from heard now store store_now names (Source fault) found one = one
+names_refused from heard now store store_now names (Target refusal) found one = one
+names_refused from heard now store store_now names (Taken taken) found one = one
+names_refused from heard now store store_now names (NotFound missing) found one = absurd (found_all from heard now store store_now names missing found one)
+names_refused from heard now store store_now names Pieces found one = one
+names_refused from heard now store store_now names Memory found one = one
+names_refused from heard now store store_now names Record found one = one

@@ -28,6 +28,7 @@ use Rattle.ferry_carry.specs.Copying.{CopiesContent, WritesContent, WritesConten
 use Rattle.ferry_carry.specs.Fault.{target_failed}
 use Rattle.ferry_carry.specs.Gather.{Gathers, KeepsStanding, chunks_of}
 use Rattle.ferry_carry.specs.Piece.{WritesOn}
+use Rattle.ferry_carry.specs.Puts.{Addition}
 use Rattle.ferry_carry.specs.Work.{Works}
 use Rattle.ferry_carry.specs.declared.fault.CarryFault.{CarryFault}
 use Rattle.ferry_store.specs.declared.store.Store.{Store}
@@ -182,10 +183,10 @@ copied_packable told source block keys item copied more least most packable copi
 
 -- ---- a fault behind what was done
 
-pub gathered_fault : {T U : Type 0} (store now : Store) (contents : List (List ℕ)) (a b : Option Told) (n m : ℕ) (x : T) (fault : CarryFault)
-    → target_failed fault ≡ false → Works (KeepsStanding store) (λ (_ : T). Gathers store contents now) a b n m (Ok x)
-    → Works (KeepsStanding store) (λ (_ : U). Gathers store contents now) a b n m (Err fault)
-gathered_fault store now contents a b n m x fault still p = record {
+pub gathered_fault : {T U : Type 0} (most : ℕ) (store now : Store) (added : List Addition) (a b : Option Told) (n m : ℕ) (x : T) (fault : CarryFault)
+    → target_failed fault ≡ false → Works (KeepsStanding most store) (λ (_ : T). Gathers most store added now) a b n m (Ok x)
+    → Works (KeepsStanding most store) (λ (_ : U). Gathers most store added now) a b n m (Err fault)
+gathered_fault most store now added a b n m x fault still p = record {
   each = p.each;
   end = tt;
   ends = subst (λ (d : Bool). FailedWhere d a b) (sym still) p.ends;

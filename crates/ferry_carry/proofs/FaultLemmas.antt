@@ -1,6 +1,9 @@
 -- Lemmas on specs/Fault.antt: whose device a fault is, and what it says of the target's files.
-use Rattle.std.proofs.Common.{◌≡◌, true, false, Option, IfSome, refl}
+use Rattle.std.proofs.Common.{◌≡◌, ◌≢◌, ℕ, Bool, true, false, List, Option, Some, None, IfSome, refl, subst}
+use Rattle.std.proofs.lemmas.Option.{IfSome_then}
 use Rattle.ferry_disk.specs.Device.{Told, told_files}
+use Rattle.ferry_disk.specs.Faults.{FailedWhere}
+use Rattle.ferry_disk.specs.Files.{Files}
 use Rattle.ferry_mac.specs.declared.keys.Keys.{Keys}
 use Rattle.ferry_repo.specs.Fault.{repo_failed}
 use Rattle.ferry_repo.specs.declared.fault.RepoFault.{RepoFault}
@@ -8,8 +11,14 @@ use Rattle.ferry_repo.specs.declared.fault.RepoFault.TheVariants as Repos
 use Rattle.ferry_store.specs.Fault.{depot_failed, source_failed}
 use Rattle.ferry_store.specs.declared.fault.StoreRefusal.{StoreRefusal}
 use Rattle.ferry_store.specs.declared.fault.StoreRefusal.TheVariants as Stores
+use Rattle.ferry_store.specs.Adding.{RefusesAdd}
 use Rattle.ferry_store.specs.Causes.{StopsAt}
-use Rattle.ferry_carry.specs.Refusals.{StopsTarget, is_target}
+use Rattle.ferry_store.specs.State.{RefusesCommit}
+use Rattle.ferry_store.specs.declared.store.Store.{Store}
+use Rattle.ferry_write.specs.declared.session.Session.{Session}
+use Rattle.ferry_carry.specs.Refusals.{StopsPieces, StopsTarget, is_target}
+use Rattle.ferry_carry.specs.declared.fault.CarryFault.{CarryFault}
+use Rattle.ferry_carry.specs.declared.fault.CarryFault.TheVariants as Carry
 use Rattle.ferry_carry.specs.Fault.{random_failed, shelf_failed, source_fault, target_failed, target_fault}
 
 pub failed_source : (fault : RepoFault) → shelf_failed (source_fault fault) ≡ repo_failed fault
@@ -109,5 +118,48 @@ target_stops now keys Stores.Committed stops = stops
 target_stops now keys Stores.TooLarge stops = stops
 target_stops now keys Stores.Entropy stops = stops
 target_stops now keys Stores.Memory stops = tt
+
+-- where it isn't that a manifest is too large
+pub pieces_stop : (now : Option Told) (keys : Keys) (refusal : StoreRefusal) → IfSome now (λ t. refusal ≢ Stores.TooLarge)
+    → IfSome now (λ t. StopsAt (told_files t) keys refusal) → StopsPieces now keys (target_fault refusal)
+pieces_stop now keys refusal small stops = by refusal (both now small stops) where
+  both : (o : Option Told) → IfSome o (λ t. refusal ≢ Stores.TooLarge) → IfSome o (λ t. StopsAt (told_files t) keys refusal)
+      → IfSome o (λ t. (refusal ≢ Stores.TooLarge) × StopsAt (told_files t) keys refusal)
+  both None p q = tt
+  both (Some t) p q = (p, q)
+
+  by : (r : StoreRefusal) → IfSome now (λ t. (r ≢ Stores.TooLarge) × StopsAt (told_files t) keys r) → StopsPieces now keys (target_fault r)
+  by (Stores.Repo fault) s = s
+  by (Stores.Write fault) s = s
+  by (Stores.Nonce fault) s = s
+  by Stores.Committed s = s
+  by Stores.TooLarge s = s
+  by Stores.Entropy s = s
+  by Stores.Memory s = tt
+
+pub stops_of_pieces : (now : Option Told) (keys : Keys) (fault : CarryFault) → StopsPieces now keys fault → StopsTarget now keys fault
+stops_of_pieces now keys (Carry.Source fault) stops = tt
+stops_of_pieces now keys (Carry.Target refusal) stops = IfSome_then now stops (λ t s. s.1)
+stops_of_pieces now keys (Carry.Taken name) stops = tt
+stops_of_pieces now keys (Carry.NotFound name) stops = tt
+stops_of_pieces now keys Carry.Pieces stops = tt
+stops_of_pieces now keys Carry.Memory stops = tt
+stops_of_pieces now keys Carry.Record stops = tt
+
+-- a content that isn't added, or pieces that aren't committed, are no manifest
+pub adds_small : (store : Store) (content : List ℕ) (files : Files) (refusal : StoreRefusal) → RefusesAdd store content files refusal
+    → refusal ≢ Stores.TooLarge
+adds_small store content files refusal refused is =
+    let at : RefusesAdd store content files Stores.TooLarge = subst (RefusesAdd store content files) is refused in at.1
+
+pub commits_small : (session : Session) (refusal : StoreRefusal) → RefusesCommit session refusal → refusal ≢ Stores.TooLarge
+commits_small session refusal refused is = subst (RefusesCommit session) is refused
+
+-- what is so where a device told its acts before is so where it tells them behind
+pub told_behind : (X : Type 0) (failed : Bool) (a b : Option Told) → FailedWhere failed a b → IfSome a (λ _. X) → IfSome b (λ _. X)
+told_behind X failed a None ends known = tt
+told_behind X false None (Some now) ends known = absurd (let no : ⊥ = cc in no)
+told_behind X true None (Some now) ends known = absurd (let no : ⊥ = cc in no)
+told_behind X failed (Some told) (Some now) ends known = known
 
 pub ruleset conversions = (failed_source, source_still, source_undrawn, failed_target, target_still, failed_random, target_is)

@@ -44,6 +44,7 @@ use Rattle.ferry_carry.proofs.CarryLemmas.{if_some, same_over}
 use Rattle.ferry_carry.proofs.CutLemmas.{cut_same}
 use Rattle.ferry_carry.proofs.GatherLemmas.{moved_here, stands_here}
 use Rattle.ferry_carry.proofs.GrowLemmas.{growing_by, has_kept, most_from}
+use Rattle.ferry_carry.proofs.PutsLemmas.{adds_here, goes_same}
 use Rattle.ferry_carry.specs.Fault.{compare_fault, target_failed}
 use Rattle.ferry_carry.specs.Carrying.{CarriesOver, IsCarried, Origin, SaysIn, origin}
 use Rattle.ferry_carry.specs.Flight.{IsCommitted, IsSame, IsSettled, ReadsStore}
@@ -130,14 +131,16 @@ read_fits counts store repo h same repo_fits fits = record {
       (fits.learnt id blob apart live);
 }
 
-read_gathers : (store : Store) (repo : Repo) (h g : History) → repo_view repo ≡ repo_view store.repo
-    → (g ≡ h) × FitsRepo (files_now g) (repo_view repo) (cached_in repo) → Gathers store [] (with_repo store repo) h g
+read_gathers : (most : ℕ) (store : Store) (repo : Repo) (h g : History) → repo_view repo ≡ repo_view store.repo
+    → (g ≡ h) × FitsRepo (files_now g) (repo_view repo) (cached_in repo) → Gathers most store [] (with_repo store repo) h g
 unfolding read_fits
-read_gathers store repo h g same reads counts fits =
-    subst (λ (k : History). FitsRepo (files_now k) (repo_view repo) (cached_in repo) → Gathered counts store [] (with_repo store repo) h k fits)
+read_gathers most store repo h g same reads counts fits =
+    subst (λ (k : History). FitsRepo (files_now k) (repo_view repo) (cached_in repo) → Gathered most counts store [] (with_repo store repo) h k fits)
     (sym reads.0) (λ repo_fits. record {
       fits_now = read_fits counts store repo h same repo_fits fits;
       moved = moved_here (repo_view store.repo).keys fits.written;
+      puts = adds_here (repo_view store.repo).keys most (entries_of fits.written);
+      committed = goes_same (repo_view store.repo).keys most fits.written;
       brings = λ scope apart all within. (subst (λ (r : RepoState). HoldsWithin scope (files_now h) r) (sym same) within, tt);
     }) reads.1
 
@@ -152,41 +155,41 @@ fits_read {T} store repo a b result same kept repo_fits fits = by_end b repo_fit
   by_end (Some told) r f = read_fits false store repo told.history same r f
 
 -- such a call as a body of a flight
-pub works_read : {T U : Type 0} (store : Store) (repo : Repo) (a b : Option Told) (n m : ℕ) (x : T) (y : U) → repo_view repo ≡ repo_view store.repo
+pub works_read : {T U : Type 0} (most : ℕ) (store : Store) (repo : Repo) (a b : Option Told) (n m : ℕ) (x : T) (y : U) → repo_view repo ≡ repo_view store.repo
     → KeepsTold {F = CompareFault} other_failed a b (Ok x) → m ≡ n → IfSome b (λ t. FitsRepo (told_files t) (repo_view repo) (cached_in repo))
-    → Works (KeepsStanding store) (λ (_ : U). Gathers store [] (with_repo store repo)) a b n m (Ok y)
-works_read {T} {U} store repo a b n m x y same kept caused repo_fits =
+    → Works (KeepsStanding most store) (λ (_ : U). Gathers most store [] (with_repo store repo)) a b n m (Ok y)
+works_read {T} {U} most store repo a b n m x y same kept caused repo_fits =
     let reads : Between a b (λ h g. g ≡ h) = same_told {T = T} {F = CompareFault} other_failed a b (Ok x) kept in
     record {
-      each = between_map a b (λ h g. g ≡ h) (KeepsStanding store) (λ h g e. subst (KeepsStanding store h) (sym e) (stands_here store h)) reads;
+      each = between_map a b (λ h g. g ≡ h) (KeepsStanding most store) (λ h g e. subst (KeepsStanding most store h) (sym e) (stands_here most store h)) reads;
       end = between_map a b (λ h g. (g ≡ h) × FitsRepo (files_now g) (repo_view repo) (cached_in repo))
-          (λ h g. AllDone h g × Gathers store [] (with_repo store repo) h g)
-          (λ h g e. (subst (AllDone h) (sym e.0) (done_here h), read_gathers store repo h g same e))
+          (λ h g. AllDone h g × Gathers most store [] (with_repo store repo) h g)
+          (λ h g e. (subst (AllDone h) (sym e.0) (done_here h), read_gathers most store repo h g same e))
           (between_end (λ h. FitsRepo (files_now h) (repo_view repo) (cached_in repo)) (λ h g. g ≡ h) a b repo_fits reads);
       ends = keeps_end {T = T} {F = CompareFault} other_failed a b (Ok x) kept;
       cause = caused;
     }
 
-pub works_unread : {U : Type 0} (T : Type 0) (store now : Store) (a b : Option Told) (n m : ℕ) (fault : CompareFault)
+pub works_unread : {U : Type 0} (T : Type 0) (most : ℕ) (store now : Store) (a b : Option Told) (n m : ℕ) (fault : CompareFault)
     → KeepsTold {T = T} other_failed a b (Err fault) → HasCause {T = T} other_failed n m (Err fault)
-    → Works (KeepsStanding store) (λ (_ : U). Gathers store [] now) a b n m (Err (compare_fault fault))
-works_unread {U} T store now a b n m fault kept caused =
+    → Works (KeepsStanding most store) (λ (_ : U). Gathers most store [] now) a b n m (Err (compare_fault fault))
+works_unread {U} T most store now a b n m fault kept caused =
     let reads : Between a b (λ h g. g ≡ h) = same_told {T = T} {F = CompareFault} other_failed a b (Err fault) kept in
     record {
-      each = between_map a b (λ h g. g ≡ h) (KeepsStanding store) (λ h g e. subst (KeepsStanding store h) (sym e) (stands_here store h)) reads;
+      each = between_map a b (λ h g. g ≡ h) (KeepsStanding most store) (λ h g e. subst (KeepsStanding most store h) (sym e) (stands_here most store h)) reads;
       end = tt;
       ends = subst (λ (d : Bool). FailedWhere d a b) (sym (compared_target fault)) (keeps_end {T = T} {F = CompareFault} other_failed a b (Err fault) kept);
       cause = subst (λ (d : Bool). RoseWhere d n m) (sym (compared_target fault)) caused;
     }
 
 -- what was compared is the same still
-pub same_read : {T : Type 0} (told a b : Option Told) (source : RepoState) (block : ℕ) (target now : RepoState) (name : List ℕ) (x : T) → now ≡ target
-    → KeepsTold {F = CompareFault} other_failed a b (Ok x) → AreEqual told source a target name → IsSame (origin told source block) b now name
-same_read {T} told a b source block target now name x same kept equal =
-    subst (λ (r : RepoState). IsSame (origin told source block) b r name) (sym same)
+pub same_read : {T : Type 0} (told a b : Option Told) (source : RepoState) (block most : ℕ) (target now : RepoState) (name : List ℕ) (x : T) → now ≡ target
+    → KeepsTold {F = CompareFault} other_failed a b (Ok x) → AreEqual told source a target name → IsSame (origin told source block most) b now name
+same_read {T} told a b source block most target now name x same kept equal =
+    subst (λ (r : RepoState). IsSame (origin told source block most) b r name) (sym same)
     (by told b equal.first (known_read (λ h. Says (files_now h) target name equal.whole) other_failed a b (Ok x) kept equal.second)) where
       by : (told b : Option Told) → IfSome told (λ t. Says (told_files t) source name equal.whole)
-          → IfSome b (λ t. Says (told_files t) target name equal.whole) → IsSame (origin told source block) b target name
+          → IfSome b (λ t. Says (told_files t) target name equal.whole) → IsSame (origin told source block most) b target name
       by None None first second = tt
       by None (Some d) first second = tt
       by (Some t) None first second = tt
@@ -255,7 +258,7 @@ same_grows : (from : Origin) (name : List ℕ) (store now : Store) (h g : Histor
     → IsSome (archive_named name (repo_view store.repo).manifest.archives)
     → IfSome from.files (λ there. (whole : WholeArchive)
     × (SaysIn there from.repo name whole × SaysIn (files_now h) (repo_view store.repo) name whole))
-    → Gathers store [] now h g → Grows from (name ∷ []) store now h g
+    → Gathers from.most store [] now h g → Grows from (name ∷ []) [] store now h g
 same_grows from name store now h g accepts rest pending there same gathers counts fits =
     let end = gathers counts fits in
     let written = end.fits_now.written in
@@ -275,6 +278,8 @@ same_grows from name store now h g accepts rest pending there same gathers count
       fits_now = end.fits_now;
       chunks = λ id blob apart live. end.moved.committed id blob live;
       opening = end.moved.opening;
+      puts = end.puts;
+      committed = end.committed;
       config = end.moved.config;
       most = most_from store now rest;
       carried = (
@@ -290,19 +295,19 @@ same_grows from name store now h g accepts rest pending there same gathers count
 
 pub same_carried : {T : Type 0} (from : Origin) (name : List ℕ) (store now : Store) (a b : Option Told) (n m : ℕ) (x : T) → AcceptsMore store
     → KeepsRest store now → now.pending ≡ 0 → IsSome (archive_named name (repo_view store.repo).manifest.archives)
-    → IsSame from a (repo_view store.repo) name → Works (KeepsStanding store) (λ (_ : T). Gathers store [] now) a b n m (Ok x)
-    → Works (KeepsGrowing from (name ∷ []) store) (λ (_ : T). Grows from (name ∷ []) store now) a b n m (Ok x)
+    → IsSame from a (repo_view store.repo) name → Works (KeepsStanding from.most store) (λ (_ : T). Gathers from.most store [] now) a b n m (Ok x)
+    → Works (KeepsGrowing from (name ∷ []) store) (λ (_ : T). Grows from (name ∷ []) [] store now) a b n m (Ok x)
 same_carried {T} from name store now a b n m x accepts rest pending there same p = record {
-  each = between_map a b (KeepsStanding store) (KeepsGrowing from (name ∷ []) store)
+  each = between_map a b (KeepsStanding from.most store) (KeepsGrowing from (name ∷ []) store)
       (λ h g e. growing_by from (name ∷ []) (accepted_in store) store h g accepts e) p.each;
   end = between_map a b
       (λ h g. IfSome from.files (λ there. (whole : WholeArchive)
-      × (SaysIn there from.repo name whole × SaysIn (files_now h) (repo_view store.repo) name whole)) × (AllDone h g × Gathers store [] now h g))
-      (λ h g. AllDone h g × Grows from (name ∷ []) store now h g)
+      × (SaysIn there from.repo name whole × SaysIn (files_now h) (repo_view store.repo) name whole)) × (AllDone h g × Gathers from.most store [] now h g))
+      (λ h g. AllDone h g × Grows from (name ∷ []) [] store now h g)
       (λ h g e. (e.1.0, same_grows from name store now h g accepts rest pending there e.0 e.1.1))
       (between_known (λ h. IfSome from.files (λ there. (whole : WholeArchive)
-      × (SaysIn there from.repo name whole × SaysIn (files_now h) (repo_view store.repo) name whole))) (λ h g. AllDone h g × Gathers store [] now h g) a b
-      same p.end);
+      × (SaysIn there from.repo name whole × SaysIn (files_now h) (repo_view store.repo) name whole))) (λ h g. AllDone h g × Gathers from.most store [] now h g)
+      a b same p.end);
   ends = p.ends;
   cause = p.cause;
 }

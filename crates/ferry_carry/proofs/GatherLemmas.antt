@@ -1,6 +1,8 @@
 -- A store with contents added, one after another.
-use Rattle.std.proofs.Common.{◌≡◌, ◌≢◌, ◌⊎◌, ◌↔◌, IsTrue, inl, inr, ℕ, Bool, true, false, List, [], ◌∷◌, ◌++◌, Option, Some}
-use Rattle.std.proofs.Common.{unwrap_or, Ok, IfSome, refl, sym, ◌∙◌, ap, subst}
+use Rattle.std.proofs.Common.{◌≡◌, ◌≢◌, ◌⊎◌, ◌↔◌, IsTrue, inl, inr, ℕ, Bool, true, false, List, [], ◌∷◌, ◌++◌, Option, Some, None}
+use Rattle.std.proofs.Common.{is_some, unwrap_or, Ok, IfSome, refl, sym, ◌∙◌, ap, subst}
+use Rattle.std.proofs.lemmas.List.{append-nil}
+use Rattle.std.specs.List.{AllByRecursion}
 use Rattle.ferry_base.specs.Limits.{zero_id}
 use Rattle.ferry_blob.proofs.CallerLemmas.{opened_id}
 use Rattle.ferry_blob.proofs.LawLemmas.{one_content}
@@ -33,9 +35,12 @@ use Rattle.ferry_store.specs.Store.{IsKnown, StoreFits}
 use Rattle.ferry_store.specs.declared.content.Added.{Added}
 use Rattle.ferry_store.specs.declared.store.Store.{Store}
 use Rattle.ferry_write.specs.Script.{AllDone}
+use Rattle.ferry_carry.proofs.PutsLemmas.{adds_here, adds_one, adds_then, contents_append, contents_pieces, goes_commit, goes_same, goes_then, room_of}
 use Rattle.ferry_carry.proofs.WholeLemmas.{all_both, all_front, each_to}
 use Rattle.ferry_carry.specs.Gather.{Brings, BringsOpening, Gathers, HoldsContents, HoldsWithin, IsAmong, KeepsRest, KeepsStanding, Moved, NoCollision}
-use Rattle.ferry_carry.specs.Gather.{StandsFrom}
+use Rattle.ferry_carry.specs.Gather.{Gathered, StandsFrom}
+use Rattle.ferry_carry.specs.Piece.{HasRoom}
+use Rattle.ferry_carry.specs.Puts.{Addition, AddsAll, GoesOn, IsAddedBehind, IsLiveIn, content_in, contents_in, pieces}
 
 -- ---- what opens
 
@@ -71,24 +76,27 @@ opening_put keys id blob content entries opens other found apart live = by_id (s
 committed_some : (counts : Bool) (store : Store) (h : History) (fits : StoreFits counts store h) → fits.written.committed ≡ Some (committed_of fits.written)
 committed_some counts store h fits = fits.manifest.is ∙ ap Some (sym (ap (λ (c : Option (List LogEntry)). unwrap_or c []) fits.manifest.is))
 
-pub standing_from : (counts : Bool) (store : Store) (h : History) (fits : StoreFits counts store h) (image : Files) → ShowsStanding fits.written image
-    → StandsFrom (repo_view store.repo).keys fits.written image
-standing_from counts store h fits image shown = record {
+pub standing_from : (most : ℕ) (counts : Bool) (store : Store) (h : History) (fits : StoreFits counts store h) (image : Files)
+    → ShowsStanding fits.written image → StandsFrom (repo_view store.repo).keys most fits.written image
+standing_from most counts store h fits image shown = record {
   entries = committed_of fits.written;
   shown = subst (Shows image) (committed_some counts store h fits) shown.0;
   keeps = keeps_same (committed_of fits.written);
   opening = opening_kept (repo_view store.repo).keys (entries_of fits.written) (committed_of fits.written) fits.keeps;
+  puts = goes_same (repo_view store.repo).keys most fits.written;
   config = shown.1;
 }
 
 -- what stands from later on stands from before
-pub stands_then : (keys : Keys) (written next : Written) (image : Files) → Moved keys written next → StandsFrom keys next image
-    → StandsFrom keys written image
-stands_then keys written next image moved stands = record {
+pub stands_then : (keys : Keys) (most : ℕ) (written next : Written) (added : List Addition) (image : Files) → Moved keys written next
+    → AddsAll keys most (entries_of written) added (entries_of next) → GoesOn keys most written (committed_of next) → StandsFrom keys most next image
+    → StandsFrom keys most written image
+stands_then keys most written next added image moved adds goes stands = record {
   entries = stands.entries;
   shown = stands.shown;
   keeps = keeps_then (committed_of written) (committed_of next) stands.entries moved.committed stands.keeps;
   opening = opening_then keys (entries_of written) (entries_of next) stands.entries moved.opening stands.opening;
+  puts = goes_then keys most written next stands.entries added adds goes stands.puts;
   config = stands.config ∙ moved.config;
 }
 
@@ -136,55 +144,69 @@ chunk_on counts store now h g fits fits_now keeps keys id content chunk =
 
 -- ---- one after another
 
-pub gathers_here : (store : Store) (h : History) → Gathers store [] store h h
-gathers_here store h counts fits =
-    record { fits_now = fits; moved = moved_here (repo_view store.repo).keys fits.written; brings = λ scope apart all within. (within, tt) }
+pub gathers_here : (most : ℕ) (store : Store) (h : History) → Gathers most store [] store h h
+gathers_here most store h counts fits = record {
+  fits_now = fits;
+  moved = moved_here (repo_view store.repo).keys fits.written;
+  puts = adds_here (repo_view store.repo).keys most (entries_of fits.written);
+  committed = goes_same (repo_view store.repo).keys most fits.written;
+  brings = λ scope apart all within. (within, tt);
+}
 
-pub gathers_then : (store middle now : Store) (some more : List (List ℕ)) → KeepsRest store middle → KeepsRest middle now → (h g i : History)
-    → Gathers store some middle h g → Gathers middle more now g i → Gathers store (some ++ more) now h i
-gathers_then store middle now some more rest rest_now h g i p q counts fits =
+pub gathers_then : (most : ℕ) (store middle now : Store) (some more : List Addition) → KeepsRest store middle → KeepsRest middle now → (h g i : History)
+    → Gathers most store some middle h g → Gathers most middle more now g i → Gathers most store (some ++ more) now h i
+gathers_then most store middle now some more rest rest_now h g i p q counts fits =
     let first = p counts fits in
     let second = q counts first.fits_now in
+    let keys = (repo_view store.repo).keys in
     record {
       fits_now = second.fits_now;
       moved = moved_then (repo_view store.repo).keys fits.written first.fits_now.written second.fits_now.written first.moved
           (subst (λ (k : Keys). Moved k first.fits_now.written second.fits_now.written) rest.keys second.moved);
+      puts = adds_then keys most (entries_of fits.written) (entries_of first.fits_now.written) (entries_of second.fits_now.written) some more first.puts
+          (subst (λ (k : Keys). AddsAll k most (entries_of first.fits_now.written) more (entries_of second.fits_now.written)) rest.keys second.puts);
+      committed = goes_then keys most fits.written first.fits_now.written (committed_of second.fits_now.written) some first.puts first.committed
+          (subst (λ (k : Keys). GoesOn k most first.fits_now.written (committed_of second.fits_now.written)) rest.keys second.committed);
       brings = λ scope apart all within.
-          let parts = all_front (IsAmong scope) some more all in
+          let parts = all_front (IsAmong scope) (contents_in some) (contents_in more)
+          (subst (AllByRecursion (IsAmong scope)) (contents_append some more) all) in
           let one = first.brings scope apart parts.0 within in
           let apart_then = subst (λ (k : Keys). NoCollision k scope) (sym rest.keys) apart in
-          let two = second.brings scope apart_then parts.1 one.0 in
-          (two.0, all_both _ some more (kept counts first.fits_now second.fits_now second.moved.entries one.1) two.1);
+          let two = second.brings scope apart_then parts.1 one.0 in (
+            two.0,
+            subst (HoldsContents (files_now i) (repo_view now.repo)) (sym (contents_append some more))
+                (all_both _ (contents_in some) (contents_in more) (kept counts first.fits_now second.fits_now second.moved.entries one.1) two.1),
+          );
     } where
       kept : (counts : Bool) (fits : StoreFits counts middle g) (fits_now : StoreFits counts now i)
           → Keeps (entries_of fits.written) (entries_of fits_now.written)
-          → HoldsContents (files_now g) (repo_view middle.repo) some → HoldsContents (files_now i) (repo_view now.repo) some
+          → HoldsContents (files_now g) (repo_view middle.repo) (contents_in some) → HoldsContents (files_now i) (repo_view now.repo) (contents_in some)
       kept counts fits fits_now keeps all =
-          each_to _ _ some (λ content chunk.
+          each_to _ _ (contents_in some) (λ content chunk.
           subst (λ (k : Keys). HoldsChunk (files_now i) (repo_view now.repo).log (repo_view now.repo).keys (content_id k content) content) (sym rest_now.keys)
           (chunk_on counts middle now g i fits fits_now keeps rest_now.keys (content_id (repo_view middle.repo).keys content) content chunk)) all
 
-pub each_then : (store middle : Store) (contents : List (List ℕ)) (h g i : History) → (repo_view middle.repo).keys ≡ (repo_view store.repo).keys
-    → KeepsStanding store h g → AllDone h g → Gathers store contents middle h g → KeepsStanding middle g i → KeepsStanding store h i
-each_then store middle contents h g i same before done gathers after = (
+pub each_then : (most : ℕ) (store middle : Store) (added : List Addition) (h g i : History) → (repo_view middle.repo).keys ≡ (repo_view store.repo).keys
+    → KeepsStanding most store h g → AllDone h g → Gathers most store added middle h g → KeepsStanding most middle g i → KeepsStanding most store h i
+each_then most store middle added h g i same before done gathers after = (
   untold_then h g i before.0 after.0,
   λ counts fits.
       let first = gathers counts fits in
       let keys = (repo_view store.repo).keys in
-      moments_then (IsSound (StandsFrom keys fits.written) counts) h g i (before.1 counts fits) done
-      (sound_moments (StandsFrom (repo_view middle.repo).keys first.fits_now.written) (StandsFrom keys fits.written) counts g i
+      moments_then (IsSound (StandsFrom keys most fits.written) counts) h g i (before.1 counts fits) done
+      (sound_moments (StandsFrom (repo_view middle.repo).keys most first.fits_now.written) (StandsFrom keys most fits.written) counts g i
       (λ image stands.
-      stands_then keys fits.written first.fits_now.written image first.moved
-      (subst (λ (k : Keys). StandsFrom k first.fits_now.written image) same stands)) (after.1 counts first.fits_now)),
+      stands_then keys most fits.written first.fits_now.written added image first.moved first.puts first.committed
+      (subst (λ (k : Keys). StandsFrom k most first.fits_now.written image) same stands)) (after.1 counts first.fits_now)),
 )
 
 -- where nothing is done, what stands is what a sound moment shows
-pub stands_here : (store : Store) (h : History) → KeepsStanding store h h
-stands_here store h = (
+pub stands_here : (most : ℕ) (store : Store) (h : History) → KeepsStanding most store h h
+stands_here most store h = (
   refl,
   λ counts fits.
-      sound_moments (ShowsStanding fits.written) (StandsFrom (repo_view store.repo).keys fits.written) counts h h
-      (λ image shown. standing_from counts store h fits image shown)
+      sound_moments (ShowsStanding fits.written) (StandsFrom (repo_view store.repo).keys most fits.written) counts h h
+      (λ image shown. standing_from most counts store h fits image shown)
       (keeps_here store.session store.counter h counts fits.written fits.under_way),
 )
 
@@ -317,47 +339,107 @@ brings_old counts store now content h g fits fits_now keys known entries scope a
       let same : found ≡ content = apart.one found content (within_now id found there.1) all.0 (sym named) in
       subst (HoldsChunk (files_now g) (repo_view now.repo).log (repo_view now.repo).keys id) same there.1
 
-added_by : (counts : Bool) (store now : Store) (content : List ℕ) (added : Added) (h g : History) (fits : StoreFits counts store h)
-    (fits_now : StoreFits counts now g) (new : Bool) → new ≡ added.new → AddedSo store content now added
-    → fits_now.written ≡ with_added new fits.written (entry_of store content)
-    → Moved (repo_view store.repo).keys fits.written fits_now.written × Brings (repo_view store.repo) (content ∷ []) (repo_view now.repo) h g
-added_by counts store now content added h g fits fits_now true is so e =
+-- where nothing was put, the id of the content is live
+live_old : (counts : Bool) (now : Store) (id : List ℕ) (g : History) (fits_now : StoreFits counts now g) → IsKnown now id
+    → IsLiveIn (entries_of fits_now.written) id
+live_old counts now id g fits_now known = by_id (same_or zero_id id) where
+  by_id : (id ≡ zero_id) ⊎ (id ≢ zero_id) → IsLiveIn (entries_of fits_now.written) id
+  by_id (inl zero_is) = inl zero_is
+  by_id (inr chunk) =
+      let object = (fits_now.there id chunk known).1.object in
+      inr (ap is_some ((fits_now.holds id object.blob chunk).0 object.has))
+
+-- an id whose content is new isn't live
+unlive_new : (id : List ℕ) (entries : List LogEntry) → id ≢ zero_id → live_in id entries ≡ None → IsLiveIn entries id → ⊥
+unlive_new id entries chunk unlive (inl zero_is) = chunk zero_is
+unlive_new id entries chunk unlive (inr live) = let never : true ≡ false = sym live ∙ ap is_some unlive in cc
+
+-- what a content that is added makes of what is written and of what is there
+record AddedAs (most : ℕ) (counts : Bool) (store now : Store) (one : Addition) (h g : History) (written written_now : Written) : Type 0 where
+  moved : Moved (repo_view store.repo).keys written written_now
+  puts : IsAddedBehind (repo_view store.repo).keys most (entries_of written) one (entries_of written_now)
+  committed : committed_of written_now ≡ committed_of written
+  brings : Brings (repo_view store.repo) (content_in one ∷ []) (repo_view now.repo) h g
+
+added_by : (most : ℕ) (counts : Bool) (store now : Store) (one : Addition) (added : Added) (h g : History) (fits : StoreFits counts store h)
+    (fits_now : StoreFits counts now g) (new : Bool) → new ≡ added.new → HasRoom most one store → AddedSo store (content_in one) now added
+    → fits_now.written ≡ with_added new fits.written (entry_of store (content_in one))
+    → AddedAs most counts store now one h g fits.written fits_now.written
+added_by most counts store now one added h g fits fits_now true is room so e =
+    let content = content_in one in
     let put : IsTrue added.new = sym is in
     let fresh = so.new.0 put in
     let entries : entries_of fits_now.written ≡ entries_of fits.written ++ entry_of store content ∷ [] =
     ap entries_of e ∙ entries_put fits.written (entry_of store content) in
     let unlive = missing_unlive (files_now h) (repo_view store.repo).log (entries_of fits.written) (id_under store content) fresh.0 fresh.1 fits.holds in
-    let keys = (added_rest store now content added so).keys in (
-      record {
+    let keys = (added_rest store now content added so).keys in
+    let blob = blob_for (repo_view store.repo) store.counter content in
+    record {
+      moved = record {
         committed = subst (λ (w : Written). Keeps (committed_of fits.written) (committed_of w)) (sym e) (keeps_same (committed_of fits.written));
         entries = subst (Keeps (entries_of fits.written)) (sym entries)
-            (keeps_put (id_under store content) (blob_for (repo_view store.repo) store.counter content) (entries_of fits.written) unlive);
+            (keeps_put (id_under store content) blob (entries_of fits.written) unlive);
         opening = subst (BringsOpening (repo_view store.repo).keys (entries_of fits.written)) (sym entries)
-            (opening_put (repo_view store.repo).keys (id_under store content) (blob_for (repo_view store.repo) store.counter content) content
-            (entries_of fits.written) (so.opens put));
+            (opening_put (repo_view store.repo).keys (id_under store content) blob content (entries_of fits.written) (so.opens put));
         config = ap (λ (w : Written). w.config) e;
-      },
-      brings_new counts store now content h g fits fits_now keys fresh.0 (so.opens put) entries,
-    )
-added_by counts store now content added h g fits fits_now false is so e = (
-  subst (Moved (repo_view store.repo).keys fits.written) (sym e) (moved_here (repo_view store.repo).keys fits.written),
-  brings_old counts store now content h g fits fits_now (added_rest store now content added so).keys so.known (ap entries_of e),
-)
+      };
+      puts = inr (
+        blob,
+        (
+          record {
+            new = unlive_new (id_under store content) (entries_of fits.written) fresh.0 unlive;
+            room = room_of counts store h fits most one room.checkpoint (room.room fresh);
+            opens = so.opens put;
+          },
+          entries,
+        ),
+      );
+      committed = ap committed_of e;
+      brings = brings_new counts store now content h g fits fits_now keys fresh.0 (so.opens put) entries;
+    }
+added_by most counts store now one added h g fits fits_now false is room so e =
+    let content = content_in one in
+    let live = live_old counts now (id_under store content) g fits_now so.known in
+    record {
+      moved = subst (Moved (repo_view store.repo).keys fits.written) (sym e) (moved_here (repo_view store.repo).keys fits.written);
+      puts = inl (subst (λ (w : Written). IsLiveIn (entries_of w) (id_under store content)) e live, ap entries_of e);
+      committed = ap committed_of e;
+      brings = brings_old counts store now content h g fits fits_now (added_rest store now content added so).keys so.known (ap entries_of e);
+    }
+
+one_gathers : (most : ℕ) (store now : Store) (one : Addition) (added : Added) (h g : History) → HasRoom most one store
+    → AddedSo store (content_in one) now added → Adds store (content_in one) now added h g → Gathers most store (one ∷ []) now h g
+one_gathers most store now one added h g room so adds counts fits =
+    let end = adds counts fits in
+    let keys = (repo_view store.repo).keys in
+    let all = added_by most counts store now one added h g fits end.0 added.new refl room so end.1 in
+    record {
+      fits_now = end.0;
+      moved = all.moved;
+      puts = adds_one keys most (entries_of fits.written) one (entries_of end.0.written) all.puts;
+      committed = inl all.committed;
+      brings = all.brings;
+    }
 
 -- a content that was added is there
-pub add_gathers : (store now : Store) (content : List ℕ) (added : Added) (h g : History) → AddedSo store content now added → Adds store content now added h g
-    → Gathers store (content ∷ []) now h g
-add_gathers store now content added h g so adds counts fits =
-    let end = adds counts fits in
-    let both = added_by counts store now content added h g fits end.0 added.new refl so end.1 in
-    record { fits_now = end.0; moved = both.0; brings = both.1 }
+pub add_gathers : (most : ℕ) (store now : Store) (one : Addition) (content : List ℕ) (added : Added) (h g : History) → content_in one ≡ content
+    → HasRoom most one store → AddedSo store content now added → Adds store content now added h g → Gathers most store (one ∷ []) now h g
+add_gathers most store now one content added h g is room so adds =
+    one_gathers most store now one added h g room (subst (λ (c : List ℕ). AddedSo store c now added) (sym is) so)
+    (subst (λ (c : List ℕ). Adds store c now added h g) (sym is) adds)
 
-pub add_stands : (store : Store) (h g : History) → TellsNothing h g → KeepsSound store.session store.counter h g → KeepsStanding store h g
-add_stands store h g untold keeps = (
+-- pieces that were added are there
+pub pieces_brought : (most : ℕ) (counts : Bool) (store now : Store) (more : List (List ℕ)) (h g : History) (fits : StoreFits counts store h)
+    → Gathered most counts store (pieces more) now h g fits → Brings (repo_view store.repo) more (repo_view now.repo) h g
+pieces_brought most counts store now more h g fits end =
+    subst (λ (contents : List (List ℕ)). Brings (repo_view store.repo) contents (repo_view now.repo) h g) (contents_pieces more) end.brings
+
+pub add_stands : (most : ℕ) (store : Store) (h g : History) → TellsNothing h g → KeepsSound store.session store.counter h g → KeepsStanding most store h g
+add_stands most store h g untold keeps = (
   untold,
   λ counts fits.
-      sound_moments (ShowsStanding fits.written) (StandsFrom (repo_view store.repo).keys fits.written) counts h g
-      (λ image shown. standing_from counts store h fits image shown)
+      sound_moments (ShowsStanding fits.written) (StandsFrom (repo_view store.repo).keys most fits.written) counts h g
+      (λ image shown. standing_from most counts store h fits image shown)
       (keeps counts fits.written fits.under_way),
 )
 
@@ -368,8 +450,9 @@ checkpoint_rest store now repo accepted =
     let view : repo_view now.repo ≡ repo_view store.repo = ap repo_view repo in
     rest_by store now (ap (λ (r : RepoState). r.keys) view) (ap (λ (r : RepoState). r.config) view) (ap (λ (r : RepoState). r.manifest) view) accepted
 
-pub checkpoint_gathers : (store now : Store) (h g : History) → now.repo ≡ store.repo → Checkpoints store now h g → Gathers store [] now h g
-checkpoint_gathers store now h g repo takes counts fits =
+pub checkpoint_gathers : (most : ℕ) (store now : Store) (h g : History) → now.repo ≡ store.repo → Checkpoints store now h g
+    → Gathers most store [] now h g
+checkpoint_gathers most store now h g repo takes counts fits =
     let end = takes counts fits in
     let w = fits.written in
     let keys : (repo_view now.repo).keys ≡ (repo_view store.repo).keys = ap (λ (r : Repo). (repo_view r).keys) repo in
@@ -384,6 +467,9 @@ checkpoint_gathers store now h g repo takes counts fits =
         opening = opening_kept (repo_view store.repo).keys (entries_of w) (entries_of end.0.written) (λ id blob there. sym (live id) ∙ there);
         config = ap (λ (x : Written). x.config) end.1;
       };
+      puts = (CommitEntry ∷ [], ((tt, tt), ap entries_of end.1 ∙ append-nil (entries_committed w)));
+      committed = subst (λ (x : Written). GoesOn (repo_view store.repo).keys most w (committed_of x)) (sym end.1)
+          (goes_commit (repo_view store.repo).keys most w);
       brings = λ scope apart all within. (
         λ id found holds. within id found
             (chunk_on counts now store g h end.0 fits (λ other blob there. sym (live other) ∙ there) (sym keys) id found holds),
@@ -391,25 +477,27 @@ checkpoint_gathers store now h g repo takes counts fits =
       );
     }
 
-either_from : (counts : Bool) (store : Store) (h : History) (fits : StoreFits counts store h) (image : Files) → ShowsEither fits.written image
-    → StandsFrom (repo_view store.repo).keys fits.written image
-either_from counts store h fits image (inl shown) = standing_from counts store h fits image shown
-either_from counts store h fits image (inr shown) =
+either_from : (most : ℕ) (counts : Bool) (store : Store) (h : History) (fits : StoreFits counts store h) (image : Files) → ShowsEither fits.written image
+    → StandsFrom (repo_view store.repo).keys most fits.written image
+either_from most counts store h fits image (inl shown) = standing_from most counts store h fits image shown
+either_from most counts store h fits image (inr shown) =
     let w = fits.written in
     record {
       entries = entries_committed w;
       shown = shown.0;
       keeps = keeps_then (committed_of w) (entries_of w) (entries_committed w) fits.keeps (keeps_commit (entries_of w));
       opening = opening_kept (repo_view store.repo).keys (entries_of w) (entries_committed w) (λ id blob live. sym (live_commit id (entries_of w)) ∙ live);
+      puts = goes_commit (repo_view store.repo).keys most w;
       config = shown.1;
     }
 
-pub checkpoint_stands : (store : Store) (h g : History) → TellsNothing h g → CommitsSound store.session store.counter h g → KeepsStanding store h g
-checkpoint_stands store h g untold keeps = (
+pub checkpoint_stands : (most : ℕ) (store : Store) (h g : History) → TellsNothing h g → CommitsSound store.session store.counter h g
+    → KeepsStanding most store h g
+checkpoint_stands most store h g untold keeps = (
   untold,
   λ counts fits.
-      sound_moments (ShowsEither fits.written) (StandsFrom (repo_view store.repo).keys fits.written) counts h g
-      (λ image shown. either_from counts store h fits image shown)
+      sound_moments (ShowsEither fits.written) (StandsFrom (repo_view store.repo).keys most fits.written) counts h g
+      (λ image shown. either_from most counts store h fits image shown)
       (keeps counts fits.written fits.under_way),
 )
 

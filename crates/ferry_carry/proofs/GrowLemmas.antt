@@ -2,7 +2,7 @@
 use Rattle.std.proofs.Common.{◌≡◌, ◌⊎◌, inl, inr, ℕ, zero, Bool, true, false, cond, List, [], ◌∷◌, ◌++◌, Option, Some, None, Ok, IfSome, IsSome}
 use Rattle.std.proofs.Common.{if◌then◌else◌, unwrap_or, refl, sym, ◌∙◌, ap, subst}
 use Rattle.std.proofs.lemmas.Slice.Eq.{bytes_eq-Decides}
-use Rattle.std.proofs.lemmas.List.{append_assoc}
+use Rattle.std.proofs.lemmas.List.{append-nil, append_assoc}
 use Rattle.std.specs.List.{AllByRecursion}
 use Rattle.std.specs.Str.{bytes_eq}
 use Rattle.ferry_base.specs.Limits.{zero_id}
@@ -13,14 +13,15 @@ use Rattle.ferry_disk.specs.Files.{Files}
 use Rattle.ferry_mac.specs.declared.keys.Keys.{Keys}
 use Rattle.ferry_manifest.specs.Manifest.Text.{ManifestText, manifest_of}
 use Rattle.ferry_manifest.specs.declared.manifest.ArchiveRef.{ArchiveRef}
+use Rattle.ferry_manifest.specs.declared.manifest.Manifest.{Manifest}
 use Rattle.ferry_next.proofs.PlaceLemmas.{with_named}
 use Rattle.ferry_next.specs.Next.{next_manifest}
 use Rattle.ferry_repo.specs.Archives.{archive_named}
 use Rattle.ferry_repo.specs.Opening.{RepoState, repo_view}
-use Rattle.ferry_segment.specs.Entry.{LogEntry, PutEntry}
+use Rattle.ferry_segment.specs.Entry.{LogEntry, CommitEntry, PutEntry}
 use Rattle.ferry_stops.proofs.TellLemmas.{untold_then}
 use Rattle.ferry_stops.specs.Tells.{TellsNothing}
-use Rattle.ferry_store.proofs.StandingLemmas.{live_manifest, live_renewed, manifest_kept}
+use Rattle.ferry_store.proofs.StandingLemmas.{entries_put, live_manifest, live_renewed, manifest_kept}
 use Rattle.ferry_store.proofs.StepLemmas.{known_end, known_then, moments_then}
 use Rattle.ferry_store.specs.Commit.{Commits, CommitsEntry, ShowsManifest, accepted_in}
 use Rattle.ferry_store.specs.Standing.{HoldsManifest, Keeps, committed_of, entries_committed, entries_of, live_in, with_manifest}
@@ -31,12 +32,14 @@ use Rattle.ferry_write.specs.Script.{AllDone}
 use Rattle.ferry_carry.proofs.CarryLemmas.{all_carried, named_carried}
 use Rattle.ferry_carry.proofs.CutLemmas.{cut_none, cut_one, cut_then}
 use Rattle.ferry_carry.proofs.GatherLemmas.{opening_same, opening_then, sound_moments, standing_from, stands_here}
+use Rattle.ferry_carry.proofs.PutsLemmas.{adds_here, adds_others, adds_then, goes_same, goes_then}
 use Rattle.ferry_carry.proofs.WholeLemmas.{all_both, among_behind, among_front, each_to}
 use Rattle.ferry_carry.specs.Gather.{BringsOpening, Gathers, IsAmong, KeepsRest, KeepsStanding, StandsFrom}
 use Rattle.ferry_carry.specs.Grow.{AcceptsMore, Grows, GrowsBy, IsNamedBy, KeepsChunks, KeepsGrowing, KeepsGrowingBy, KeepsMost, KeepsNames}
 use Rattle.ferry_carry.specs.Grow.{StandsOn}
 use Rattle.ferry_carry.specs.Carrying.{AreCut, IsCarried, IsReadyToName, Origin}
 use Rattle.ferry_carry.specs.Flight.{AcceptsOne}
+use Rattle.ferry_carry.specs.Puts.{Addition, AddsAll, GoesOn}
 
 -- ---- names and chunks
 
@@ -83,7 +86,7 @@ held_by repo other manifest entries keys holds = record {
 -- by entries that keep all that was committed the manifest is the one that was
 pub on_from : (from : Origin) (chosen : List (List ℕ)) (accepted : ManifestText) (counts : Bool) (store : Store) (h : History)
     (fits : StoreFits counts store h) (image : Files) → KeepsNames (repo_view store.repo).manifest accepted
-    → StandsFrom (repo_view store.repo).keys fits.written image → StandsOn from chosen accepted (repo_view store.repo) fits.written image
+    → StandsFrom (repo_view store.repo).keys from.most fits.written image → StandsOn from chosen accepted (repo_view store.repo) fits.written image
 on_from from chosen accepted counts store h fits image accepts stands =
     let entries_are : committed_of fits.written ≡ fits.manifest.entries = ap (λ (c : Option (List LogEntry)). unwrap_or c []) fits.manifest.is in
     record {
@@ -92,6 +95,7 @@ on_from from chosen accepted counts store h fits image accepts stands =
       shown = stands.shown;
       chunks = keeps_chunks (committed_of fits.written) stands.entries stands.keeps;
       opening = stands.opening;
+      puts = stands.puts;
       holds = manifest_kept (repo_view store.repo) (committed_of fits.written) stands.entries stands.keeps
           (subst (HoldsManifest (repo_view store.repo)) (sym entries_are) fits.manifest.holds);
       names = names_here (repo_view store.repo).manifest;
@@ -105,12 +109,12 @@ on_from from chosen accepted counts store h fits image accepts stands =
     }
 
 pub growing_by : (from : Origin) (chosen : List (List ℕ)) (accepted : ManifestText) (store : Store) (h g : History)
-    → KeepsNames (repo_view store.repo).manifest accepted → KeepsStanding store h g → KeepsGrowingBy accepted from chosen store h g
+    → KeepsNames (repo_view store.repo).manifest accepted → KeepsStanding from.most store h g → KeepsGrowingBy accepted from chosen store h g
 growing_by from chosen accepted store h g accepts keeps = (
   keeps.0,
   λ counts fits.
-      sound_moments (StandsFrom (repo_view store.repo).keys fits.written) (StandsOn from chosen accepted (repo_view store.repo) fits.written) counts h g
-      (λ image stands. on_from from chosen accepted counts store h fits image accepts stands) (keeps.1 counts fits),
+      sound_moments (StandsFrom (repo_view store.repo).keys from.most fits.written) (StandsOn from chosen accepted (repo_view store.repo) fits.written)
+      counts h g (λ image stands. on_from from chosen accepted counts store h fits image accepts stands) (keeps.1 counts fits),
 )
 
 -- names of both
@@ -128,20 +132,23 @@ named_then accepted middle manifest some more p q name entry is = by (q name ent
   by (inr among) = inr (among_behind some more name among)
 
 -- what stands from later on stands from before
-unfoldable pub on_then : (from : Origin) (some more : List (List ℕ)) (accepted middle : ManifestText) (repo next : RepoState)
+unfoldable pub on_then : (from : Origin) (some more : List (List ℕ)) (added : List Addition) (accepted middle : ManifestText) (repo next : RepoState)
     (written after : Written) (image : Files)
     → next.keys ≡ repo.keys → KeepsNames repo.manifest next.manifest → KeepsChunks (committed_of written) (committed_of after)
-    → BringsOpening repo.keys (entries_of written) (entries_of after) → after.config ≡ written.config
+    → BringsOpening repo.keys (entries_of written) (entries_of after) → AddsAll repo.keys from.most (entries_of written) added (entries_of after)
+    → GoesOn repo.keys from.most written (committed_of after) → after.config ≡ written.config
     → AllByRecursion (IsCarried from next.keys (committed_of after) next.manifest.archives) some
     → AreCut accepted from next.keys next.manifest.archives some → IsNamedBy accepted some middle → StandsOn from more middle next after image
     → StandsOn from (some ++ more) accepted repo written image
-on_then from some more accepted middle repo next written after image keys names chunks opening config carried cut only stands = record {
+on_then from some more added accepted middle repo next written after image keys names chunks opening puts goes config carried cut only stands = record {
   entries = stands.entries;
   manifest = stands.manifest;
   shown = stands.shown;
   chunks = chunks_then (committed_of written) (committed_of after) stands.entries chunks stands.chunks;
   opening = opening_then repo.keys (entries_of written) (entries_of after) stands.entries opening
       (subst (λ (k : Keys). BringsOpening k (entries_of after) stands.entries) keys stands.opening);
+  puts = goes_then repo.keys from.most written after stands.entries added puts goes
+      (subst (λ (k : Keys). GoesOn k from.most after stands.entries) keys stands.puts);
   holds = held_by repo next stands.manifest stands.entries keys stands.holds;
   names = names_then repo.manifest next.manifest stands.manifest names stands.names;
   config = stands.config ∙ config;
@@ -165,6 +172,7 @@ on_wider from some more accepted repo written image stands = record {
   shown = stands.shown;
   chunks = stands.chunks;
   opening = stands.opening;
+  puts = stands.puts;
   holds = stands.holds;
   names = stands.names;
   config = stands.config;
@@ -205,14 +213,16 @@ most_then a b c p q = record {
   names = names_then (repo_view a.repo).manifest (repo_view b.repo).manifest (repo_view c.repo).manifest p.names q.names;
 }
 
-pub grows_from : (from : Origin) (store now : Store) (contents : List (List ℕ)) (h g : History) → KeepsRest store now → Gathers store contents now h g
-    → Grows from [] store now h g
-grows_from from store now contents h g rest gathers counts fits =
+pub grows_from : (from : Origin) (store now : Store) (added : List Addition) (h g : History) → KeepsRest store now → Gathers from.most store added now h g
+    → Grows from [] added store now h g
+grows_from from store now added h g rest gathers counts fits =
     let end = gathers counts fits in
     record {
       fits_now = end.fits_now;
       chunks = keeps_chunks (committed_of fits.written) (committed_of end.fits_now.written) end.moved.committed;
       opening = end.moved.opening;
+      puts = end.puts;
+      committed = end.committed;
       config = end.moved.config;
       most = most_from store now rest;
       carried = tt;
@@ -221,11 +231,13 @@ grows_from from store now contents h g rest gathers counts fits =
       only = λ name entry is. inl (ap (λ (m : ManifestText). archive_named name m.archives) (sym rest.accepted) ∙ is);
     }
 
-pub grows_here : (from : Origin) (store : Store) (h : History) → Grows from [] store store h h
+pub grows_here : (from : Origin) (store : Store) (h : History) → Grows from [] [] store store h h
 grows_here from store h counts fits = record {
   fits_now = fits;
   chunks = λ id blob apart live. live;
   opening = opening_same (repo_view store.repo).keys (entries_of fits.written);
+  puts = adds_here (repo_view store.repo).keys from.most (entries_of fits.written);
+  committed = goes_same (repo_view store.repo).keys from.most fits.written;
   config = refl;
   most = most_here store;
   carried = tt;
@@ -234,9 +246,9 @@ grows_here from store h counts fits = record {
   only = λ name entry is. inl is;
 }
 
-pub grows_then : (from : Origin) (some more : List (List ℕ)) (store middle now : Store) (h g i : History) → Grows from some store middle h g
-    → Grows from more middle now g i → Grows from (some ++ more) store now h i
-grows_then from some more store middle now h g i p q counts fits =
+pub grows_then : (from : Origin) (some more : List (List ℕ)) (added others : List Addition) (store middle now : Store) (h g i : History)
+    → Grows from some added store middle h g → Grows from more others middle now g i → Grows from (some ++ more) (added ++ others) store now h i
+grows_then from some more added others store middle now h g i p q counts fits =
     let first = p counts fits in
     let second = q counts first.fits_now in
     let keys = (repo_view now.repo).keys in
@@ -248,6 +260,12 @@ grows_then from some more store middle now h g i p q counts fits =
       opening = opening_then (repo_view store.repo).keys (entries_of fits.written) (entries_of first.fits_now.written) (entries_of second.fits_now.written)
           first.opening
           (subst (λ (k : Keys). BringsOpening k (entries_of first.fits_now.written) (entries_of second.fits_now.written)) first.most.keys second.opening);
+      puts = adds_then (repo_view store.repo).keys from.most (entries_of fits.written) (entries_of first.fits_now.written)
+          (entries_of second.fits_now.written) added others first.puts
+          (subst (λ (k : Keys). AddsAll k from.most (entries_of first.fits_now.written) others (entries_of second.fits_now.written)) first.most.keys
+          second.puts);
+      committed = goes_then (repo_view store.repo).keys from.most fits.written first.fits_now.written committed added first.puts first.committed
+          (subst (λ (k : Keys). GoesOn k from.most first.fits_now.written committed) first.most.keys second.committed);
       config = second.config ∙ first.config;
       most = most_then store middle now first.most second.most;
       carried = all_both (IsCarried from keys committed archives) some more
@@ -264,9 +282,10 @@ grows_then from some more store middle now h g i p q counts fits =
       only = named_then (accepted_in store) (accepted_in middle) (accepted_in now) some more first.only second.only;
     }
 
-pub growing_then : (from : Origin) (some more : List (List ℕ)) (store middle : Store) (h g i : History) → KeepsGrowing from (some ++ more) store h g
-    → AllDone h g → Grows from some store middle h g → KeepsGrowing from more middle g i → KeepsGrowing from (some ++ more) store h i
-growing_then from some more store middle h g i before done grows after = (
+pub growing_then : (from : Origin) (some more : List (List ℕ)) (added : List Addition) (store middle : Store) (h g i : History)
+    → KeepsGrowing from (some ++ more) store h g → AllDone h g → Grows from some added store middle h g → KeepsGrowing from more middle g i
+    → KeepsGrowing from (some ++ more) store h i
+growing_then from some more added store middle h g i before done grows after = (
   untold_then h g i before.0 after.0,
   λ counts fits.
       let first = grows counts fits in
@@ -275,14 +294,25 @@ growing_then from some more store middle h g i before done grows after = (
       moments_then (IsSound (StandsOn from (some ++ more) (accepted_in store) repo fits.written) counts) h g i (before.1 counts fits) done
       (sound_moments (StandsOn from more (accepted_in middle) next first.fits_now.written)
       (StandsOn from (some ++ more) (accepted_in store) repo fits.written) counts g i
-      (λ image stands. on_then from some more (accepted_in store) (accepted_in middle) repo next fits.written first.fits_now.written image first.most.keys
-      first.most.names first.chunks first.opening first.config first.carried first.cut first.only stands) (after.1 counts first.fits_now)),
+      (λ image stands. on_then from some more added (accepted_in store) (accepted_in middle) repo next fits.written first.fits_now.written image
+      first.most.keys first.most.names first.chunks first.opening first.puts first.committed first.config first.carried first.cut first.only stands)
+      (after.1 counts first.fits_now)),
 )
 
 pub growing_here : (from : Origin) (chosen : List (List ℕ)) (store : Store) (h : History) → AcceptsMore store → KeepsGrowing from chosen store h h
-growing_here from chosen store h accepts = growing_by from chosen (accepted_in store) store h h accepts (stands_here store h)
+growing_here from chosen store h accepts = growing_by from chosen (accepted_in store) store h h accepts (stands_here from.most store h)
 
 -- ---- a manifest is committed
+
+-- behind what was written stand a manifest and a commit then
+adds_manifest : (keys : Keys) (most : ℕ) (written : Written) (blob : List ℕ)
+    → AddsAll keys most (entries_of written) [] (entries_committed (with_entry written (PutEntry zero_id blob)))
+adds_manifest keys most written blob =
+    let entry = PutEntry zero_id blob in
+    let is : entries_committed (with_entry written entry) ≡ entries_of written ++ (entry ∷ CommitEntry ∷ []) =
+    ap (λ (es : List LogEntry). es ++ CommitEntry ∷ []) (entries_put written entry) ∙ append_assoc (entries_of written) (entry ∷ []) (CommitEntry ∷ []) in
+    subst (AddsAll keys most (entries_of written) []) (sym is)
+    (adds_others keys most (entries_of written) (entry ∷ CommitEntry ∷ []) (refl, (tt, tt)))
 
 commit_on : (from : Origin) (accepted : ManifestText) (entry : ArchiveRef) (counts : Bool) (store : Store) (h : History)
     (fits : StoreFits counts store h) (manifest : ManifestText) (blob : List ℕ) (image : Files) → KeepsNames (repo_view store.repo).manifest manifest
@@ -290,7 +320,7 @@ commit_on : (from : Origin) (accepted : ManifestText) (entry : ArchiveRef) (coun
     → ShowsManifest (with_manifest (repo_view store.repo) manifest) (with_entry fits.written (PutEntry zero_id blob)) image
     → StandsOn from (entry.name ∷ []) accepted (repo_view store.repo) fits.written image
 commit_on from accepted entry counts store h fits manifest blob image names archives one ready (inl shown) =
-    on_from from (entry.name ∷ []) accepted counts store h fits image one.keeps (standing_from counts store h fits image shown)
+    on_from from (entry.name ∷ []) accepted counts store h fits image one.keeps (standing_from from.most counts store h fits image shown)
 commit_on from accepted entry counts store h fits manifest blob image names archives one ready (inr shown) =
     let named : (name : List ℕ) → archive_named name manifest.archives ≡ archive_named name (accepted_in store).archives =
     λ name. ap (archive_named name) archives in
@@ -300,6 +330,7 @@ commit_on from accepted entry counts store h fits manifest blob image names arch
       shown = shown.0.0;
       chunks = λ id old apart live. live_manifest fits.written blob id apart ∙ fits.keeps id old live;
       opening = λ id old apart live. inl (sym (live_manifest fits.written blob id apart) ∙ live);
+      puts = inr ([], adds_manifest (repo_view store.repo).keys from.most fits.written blob);
       holds = shown.1;
       names = names;
       config = shown.0.1;
@@ -329,11 +360,14 @@ pub commit_grows : (from : Origin) (accepted : ManifestText) (entry : ArchiveRef
     (h g : History) → KeepsMost store now → manifest.archives ≡ (accepted_in store).archives → (repo_view now.repo).manifest ≡ manifest
     → accepted_in now ≡ (repo_view now.repo).manifest → AcceptsOne accepted store entry
     → IsReadyToName from (files_now h) (repo_view store.repo) entry → Commits store (PutEntry zero_id blob) now h g
-    → GrowsBy accepted from (entry.name ∷ []) store now h g
+    → GrowsBy accepted from (entry.name ∷ []) [] store now h g
 commit_grows from accepted entry store now manifest blob h g most archives manifest_is accepted_is one ready commits counts fits =
     let end = commits counts fits in
     let entries = entries_committed (with_entry fits.written (PutEntry zero_id blob)) in
+    let keys = (repo_view store.repo).keys in
     let committed : committed_of end.0.written ≡ entries = ap committed_of end.1 in
+    let written_is : entries_of end.0.written ≡ entries = ap entries_of end.1 ∙ append-nil entries in
+    let adds : AddsAll keys from.most (entries_of fits.written) [] entries = adds_manifest keys from.most fits.written blob in
     let named : (name : List ℕ) → archive_named name manifest.archives ≡ archive_named name (accepted_in store).archives =
     λ name. ap (archive_named name) archives in
     record {
@@ -342,6 +376,8 @@ commit_grows from accepted entry store now manifest blob h g most archives manif
           ap (λ (w : Written). live_in id (committed_of w)) end.1 ∙ (live_manifest fits.written blob id apart ∙ fits.keeps id old live);
       opening = λ id old apart live.
           inl (sym (live_renewed fits.written blob id apart) ∙ (ap (λ (w : Written). live_in id (entries_of w)) (sym end.1) ∙ live));
+      puts = subst (AddsAll keys from.most (entries_of fits.written) []) (sym written_is) adds;
+      committed = subst (GoesOn keys from.most fits.written) (sym committed) (inr ([], adds));
       config = ap (λ (w : Written). w.config) end.1;
       most = most;
       carried = (
@@ -371,32 +407,36 @@ accepts_on store now is = subst (KeepsNames (repo_view now.repo).manifest) (sym 
 -- ---- an archive is accepted
 
 -- a store with an archive accepted fits
-pub accepted_fits : (counts : Bool) (store now : Store) (h : History) → now ≡ record store { accepted = now.accepted } → StoreFits counts store h
-    → StoreFits counts now h
-accepted_fits counts store now h same fits =
-    subst (λ (s : Store). StoreFits counts s h) (sym same) (record {
-      written = fits.written;
-      under_way = fits.under_way;
-      repo = fits.repo;
-      below = fits.below;
-      there = fits.there;
-      holds = fits.holds;
-      manifest = fits.manifest;
-      keeps = fits.keeps;
-      pending = fits.pending;
-      learnt = fits.learnt;
-    })
-
-pub accepted_known : (store now : Store) (a : Option Told) → now ≡ record store { accepted = now.accepted }
-    → IfSome a (λ t. StoreFits false store t.history) → IfSome a (λ t. StoreFits false now t.history)
-accepted_known store now None same known = tt
-accepted_known store now (Some t) same known = accepted_fits false store now t.history same known
+abbrev accepted_as : (counts : Bool) (store : Store) (accepted : Option Manifest) (h : History) → StoreFits counts store h
+    → StoreFits counts (record store { accepted = accepted }) h
+accepted_as counts store accepted h fits = record {
+  written = fits.written;
+  under_way = fits.under_way;
+  repo = fits.repo;
+  below = fits.below;
+  there = fits.there;
+  holds = fits.holds;
+  manifest = fits.manifest;
+  keeps = fits.keeps;
+  pending = fits.pending;
+  learnt = fits.learnt;
+}
 
 pub accepted_most : (store now : Store) → now ≡ record store { accepted = now.accepted } → KeepsMost store now
 accepted_most store now same =
     subst (KeepsMost store) (sym same) (record { keys = refl; config = refl; names = names_here (repo_view store.repo).manifest })
 
 -- what stands from a store with an archive accepted stands from the store before
+pub standing_accepted : (most : ℕ) (store middle : Store) (h g : History) → middle ≡ record store { accepted = middle.accepted }
+    → KeepsStanding most middle h g → KeepsStanding most store h g
+standing_accepted most store middle h g same standing =
+    (subst (λ (s : Store). KeepsStanding most s h g → KeepsStanding most store h g) (sym same)
+    (λ after. (
+      after.0,
+      λ counts fits.
+          after.1 counts (accepted_as counts store middle.accepted h fits),
+    ))) standing
+
 pub growing_accepted : (accepted : ManifestText) (from : Origin) (chosen : List (List ℕ)) (store middle : Store) (h g : History)
     → middle ≡ record store { accepted = middle.accepted } → KeepsGrowingBy accepted from chosen middle h g
     → KeepsGrowingBy accepted from chosen store h g
@@ -405,40 +445,21 @@ growing_accepted accepted from chosen store middle h g same growing =
     (λ after. (
       after.0,
       λ counts fits.
-          after.1 counts (record {
-            written = fits.written;
-            under_way = fits.under_way;
-            repo = fits.repo;
-            below = fits.below;
-            there = fits.there;
-            holds = fits.holds;
-            manifest = fits.manifest;
-            keeps = fits.keeps;
-            pending = fits.pending;
-            learnt = fits.learnt;
-          }),
+          after.1 counts (accepted_as counts store middle.accepted h fits),
     ))) growing
 
-pub grows_accepted : (accepted : ManifestText) (from : Origin) (chosen : List (List ℕ)) (store middle now : Store) (h g : History)
-    → middle ≡ record store { accepted = middle.accepted } → GrowsBy accepted from chosen middle now h g → GrowsBy accepted from chosen store now h g
-grows_accepted accepted from chosen store middle now h g same grows =
-    (subst (λ (s : Store). GrowsBy accepted from chosen s now h g → GrowsBy accepted from chosen store now h g) (sym same) (λ after counts fits.
-    let end = after counts (record {
-      written = fits.written;
-      under_way = fits.under_way;
-      repo = fits.repo;
-      below = fits.below;
-      there = fits.there;
-      holds = fits.holds;
-      manifest = fits.manifest;
-      keeps = fits.keeps;
-      pending = fits.pending;
-      learnt = fits.learnt;
-    }) in
+pub grows_accepted : (accepted : ManifestText) (from : Origin) (chosen : List (List ℕ)) (added : List Addition) (store middle now : Store) (h g : History)
+    → middle ≡ record store { accepted = middle.accepted } → GrowsBy accepted from chosen added middle now h g
+    → GrowsBy accepted from chosen added store now h g
+grows_accepted accepted from chosen added store middle now h g same grows =
+    (subst (λ (s : Store). GrowsBy accepted from chosen added s now h g → GrowsBy accepted from chosen added store now h g) (sym same) (λ after counts fits.
+    let end = after counts (accepted_as counts store middle.accepted h fits) in
     record {
       fits_now = end.fits_now;
       chunks = end.chunks;
       opening = end.opening;
+      puts = end.puts;
+      committed = end.committed;
       config = end.config;
       most = record { keys = end.most.keys; config = end.most.config; names = end.most.names };
       carried = end.carried;

@@ -1,3 +1,4 @@
+pub mod PutsLemmas
 pub mod GatherLemmas
 pub mod WorkLemmas
 pub mod FaultLemmas
@@ -11,10 +12,12 @@ pub mod ProgressLemmas
 pub mod StepLemmas
 pub mod RefusalLemmas
 pub mod NamingLemmas
+pub mod AcceptingLemmas
 pub mod FlightLemmas
 pub mod CauseLemmas
 pub mod TellLemmas
 pub mod CarryLemmas
 pub mod FlyLemmas
 pub mod ReportLemmas
+pub mod StandLemmas
 pub mod CutLemmas

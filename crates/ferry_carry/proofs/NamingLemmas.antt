@@ -1,37 +1,58 @@
 -- Lemmas on specs/Naming.antt: the record that was put for an archive, what the store lets a next body do, and the commit of a name.
-use Rattle.std.proofs.Common.{◌≡◌, Bool, ℕ, List, [], ◌∷◌, Option, None, Result, Ok, Err, IfOk, IfSome, map, sym, ◌∙◌, ap, subst, false}
-use Rattle.ferry_base.specs.Limits.{zero_id}
+use Rattle.std.proofs.Common.{◌≡◌, ◌⊎◌, inl, inr, Bool, ℕ, List, [], ◌∷◌, Option, None, Result, Ok, Err, IfOk, IfSome, map}
+use Rattle.std.proofs.Common.{length, ◌<◌, ◌++◌, refl, sym, ◌∙◌, ap, arith, subst, false, true}
+use Rattle.std.proofs.lemmas.List.{append_assoc}
+use Rattle.std.proofs.lemmas.Option.{IfSome_then}
+use Rattle.ferry_base.specs.Limits.{content_limit, zero_id}
 use Rattle.ferry_blob.specs.Blob.{content_id}
 use Rattle.ferry_disk.proofs.MomentLemmas.{between_both, between_map}
 use Rattle.ferry_disk.specs.Act.{files_now}
 use Rattle.ferry_disk.specs.Device.{RoseWhere, Told, told_files}
 use Rattle.ferry_disk.specs.Faults.{FailedWhere}
+use Rattle.ferry_disk.specs.Files.{Files}
 use Rattle.ferry_disk.specs.Moments.{Between}
 use Rattle.ferry_item.specs.declared.item.ChunkRef.{ChunkRef}
 use Rattle.ferry_mac.specs.declared.keys.Keys.{Keys}
 use Rattle.ferry_manifest.specs.Manifest.Text.{ManifestText}
-use Rattle.ferry_manifest.specs.Record.Text.{ArchiveText, archive_of, as_tagged}
+use Rattle.ferry_manifest.specs.Manifest.Writing.{manifest_text}
+use Rattle.ferry_manifest.specs.Record.Text.{ArchiveText, archive_of, archive_view, as_tagged}
 use Rattle.ferry_manifest.specs.declared.manifest.ArchiveRef.{ArchiveRef}
+use Rattle.ferry_next.specs.Next.{next_manifest, written_at}
 use Rattle.ferry_repo.specs.Archives.{archive_named}
+use Rattle.ferry_rechunk.specs.Cut.{cut}
 use Rattle.ferry_repo.specs.Opening.{RepoState, repo_view}
+use Rattle.ferry_repo.specs.Whole.{WholeItem}
 use Rattle.ferry_segment.specs.Entry.{PutEntry}
 use Rattle.ferry_stops.specs.Tells.{TellsNothing}
-use Rattle.ferry_store.specs.Commit.{Commits, CommitsEntry, accepted_in}
+use Rattle.ferry_store.specs.Commit.{Commits, CommitsEntry, RefusesManifestOf, accepted_in}
 use Rattle.ferry_store.specs.Standing.{with_manifest}
 use Rattle.ferry_store.specs.State.{Did}
 use Rattle.ferry_store.specs.declared.fault.StoreRefusal.{StoreRefusal}
+use Rattle.ferry_store.specs.declared.fault.StoreRefusal.TheVariants as Stores
 use Rattle.ferry_store.specs.declared.store.Store.{Store}
 use Rattle.ferry_write.specs.Script.{AllDone}
 use Rattle.ferry_carry.proofs.FaultLemmas.{failed_target}
 use Rattle.ferry_carry.proofs.GrowLemmas.{commit_growing, commit_grows, growing_accepted, grows_accepted}
+use Rattle.ferry_carry.proofs.ProgressLemmas.{any_told, stream_ids}
+use Rattle.ferry_carry.proofs.PutsLemmas.{pieces_append}
 use Rattle.ferry_carry.proofs.WorkLemmas.{between_known, carried_nothing, works_as, works_front}
 use Rattle.ferry_carry.specs.Carrying.{IsReadyToName, Origin}
 use Rattle.ferry_carry.specs.Fault.{target_failed, target_fault}
-use Rattle.ferry_carry.specs.Flight.{AcceptsOne, NamesArchive}
-use Rattle.ferry_carry.specs.Gather.{KeepsRest}
+use Rattle.ferry_carry.specs.Copied.{IsCopyOf}
+use Rattle.ferry_carry.specs.Copying.{IsReady}
+use Rattle.ferry_carry.specs.Flight.{AcceptsOne, ListsDone, NamesArchive}
+use Rattle.ferry_carry.specs.Gather.{Gathers, KeepsRest, KeepsStanding, chunks_of}
 use Rattle.ferry_carry.specs.Grow.{AcceptsMore, GrowsBy, KeepsGrowingBy, KeepsMost, KeepsNames}
-use Rattle.ferry_carry.specs.Naming.{IsRecord, copied_archive}
+use Rattle.ferry_carry.specs.Listing.{ListsArchive, ListsItems}
+use Rattle.ferry_carry.specs.Naming.{IsRecord, copied_archive, entry_for}
+use Rattle.ferry_carry.specs.Progress.{CopiesAll, IsAllCopied, WritesItems}
+use Rattle.ferry_carry.specs.Puts.{Addition, Record, pieces}
+use Rattle.ferry_carry.specs.Refusals.{IsLimited, LimitsManifest, RefusesBegin, StopsPieces, named_next}
+use Rattle.ferry_carry.specs.Time.{time_for}
+use Rattle.ferry_carry.specs.Work.{Works}
+use Rattle.ferry_carry.specs.declared.copy.Copy.{Copy}
 use Rattle.ferry_carry.specs.declared.fault.CarryFault.{CarryFault}
+use Rattle.ferry_carry.specs.declared.fault.CarryFault.TheVariants as Carry
 
 -- ---- the record
 
@@ -58,6 +79,70 @@ pub record_as : (r : Result (List ℕ) CarryFault) (keys other : Keys) (archive 
 record_as r keys other archive block pieces given text same is put =
     subst (λ (k : Keys). IfOk r (λ id. IsRecord k archive block pieces text id)) same
     (subst (λ (p : List ChunkRef). IfOk r (λ id. IsRecord other archive block p text id)) is put)
+
+-- ---- what was added of an archive
+
+-- a body that added contents, under a checkpoint that is the same
+pub gathered_at : {T : Type 0} (most other : ℕ) (store now : Store) (added : List Addition) (a b : Option Told) (n m : ℕ) (result : Result T CarryFault)
+    → other ≡ most → Works (KeepsStanding other store) (λ (_ : T). Gathers other store added now) a b n m result
+    → Works (KeepsStanding most store) (λ (_ : T). Gathers most store added now) a b n m result
+gathered_at {T} most other store now added a b n m result same p =
+    subst (λ (l : ℕ). Works (KeepsStanding l store) (λ (_ : T). Gathers l store added now) a b n m result) same p
+
+-- a record that was put is that of all items that were written
+copied_so : (files : Files) (repo : RepoState) (copy : Copy) (wholes : List WholeItem) (added : List (List ℕ)) (text id : List ℕ) → IsReady copy
+    → WritesItems files repo copy wholes added
+    → IsRecord repo.keys (archive_view copy.archive) copy.block (copy.stream.chunks.items
+    ++ chunks_of repo.keys (cut copy.stream.cutter.block copy.stream.cutter.piece)) text id
+    → IsCopyOf repo.keys copy.block wholes (archive_view copy.archive).fields text
+copied_so files repo copy wholes added text id ready writes is =
+    let given = copy.stream.chunks.items ++ chunks_of repo.keys (cut copy.stream.cutter.block copy.stream.cutter.piece) in
+    record {
+      some = omega (arith, ready.least);
+      copied = as_tagged (copied_archive (archive_view copy.archive) copy.block (map (λ (chunk : ChunkRef). chunk.id) given));
+      reads = is.reads;
+      same = refl;
+      items = stream_ids files repo copy wholes added ready writes;
+      spelled = writes.spelled;
+    }
+
+-- behind the pieces of all items what is left of the stream and the record were added: that is all of the archive
+lists_end : (there : Files) (from : Origin) (named : ArchiveRef) (files : Files) (repo : RepoState) (copy : Copy) (added : List (List ℕ)) (text id : List ℕ)
+    → from.block ≡ copy.block → IsReady copy
+    → IsRecord repo.keys (archive_view copy.archive) copy.block (copy.stream.chunks.items
+    ++ chunks_of repo.keys (cut copy.stream.cutter.block copy.stream.cutter.piece)) text id
+    → CopiesAll there from.repo named files repo copy added
+    → ListsArchive there from repo.keys named.name
+    (pieces added ++ (pieces (cut copy.stream.cutter.block copy.stream.cutter.piece) ++ Record text ∷ []))
+lists_end there from named files repo copy added text id same ready is all =
+    let piece = copy.stream.cutter.piece in
+    let left = cut copy.stream.cutter.block piece in
+    let fields = (archive_view copy.archive).fields in
+    record {
+      whole = record { time = named.time; fields = fields; items = all.wholes };
+      source = all.source_whole;
+      listed = added;
+      piece = piece;
+      lists = subst (λ (b : ℕ). ListsItems repo.keys b [] all.wholes added piece) (sym same) all.writes.lists;
+      text = text;
+      copy = subst (λ (b : ℕ). IsCopyOf repo.keys b all.wholes fields text) (sym same)
+          (copied_so files repo copy all.wholes added text id ready all.writes is);
+      added_is = sym (append_assoc (pieces added) (pieces left) (Record text ∷ []))
+          ∙ (ap (λ (l : List Addition). l ++ Record text ∷ []) (sym (pieces_append added left))
+          ∙ ap (λ (b : ℕ). pieces (added ++ cut b piece) ++ Record text ∷ []) ready.stream_block_is);
+    }
+
+-- the same over what the devices tell
+pub lists_done : (from : Origin) (named : ArchiveRef) (heard : Option Told) (store : Store) (copy : Copy) (added : List (List ℕ)) (text id : List ℕ)
+    → IsReady copy
+    → IsRecord (repo_view store.repo).keys (archive_view copy.archive) copy.block (copy.stream.chunks.items
+    ++ chunks_of (repo_view store.repo).keys (cut copy.stream.cutter.block copy.stream.cutter.piece)) text id
+    → IsAllCopied from named heard store copy added
+    → ListsDone heard from (repo_view store.repo).keys named.name
+    (pieces added ++ (pieces (cut copy.stream.cutter.block copy.stream.cutter.piece) ++ Record text ∷ [])) true
+lists_done from named heard store copy added text id ready is all =
+    IfSome_then heard all.1 (λ d known. IfSome_then from.files known
+    (λ there c. lists_end there from named (told_files d) (repo_view store.repo) copy added text id all.0.block ready is c))
 
 -- ---- what contents that were added leave
 
@@ -104,7 +189,7 @@ module _ (accepted : ManifestText) (entry : ArchiveRef) (store now : Store) (man
     each = commit_each names archives one from ready untold did.each;
     end = between_map a b
         (λ h g. IsReadyToName from (files_now h) (repo_view store.repo) entry × (AllDone h g × Commits store (PutEntry zero_id blob) now h g))
-        (λ h g. AllDone h g × GrowsBy accepted from (entry.name ∷ []) store now h g)
+        (λ h g. AllDone h g × GrowsBy accepted from (entry.name ∷ []) [] store now h g)
         (λ h g e. (e.1.0, commit_grows from accepted entry store now manifest blob h g most archives manifest_is accepted_is one e.0 e.1.1))
         (between_known (λ h. IsReadyToName from (files_now h) (repo_view store.repo) entry)
         (λ h g. AllDone h g × Commits store (PutEntry zero_id blob) now h g) a b ready did.end);
@@ -128,19 +213,103 @@ pub named_behind : (accepted : ManifestText) (entry : ArchiveRef) (store middle 
 named_behind accepted entry store middle now a b n m (Ok x) same p from ready =
     let works = p from
     (subst (λ (r : RepoState). IfSome a (λ t. IsReadyToName from (told_files t) r entry)) (sym (ap (λ (s : Store). repo_view s.repo) same)) ready) in
-    works_as (KeepsGrowingBy accepted from (entry.name ∷ []) middle) (λ (_ : Unit {0}). GrowsBy accepted from (entry.name ∷ []) middle now)
-    (KeepsGrowingBy accepted from (entry.name ∷ []) store) (λ (_ : Unit {0}). GrowsBy accepted from (entry.name ∷ []) store now) a b n m x x
+    works_as (KeepsGrowingBy accepted from (entry.name ∷ []) middle) (λ (_ : Unit {0}). GrowsBy accepted from (entry.name ∷ []) [] middle now)
+    (KeepsGrowingBy accepted from (entry.name ∷ []) store) (λ (_ : Unit {0}). GrowsBy accepted from (entry.name ∷ []) [] store now) a b n m x x
     (λ h g e. growing_accepted accepted from (entry.name ∷ []) store middle h g same e)
-    (λ h g e. grows_accepted accepted from (entry.name ∷ []) store middle now h g same e) works
+    (λ h g e. grows_accepted accepted from (entry.name ∷ []) [] store middle now h g same e) works
 named_behind accepted entry store middle now a b n m (Err fault) same p from ready =
     let works = p from
     (subst (λ (r : RepoState). IfSome a (λ t. IsReadyToName from (told_files t) r entry)) (sym (ap (λ (s : Store). repo_view s.repo) same)) ready) in
-    works_front (KeepsGrowingBy accepted from (entry.name ∷ []) middle) (λ (_ : Unit {0}). GrowsBy accepted from (entry.name ∷ []) middle now)
-    (KeepsGrowingBy accepted from (entry.name ∷ []) store) (λ (_ : Unit {0}). GrowsBy accepted from (entry.name ∷ []) store now) a b n m fault
+    works_front (KeepsGrowingBy accepted from (entry.name ∷ []) middle) (λ (_ : Unit {0}). GrowsBy accepted from (entry.name ∷ []) [] middle now)
+    (KeepsGrowingBy accepted from (entry.name ∷ []) store) (λ (_ : Unit {0}). GrowsBy accepted from (entry.name ∷ []) [] store now) a b n m fault
     (λ h g e. growing_accepted accepted from (entry.name ∷ []) store middle h g same e) works
 
 -- where no call was made
 pub names_nothing : (entry : ArchiveRef) (store now : Store) (a : Option Told) (n : ℕ) (fault : CarryFault) → AcceptsMore store
     → target_failed fault ≡ false → NamesArchive (accepted_in store) entry store now a a n n (Err fault)
 names_nothing entry store now a n fault accepts still from ready =
-    carried_nothing {T = Unit {0}} from (entry.name ∷ []) (entry.name ∷ []) store now a n fault accepts still
+    carried_nothing {T = Unit {0}} from (entry.name ∷ []) (entry.name ∷ []) [] store now a n fault accepts still
+
+-- ---- a manifest that is too large
+
+-- what the store says of the manifest of a commit
+pub commit_limit : (store : Store) (keys : Keys) (manifest : ManifestText) (salt : List ℕ) (refusal : StoreRefusal) → length salt ≡ 64
+    → RefusesManifestOf store.counter (length (manifest_text keys salt manifest)) refusal → LimitsManifest keys manifest (target_fault refusal)
+commit_limit store keys manifest salt (Stores.Repo fault) size refused is = absurd (let no : ⊥ = cc in no)
+commit_limit store keys manifest salt (Stores.Write fault) size refused is = absurd (let no : ⊥ = cc in no)
+commit_limit store keys manifest salt (Stores.Nonce fault) size refused is = absurd (let no : ⊥ = cc in no)
+commit_limit store keys manifest salt Stores.Committed size refused is = absurd (let no : ⊥ = cc in no)
+commit_limit store keys manifest salt Stores.TooLarge size refused is = (salt, (size, refused))
+commit_limit store keys manifest salt Stores.Entropy size refused is = absurd (let no : ⊥ = cc in no)
+commit_limit store keys manifest salt Stores.Memory size refused is = absurd (let no : ⊥ = cc in no)
+
+-- of a body that puts no manifest
+pub pieces_limit : (now : Option Told) (keys : Keys) (given : Option (List ℕ)) (source : RepoState) (store : Store) (named : ArchiveRef) (fault : CarryFault)
+    → StopsPieces now keys fault → IsLimited now given source store named fault
+pieces_limit now keys given source store named (Carry.Source fault) stops = any_told now _ (λ t is. absurd (let no : ⊥ = cc in no))
+pieces_limit now keys given source store named (Carry.Target refusal) stops =
+    IfSome_then now stops (λ t s is. absurd (s.0 (let e : Carry.Target refusal ≡ Carry.Target Stores.TooLarge = is in cc)))
+pieces_limit now keys given source store named (Carry.Taken name) stops = any_told now _ (λ t is. absurd (let no : ⊥ = cc in no))
+pieces_limit now keys given source store named (Carry.NotFound name) stops = any_told now _ (λ t is. absurd (let no : ⊥ = cc in no))
+pieces_limit now keys given source store named Carry.Pieces stops = any_told now _ (λ t is. absurd (let no : ⊥ = cc in no))
+pieces_limit now keys given source store named Carry.Memory stops = any_told now _ (λ t is. absurd (let no : ⊥ = cc in no))
+pieces_limit now keys given source store named Carry.Record stops = any_told now _ (λ t is. absurd (let no : ⊥ = cc in no))
+
+-- of a record that was put before, with pieces that keep what was accepted
+pub record_limit : (now : Option Told) (given : Option (List ℕ)) (source : RepoState) (store middle : Store) (named : ArchiveRef) (id text : List ℕ)
+    (fault : CarryFault) → KeepsRest store middle → id ≡ content_id (repo_view store.repo).keys text
+    → archive_named named.name (accepted_in store).archives ≡ None
+    → LimitsManifest (repo_view middle.repo).keys (named_next given source middle named id) fault → IsLimited now given source store named fault
+record_limit now given source store middle named id text fault rest id_is lacks limits =
+    any_told now _ (λ t is.
+    let large = limits is in
+    record {
+      lacks = lacks;
+      text = text;
+      salt = large.0;
+      salt_size = large.1.0;
+      large = subst (λ (i : List ℕ). Large large.0 (repo_view store.repo).keys (accepted_in store) (repo_view store.repo).manifest i) id_is
+          (subst (λ (m : ManifestText). Large large.0 (repo_view store.repo).keys (accepted_in store) m id) rest.manifest
+          (subst (λ (m : ManifestText). Large large.0 (repo_view store.repo).keys m (repo_view middle.repo).manifest id) rest.accepted
+          (subst (λ (k : Keys). Large large.0 k (accepted_in middle) (repo_view middle.repo).manifest id) rest.keys large.1.1)));
+    }) where
+      Large : List ℕ → Keys → ManifestText → ManifestText → List ℕ → Type 0
+      Large salt keys accepted manifest id = content_limit < length (manifest_text keys salt
+          (written_at (next_manifest accepted (entry_for named id) source.manifest.item_keys) (time_for given source.manifest.timestamp manifest.timestamp)))
+
+-- of an archive that is named behind pieces
+pub rest_limit : (now : Option Told) (given : Option (List ℕ)) (source after : RepoState) (store middle : Store) (named : ArchiveRef) (fault : CarryFault)
+    → KeepsRest store middle → after ≡ source → IsLimited now given after middle named fault → IsLimited now given source store named fault
+rest_limit now given source after store middle named fault rest same limited =
+    IfSome_then now (subst (λ (r : RepoState). IsLimited now given r middle named fault) same limited)
+    (λ t large is.
+    let l = large is in
+    record {
+      lacks = subst (λ (m : ManifestText). archive_named named.name m.archives ≡ None) rest.accepted l.lacks;
+      text = l.text;
+      salt = l.salt;
+      salt_size = l.salt_size;
+      large = subst (λ (m : ManifestText). Large l.text l.salt (repo_view store.repo).keys (accepted_in store) m) rest.manifest
+          (subst (λ (m : ManifestText). Large l.text l.salt (repo_view store.repo).keys m (repo_view middle.repo).manifest) rest.accepted
+          (subst (λ (k : Keys). Large l.text l.salt k (accepted_in middle) (repo_view middle.repo).manifest) rest.keys l.large));
+    }) where
+      Large : List ℕ → List ℕ → Keys → ManifestText → ManifestText → Type 0
+      Large text salt keys accepted manifest = content_limit < length (manifest_text keys salt
+          (written_at (next_manifest accepted (entry_for named (content_id keys text)) source.manifest.item_keys)
+          (time_for given source.manifest.timestamp manifest.timestamp)))
+
+-- where a record isn't read, and where the target has another archive
+pub begin_limit : (told now : Option Told) (given : Option (List ℕ)) (source : RepoState) (store : Store) (named : ArchiveRef) (id : List ℕ)
+    (fault : CarryFault) → RefusesBegin told source id fault → IsLimited now given source store named fault
+begin_limit told now given source store named id (Carry.Source fault) refused = any_told now _ (λ t is. absurd (let no : ⊥ = cc in no))
+begin_limit told now given source store named id (Carry.Target refusal) refused = absurd refused
+begin_limit told now given source store named id (Carry.Taken name) refused = absurd refused
+begin_limit told now given source store named id (Carry.NotFound name) refused = absurd refused
+begin_limit told now given source store named id Carry.Pieces refused = absurd refused
+begin_limit told now given source store named id Carry.Memory refused = any_told now _ (λ t is. absurd (let no : ⊥ = cc in no))
+begin_limit told now given source store named id Carry.Record refused = absurd refused
+
+pub taken_limit : (now : Option Told) (given : Option (List ℕ)) (source : RepoState) (store : Store) (named : ArchiveRef) (name : List ℕ)
+    (fault : CarryFault) → (fault ≡ Carry.Taken name) ⊎ (fault ≡ Carry.Memory) → IsLimited now given source store named fault
+taken_limit now given source store named name fault (inl taken) = any_told now _ (λ t is. absurd (let no : ⊥ = cc in no))
+taken_limit now given source store named name fault (inr memory) = any_told now _ (λ t is. absurd (let no : ⊥ = cc in no))

@@ -1,5 +1,5 @@
 -- Lemmas on specs/Piece.antt: a writer of pieces from round to round, and what its last piece is.
-use Rattle.std.proofs.Common.{◌≡◌, ◌≤◌, ◌<◌, ◌-◌, ℕ, inl, inr, false, List, [], ◌∷◌, ◌++◌, Option, Some, None, IsSome, is_some}
+use Rattle.std.proofs.Common.{◌≡◌, ◌≤◌, ◌<◌, ◌-◌, ℕ, inl, inr, false, List, [], ◌∷◌, ◌++◌, Option, Some, None, IsSome, is_some, Result, Ok, OnOk}
 use Rattle.std.proofs.Common.{length, min, take, drop, refl, sym, ◌∙◌, ap, subst, arith}
 use Rattle.std.proofs.lemmas.Bool.{cases_lt}
 use Rattle.std.proofs.lemmas.List.{append-nil, append_assoc, drop_all, length-append, length-take, map-append}
@@ -9,8 +9,15 @@ use Rattle.ferry_rechunk.proofs.CutLemmas.{cut_nothing}
 use Rattle.ferry_rechunk.proofs.FeedLemmas.{FedSoFar, next_round, none_yet, one_more}
 use Rattle.ferry_rechunk.specs.Cut.{cut}
 use Rattle.ferry_rechunk.specs.Cutting.{Cutting, IsFed}
-use Rattle.ferry_carry.specs.Gather.{chunk_of, chunks_of}
+use Rattle.ferry_carry.proofs.PutsLemmas.{pieces_append}
+use Rattle.ferry_carry.proofs.WorkLemmas.{gathered_then}
+use Rattle.ferry_carry.specs.Gather.{Gathers, KeepsRest, KeepsStanding, chunk_of, chunks_of}
 use Rattle.ferry_carry.specs.Piece.{WritesOn}
+use Rattle.ferry_carry.specs.Puts.{Addition, pieces}
+use Rattle.ferry_carry.specs.Work.{Works}
+use Rattle.ferry_carry.specs.declared.fault.CarryFault.{CarryFault}
+use Rattle.ferry_disk.specs.Device.{Told}
+use Rattle.ferry_store.specs.declared.store.Store.{Store}
 
 -- ---- the last piece
 
@@ -99,3 +106,24 @@ all_written keys cutter chunks bytes rest more middle grown chunks_now taken so 
   room = omega (arith, fits, part);
   block = kept ∙ block;
 }
+
+-- ---- pieces that were added
+
+-- the same under another word for the checkpoint
+pub pieces_at : {T : Type 0} (most count : ℕ) (store now : Store) (more : List (List ℕ)) (a b : Option Told) (n m : ℕ) (result : Result T CarryFault)
+    → count ≡ most → Works (KeepsStanding count store) (λ (_ : T). Gathers count store (pieces more) now) a b n m result
+    → Works (KeepsStanding most store) (λ (_ : T). Gathers most store (pieces more) now) a b n m result
+pieces_at {T} most count store now more a b n m result same p =
+    subst (λ (held : ℕ). Works (KeepsStanding held store) (λ (_ : T). Gathers held store (pieces more) now) a b n m result) same p
+
+-- pieces behind pieces
+pub pieces_then : {T U : Type 0} (most first second : ℕ) (store middle now : Store) (some more : List (List ℕ)) (a b c : Option Told) (n m k : ℕ) (x : T)
+    (result : Result U CarryFault) → first ≡ most → second ≡ most → KeepsRest store middle → OnOk result (KeepsRest middle now)
+    → Works (KeepsStanding first store) (λ (_ : T). Gathers first store (pieces some) middle) a b n m (Ok x)
+    → Works (KeepsStanding second middle) (λ (_ : U). Gathers second middle (pieces more) now) b c m k result
+    → Works (KeepsStanding most store) (λ (_ : U). Gathers most store (pieces (some ++ more)) now) a c n k result
+pieces_then {T} {U} most first second store middle now some more a b c n m k x result is is_now rest rest_now p q =
+    subst (λ (added : List Addition). Works (KeepsStanding most store) (λ (_ : U). Gathers most store added now) a c n k result)
+    (sym (pieces_append some more))
+    (gathered_then {T = T} {U = U} most store middle now (pieces some) (pieces more) a b c n m k x result rest rest_now
+    (pieces_at {T = T} most first store middle some a b n m (Ok x) is p) (pieces_at {T = U} most second middle now more b c m k result is_now q))

@@ -1,13 +1,14 @@
 -- Lemmas on specs/Progress.antt: how far an archive on its way is, from step to step, and what can be named of it at its end.
-use Rattle.std.proofs.Common.{◌≡◌, ℕ, Bool, true, false, List, [], ◌∷◌, ◌++◌, map, Option, Some, None, option_map}
+use Rattle.std.proofs.Common.{◌≡◌, ◌≤◌, ◌<◌, ℕ, Bool, true, false, List, [], ◌∷◌, ◌++◌, map, length, Option, Some, None, option_map}
 use Rattle.std.proofs.Common.{Result, Ok, Err, IfSome, IsErrAnd, refl, sym, ◌∙◌, ap, subst, arith}
 use Rattle.std.proofs.lemmas.List.{append-nil, append_assoc, map-append}
+use Rattle.std.proofs.lemmas.List.Elements.{All-nil}
 use Rattle.std.proofs.lemmas.Option.{IfSome_then}
 use Rattle.std.specs.List.{AllByRecursion}
 use Rattle.ferry_blob.specs.Blob.{content_id}
 use Rattle.ferry_compare.proofs.StepLemmas.{at_last}
 use Rattle.ferry_disk.specs.Act.{History, files_now}
-use Rattle.ferry_disk.specs.Device.{Heard, Told, heard, heard_of, told_files}
+use Rattle.ferry_disk.specs.Device.{Told, heard, told_files}
 use Rattle.ferry_disk.specs.Files.{Files}
 use Rattle.ferry_item.specs.Item.{ItemText, is_healed}
 use Rattle.ferry_item.specs.Writing.{field_pairs, item_text}
@@ -20,7 +21,7 @@ use Rattle.ferry_manifest.specs.declared.record.Archive.{Archive}
 use Rattle.ferry_msgpack.specs.Tree.{Tree}
 use Rattle.ferry_rechunk.proofs.CuttingLemmas.{fed_cut, fed_nothing}
 use Rattle.ferry_rechunk.specs.Cut.{cut}
-use Rattle.ferry_rechunk.specs.Cutting.{IsFed}
+use Rattle.ferry_rechunk.specs.Cutting.{Cutting, IsFed}
 use Rattle.ferry_repo.specs.Archives.{HoldsRecord, archive_named}
 use Rattle.ferry_repo.specs.Cached.{Contents}
 use Rattle.ferry_repo.specs.Objects.{HoldsChunk}
@@ -33,16 +34,19 @@ use Rattle.ferry_store.specs.declared.store.Store.{Store}
 use Rattle.ferry_write.proofs.StandLemmas.{all-append}
 use Rattle.ferry_carry.proofs.GatherLemmas.{chunk_on}
 use Rattle.ferry_carry.proofs.HealedLemmas.{taken_whole}
+use Rattle.ferry_carry.proofs.PutsLemmas.{contents_append, contents_pieces}
 use Rattle.ferry_carry.proofs.SourceLemmas.{leads_end, leads_then, source_whole, wholes_more}
 use Rattle.ferry_carry.proofs.WholeLemmas.{all_both, all_front, each_to}
 use Rattle.ferry_carry.proofs.WorkLemmas.{works_known}
 use Rattle.ferry_carry.specs.Carrying.{CanBeNamed, HoldsApart, IsReadyToName, Origin, SaysIn, origin}
 use Rattle.ferry_carry.specs.Copied.{IsCopyOf, IsRead, adds_of, contents_of, copied_item, copied_stream, pieces_of, stream_block, stream_pieces}
 use Rattle.ferry_carry.specs.Copying.{CopiesContent, IsReady}
-use Rattle.ferry_carry.specs.Gather.{Gathered, Gathers, HoldsContents, HoldsWithin, IsAmong, KeepsRest, KeepsStanding, NoCollision, chunk_of, chunks_of}
+use Rattle.ferry_carry.specs.Gather.{Brings, Gathered, Gathers, HoldsContents, HoldsWithin, IsAmong, KeepsRest, KeepsStanding, NoCollision, chunk_of, chunks_of}
+use Rattle.ferry_carry.specs.Listing.{FillsOn, ListsItems}
 use Rattle.ferry_carry.specs.Naming.{IsRecord, copied_archive, entry_for}
 use Rattle.ferry_carry.specs.Piece.{WritesOn}
-use Rattle.ferry_carry.specs.Progress.{CopiesAll, CopiesSoFar, IsAllCopied, IsCopiedSoFar, WritesItems}
+use Rattle.ferry_carry.specs.Progress.{CopiesAll, CopiesSoFar, IsAllCopied, IsCopiedSoFar, IsCopyFrom, WritesItems}
+use Rattle.ferry_carry.specs.Puts.{Addition, Record, contents_in, pieces}
 use Rattle.ferry_carry.specs.Step.{CopiesItem, EndsItems}
 use Rattle.ferry_carry.specs.Work.{Works}
 use Rattle.ferry_carry.specs.declared.copy.Copy.{Copy}
@@ -138,52 +142,90 @@ within_before counts store now h g fits fits_now keeps rest scope within id cont
     within id content (chunk_on counts store now h g fits fits_now keeps rest.keys id content chunk)
 
 -- contents that are there where none collide are so later
-held_on : (counts : Bool) (store now : Store) (more contents : List (List ℕ)) (h g : History) (fits : StoreFits counts store h)
-    → Gathered counts store more now h g fits → KeepsRest store now → HoldsApart (files_now h) (repo_view store.repo) contents
+held_on : (most : ℕ) (counts : Bool) (store now : Store) (added : List Addition) (contents : List (List ℕ)) (h g : History)
+    (fits : StoreFits counts store h) → Gathered most counts store added now h g fits → KeepsRest store now
+    → HoldsApart (files_now h) (repo_view store.repo) contents
     → HoldsApart (files_now g) (repo_view now.repo) contents
-held_on counts store now more contents h g fits end rest held scope apart all within =
+held_on most counts store now added contents h g fits end rest held scope apart all within =
     contents_on counts store now h g fits end.fits_now end.moved.entries rest contents
     (held scope (subst (λ (k : Keys). NoCollision k scope) rest.keys apart) all
     (within_before counts store now h g fits end.fits_now end.moved.entries rest scope within))
 
 -- contents that were there, and behind a part of them those that were added
-held_more : (counts : Bool) (store now : Store) (first last some more : List (List ℕ)) (h g : History) (fits : StoreFits counts store h)
-    → Gathered counts store (some ++ more) now h g fits → KeepsRest store now → HoldsApart (files_now h) (repo_view store.repo) (first ++ last)
+held_more : (most : ℕ) (counts : Bool) (store now : Store) (added : List Addition) (first last some more : List (List ℕ)) (h g : History)
+    (fits : StoreFits counts store h) → contents_in added ≡ some ++ more → Gathered most counts store added now h g fits → KeepsRest store now
+    → HoldsApart (files_now h) (repo_view store.repo) (first ++ last)
     → HoldsApart (files_now g) (repo_view now.repo) ((first ++ some) ++ (last ++ more))
-held_more counts store now first last some more h g fits end rest held scope apart all within =
+held_more most counts store now added first last some more h g fits adds end rest held scope apart all within =
     let P : List ℕ → Type 0 = λ content.
     HoldsChunk (files_now g) (repo_view now.repo).log (repo_view now.repo).keys (content_id (repo_view now.repo).keys content) content in
     let halves = all_front (IsAmong scope) (first ++ some) (last ++ more) all in
     let front = all_front (IsAmong scope) first some halves.0 in
     let back = all_front (IsAmong scope) last more halves.1 in
-    let old = held_on counts store now (some ++ more) (first ++ last) h g fits end rest held scope apart
+    let old = held_on most counts store now added (first ++ last) h g fits end rest held scope apart
     (all_both (IsAmong scope) first last front.0 back.0) within in
-    let new = (end.brings scope (subst (λ (k : Keys). NoCollision k scope) rest.keys apart) (all_both (IsAmong scope) some more front.1 back.1)
+    let brings : Brings (repo_view store.repo) (some ++ more) (repo_view now.repo) h g =
+    subst (λ (contents : List (List ℕ)). Brings (repo_view store.repo) contents (repo_view now.repo) h g) adds end.brings in
+    let new = (brings scope (subst (λ (k : Keys). NoCollision k scope) rest.keys apart) (all_both (IsAmong scope) some more front.1 back.1)
     (within_before counts store now h g fits end.fits_now end.moved.entries rest scope within)).1 in
     let olds = all_front P first last old in
     let news = all_front P some more new in
     all_both P (first ++ some) (last ++ more) (all_both P first some olds.0 news.0) (all_both P last more olds.1 news.1)
 
+-- ---- what is listed
+
+-- an item more is listed behind those that were
+pub lists_then : (keys : Keys) (block : ℕ) (piece : List ℕ) (wholes : List WholeItem) (whole : WholeItem) (listed full : List (List ℕ))
+    (middle piece_now : List ℕ) → ListsItems keys block piece wholes listed middle → FillsOn middle (item_text (copied_item keys block whole)) full piece_now
+    → ListsItems keys block piece (wholes ++ whole ∷ []) (listed ++ (pieces_of block whole.content ++ full)) piece_now
+lists_then keys block piece [] whole listed full middle piece_now lists fills =
+    let text = item_text (copied_item keys block whole) in
+    let parts = pieces_of block whole.content in
+    let same : listed ++ (parts ++ full) ≡ parts ++ (full ++ []) =
+    ap (λ (front : List (List ℕ)). front ++ (parts ++ full)) lists.0 ∙ ap (λ (last : List (List ℕ)). parts ++ last) (sym (append-nil full)) in
+    (full, (piece_now, ([], (subst (λ (held : List ℕ). FillsOn held text full piece_now) lists.1 fills, (same, (refl, refl))))))
+lists_then keys block piece (one ∷ wholes) whole listed full middle piece_now lists fills =
+    let front = pieces_of block one.content in
+    let last = pieces_of block whole.content ++ full in
+    let later = lists_then keys block lists.1.0 wholes whole lists.1.1.0 full middle piece_now lists.1.1.1.1.1 fills in
+    let same : listed ++ last ≡ front ++ (lists.0 ++ (lists.1.1.0 ++ last)) =
+    ap (λ (l : List (List ℕ)). l ++ last) lists.1.1.1.1.0
+    ∙ (append_assoc front (lists.0 ++ lists.1.1.0) last ∙ ap (λ (l : List (List ℕ)). front ++ l) (append_assoc lists.0 lists.1.1.0 last)) in
+    (lists.0, (lists.1.0, (lists.1.1.0 ++ last, (lists.1.1.1.0, (same, later)))))
+
+-- what is written into a stream fills it on
+fills_on : (keys : Keys) (cutter cutter_now : Cutting) (chunks chunks_now : List ChunkRef) (text : List ℕ) (full : List (List ℕ))
+    → cutter.block ≡ stream_block → length cutter.piece ≤ cutter.block → WritesOn keys cutter chunks text full cutter_now chunks_now
+    → FillsOn cutter.piece text full cutter_now.piece
+fills_on keys cutter cutter_now chunks chunks_now text full large within wrote = record {
+  fed = subst (λ (block : ℕ). IsFed block (cutter.piece ++ text) full cutter_now.piece) large
+      (wrote.fed cutter.piece [] (record { joined = refl; whole = All-nil (λ one. length one ≡ cutter.block); fits = within }));
+  rest = subst (λ (block : ℕ). length cutter_now.piece < block) (wrote.block ∙ large) wrote.room;
+}
+
 -- ---- WritesItems
 
 -- one item more
-writes_more : (counts : Bool) (store now : Store) (h g : History) (fits : StoreFits counts store h) (copy copy_now : Copy) (wholes : List WholeItem)
-    (whole : WholeItem) (spelled : List (List ℕ)) → Gathered counts store (pieces_of copy.block whole.content ++ spelled) now h g fits
-    → KeepsRest store now → copy.stream.cutter.block ≡ stream_block → copy_now.block ≡ copy.block
+writes_more : (most : ℕ) (counts : Bool) (store now : Store) (h g : History) (fits : StoreFits counts store h) (copy copy_now : Copy)
+    (wholes : List WholeItem) (whole : WholeItem) (added spelled : List (List ℕ))
+    → Gathered most counts store (pieces (pieces_of copy.block whole.content ++ spelled)) now h g fits → KeepsRest store now → IsReady copy
+    → copy_now.block ≡ copy.block
     → WritesOn (repo_view store.repo).keys copy.stream.cutter copy.stream.chunks.items (item_text (copied_item (repo_view store.repo).keys copy.block whole))
     spelled copy_now.stream.cutter copy_now.stream.chunks.items → IsRead (copied_item (repo_view store.repo).keys copy.block whole)
-    → WritesItems (files_now h) (repo_view store.repo) copy wholes
-    → WritesItems (files_now g) (repo_view now.repo) copy_now (wholes ++ whole ∷ [])
-writes_more counts store now h g fits copy copy_now wholes whole spelled end rest large same wrote read writes =
+    → WritesItems (files_now h) (repo_view store.repo) copy wholes added
+    → WritesItems (files_now g) (repo_view now.repo) copy_now (wholes ++ whole ∷ []) (added ++ (pieces_of copy.block whole.content ++ spelled))
+writes_more most counts store now h g fits copy copy_now wholes whole added spelled end rest ready same wrote read writes =
+    let large = ready.stream_block_is in
     let keys = (repo_view store.repo).keys in
     let block = copy.block in
     let piece = copy_now.stream.cutter.piece in
     let chunks = copy_now.stream.chunks.items in
     let all = wholes ++ whole ∷ [] in
     let taken = writes.taken ++ spelled in
+    let more = pieces_of block whole.content ++ spelled in
     let IsSo : Keys → ℕ → Type 0 = λ k b.
     IsFed stream_block (copied_stream k b all) taken piece
-    × ((chunks ≡ chunks_of k taken) × AllByRecursion (λ (w : WholeItem). IsRead (copied_item k b w)) all) in
+    × ((chunks ≡ chunks_of k taken) × (AllByRecursion (λ (w : WholeItem). IsRead (copied_item k b w)) all × ListsItems k b [] all (added ++ more) piece)) in
     let before : IsFed copy.stream.cutter.block (copied_stream keys block wholes) writes.taken copy.stream.cutter.piece =
     subst (λ (n : ℕ). IsFed n (copied_stream keys block wholes) writes.taken copy.stream.cutter.piece) (sym large) writes.fed in
     let after = wrote.fed (copied_stream keys block wholes) writes.taken before in
@@ -194,52 +236,60 @@ writes_more counts store now h g fits copy copy_now wholes whole spelled end res
     wrote.chunks_are ∙ (ap (λ (cs : List ChunkRef). cs ++ chunks_of keys spelled) writes.chunks ∙ sym (map-append (chunk_of keys) writes.taken spelled)) in
     let reads : AllByRecursion (λ (w : WholeItem). IsRead (copied_item keys block w)) all =
     all-append (λ (w : WholeItem). IsRead (copied_item keys block w)) wholes (whole ∷ []) writes.spelled (read, tt) in
+    let fills = fills_on keys copy.stream.cutter copy_now.stream.cutter copy.stream.chunks.items chunks (item_text (copied_item keys block whole)) spelled large
+    (omega (arith, ready.stream_room)) wrote in
+    let lists = lists_then keys block [] wholes whole added spelled copy.stream.cutter.piece piece writes.lists fills in
     let so : IsSo (repo_view now.repo).keys copy_now.block =
-    subst (λ (k : Keys). IsSo k copy_now.block) (sym rest.keys) (subst (IsSo keys) (sym same) (fed, (chunks_are, reads))) in
+    subst (λ (k : Keys). IsSo k copy_now.block) (sym rest.keys) (subst (IsSo keys) (sym same) (fed, (chunks_are, (reads, lists)))) in
     let held : HoldsApart (files_now g) (repo_view now.repo) (contents_of block all ++ taken) =
     subst (λ (cs : List (List ℕ)). HoldsApart (files_now g) (repo_view now.repo) (cs ++ taken)) (sym (contents_more block wholes whole))
-    (held_more counts store now (contents_of block wholes) writes.taken (pieces_of block whole.content) spelled h g fits end rest writes.held) in
+    (held_more most counts store now (pieces more) (contents_of block wholes) writes.taken (pieces_of block whole.content) spelled h g fits
+    (contents_pieces more) end rest writes.held) in
     record {
       taken = taken;
       fed = so.0;
       chunks = so.1.0;
-      spelled = so.1.1;
+      spelled = so.1.1.0;
       held = subst (λ (b : ℕ). HoldsApart (files_now g) (repo_view now.repo) (contents_of b all ++ taken)) (sym same) held;
+      lists = so.1.1.1;
     }
 
 -- the same items, where nothing of the stream has changed
-writes_on : (counts : Bool) (store now : Store) (more : List (List ℕ)) (h g : History) (fits : StoreFits counts store h) (copy copy_now : Copy)
-    (wholes : List WholeItem) → Gathered counts store more now h g fits → KeepsRest store now → copy_now.stream ≡ copy.stream
-    → copy_now.block ≡ copy.block → WritesItems (files_now h) (repo_view store.repo) copy wholes
-    → WritesItems (files_now g) (repo_view now.repo) copy_now wholes
-writes_on counts store now more h g fits copy copy_now wholes end rest stream same writes =
+writes_on : (most : ℕ) (counts : Bool) (store now : Store) (more : List Addition) (h g : History) (fits : StoreFits counts store h) (copy copy_now : Copy)
+    (wholes : List WholeItem) (added : List (List ℕ)) → Gathered most counts store more now h g fits → KeepsRest store now
+    → copy_now.stream ≡ copy.stream → copy_now.block ≡ copy.block → WritesItems (files_now h) (repo_view store.repo) copy wholes added
+    → WritesItems (files_now g) (repo_view now.repo) copy_now wholes added
+writes_on most counts store now more h g fits copy copy_now wholes added end rest stream same writes =
     let taken = writes.taken in
     let IsSo : Keys → ℕ → PieceWriter → Type 0 = λ k b s.
     IsFed stream_block (copied_stream k b wholes) taken s.cutter.piece
-    × ((s.chunks.items ≡ chunks_of k taken) × AllByRecursion (λ (w : WholeItem). IsRead (copied_item k b w)) wholes) in
+    × ((s.chunks.items ≡ chunks_of k taken)
+    × (AllByRecursion (λ (w : WholeItem). IsRead (copied_item k b w)) wholes × ListsItems k b [] wholes added s.cutter.piece)) in
     let so : IsSo (repo_view now.repo).keys copy_now.block copy_now.stream =
     subst (IsSo (repo_view now.repo).keys copy_now.block) (sym stream)
     (subst (λ (k : Keys). IsSo k copy_now.block copy.stream) (sym rest.keys)
-    (subst (λ (b : ℕ). IsSo (repo_view store.repo).keys b copy.stream) (sym same) (writes.fed, (writes.chunks, writes.spelled)))) in
+    (subst (λ (b : ℕ). IsSo (repo_view store.repo).keys b copy.stream) (sym same) (writes.fed, (writes.chunks, (writes.spelled, writes.lists))))) in
     record {
       taken = taken;
       fed = so.0;
       chunks = so.1.0;
-      spelled = so.1.1;
+      spelled = so.1.1.0;
       held = subst (λ (b : ℕ). HoldsApart (files_now g) (repo_view now.repo) (contents_of b wholes ++ taken)) (sym same)
-          (held_on counts store now more (contents_of copy.block wholes ++ taken) h g fits end rest writes.held);
+          (held_on most counts store now more (contents_of copy.block wholes ++ taken) h g fits end rest writes.held);
+      lists = so.1.1.1;
     }
 
 -- ---- a step
 
 -- one item more was taken and written
-pub step_copied : (counts : Bool) (t : Told) (source : RepoState) (named : ArchiveRef) (store now : Store) (copy copy_now : Copy) (more : List (List ℕ))
-    (h g : History) (fits : StoreFits counts store h) → FitsFiles (told_files t) source.log → Gathered counts store more now h g fits
+pub step_copied : (most : ℕ) (counts : Bool) (t : Told) (source : RepoState) (named : ArchiveRef) (store now : Store) (copy copy_now : Copy)
+    (added more : List (List ℕ)) (h g : History) (fits : StoreFits counts store h) → FitsFiles (told_files t) source.log
+    → Gathered most counts store (pieces more) now h g fits
     → KeepsRest store now → IsReady copy → copy_now.archive ≡ copy.archive → copy_now.block ≡ copy.block
     → CopiesItem (Some t) source (repo_view store.repo).keys copy more copy_now
-    → CopiesSoFar (told_files t) source named (files_now h) (repo_view store.repo) copy
-    → CopiesSoFar (told_files t) source named (files_now g) (repo_view now.repo) copy_now
-step_copied counts t source named store now copy copy_now more h g fits log_fits end rest ready archive same step so =
+    → CopiesSoFar (told_files t) source named (files_now h) (repo_view store.repo) copy added
+    → CopiesSoFar (told_files t) source named (files_now g) (repo_view now.repo) copy_now (added ++ more)
+step_copied most counts t source named store now copy copy_now added more h g fits log_fits end rest ready archive same step so =
     let there = told_files t in
     let keys = (repo_view store.repo).keys in
     let items = so.items ++ step.item ∷ [] in
@@ -251,7 +301,7 @@ step_copied counts t source named store now copy copy_now more h g fits log_fits
     ap (λ (f : Tree). is_healed (field_pairs (record { fields = f; chunks = None }))) step.fields
     ∙ taken_whole there source.log source.keys (walk_view copy.walk) (walk_view copy_now.walk) step.item log_fits step.taken in
     let read : IsRead (copied_item keys copy.block whole) = subst IsRead is.text (step.again healed) in
-    let pieces : more ≡ pieces_of copy.block whole.content ++ step.spelled =
+    let parts : more ≡ pieces_of copy.block whole.content ++ step.spelled =
     step.pieces ∙ ap (λ (cs : List (List ℕ)). cs ++ step.spelled) is.pieces in
     let wrote = subst (λ (i : ItemText). WritesOn keys copy.stream.cutter copy.stream.chunks.items (item_text i) step.spelled copy_now.stream.cutter
     copy_now.stream.chunks.items) is.text step.written.writes in
@@ -264,17 +314,18 @@ step_copied counts t source named store now copy copy_now more h g fits log_fits
           (leads_then there source.log source.keys (begin_walk named.id (archive_view copy.archive).items) (walk_view copy.walk) (walk_view copy_now.walk)
           so.items (step.item ∷ []) so.leads step.taken);
       come = wholes_more there source.log source.keys so.items so.wholes step.item whole so.come is.holds;
-      writes = writes_more counts store now h g fits copy copy_now so.wholes whole step.spelled
-          (subst (λ (cs : List (List ℕ)). Gathered counts store cs now h g fits) pieces end) rest ready.stream_block_is same wrote read so.writes;
+      writes = subst (λ (cs : List (List ℕ)). WritesItems (files_now g) (repo_view now.repo) copy_now (so.wholes ++ whole ∷ []) (added ++ cs)) (sym parts)
+          (writes_more most counts store now h g fits copy copy_now so.wholes whole added step.spelled
+          (subst (λ (cs : List (List ℕ)). Gathered most counts store (pieces cs) now h g fits) parts end) rest ready same wrote read so.writes);
     }
 
 -- no item more is to come: all were written
-pub step_ended : (counts : Bool) (t : Told) (source : RepoState) (named : ArchiveRef) (store now : Store) (copy copy_now : Copy) (more : List (List ℕ))
-    (h g : History) (fits : StoreFits counts store h) → archive_named named.name source.manifest.archives ≡ Some named
-    → Gathered counts store more now h g fits → KeepsRest store now → copy_now.archive ≡ copy.archive → copy_now.block ≡ copy.block
-    → EndsItems (Some t) source copy more copy_now → CopiesSoFar (told_files t) source named (files_now h) (repo_view store.repo) copy
-    → CopiesAll (told_files t) source named (files_now g) (repo_view now.repo) copy_now
-step_ended counts t source named store now copy copy_now more h g fits named_is end rest archive same step so =
+pub step_ended : (most : ℕ) (counts : Bool) (t : Told) (source : RepoState) (named : ArchiveRef) (store now : Store) (copy copy_now : Copy)
+    (added more : List (List ℕ)) (h g : History) (fits : StoreFits counts store h) → archive_named named.name source.manifest.archives ≡ Some named
+    → Gathered most counts store (pieces more) now h g fits → KeepsRest store now → copy_now.archive ≡ copy.archive → copy_now.block ≡ copy.block
+    → EndsItems (Some t) source copy more copy_now → CopiesSoFar (told_files t) source named (files_now h) (repo_view store.repo) copy added
+    → CopiesAll (told_files t) source named (files_now g) (repo_view now.repo) copy_now added
+step_ended most counts t source named store now copy copy_now added more h g fits named_is end rest archive same step so =
     let there = told_files t in
     let record_is = archive_view copy.archive in
     let comes = leads_end there source.log source.keys named.id record_is.items so.items (walk_view copy.walk) None so.leads step.end in
@@ -284,7 +335,7 @@ step_ended counts t source named store now copy copy_now more h g fits named_is 
           (record { time = named.time; fields = (archive_view a).fields; items = so.wholes })) (sym archive)
           (source_whole there source.log source.keys source.manifest.archives named.name named record_is so.items so.wholes named_is so.record_is comes
           so.come);
-      writes = writes_on counts store now more h g fits copy copy_now so.wholes end rest step.stream same so.writes;
+      writes = writes_on most counts store now (pieces more) h g fits copy copy_now so.wholes added end rest step.stream same so.writes;
     }
 
 -- ---- what is known of a step by what the devices tell
@@ -304,39 +355,49 @@ both_known : {T : Type 0} (o : Option T) (P Q : T → Type 0) → IfSome o P →
 both_known None P Q p q = tt
 both_known (Some x) P Q p q = (p, q)
 
+-- an archive is copied from the same origin
+copy_from : (from : Origin) (copy copy_now : Copy) → copy_now.block ≡ copy.block → copy_now.contents.checkpoint ≡ copy.contents.checkpoint
+    → IsCopyFrom from copy → IsCopyFrom from copy_now
+copy_from from copy copy_now same same_most is = record { block = is.block ∙ sym same; most = is.most ∙ sym same_most }
+
 -- the same over what the shelf and the depot tell
-pub steps_copied : (told a b : Option Told) (source : RepoState) (cached : Contents) (named : ArchiveRef) (store now : Store) (copy copy_now : Copy)
-    (more : List (List ℕ)) (n m : ℕ) → IfSome told (λ t. FitsRepo (told_files t) source cached) → IfSome a (λ d. StoreFits false store d.history)
-    → Works {T = Bool} (KeepsStanding store) (λ _. Gathers store more now) a b n m (Ok true) → KeepsRest store now → IsReady copy
-    → copy_now.archive ≡ copy.archive → copy_now.block ≡ copy.block → CopiesItem told source (repo_view store.repo).keys copy more copy_now
-    → IsCopiedSoFar (origin told source copy.block) named a store copy → IsCopiedSoFar (origin told source copy.block) named b now copy_now
-steps_copied None a b source cached named store now copy copy_now more n m log_fits fits works rest ready archive same step so =
-    (sym same, any_told b (λ d. Unit {0}) (λ d. tt))
-steps_copied (Some t) a b source cached named store now copy copy_now more n m log_fits fits works rest ready archive same step so =
-    let P : History → Type 0 = λ h. CopiesSoFar (told_files t) source named (files_now h) (repo_view store.repo) copy in
-    let R : History → Type 0 = λ h. CopiesSoFar (told_files t) source named (files_now h) (repo_view now.repo) copy_now in (
-      sym same,
-      works_known {T = Bool} (λ h. StoreFits false store h × P h) R (KeepsStanding store) (λ _. Gathers store more now) a b n m true
+pub steps_copied : (most : ℕ) (told a b : Option Told) (source : RepoState) (cached : Contents) (named : ArchiveRef) (store now : Store)
+    (copy copy_now : Copy) (added more : List (List ℕ)) (n m : ℕ) → IfSome told (λ t. FitsRepo (told_files t) source cached)
+    → IfSome a (λ d. StoreFits false store d.history)
+    → Works {T = Bool} (KeepsStanding most store) (λ _. Gathers most store (pieces more) now) a b n m (Ok true) → KeepsRest store now → IsReady copy
+    → copy_now.archive ≡ copy.archive → copy_now.block ≡ copy.block → copy_now.contents.checkpoint ≡ copy.contents.checkpoint
+    → CopiesItem told source (repo_view store.repo).keys copy more copy_now → IsCopiedSoFar (origin told source copy.block most) named a store copy added
+    → IsCopiedSoFar (origin told source copy.block most) named b now copy_now (added ++ more)
+steps_copied most None a b source cached named store now copy copy_now added more n m log_fits fits works rest ready archive same same_most step so =
+    (copy_from (origin None source copy.block most) copy copy_now same same_most so.0, any_told b (λ d. Unit {0}) (λ d. tt))
+steps_copied most (Some t) a b source cached named store now copy copy_now added more n m log_fits fits works rest ready archive same same_most step so =
+    let P : History → Type 0 = λ h. CopiesSoFar (told_files t) source named (files_now h) (repo_view store.repo) copy added in
+    let R : History → Type 0 = λ h. CopiesSoFar (told_files t) source named (files_now h) (repo_view now.repo) copy_now (added ++ more) in (
+      copy_from (origin (Some t) source copy.block most) copy copy_now same same_most so.0,
+      works_known {T = Bool} (λ h. StoreFits false store h × P h) R (KeepsStanding most store) (λ _. Gathers most store (pieces more) now) a b n m true
           (λ h g known gathers.
-          step_copied false t source named store now copy copy_now more h g known.0 log_fits.log (gathers false known.0) rest ready archive same step known.1)
+          step_copied most false t source named store now copy copy_now added more h g known.0 log_fits.log (gathers false known.0) rest ready archive same
+          step known.1)
           (both_known a (λ d. StoreFits false store d.history) (λ d. P d.history) fits so.1) works,
     )
 
 -- and of the end
-pub steps_ended : (told a b : Option Told) (source : RepoState) (named : ArchiveRef) (store now : Store) (copy copy_now : Copy)
-    (more : List (List ℕ)) (n m : ℕ) → archive_named named.name source.manifest.archives ≡ Some named → IfSome a (λ d. StoreFits false store d.history)
-    → Works {T = Bool} (KeepsStanding store) (λ _. Gathers store more now) a b n m (Ok false) → KeepsRest store now
-    → copy_now.archive ≡ copy.archive → copy_now.block ≡ copy.block → EndsItems told source copy more copy_now
-    → IsCopiedSoFar (origin told source copy.block) named a store copy → IsAllCopied (origin told source copy.block) named b now copy_now
-steps_ended None a b source named store now copy copy_now more n m named_is fits works rest archive same step so =
-    (sym same, any_told b (λ d. Unit {0}) (λ d. tt))
-steps_ended (Some t) a b source named store now copy copy_now more n m named_is fits works rest archive same step so =
-    let P : History → Type 0 = λ h. CopiesSoFar (told_files t) source named (files_now h) (repo_view store.repo) copy in
-    let R : History → Type 0 = λ h. CopiesAll (told_files t) source named (files_now h) (repo_view now.repo) copy_now in (
-      sym same,
-      works_known {T = Bool} (λ h. StoreFits false store h × P h) R (KeepsStanding store) (λ _. Gathers store more now) a b n m false
+pub steps_ended : (most : ℕ) (told a b : Option Told) (source : RepoState) (named : ArchiveRef) (store now : Store) (copy copy_now : Copy)
+    (added more : List (List ℕ)) (n m : ℕ) → archive_named named.name source.manifest.archives ≡ Some named
+    → IfSome a (λ d. StoreFits false store d.history)
+    → Works {T = Bool} (KeepsStanding most store) (λ _. Gathers most store (pieces more) now) a b n m (Ok false) → KeepsRest store now
+    → copy_now.archive ≡ copy.archive → copy_now.block ≡ copy.block → copy_now.contents.checkpoint ≡ copy.contents.checkpoint
+    → EndsItems told source copy more copy_now → IsCopiedSoFar (origin told source copy.block most) named a store copy added
+    → IsAllCopied (origin told source copy.block most) named b now copy_now added
+steps_ended most None a b source named store now copy copy_now added more n m named_is fits works rest archive same same_most step so =
+    (copy_from (origin None source copy.block most) copy copy_now same same_most so.0, any_told b (λ d. Unit {0}) (λ d. tt))
+steps_ended most (Some t) a b source named store now copy copy_now added more n m named_is fits works rest archive same same_most step so =
+    let P : History → Type 0 = λ h. CopiesSoFar (told_files t) source named (files_now h) (repo_view store.repo) copy added in
+    let R : History → Type 0 = λ h. CopiesAll (told_files t) source named (files_now h) (repo_view now.repo) copy_now added in (
+      copy_from (origin (Some t) source copy.block most) copy copy_now same same_most so.0,
+      works_known {T = Bool} (λ h. StoreFits false store h × P h) R (KeepsStanding most store) (λ _. Gathers most store (pieces more) now) a b n m false
           (λ h g known gathers.
-          step_ended false t source named store now copy copy_now more h g known.0 named_is (gathers false known.0) rest archive same step known.1)
+          step_ended most false t source named store now copy copy_now added more h g known.0 named_is (gathers false known.0) rest archive same step known.1)
           (both_known a (λ d. StoreFits false store d.history) (λ d. P d.history) fits so.1) works,
     )
 
@@ -346,7 +407,7 @@ steps_ended (Some t) a b source named store now copy copy_now more n m named_is 
 nothing_taken : (there : Files) (source : RepoState) (named : ArchiveRef) (files : Files) (repo : RepoState) (copy : Copy)
     → HoldsRecord there source.log source.keys named.id (archive_view copy.archive)
     → walk_view copy.walk ≡ begin_walk named.id (archive_view copy.archive).items
-    → (copy.stream.cutter.piece ≡ []) × (copy.stream.chunks.items ≡ []) → CopiesSoFar there source named files repo copy
+    → (copy.stream.cutter.piece ≡ []) × (copy.stream.chunks.items ≡ []) → CopiesSoFar there source named files repo copy []
 nothing_taken there source named files repo copy record_is walk stream =
     let begun = begin_walk named.id (archive_view copy.archive).items in
     record {
@@ -361,6 +422,7 @@ nothing_taken there source named files repo copy record_is walk stream =
         chunks = stream.1;
         spelled = tt;
         held = λ scope apart all within. tt;
+        lists = (refl, stream.0);
       };
     }
 
@@ -369,55 +431,58 @@ begun_at : (told : Option Told) (source : RepoState) (named : ArchiveRef) (files
     → IfSome told (λ t. HoldsRecord (told_files t) source.log source.keys named.id (archive_view copy.archive))
     → walk_view copy.walk ≡ begin_walk named.id (archive_view copy.archive).items
     → (copy.stream.cutter.piece ≡ []) × (copy.stream.chunks.items ≡ [])
-    → IfSome (option_map (λ (t : Told). told_files t) told) (λ there. CopiesSoFar there source named files repo copy)
+    → IfSome (option_map (λ (t : Told). told_files t) told) (λ there. CopiesSoFar there source named files repo copy [])
 begun_at None source named files repo copy record_is walk stream = tt
 begun_at (Some t) source named files repo copy record_is walk stream = nothing_taken (told_files t) source named files repo copy record_is walk stream
 
 -- an archive of which nothing was taken is copied so far, in any store
-pub begin_copied : (told later target : Option Told) (source after : RepoState) (block : ℕ) (named : ArchiveRef) (store : Store) (copy : Copy)
-    → heard later ≡ heard told → after ≡ source → block ≡ copy.block
+pub begin_copied : (told later target : Option Told) (source after : RepoState) (block most : ℕ) (named : ArchiveRef) (store : Store) (copy : Copy)
+    → heard later ≡ heard told → after ≡ source → block ≡ copy.block → most ≡ copy.contents.checkpoint
     → IfSome told (λ t. HoldsRecord (told_files t) source.log source.keys named.id (archive_view copy.archive))
     → walk_view copy.walk ≡ begin_walk named.id (archive_view copy.archive).items
-    → (copy.stream.cutter.piece ≡ []) × (copy.stream.chunks.items ≡ []) → IsCopiedSoFar (origin later after block) named target store copy
-begin_copied told later target source after block named store copy alike kept same record_is walk stream =
+    → (copy.stream.cutter.piece ≡ []) × (copy.stream.chunks.items ≡ []) → IsCopiedSoFar (origin later after block most) named target store copy []
+begin_copied told later target source after block most named store copy alike kept same same_most record_is walk stream =
     let known = at_last told later source after (λ r f. HoldsRecord f r.log r.keys named.id (archive_view copy.archive)) alike kept record_is in (
-      same,
+      record { block = same; most = same_most },
       any_told target (λ d. IfSome (option_map (λ (t : Told). told_files t) later)
-          (λ there. CopiesSoFar there after named (told_files d) (repo_view store.repo) copy))
+          (λ there. CopiesSoFar there after named (told_files d) (repo_view store.repo) copy []))
           (λ d. begun_at later after named (told_files d) (repo_view store.repo) copy known walk stream),
     )
 
 -- ---- the end
 
 -- the pieces of a stream are those that became whole, and those of what is left
-stream_taken : (files : Files) (repo : RepoState) (copy : Copy) (wholes : List WholeItem) → IsReady copy → (writes : WritesItems files repo copy wholes)
+stream_taken : (files : Files) (repo : RepoState) (copy : Copy) (wholes : List WholeItem) (added : List (List ℕ)) → IsReady copy
+    → (writes : WritesItems files repo copy wholes added)
     → stream_pieces repo.keys copy.block wholes ≡ writes.taken ++ cut copy.stream.cutter.block copy.stream.cutter.piece
-stream_taken files repo copy wholes ready writes =
+stream_taken files repo copy wholes added ready writes =
     let piece = copy.stream.cutter.piece in
     fed_cut stream_block (copied_stream repo.keys copy.block wholes) piece writes.taken (omega arith) writes.fed
     ∙ ap (λ (n : ℕ). writes.taken ++ cut n piece) (sym ready.stream_block_is)
 
 -- the ids that the record of an archive on its way has are theirs
-pub stream_ids : (files : Files) (repo : RepoState) (copy : Copy) (wholes : List WholeItem) → IsReady copy → WritesItems files repo copy wholes
+pub stream_ids : (files : Files) (repo : RepoState) (copy : Copy) (wholes : List WholeItem) (added : List (List ℕ)) → IsReady copy
+    → WritesItems files repo copy wholes added
     → map (λ (chunk : ChunkRef). chunk.id) (copy.stream.chunks.items ++ chunks_of repo.keys (cut copy.stream.cutter.block copy.stream.cutter.piece))
     ≡ map (content_id repo.keys) (stream_pieces repo.keys copy.block wholes)
-stream_ids files repo copy wholes ready writes =
+stream_ids files repo copy wholes added ready writes =
     let keys = repo.keys in
     let left = cut copy.stream.cutter.block copy.stream.cutter.piece in
     let chunks : copy.stream.chunks.items ++ chunks_of keys left ≡ chunks_of keys (writes.taken ++ left) =
     ap (λ (cs : List ChunkRef). cs ++ chunks_of keys left) writes.chunks ∙ sym (map-append (chunk_of keys) writes.taken left) in
     ap (map (λ (chunk : ChunkRef). chunk.id)) chunks
-    ∙ (ids_of keys (writes.taken ++ left) ∙ ap (map (content_id keys)) (sym (stream_taken files repo copy wholes ready writes)))
+    ∙ (ids_of keys (writes.taken ++ left) ∙ ap (map (content_id keys)) (sym (stream_taken files repo copy wholes added ready writes)))
 
 -- all that an archive is in a target is there, once what was left of its stream and its record were added
-pub ready_then : (counts : Bool) (there : Files) (from : Origin) (named : ArchiveRef) (store middle : Store) (copy : Copy) (text id : List ℕ)
-    (h g : History) (fits : StoreFits counts store h) → from.block ≡ copy.block → IsReady copy
-    → Gathered counts store (cut copy.stream.cutter.block copy.stream.cutter.piece ++ text ∷ []) middle h g fits → KeepsRest store middle
+pub ready_then : (most : ℕ) (counts : Bool) (there : Files) (from : Origin) (named : ArchiveRef) (store middle : Store) (copy : Copy)
+    (added : List (List ℕ)) (text id : List ℕ) (h g : History) (fits : StoreFits counts store h) → from.block ≡ copy.block → IsReady copy
+    → Gathered most counts store (pieces (cut copy.stream.cutter.block copy.stream.cutter.piece) ++ Record text ∷ []) middle h g fits
+    → KeepsRest store middle
     → IsRecord (repo_view store.repo).keys (archive_view copy.archive) copy.block (copy.stream.chunks.items
     ++ chunks_of (repo_view store.repo).keys (cut copy.stream.cutter.block copy.stream.cutter.piece)) text id
-    → CopiesAll there from.repo named (files_now h) (repo_view store.repo) copy
+    → CopiesAll there from.repo named (files_now h) (repo_view store.repo) copy added
     → CanBeNamed there from (files_now g) (repo_view middle.repo) (entry_for named id)
-ready_then counts there from named store middle copy text id h g fits same ready end rest is all =
+ready_then most counts there from named store middle copy added text id h g fits same ready end rest is all =
     let keys = (repo_view store.repo).keys in
     let block = copy.block in
     let wholes = all.wholes in
@@ -426,10 +491,10 @@ ready_then counts there from named store middle copy text id h g fits same ready
     let left = cut copy.stream.cutter.block piece in
     let archive = archive_view copy.archive in
     let given = copy.stream.chunks.items ++ chunks_of keys left in
-    let pieces : stream_pieces keys block wholes ≡ writes.taken ++ left =
-    stream_taken (files_now h) (repo_view store.repo) copy wholes ready writes in
+    let parts : stream_pieces keys block wholes ≡ writes.taken ++ left =
+    stream_taken (files_now h) (repo_view store.repo) copy wholes added ready writes in
     let ids : map (λ (chunk : ChunkRef). chunk.id) given ≡ map (content_id keys) (stream_pieces keys block wholes) =
-    stream_ids (files_now h) (repo_view store.repo) copy wholes ready writes in
+    stream_ids (files_now h) (repo_view store.repo) copy wholes added ready writes in
     let copied : IsCopyOf keys block wholes archive.fields text =
     record {
       some = omega (arith, ready.least);
@@ -440,13 +505,16 @@ ready_then counts there from named store middle copy text id h g fits same ready
       spelled = writes.spelled;
     } in
     let last : stream_pieces keys block wholes ++ text ∷ [] ≡ writes.taken ++ (left ++ text ∷ []) =
-    ap (λ (ps : List (List ℕ)). ps ++ text ∷ []) pieces ∙ append_assoc writes.taken left (text ∷ []) in
+    ap (λ (ps : List (List ℕ)). ps ++ text ∷ []) parts ∙ append_assoc writes.taken left (text ∷ []) in
     let adds : (contents_of block wholes ++ []) ++ (writes.taken ++ (left ++ text ∷ [])) ≡ adds_of keys block wholes text =
     ap (λ (cs : List (List ℕ)). cs ++ (writes.taken ++ (left ++ text ∷ []))) (append-nil (contents_of block wholes))
     ∙ ap (λ (cs : List (List ℕ)). contents_of block wholes ++ cs) (sym last) in
+    let contents : contents_in (pieces left ++ Record text ∷ []) ≡ left ++ text ∷ [] =
+    contents_append (pieces left) (Record text ∷ []) ∙ ap (λ (cs : List (List ℕ)). cs ++ text ∷ []) (contents_pieces left) in
     let held : HoldsApart (files_now g) (repo_view middle.repo) (adds_of keys block wholes text) =
     subst (HoldsApart (files_now g) (repo_view middle.repo)) adds
-    (held_more counts store middle (contents_of block wholes) writes.taken [] (left ++ text ∷ []) h g fits end rest writes.held) in
+    (held_more most counts store middle (pieces left ++ Record text ∷ []) (contents_of block wholes) writes.taken [] (left ++ text ∷ []) h g fits contents end
+    rest writes.held) in
     let IsSo : Keys → ℕ → Type 0 = λ k b.
     IsCopyOf k b wholes archive.fields text × HoldsApart (files_now g) (repo_view middle.repo) (adds_of k b wholes text) in
     let so : IsSo (repo_view middle.repo).keys from.block =
@@ -462,19 +530,21 @@ ready_then counts there from named store middle copy text id h g fits same ready
     }
 
 -- the same over what the depot tells
-pub readies : {T : Type 0} (from : Origin) (a b : Option Told) (named : ArchiveRef) (store middle : Store) (copy : Copy) (text id : List ℕ) (n m : ℕ) (x : T)
-    → IfSome a (λ d. StoreFits false store d.history) → IsReady copy
-    → Works (KeepsStanding store) (λ (_ : T). Gathers store (cut copy.stream.cutter.block copy.stream.cutter.piece ++ text ∷ []) middle) a b n m (Ok x)
+pub readies : {T : Type 0} (from : Origin) (a b : Option Told) (named : ArchiveRef) (store middle : Store) (copy : Copy) (added : List (List ℕ))
+    (text id : List ℕ) (n m : ℕ) (x : T) → IfSome a (λ d. StoreFits false store d.history) → IsReady copy
+    → Works (KeepsStanding from.most store)
+    (λ (_ : T). Gathers from.most store (pieces (cut copy.stream.cutter.block copy.stream.cutter.piece) ++ Record text ∷ []) middle) a b n m (Ok x)
     → KeepsRest store middle
     → IsRecord (repo_view store.repo).keys (archive_view copy.archive) copy.block (copy.stream.chunks.items
     ++ chunks_of (repo_view store.repo).keys (cut copy.stream.cutter.block copy.stream.cutter.piece)) text id
-    → IsAllCopied from named a store copy → IfSome b (λ d. IsReadyToName from (told_files d) (repo_view middle.repo) (entry_for named id))
-readies {T} from a b named store middle copy text id n m x fits ready works rest is all =
-    let more = cut copy.stream.cutter.block copy.stream.cutter.piece ++ text ∷ [] in
-    let P : History → Type 0 = λ h. IfSome from.files (λ there. CopiesAll there from.repo named (files_now h) (repo_view store.repo) copy) in
+    → IsAllCopied from named a store copy added → IfSome b (λ d. IsReadyToName from (told_files d) (repo_view middle.repo) (entry_for named id))
+readies {T} from a b named store middle copy added text id n m x fits ready works rest is all =
+    let more = pieces (cut copy.stream.cutter.block copy.stream.cutter.piece) ++ Record text ∷ [] in
+    let P : History → Type 0 = λ h. IfSome from.files (λ there. CopiesAll there from.repo named (files_now h) (repo_view store.repo) copy added) in
     let R : History → Type 0 = λ h. IsReadyToName from (files_now h) (repo_view middle.repo) (entry_for named id) in
-    works_known {T = T} (λ h. StoreFits false store h × P h) R (KeepsStanding store) (λ (_ : T). Gathers store more middle) a b n m x
+    works_known {T = T} (λ h. StoreFits false store h × P h) R (KeepsStanding from.most store) (λ (_ : T). Gathers from.most store more middle) a b n m x
     (λ h g known gathers.
     IfSome_then from.files known.1
-    (λ there c. ready_then false there from named store middle copy text id h g known.0 all.0 ready (gathers false known.0) rest is c))
+    (λ there c.
+    ready_then from.most false there from named store middle copy added text id h g known.0 all.0.block ready (gathers false known.0) rest is c))
     (both_known a (λ d. StoreFits false store d.history) (λ d. P d.history) fits all.1) works

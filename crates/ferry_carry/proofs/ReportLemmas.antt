@@ -8,6 +8,7 @@ use Rattle.ferry_disk.specs.Act.{Step, TellOf, Act, History, with_act}
 use Rattle.ferry_disk.specs.Device.{Told}
 use Rattle.ferry_disk.specs.Files.{Files}
 use Rattle.ferry_disk.specs.Moments.{IsMoment, Moments, last_undone, with_steps}
+use Rattle.ferry_mac.specs.declared.keys.Keys.{Keys}
 use Rattle.ferry_manifest.specs.Manifest.Text.{ManifestText}
 use Rattle.ferry_manifest.specs.declared.manifest.ArchiveRef.{ArchiveRef}
 use Rattle.ferry_repo.specs.Archives.{archive_named}
@@ -24,6 +25,7 @@ use Rattle.ferry_write.specs.Script.{AllDone}
 use Rattle.ferry_carry.proofs.GatherLemmas.{rest_here, sound_map, standing_from}
 use Rattle.ferry_carry.proofs.CauseLemmas.{not_there}
 use Rattle.ferry_carry.proofs.CutLemmas.{among_either, among_none}
+use Rattle.ferry_carry.proofs.ProgressLemmas.{any_told}
 use Rattle.ferry_carry.proofs.GrowLemmas.{growing_here, grows_from, grows_here, grows_then, has_kept, on_from, on_then, on_wider}
 use Rattle.ferry_carry.proofs.TellLemmas.{told_gathers, told_stands}
 use Rattle.ferry_carry.proofs.WholeLemmas.{among_all, among_behind, among_front}
@@ -31,12 +33,14 @@ use Rattle.ferry_carry.proofs.WorkLemmas.{works_as, works_both, works_from, work
 use Rattle.ferry_carry.specs.Carrying.{Origin}
 use Rattle.ferry_carry.specs.Chosen.{TellsLine}
 use Rattle.ferry_carry.specs.Fault.{target_failed}
-use Rattle.ferry_carry.specs.Flight.{Carries, IsSettled}
+use Rattle.ferry_carry.specs.Flight.{Carries, IsSettled, ListsDone}
 use Rattle.ferry_carry.specs.Gather.{IsAmong, StandsFrom}
 use Rattle.ferry_carry.specs.Grow.{AcceptsMore, Grows, IsNamedBy, KeepsGrowing, KeepsMost, StandsOn}
 use Rattle.ferry_carry.specs.Lines.{name_line, told_of, total_line}
-use Rattle.ferry_carry.specs.Telling.{AreLines, IsReport, IsReported, IsThere, KeepsReported, Reports, ReportsWhole, ShowsReport, TellsNames, TellsNew}
-use Rattle.ferry_carry.specs.Telling.{TellsWhole}
+use Rattle.ferry_carry.specs.Listing.{IsThere, ListsName, ListsNames, ListsOne}
+use Rattle.ferry_carry.specs.Puts.{Addition}
+use Rattle.ferry_carry.specs.Telling.{AreLines, CarriesNames, IsReport, IsReported, KeepsReported, Reports, ReportsWhole, ShowsReport, TellsNames}
+use Rattle.ferry_carry.specs.Telling.{TellsNew, TellsWhole}
 use Rattle.ferry_carry.specs.Work.{Works}
 use Rattle.ferry_carry.specs.declared.fault.CarryFault.{CarryFault}
 use Rattle.ferry_carry.specs.declared.options.Carried.{Carried}
@@ -133,6 +137,87 @@ lines_then : (accepted middle : ManifestText) (lines more some others : List (Li
 lines_then accepted middle lines more some others extends are behind =
     lines_both accepted [] lines more some others are
     (subst (λ (b : List (List ℕ)). AreLines accepted b more others) (append-nil some) (lines_behind accepted middle some [] more others extends behind))
+
+-- ---- what is added for names
+
+lists_both : (from : Origin) (keys : Keys) (accepted : ManifestText) (before names others : List (List ℕ)) (added more : List Addition)
+    → ListsNames from keys accepted before names added → ListsNames from keys accepted (before ++ names) others more
+    → ListsNames from keys accepted before (names ++ others) (added ++ more)
+lists_both from keys accepted before [] others added more none q =
+    subst (λ (l : List Addition). ListsNames from keys accepted before others (l ++ more)) (sym none)
+    (subst (λ (b : List (List ℕ)). ListsNames from keys accepted b others more) (append-nil before) q)
+lists_both from keys accepted before (name ∷ names) others added more p q =
+    let one = p.0 in
+    let rest = p.1.0 in (
+      one,
+      (
+        rest ++ more,
+        (
+          ap (λ (l : List Addition). l ++ more) p.1.1.0 ∙ append_assoc one rest more,
+          (
+            p.1.1.1.0,
+            lists_both from keys accepted (before ++ name ∷ []) names others rest more p.1.1.1.1
+                (subst (λ (b : List (List ℕ)). ListsNames from keys accepted b others more) (sym (append_assoc before (name ∷ []) names)) q),
+          ),
+        ),
+      ),
+    )
+
+-- behind names that came
+name_behind : (from : Origin) (keys : Keys) (accepted middle : ManifestText) (some before : List (List ℕ)) (name : List ℕ) (added : List Addition)
+    → Extends accepted some middle → ListsName from keys middle before name added → ListsName from keys accepted (some ++ before) name added
+name_behind from keys accepted middle some before name added extends (inl is) =
+    inl ((there_behind accepted middle some before name extends).0 is.0, is.1)
+name_behind from keys accepted middle some before name added extends (inr is) =
+    inr (λ has. is.0 ((there_behind accepted middle some before name extends).1 has), is.1)
+
+lists_behind : (from : Origin) (keys : Keys) (accepted middle : ManifestText) (some before names : List (List ℕ)) (added : List Addition)
+    → Extends accepted some middle → ListsNames from keys middle before names added → ListsNames from keys accepted (some ++ before) names added
+lists_behind from keys accepted middle some before [] added extends lists = lists
+lists_behind from keys accepted middle some before (name ∷ names) added extends lists = (
+  lists.0,
+  (
+    lists.1.0,
+    (
+      lists.1.1.0,
+      (
+        name_behind from keys accepted middle some before name lists.0 extends lists.1.1.1.0,
+        subst (λ (b : List (List ℕ)). ListsNames from keys accepted b names lists.1.0) (sym (append_assoc some before (name ∷ [])))
+            (lists_behind from keys accepted middle some (before ++ name ∷ []) names lists.1.0 extends lists.1.1.1.1),
+      ),
+    ),
+  ),
+)
+
+-- what is added for some names, and for others beside what is accepted behind them
+lists_then : (from : Origin) (keys : Keys) (accepted middle : ManifestText) (some others : List (List ℕ)) (added more : List Addition)
+    → Extends accepted some middle → ListsNames from keys accepted [] some added → ListsNames from keys middle [] others more
+    → ListsNames from keys accepted [] (some ++ others) (added ++ more)
+lists_then from keys accepted middle some others added more extends lists behind =
+    lists_both from keys accepted [] some others added more lists
+    (subst (λ (b : List (List ℕ)). ListsNames from keys accepted b others more) (append-nil some)
+    (lists_behind from keys accepted middle some [] others more extends behind))
+
+-- What was added for an archive once it is done, of a target that tells its files.
+abbrev ListedAs : Origin → Keys → List ℕ → List Addition → Bool → Type 0
+ListedAs from keys name added true = ListsOne from keys name added
+ListedAs from keys name added false = added ≡ []
+
+listed_as : (before : Option Told) (from : Origin) (keys : Keys) (name : List ℕ) (added : List Addition) (copied : Bool)
+    → ListsDone before from keys name added copied → IfSome before (λ _. ListedAs from keys name added copied)
+listed_as before from keys name added true done = done
+listed_as before from keys name added false done = any_told before (λ _. added ≡ []) (λ _. done)
+
+-- all that is added for one name, by what is told of it
+lists_name : (from : Origin) (keys : Keys) (accepted : ManifestText) (name : List ℕ) (added : List Addition) (copied : Bool)
+    → TellsNew accepted [] name copied → ListedAs from keys name added copied → ListsName from keys accepted [] name added
+lists_name from keys accepted name added true new listed = inr (new, listed)
+lists_name from keys accepted name added false there none = inl (there, none)
+
+lists_one : (from : Origin) (keys : Keys) (accepted : ManifestText) (name : List ℕ) (added : List Addition) (copied : Bool)
+    → TellsNew accepted [] name copied → ListedAs from keys name added copied → ListsNames from keys accepted [] (name ∷ []) added
+lists_one from keys accepted name added copied new listed =
+    (added, ([], (sym (append-nil added), (lists_name from keys accepted name added copied new listed, refl))))
 
 -- ---- reports
 
@@ -274,24 +359,25 @@ reported_map P Q counts h g i step m =
     (λ k s. record { lines = s.lines; told = s.told; sound = sound_map (P s.lines) (Q s.lines) counts k (step s.lines) s.sound }) m
 
 -- a line is told, or isn't: what stands is what stood
-told_moments : (store : Store) (line : List ℕ) (h g : History) (counts : Bool) (fits : StoreFits counts store h) → IsStep (TellOf line) h g
-    → Moments (IsReported (λ lines image. ((lines ≡ []) ⊎ (lines ≡ line ∷ [])) × StandsFrom (repo_view store.repo).keys fits.written image) counts h) h g
-told_moments store line h g counts fits is =
+told_moments : (most : ℕ) (store : Store) (line : List ℕ) (h g : History) (counts : Bool) (fits : StoreFits counts store h) → IsStep (TellOf line) h g
+    → Moments (IsReported (λ lines image. ((lines ≡ []) ⊎ (lines ≡ line ∷ [])) × StandsFrom (repo_view store.repo).keys most fits.written image) counts h)
+    h g
+told_moments most store line h g counts fits is =
     step_moments (IsReported Show counts h) (TellOf line) h g (record {
       lines = [];
       told = sym (append-nil (lines_of h.acts));
-      sound = sound_map (ShowsStanding fits.written) (Show []) counts h (λ image shown. (inl refl, standing_from counts store h fits image shown))
+      sound = sound_map (ShowsStanding fits.written) (Show []) counts h (λ image shown. (inl refl, standing_from most counts store h fits image shown))
           (stands_now counts store.session store.counter fits.written h fits.under_way);
     }) (λ done. record {
       lines = line ∷ [];
       told = line_told h line done;
       sound = sound_map (ShowsStanding fits.written) (Show (line ∷ [])) counts (with_act (TellOf line) done h)
-          (λ image shown. (inr refl, standing_from counts store h fits image shown))
+          (λ image shown. (inr refl, standing_from most counts store h fits image shown))
           (stands_now counts store.session store.counter fits.written (with_act (TellOf line) done h)
           (told_stands counts store fits.written line done h fits.under_way));
     }) is where
       Show : List (List ℕ) → Files → Type 0
-      Show lines image = ((lines ≡ []) ⊎ (lines ≡ line ∷ [])) × StandsFrom (repo_view store.repo).keys fits.written image
+      Show lines image = ((lines ≡ []) ⊎ (lines ≡ line ∷ [])) × StandsFrom (repo_view store.repo).keys most fits.written image
 
 -- ---- bodies that told nothing
 
@@ -306,12 +392,12 @@ reported_growing from chosen store h g growing counts fits =
 pub reported_here : (from : Origin) (chosen : List (List ℕ)) (store : Store) (h : History) → AcceptsMore store → KeepsReported from chosen store h h
 reported_here from chosen store h accepts = reported_growing from chosen store h h (growing_here from chosen store h accepts)
 
-names_here : (accepted : ManifestText) (h : History) → TellsNames accepted [] h h
+pub names_here : (accepted : ManifestText) (h : History) → TellsNames accepted [] h h
 names_here accepted h = ([], (sym (append-nil (lines_of h.acts)), tt))
 
 -- ---- one behind another
 
-reported_wider : (from : Origin) (some more : List (List ℕ)) (store : Store) (h g : History) → KeepsReported from some store h g
+pub reported_wider : (from : Origin) (some more : List (List ℕ)) (store : Store) (h g : History) → KeepsReported from some store h g
     → KeepsReported from (some ++ more) store h g
 unfolding on_wider
 reported_wider from some more store h g reported counts fits =
@@ -320,11 +406,11 @@ reported_wider from some more store h g reported counts fits =
     reported_map (ShowsReport from some accepted repo fits.written) (ShowsReport from (some ++ more) accepted repo fits.written) counts h h g
     (λ lines image s. (on_wider from some more accepted repo fits.written image s.0, s.1)) (reported counts fits)
 
-reported_then : (from : Origin) (some more : List (List ℕ)) (store middle : Store) (h g i : History) → IsSettled store → AcceptsMore middle
-    → KeepsReported from (some ++ more) store h g → AllDone h g → Grows from some store middle h g → TellsNames (accepted_in store) some h g
-    → KeepsReported from more middle g i → KeepsReported from (some ++ more) store h i
+pub reported_then : (from : Origin) (some more : List (List ℕ)) (added : List Addition) (store middle : Store) (h g i : History) → IsSettled store
+    → AcceptsMore middle → KeepsReported from (some ++ more) store h g → AllDone h g → Grows from some added store middle h g
+    → TellsNames (accepted_in store) some h g → KeepsReported from more middle g i → KeepsReported from (some ++ more) store h i
 unfolding on_then
-reported_then from some more store middle h g i settled accepts before done grows told after counts fits =
+reported_then from some more added store middle h g i settled accepts before done grows told after counts fits =
     let first = grows counts fits in
     let accepted = accepted_in store in
     let between = accepted_in middle in
@@ -333,8 +419,8 @@ reported_then from some more store middle h g i settled accepts before done grow
     moments_then (IsReported (ShowsReport from (some ++ more) accepted repo fits.written) counts h) h g i (before counts fits) done
     (reported_behind (ShowsReport from more between next first.fits_now.written) (ShowsReport from (some ++ more) accepted repo fits.written) counts h g i
     told.0 told.1.0 (λ lines image s. (
-      on_then from some more accepted between repo next fits.written first.fits_now.written image first.most.keys first.most.names first.chunks
-          first.opening first.config first.carried first.cut first.only s.0,
+      on_then from some more added accepted between repo next fits.written first.fits_now.written image first.most.keys first.most.names first.chunks
+          first.opening first.puts first.committed first.config first.carried first.cut first.only s.0,
       report_then accepted between told.0 lines some s.0.done (extends_by store middle some settled accepts first.most first.named first.only) told.1.1
           s.1,
     )) (after counts first.fits_now))
@@ -351,11 +437,11 @@ names_then accepted middle some more h g i extends p q = (
 
 -- ---- a name is told behind the body that carried its archive
 
-reported_name : (from : Origin) (copied : Bool) (name : List ℕ) (store middle : Store) (h g i : History) → KeepsGrowing from (name ∷ []) store h g
-    → AllDone h g → Grows from (name ∷ []) store middle h g → AcceptsMore middle → TellsNew (accepted_in store) [] name copied
-    → IsStep (TellOf (name_line (told_of copied) name)) g i → KeepsReported from (name ∷ []) store h i
+reported_name : (from : Origin) (copied : Bool) (name : List ℕ) (added : List Addition) (store middle : Store) (h g i : History)
+    → KeepsGrowing from (name ∷ []) store h g → AllDone h g → Grows from (name ∷ []) added store middle h g → AcceptsMore middle
+    → TellsNew (accepted_in store) [] name copied → IsStep (TellOf (name_line (told_of copied) name)) g i → KeepsReported from (name ∷ []) store h i
 unfolding on_then
-reported_name from copied name store middle h g i growing done grows accepts new is counts fits =
+reported_name from copied name added store middle h g i growing done grows accepts new is counts fits =
     let line = name_line (told_of copied) name in
     let first = grows counts fits in
     let accepted = accepted_in store in
@@ -366,13 +452,13 @@ reported_name from copied name store middle h g i growing done grows accepts new
     let none : lines_of g.acts ≡ lines_of h.acts ++ [] = growing.0 ∙ sym (append-nil (lines_of h.acts)) in
     moments_then (IsReported (ShowsReport from (name ∷ []) accepted repo fits.written) counts h) h g i
     (reported_growing from (name ∷ []) store h g growing counts fits) done
-    (reported_behind (λ lines image. ((lines ≡ []) ⊎ (lines ≡ line ∷ [])) × StandsFrom next.keys now image)
+    (reported_behind (λ lines image. ((lines ≡ []) ⊎ (lines ≡ line ∷ [])) × StandsFrom next.keys from.most now image)
     (ShowsReport from (name ∷ []) accepted repo fits.written) counts h g i [] none (λ lines image s.
     let stands : StandsOn from [] between next now image = on_from from [] between counts middle g first.fits_now image accepts s.1 in (
-      on_then from (name ∷ []) [] accepted between repo next fits.written now image first.most.keys first.most.names first.chunks first.opening
-          first.config first.carried first.cut first.only stands,
+      on_then from (name ∷ []) [] added accepted between repo next fits.written now image first.most.keys first.most.names first.chunks first.opening
+          first.puts first.committed first.config first.carried first.cut first.only stands,
       report_one accepted copied name lines stands.done new s.0,
-    )) (told_moments middle line g i counts first.fits_now is))
+    )) (told_moments from.most middle line g i counts first.fits_now is))
 
 told_name : (accepted : ManifestText) (copied : Bool) (name : List ℕ) (h g i : History) → TellsNew accepted [] name copied → TellsNothing h g
     → TellsLine (name_line (told_of copied) name) g i → TellsNames accepted (name ∷ []) h i
@@ -387,31 +473,37 @@ told_name accepted copied name h g i new untold tells = (
 )
 
 -- a line that is told keeps what was carried
-grows_told : (from : Origin) (some : List (List ℕ)) (store middle : Store) (line : List ℕ) (h g i : History) → Grows from some store middle h g
-    → TellsLine line g i → Grows from some store middle h i
-grows_told from some store middle line h g i grows tells =
-    subst (λ (l : List (List ℕ)). Grows from l store middle h i) (append-nil some)
-    (grows_then from some [] store middle middle h g i grows
-    (grows_from from middle middle [] g i (rest_here middle) (told_gathers middle line g i tells)))
+grows_told : (from : Origin) (some : List (List ℕ)) (added : List Addition) (store middle : Store) (line : List ℕ) (h g i : History)
+    → Grows from some added store middle h g → TellsLine line g i → Grows from some added store middle h i
+grows_told from some added store middle line h g i grows tells =
+    subst (λ (l : List (List ℕ)). Grows from l added store middle h i) (append-nil some)
+    (subst (λ (l : List Addition). Grows from (some ++ []) l store middle h i) (append-nil added)
+    (grows_then from some [] added [] store middle middle h g i grows
+    (grows_from from middle middle [] g i (rest_here middle) (told_gathers from.most middle line g i tells))))
+
+carries_told : (from : Origin) (some : List (List ℕ)) (store middle : Store) (line : List ℕ) (h g i : History)
+    → CarriesNames from some store middle h g → TellsLine line g i → CarriesNames from some store middle h i
+carries_told from some store middle line h g i carries tells =
+    (carries.0, (grows_told from some carries.0 store middle line h g i carries.1.0 tells, carries.1.1))
 
 -- ---- the whole is told behind all
 
-reported_whole : (from : Origin) (carried : Carried) (names : List (List ℕ)) (store middle : Store) (h g i : History) → IsSettled store
-    → AcceptsMore middle → KeepsReported from names store h g → AllDone h g → Grows from names store middle h g
+reported_whole : (from : Origin) (carried : Carried) (names : List (List ℕ)) (added : List Addition) (store middle : Store) (h g i : History)
+    → IsSettled store → AcceptsMore middle → KeepsReported from names store h g → AllDone h g → Grows from names added store middle h g
     → TellsNames (accepted_in store) names h g → IsStep (TellOf (total_line carried)) g i → KeepsReported from names store h i
-reported_whole from carried names store middle h g i settled accepts before done grows told is =
+reported_whole from carried names added store middle h g i settled accepts before done grows told is =
     subst (λ (l : List (List ℕ)). KeepsReported from l store h i) (append-nil names)
-    (reported_then from names [] store middle h g i settled accepts (reported_wider from names [] store h g before) done grows told last) where
+    (reported_then from names [] added store middle h g i settled accepts (reported_wider from names [] store h g before) done grows told last) where
       line : List ℕ
       line = total_line carried
 
       last : KeepsReported from [] middle g i
       last counts fits =
-          reported_map (λ lines image. ((lines ≡ []) ⊎ (lines ≡ line ∷ [])) × StandsFrom (repo_view middle.repo).keys fits.written image)
+          reported_map (λ lines image. ((lines ≡ []) ⊎ (lines ≡ line ∷ [])) × StandsFrom (repo_view middle.repo).keys from.most fits.written image)
           (ShowsReport from [] (accepted_in middle) (repo_view middle.repo) fits.written) counts g g i (λ lines image s.
           let stands : StandsOn from [] (accepted_in middle) (repo_view middle.repo) fits.written image =
           on_from from [] (accepted_in middle) counts middle g fits image accepts s.1 in
-          (stands, report_whole (accepted_in middle) carried lines stands.done s.0)) (told_moments middle line g i counts fits is)
+          (stands, report_whole (accepted_in middle) carried lines stands.done s.0)) (told_moments from.most middle line g i counts fits is)
 
 told_whole : (accepted : ManifestText) (carried : Carried) (names : List (List ℕ)) (h g i : History) → TellsNames accepted names h g
     → TellsLine (total_line carried) g i → TellsWhole accepted names h i
@@ -435,50 +527,61 @@ told_whole accepted carried names h g i told tells = (
 pub reports_none : {T : Type 0} (from : Origin) (store : Store) (a : Option Told) (n : ℕ) (x : T) → AcceptsMore store
     → Reports from [] store store a a n n (Ok x)
 reports_none {T} from store a n x accepts =
-    works_none (KeepsReported from [] store) (λ (_ : T) h g. Grows from [] store store h g × TellsNames (accepted_in store) [] h g) a n x
-    (λ h. reported_here from [] store h accepts) (λ h. (grows_here from store h, names_here (accepted_in store) h))
+    works_none (KeepsReported from [] store) (λ (_ : T) h g. CarriesNames from [] store store h g × TellsNames (accepted_in store) [] h g) a n x
+    (λ h. reported_here from [] store h accepts) (λ h. (([], (grows_here from store h, refl)), names_here (accepted_in store) h))
 
 pub reports_nothing : {T : Type 0} (from : Origin) (names : List (List ℕ)) (store now : Store) (a : Option Told) (n : ℕ) (fault : CarryFault)
     → AcceptsMore store → target_failed fault ≡ false → Reports {T = T} from names store now a a n n (Err fault)
 reports_nothing {T} from names store now a n fault accepts still =
-    works_nothing (KeepsReported from names store) (λ (_ : T) h g. Grows from names store now h g × TellsNames (accepted_in store) names h g) a n fault still
-    (λ h. reported_here from names store h accepts)
+    works_nothing (KeepsReported from names store) (λ (_ : T) h g. CarriesNames from names store now h g × TellsNames (accepted_in store) names h g)
+    a n fault still (λ h. reported_here from names store h accepts)
 
 pub whole_nothing : {T : Type 0} (from : Origin) (names : List (List ℕ)) (store now : Store) (a : Option Told) (n : ℕ) (fault : CarryFault)
     → AcceptsMore store → target_failed fault ≡ false → ReportsWhole {T = T} from names store now a a n n (Err fault)
 whole_nothing {T} from names store now a n fault accepts still =
-    works_nothing (KeepsReported from names store) (λ (_ : T) h g. Grows from names store now h g × TellsWhole (accepted_in store) names h g) a n fault still
-    (λ h. reported_here from names store h accepts)
+    works_nothing (KeepsReported from names store) (λ (_ : T) h g. CarriesNames from names store now h g × TellsWhole (accepted_in store) names h g)
+    a n fault still (λ h. reported_here from names store h accepts)
 
 -- a fault of a body that told nothing, and of one that told
-pub reports_silent : {T U : Type 0} (from : Origin) (names : List (List ℕ)) (store now : Store) (a b : Option Told) (n m : ℕ) (fault : CarryFault)
-    → Carries {T = T} from names store now a b n m (Err fault) → Reports {T = U} from names store now a b n m (Err fault)
-reports_silent {T} {U} from names store now a b n m fault p =
-    works_front (KeepsGrowing from names store) (λ (_ : T). Grows from names store now) (KeepsReported from names store)
-    (λ (_ : U) h g. Grows from names store now h g × TellsNames (accepted_in store) names h g) a b n m fault
+pub reports_silent : {T U : Type 0} (from : Origin) (names : List (List ℕ)) (added : List Addition) (store now : Store) (a b : Option Told)
+    (n m : ℕ) (fault : CarryFault) → Carries {T = T} from names added store now a b n m (Err fault) → Reports {T = U} from names store now a b n m (Err fault)
+reports_silent {T} {U} from names added store now a b n m fault p =
+    works_front (KeepsGrowing from names store) (λ (_ : T). Grows from names added store now) (KeepsReported from names store)
+    (λ (_ : U) h g. CarriesNames from names store now h g × TellsNames (accepted_in store) names h g) a b n m fault
     (λ h g e. reported_growing from names store h g e) p
 
 pub whole_err : {T U : Type 0} (from : Origin) (names : List (List ℕ)) (store now : Store) (a b : Option Told) (n m : ℕ) (fault : CarryFault)
     → Reports {T = T} from names store now a b n m (Err fault) → ReportsWhole {T = U} from names store now a b n m (Err fault)
 whole_err {T} {U} from names store now a b n m fault p =
-    works_front (KeepsReported from names store) (λ (_ : T) h g. Grows from names store now h g × TellsNames (accepted_in store) names h g)
-    (KeepsReported from names store) (λ (_ : U) h g. Grows from names store now h g × TellsWhole (accepted_in store) names h g) a b n m fault (λ h g e. e) p
+    works_front (KeepsReported from names store) (λ (_ : T) h g. CarriesNames from names store now h g × TellsNames (accepted_in store) names h g)
+    (KeepsReported from names store) (λ (_ : U) h g. CarriesNames from names store now h g × TellsWhole (accepted_in store) names h g) a b n m fault
+    (λ h g e. e) p
 
 -- a name that is told behind the body that carried its archive
-pub reports_name : {T U : Type 0} (from : Origin) (copied : Bool) (name given : List ℕ) (store middle : Store) (a b c : Option Told) (n m k : ℕ) (x : T)
-    (result : Result U CarryFault) → given ≡ name → AcceptsMore middle → TellsNew (accepted_in store) [] name copied
-    → Carries {T = T} from (name ∷ []) store middle a b n m (Ok x)
+pub reports_name : {T U : Type 0} (from : Origin) (copied : Bool) (name given : List ℕ) (added : List Addition) (store middle : Store)
+    (a b c : Option Told) (n m k : ℕ) (x : T) (result : Result U CarryFault) → given ≡ name → AcceptsMore middle
+    → TellsNew (accepted_in store) [] name copied → ListsDone a from (repo_view store.repo).keys name added copied
+    → Carries {T = T} from (name ∷ []) added store middle a b n m (Ok x)
     → Works (IsStep (TellOf (name_line (told_of copied) given))) (λ (_ : U). TellsLine (name_line (told_of copied) given)) b c m k result
     → Reports {T = U} from (name ∷ []) store middle a c n k result
-reports_name {T} {U} from copied name given store middle a b c n m k x result is accepts new p q =
+reports_name {T} {U} from copied name given added store middle a b c n m k x result is accepts new done p q =
     let line = name_line (told_of copied) name in
+    let keys = (repo_view store.repo).keys in
+    let accepted = accepted_in store in
     works_then (KeepsGrowing from (name ∷ []) store)
-    (λ (_ : T) h g. KeepsGrowing from (name ∷ []) store h g × Grows from (name ∷ []) store middle h g) (IsStep (TellOf line)) (λ (_ : U). TellsLine line)
-    (KeepsReported from (name ∷ []) store) (λ (_ : U) h g. Grows from (name ∷ []) store middle h g × TellsNames (accepted_in store) (name ∷ []) h g)
+    (λ (_ : T) h g. ListedAs from keys name added copied × (KeepsGrowing from (name ∷ []) store h g × Grows from (name ∷ []) added store middle h g))
+    (IsStep (TellOf line)) (λ (_ : U). TellsLine line) (KeepsReported from (name ∷ []) store)
+    (λ (_ : U) h g. CarriesNames from (name ∷ []) store middle h g × TellsNames accepted (name ∷ []) h g)
     a b c n m k x result
-    (λ h g i e d f r. reported_name from copied name store middle h g i e d f.1 accepts new r)
-    (λ _ h g i f r. (grows_told from (name ∷ []) store middle line h g i f.1 r, told_name (accepted_in store) copied name h g i new f.0.0 r))
-    (works_both (KeepsGrowing from (name ∷ []) store) (λ (_ : T). Grows from (name ∷ []) store middle) a b n m (Ok x) p)
+    (λ h g i e d f r. reported_name from copied name added store middle h g i e d f.1.1 accepts new r)
+    (λ _ h g i f r. (
+      (added, (grows_told from (name ∷ []) added store middle line h g i f.1.1 r, lists_one from keys accepted name added copied new f.0)),
+      told_name accepted copied name h g i new f.1.0.0 r,
+    ))
+    (works_from (λ _. ListedAs from keys name added copied) (KeepsGrowing from (name ∷ []) store)
+    (λ (_ : T) h g. KeepsGrowing from (name ∷ []) store h g × Grows from (name ∷ []) added store middle h g) a b n m x
+    (listed_as a from keys name added copied done)
+    (works_both (KeepsGrowing from (name ∷ []) store) (λ (_ : T). Grows from (name ∷ []) added store middle) a b n m (Ok x) p))
     (subst (λ (l : List ℕ). Works (IsStep (TellOf (name_line (told_of copied) l))) (λ (_ : U). TellsLine (name_line (told_of copied) l)) b c m k result)
     is q)
 
@@ -490,12 +593,12 @@ pub reports_whole : {T U V : Type 0} (from : Origin) (carried : Carried) (names 
 reports_whole {T} {U} {V} from carried names line store middle a b c n m k x y z is settled accepts p q =
     let total = total_line carried in
     let behind = subst (λ (l : List ℕ). Works (IsStep (TellOf l)) (λ (_ : U). TellsLine l) b c m k (Ok y)) is q in
-    works_then (KeepsReported from names store) (λ (_ : T) h g. Grows from names store middle h g × TellsNames (accepted_in store) names h g)
+    works_then (KeepsReported from names store) (λ (_ : T) h g. CarriesNames from names store middle h g × TellsNames (accepted_in store) names h g)
     (IsStep (TellOf total)) (λ (_ : V). TellsLine total) (KeepsReported from names store)
-    (λ (_ : V) h g. Grows from names store middle h g × TellsWhole (accepted_in store) names h g)
+    (λ (_ : V) h g. CarriesNames from names store middle h g × TellsWhole (accepted_in store) names h g)
     a b c n m k x (Ok z)
-    (λ h g i e d f r. reported_whole from carried names store middle h g i settled accepts e d f.0 f.1 r)
-    (λ _ h g i f r. (grows_told from names store middle total h g i f.0 r, told_whole (accepted_in store) carried names h g i f.1 r)) p
+    (λ h g i e d f r. reported_whole from carried names f.0.0 store middle h g i settled accepts e d f.0.1.0 f.1 r)
+    (λ _ h g i f r. (carries_told from names store middle total h g i f.0 r, told_whole (accepted_in store) carried names h g i f.1 r)) p
     (works_as (IsStep (TellOf total)) (λ (_ : U). TellsLine total) (IsStep (TellOf total)) (λ (_ : V). TellsLine total) b c m k y z (λ h g e. e)
     (λ h g e. e) behind)
 
@@ -506,12 +609,12 @@ pub whole_untold : {T U V : Type 0} (from : Origin) (carried : Carried) (names :
 whole_untold {T} {U} {V} from carried names line store middle a b c n m k x fault is settled accepts p q =
     let total = total_line carried in
     let behind = subst (λ (l : List ℕ). Works (IsStep (TellOf l)) (λ (_ : U). TellsLine l) b c m k (Err fault)) is q in
-    works_then (KeepsReported from names store) (λ (_ : T) h g. Grows from names store middle h g × TellsNames (accepted_in store) names h g)
+    works_then (KeepsReported from names store) (λ (_ : T) h g. CarriesNames from names store middle h g × TellsNames (accepted_in store) names h g)
     (IsStep (TellOf total)) (λ (_ : V). TellsLine total) (KeepsReported from names store)
-    (λ (_ : V) h g. Grows from names store middle h g × TellsWhole (accepted_in store) names h g)
+    (λ (_ : V) h g. CarriesNames from names store middle h g × TellsWhole (accepted_in store) names h g)
     a b c n m k x (Err fault)
-    (λ h g i e d f r. reported_whole from carried names store middle h g i settled accepts e d f.0 f.1 r)
-    (λ _ h g i f r. (grows_told from names store middle total h g i f.0 r, told_whole (accepted_in store) carried names h g i f.1 r)) p
+    (λ h g i e d f r. reported_whole from carried names f.0.0 store middle h g i settled accepts e d f.0.1.0 f.1 r)
+    (λ _ h g i f r. (carries_told from names store middle total h g i f.0 r, told_whole (accepted_in store) carried names h g i f.1 r)) p
     (works_front (IsStep (TellOf total)) (λ (_ : U). TellsLine total) (IsStep (TellOf total)) (λ (_ : V). TellsLine total) b c m k fault (λ h g e. e)
     behind)
 
@@ -529,19 +632,32 @@ reports_then : {T U : Type 0} (from : Origin) (some more : List (List ℕ)) (sto
     → Reports {T = T} from some store middle a b n m (Ok x) → Reports {T = U} from more middle now b c m k result
     → Reports {T = U} from (some ++ more) store now a c n k result
 reports_then {T} {U} from some more store middle now a b c n m k x result settled accepts fits p q =
+    let keys = (repo_view store.repo).keys in
+    let accepted = accepted_in store in
+    let between = accepted_in middle in
     works_then (KeepsReported from some store)
-    (λ (_ : T) h g. StoreFits false store h × (Grows from some store middle h g × TellsNames (accepted_in store) some h g)) (KeepsReported from more middle)
-    (λ (_ : U) h g. Grows from more middle now h g × TellsNames (accepted_in middle) more h g) (KeepsReported from (some ++ more) store)
-    (λ (_ : U) h g. Grows from (some ++ more) store now h g × TellsNames (accepted_in store) (some ++ more) h g) a b c n m k x result
-    (λ h g i e d f r. reported_then from some more store middle h g i settled accepts (reported_wider from some more store h g e) d f.1.0 f.1.1 r)
+    (λ (_ : T) h g. StoreFits false store h × (CarriesNames from some store middle h g × TellsNames accepted some h g)) (KeepsReported from more middle)
+    (λ (_ : U) h g. CarriesNames from more middle now h g × TellsNames between more h g) (KeepsReported from (some ++ more) store)
+    (λ (_ : U) h g. CarriesNames from (some ++ more) store now h g × TellsNames accepted (some ++ more) h g) a b c n m k x result
+    (λ h g i e d f r.
+    reported_then from some more f.1.0.0 store middle h g i settled accepts (reported_wider from some more store h g e) d f.1.0.1.0 f.1.1 r)
     (λ _ h g i e f.
-    let first = e.1.0 false e.0 in (
-      grows_then from some more store middle now h g i e.1.0 f.0,
-      names_then (accepted_in store) (accepted_in middle) some more h g i
-          (extends_by store middle some settled accepts first.most first.named first.only) e.1.1 f.1,
+    let added = e.1.0.0 in
+    let others = f.0.0 in
+    let first = e.1.0.1.0 false e.0 in
+    let extends = extends_by store middle some settled accepts first.most first.named first.only in (
+      (
+        added ++ others,
+        (
+          grows_then from some more added others store middle now h g i e.1.0.1.0 f.0.1.0,
+          lists_then from keys accepted between some more added others extends e.1.0.1.1
+              (subst (λ (k : Keys). ListsNames from k between [] more others) first.most.keys f.0.1.1),
+        ),
+      ),
+      names_then accepted between some more h g i extends e.1.1 f.1,
     ))
     (works_from (StoreFits false store) (KeepsReported from some store)
-    (λ (_ : T) h g. Grows from some store middle h g × TellsNames (accepted_in store) some h g) a b n m x fits p) q
+    (λ (_ : T) h g. CarriesNames from some store middle h g × TellsNames accepted some h g) a b n m x fits p) q
 
 -- one archive more of those that were chosen
 pub reports_more : (from other : Origin) (names : List (List ℕ)) (place : ℕ) (name d : List ℕ) (store middle now : Store) (a b c : Option Told)
@@ -562,9 +678,9 @@ pub reports_front : {T U : Type 0} (from : Origin) (names : List (List ℕ)) (pl
     (fault : CarryFault) → Reports {T = T} from (take place names) store now a b n m (Err fault) → Reports {T = U} from names store now a b n m (Err fault)
 reports_front {T} {U} from names place store now a b n m fault p =
     let some = take place names in
-    let last = λ (l : List (List ℕ)) (_ : U) (h : History) (g : History). Grows from l store now h g × TellsNames (accepted_in store) l h g in
+    let last = λ (l : List (List ℕ)) (_ : U) (h : History) (g : History). CarriesNames from l store now h g × TellsNames (accepted_in store) l h g in
     subst (λ (l : List (List ℕ)). Works {T = U} (KeepsReported from l store) (last l) a b n m (Err fault)) (take-append-drop place names)
-    (works_front (KeepsReported from some store) (λ (_ : T) h g. Grows from some store now h g × TellsNames (accepted_in store) some h g)
+    (works_front (KeepsReported from some store) (λ (_ : T) h g. CarriesNames from some store now h g × TellsNames (accepted_in store) some h g)
     (KeepsReported from (some ++ drop place names) store) (last (some ++ drop place names)) a b n m fault
     (λ h g e. reported_wider from some (drop place names) store h g e) p)
 
@@ -572,7 +688,7 @@ reports_front {T} {U} from names place store now a b n m fault p =
 pub reports_all : {T U : Type 0} (from : Origin) (names : List (List ℕ)) (place : ℕ) (store now : Store) (a b : Option Told) (n m : ℕ) (x : T) (y : U)
     → length names ≤ place → Reports {T = T} from (take place names) store now a b n m (Ok x) → Reports {T = U} from names store now a b n m (Ok y)
 reports_all {T} {U} from names place store now a b n m x y le p =
-    works_as (KeepsReported from names store) (λ (_ : T) h g. Grows from names store now h g × TellsNames (accepted_in store) names h g)
-    (KeepsReported from names store) (λ (_ : U) h g. Grows from names store now h g × TellsNames (accepted_in store) names h g) a b n m x y
+    works_as (KeepsReported from names store) (λ (_ : T) h g. CarriesNames from names store now h g × TellsNames (accepted_in store) names h g)
+    (KeepsReported from names store) (λ (_ : U) h g. CarriesNames from names store now h g × TellsNames (accepted_in store) names h g) a b n m x y
     (λ h g e. e) (λ h g e. e)
     (subst (λ (l : List (List ℕ)). Reports {T = T} from l store now a b n m (Ok x)) (take_all place names le) p)

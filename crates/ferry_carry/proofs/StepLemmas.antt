@@ -38,6 +38,15 @@ copies_first told later source after block keys (Some chunks) (Some copied) more
       ),
     )
 
+-- the checkpoint of what an item was taken of, and of its stream once its content is copied
+pub most_taken : (copy next : Copy) → next ≡ record copy { walk = next.walk } → next.contents.checkpoint ≡ copy.contents.checkpoint
+most_taken copy next walked = ap (λ (c : Copy). c.contents.checkpoint) walked
+
+pub most_added : (copy next middle : Copy) → next ≡ record copy { walk = next.walk } → middle ≡ record next { contents = middle.contents }
+    → copy.stream.checkpoint ≡ copy.contents.checkpoint → middle.stream.checkpoint ≡ copy.contents.checkpoint
+most_added copy next middle walked added same =
+    ap (λ (c : Copy). c.stream.checkpoint) added ∙ (ap (λ (c : Copy). c.stream.checkpoint) walked ∙ same)
+
 pub step_copies : (told later : Option Told) (source after : RepoState) (keys keys_now : Keys) (copy next middle now : Copy) (item : ItemText)
     (copied : Option (List ChunkRef)) (contents spelled : List (List ℕ)) → heard later ≡ heard told → after ≡ source → keys_now ≡ keys
     → next ≡ record copy { walk = next.walk } → middle ≡ record next { contents = middle.contents } → now ≡ record middle { stream = now.stream }

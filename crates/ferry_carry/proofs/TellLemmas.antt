@@ -12,8 +12,6 @@ use Rattle.ferry_disk.specs.Image.{plain_in}
 use Rattle.ferry_disk.specs.declared.name.Name.TheVariants.{Config as ConfigFile, Readme}
 use Rattle.ferry_disk.specs.declared.shelf.StoreFault.{StoreFault}
 use Rattle.ferry_disk.specs.declared.shelf.StoreFault.TheVariants as Shelf
-use Rattle.ferry_manifest.specs.Manifest.Text.{ManifestText}
-use Rattle.ferry_repo.specs.Archives.{archive_named}
 use Rattle.ferry_repo.specs.Opening.{FitsRepo, cached_in, repo_view}
 use Rattle.ferry_stops.specs.Blobs.{BlobOf}
 use Rattle.ferry_store.proofs.SoundLemmas.{counter_kept}
@@ -29,10 +27,10 @@ use Rattle.ferry_write.proofs.PlainLemmas.{plain_next}
 use Rattle.ferry_write.specs.Script.{AllDone}
 use Rattle.ferry_write.specs.Session.{KeepsPlain, rests_at}
 use Rattle.ferry_carry.proofs.GatherLemmas.{moved_here}
+use Rattle.ferry_carry.proofs.PutsLemmas.{adds_here, goes_same}
 use Rattle.ferry_carry.proofs.WorkLemmas.{works_known, works_nothing}
 use Rattle.ferry_carry.specs.Chosen.{TellsLine}
 use Rattle.ferry_carry.specs.Fault.{target_failed, target_fault}
-use Rattle.ferry_carry.specs.Flight.{IsCommitted, IsSettled}
 use Rattle.ferry_carry.specs.Gather.{Gathered, Gathers, HoldsWithin}
 use Rattle.ferry_carry.specs.Work.{Works}
 use Rattle.ferry_carry.specs.declared.fault.CarryFault.{CarryFault}
@@ -91,12 +89,14 @@ told_fits counts store line h fits =
       learnt = fits.learnt;
     }
 
-pub told_gathers : (store : Store) (line : List ℕ) (h g : History) → TellsLine line h g → Gathers store [] store h g
+pub told_gathers : (most : ℕ) (store : Store) (line : List ℕ) (h g : History) → TellsLine line h g → Gathers most store [] store h g
 unfolding told_fits
-told_gathers store line h g is counts fits =
-    subst (λ (k : History). Gathered counts store [] store h k fits) (sym is) (record {
+told_gathers most store line h g is counts fits =
+    subst (λ (k : History). Gathered most counts store [] store h k fits) (sym is) (record {
       fits_now = told_fits counts store line h fits;
       moved = moved_here (repo_view store.repo).keys fits.written;
+      puts = adds_here (repo_view store.repo).keys most (entries_of fits.written);
+      committed = goes_same (repo_view store.repo).keys most fits.written;
       brings = λ scope apart all within. (
         subst (λ (f : Files). HoldsWithin scope f (repo_view store.repo)) (sym (files_told line h)) within,
         tt,

@@ -54,6 +54,11 @@ pub among_behind : (some more : List (List ℕ)) (content : List ℕ) → IsAmon
 among_behind [] more content is = is
 among_behind (s ∷ ss) more content is = let later = among_behind ss more content is in (suc later.0, later.1)
 
+-- what stands behind a front of all is among all
+pub among_next : (all some more : List (List ℕ)) (content : List ℕ) → all ≡ some ++ content ∷ more → IsAmong all content
+among_next all some more content split =
+    subst (λ (l : List (List ℕ)). IsAmong l content) (sym split) (among_behind some (content ∷ more) content (0, refl))
+
 -- of each holds what follows from what holds of it
 pub each_to : (P Q : List ℕ → Type 0) (contents : List (List ℕ)) → ((content : List ℕ) → P content → Q content) → AllByRecursion P contents
     → AllByRecursion Q contents

@@ -22,14 +22,15 @@ use Rattle.ferry_carry.specs.Gather.{HoldsContents, HoldsWithin, IsAmong, NoColl
 
 -- ---- a source
 
--- the files of a source, where they are told, its repository, and the length of the pieces that contents are cut into
+-- the files of a source, where they are told, its repository, the length of the pieces that contents are cut into, and how many may be pending
 pub record Origin : Type 0 where
   pub files : Option Files
   pub repo : RepoState
   pub block : ℕ
+  pub most : ℕ
 
-abbrev pub origin : Option Told → RepoState → ℕ → Origin
-origin told repo block = record { files = option_map (λ (t : Told). told_files t) told; repo = repo; block = block }
+abbrev pub origin : Option Told → RepoState → ℕ → ℕ → Origin
+origin told repo block most = record { files = option_map (λ (t : Told). told_files t) told; repo = repo; block = block; most = most }
 
 -- The archive of a name is whole in files, by the log, the secrets and the manifest of their repository, and says this.
 abbrev pub SaysIn : Files → RepoState → List ℕ → WholeArchive → Type 0

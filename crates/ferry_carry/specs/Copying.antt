@@ -18,9 +18,10 @@ use Rattle.std.specs.List.{concat}
 use Rattle.ferry_carry.specs.Copied.{stream_block}
 use Rattle.ferry_carry.specs.Gather.{chunks_of}
 use Rattle.ferry_carry.specs.Piece.{WritesOn}
+use Rattle.ferry_carry.specs.Puts.{IsCheckpoint}
 use Rattle.ferry_carry.specs.declared.copy.Copy.{Copy}
 
--- No content is under way, and the block size and the record are those of an archive that can be written.
+-- No content is under way, and the block size, the checkpoint and the record are those of an archive that can be written.
 pub record IsReady (copy : Copy) : Type 0 where
   pub least : 64 ≤ copy.block
   pub most : copy.block ≤ 8388608
@@ -29,6 +30,8 @@ pub record IsReady (copy : Copy) : Type 0 where
   pub contents_chunks : copy.contents.chunks.items ≡ []
   pub stream_block_is : copy.stream.cutter.block ≡ stream_block
   pub stream_room : length copy.stream.cutter.piece < copy.stream.cutter.block
+  pub checkpoint : IsCheckpoint copy.contents.checkpoint
+  pub same : copy.stream.checkpoint ≡ copy.contents.checkpoint
   pub packable : IsPackableArchive (archive_view copy.archive)
 
 -- An item of the source's stream was taken.

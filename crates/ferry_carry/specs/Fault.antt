@@ -1,5 +1,5 @@
 -- The faults of copying: those of the source, of the target, and its own.
-use Rattle.std.specs.Prelude.{ℕ, Bool, false}
+use Rattle.std.specs.Prelude.{◌≡◌, ◌≢◌, ℕ, Bool, false}
 use Rattle.ferry_carry.specs.declared.fault.CarryFault.{CarryFault}
 use Rattle.ferry_carry.specs.declared.fault.CarryFault.TheVariants.{Source, Target, Taken, NotFound, Pieces, Memory, Record}
 use Rattle.ferry_compare.specs.declared.fault.CompareFault.{CompareFault}
@@ -51,3 +51,10 @@ target_failed fault = false
 abbrev pub random_failed : CarryFault → Bool
 random_failed (Target refusal) = entropy_failed refusal
 random_failed fault = false
+
+-- A refusal is of what was asked for, or a limit: no device failed, and memory wasn't refused.
+pub record IsOfWork (fault : CarryFault) : Type 0 where
+  pub shelf : shelf_failed fault ≡ false
+  pub target : target_failed fault ≡ false
+  pub random : random_failed fault ≡ false
+  pub memory : fault ≢ Memory

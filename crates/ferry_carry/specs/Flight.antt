@@ -1,7 +1,8 @@
 -- An archive on its way, by what was begun of it.
-use Rattle.std.specs.Prelude.{◌≡◌, ◌≤◌, ℕ, List, [], ◌∷◌, Option, Some, None, Result, IfSome, IsSome}
+use Rattle.std.specs.Prelude.{◌≡◌, ◌≤◌, ℕ, Bool, true, false, List, [], ◌∷◌, ◌++◌, Option, Some, None, Result, IfSome, IsSome}
 use Rattle.ferry_compare.specs.Compare.{FitsTold, comparison_view}
 use Rattle.ferry_disk.specs.Device.{Told, told_files}
+use Rattle.ferry_mac.specs.declared.keys.Keys.{Keys}
 use Rattle.ferry_manifest.specs.Manifest.Text.{ManifestText}
 use Rattle.ferry_manifest.specs.declared.manifest.ArchiveRef.{ArchiveRef}
 use Rattle.ferry_repo.specs.Archives.{archive_named}
@@ -13,7 +14,9 @@ use Rattle.ferry_store.specs.declared.store.Store.{Store}
 use Rattle.ferry_carry.specs.Carrying.{IsReadyToName, Origin, SaysIn, origin}
 use Rattle.ferry_carry.specs.Copying.{IsReady}
 use Rattle.ferry_carry.specs.Grow.{Grows, GrowsBy, IsNamedBy, KeepsGrowing, KeepsGrowingBy, KeepsNames}
+use Rattle.ferry_carry.specs.Listing.{ListsOne}
 use Rattle.ferry_carry.specs.Progress.{IsCopiedSoFar}
+use Rattle.ferry_carry.specs.Puts.{Addition, IsCheckpoint, pieces}
 use Rattle.ferry_carry.specs.Work.{Works}
 use Rattle.ferry_carry.specs.declared.fault.CarryFault.{CarryFault}
 use Rattle.ferry_carry.specs.declared.flight.Flight.{Flight}
@@ -23,32 +26,35 @@ use Rattle.ferry_carry.specs.declared.flight.Work.{Work}
 use Rattle.ferry_carry.specs.declared.flight.Work.TheVariants.{Waiting, Copying, Comparing}
 use Rattle.ferry_carry.specs.declared.options.Options.{Options}
 
--- The block size is in its range.
+-- The block size and the checkpoint are in their ranges.
 pub record AreRight (options : Options) : Type 0 where
   pub least : 64 ≤ options.block
   pub most : options.block ≤ 8388608
+  pub checkpoint : IsCheckpoint options.checkpoint
 
 -- A flight is that of an archive of the source, and its options are right.
 pub record FlightStands (source : RepoState) (flight : Flight) : Type 0 where
   pub options : AreRight flight.options
   pub named : archive_named flight.named.name source.manifest.archives ≡ Some flight.named
 
--- What is under way fits the source and the store.
-abbrev pub WorkFits : Option Told → RepoState → Option Told → Store → ArchiveRef → ℕ → Work → Type 0
-WorkFits told source heard store named block Waiting = Unit {0}
-WorkFits told source heard store named block (Copying copy) = IsReady copy × (archive_named named.name (accepted_in store).archives ≡ None)
+-- What is under way fits the source and the store, with these pieces added of it.
+abbrev pub WorkFits : Option Told → RepoState → Option Told → Store → ArchiveRef → Options → List (List ℕ) → Work → Type 0
+WorkFits told source heard store named options added Waiting = added ≡ []
+WorkFits told source heard store named options added (Copying copy) = IsReady copy × (archive_named named.name (accepted_in store).archives ≡ None)
     × IfSome told (λ t. FitsWalk (told_files t) source.log source.keys (walk_view copy.walk))
-    × IsCopiedSoFar (origin told source block) named heard store copy
-WorkFits told source heard store named block (Comparing comparison) = FitsTold told source heard (repo_view store.repo) (comparison_view comparison)
-    × ((comparison_view comparison).name ≡ named.name) × IsSome (archive_named named.name (repo_view store.repo).manifest.archives)
+    × IsCopiedSoFar (origin told source options.block options.checkpoint) named heard store copy added
+WorkFits told source heard store named options added (Comparing comparison) =
+    FitsTold told source heard (repo_view store.repo) (comparison_view comparison) × ((comparison_view comparison).name ≡ named.name)
+    × IsSome (archive_named named.name (repo_view store.repo).manifest.archives) × (added ≡ [])
 
 pub record FlightFits (told : Option Told) (source : RepoState) (heard : Option Told) (store : Store) (flight : Flight) : Type 0 where
   pub stands : FlightStands source flight
-  pub work : WorkFits told source heard store flight.named flight.options.block flight.work
+  pub added : List (List ℕ)
+  pub work : WorkFits told source heard store flight.named flight.options added flight.work
 
 -- the source of a flight
 abbrev pub flown_from : Option Told → RepoState → Flight → Origin
-flown_from told source flight = origin told source flight.options.block
+flown_from told source flight = origin told source flight.options.block flight.options.checkpoint
 
 -- which names were carried by a turn
 abbrev pub carried_by : Turn → List ℕ → List (List ℕ)
@@ -56,15 +62,30 @@ carried_by More name = []
 carried_by Named name = name ∷ []
 carried_by Present name = name ∷ []
 
--- What a turn of a flight did of the archive of a name.
-abbrev pub Flies : Origin → List ℕ → Store → Store → Option Told → Option Told → ℕ → ℕ → Result Turn CarryFault → Type 0
-Flies from name store store_now before now count after result =
-    Works (KeepsGrowing from (name ∷ []) store) (λ turn. Grows from (carried_by turn name) store store_now) before now count after result
+-- What a turn of a flight did of the archive of a name, and what it added.
+abbrev pub Flies : Origin → List ℕ → List Addition → Store → Store → Option Told → Option Told → ℕ → ℕ → Result Turn CarryFault → Type 0
+Flies from name more store store_now before now count after result =
+    Works (KeepsGrowing from (name ∷ []) store) (λ turn. Grows from (carried_by turn name) more store store_now) before now count after result
 
--- What was done of the archives of names, one after another.
-abbrev pub Carries : {T : Type 0} → Origin → List (List ℕ) → Store → Store → Option Told → Option Told → ℕ → ℕ → Result T CarryFault → Type 0
-Carries from chosen store store_now before now count after result =
-    Works (KeepsGrowing from chosen store) (λ _. Grows from chosen store store_now) before now count after result
+-- What was done of the archives of names, one after another, and what was added for them.
+abbrev pub Carries : {T : Type 0} → Origin → List (List ℕ) → List Addition → Store → Store → Option Told → Option Told → ℕ → ℕ
+    → Result T CarryFault → Type 0
+Carries from chosen added store store_now before now count after result =
+    Works (KeepsGrowing from chosen store) (λ _. Grows from chosen added store store_now) before now count after result
+
+-- What was added for an archive once it is done: all of it where it was copied and the target told its files, and nothing where it was there.
+abbrev pub ListsDone : Option Told → Origin → Keys → List ℕ → List Addition → Bool → Type 0
+ListsDone before from keys name added true = IfSome before (λ _. ListsOne from keys name added)
+ListsDone before from keys name added false = added ≡ []
+
+-- What a turn added behind what was added before: pieces of the archive under way, the last of them and its record, or nothing.
+abbrev pub TurnLists : Option Told → RepoState → Option Told → Store → Flight → Option Told → Origin → Keys → List (List ℕ) → List Addition → Turn → Type 0
+TurnLists told source heard store flight before from keys added more More =
+    (fits : FlightFits told source heard store flight) × (pieces fits.added ≡ pieces added ++ more)
+TurnLists told source heard store flight before from keys added more Named =
+    ListsDone before from keys flight.named.name (pieces added ++ more) true
+TurnLists told source heard store flight before from keys added more Present =
+    ListsDone before from keys flight.named.name (pieces added ++ more) false
 
 -- The archive of a name is whole in the source and in the target, and says the same in both, where they tell their files.
 abbrev pub IsSame : Origin → Option Told → RepoState → List ℕ → Type 0
@@ -81,7 +102,7 @@ pub record AcceptsOne (accepted : ManifestText) (store : Store) (entry : Archive
 abbrev pub NamesArchive : ManifestText → ArchiveRef → Store → Store → Option Told → Option Told → ℕ → ℕ → Result (Unit {0}) CarryFault → Type 0
 NamesArchive accepted entry store store_now before now count after result = (from : Origin)
     → IfSome before (λ t. IsReadyToName from (told_files t) (repo_view store.repo) entry)
-    → Works (KeepsGrowingBy accepted from (entry.name ∷ []) store) (λ _. GrowsBy accepted from (entry.name ∷ []) store store_now)
+    → Works (KeepsGrowingBy accepted from (entry.name ∷ []) store) (λ _. GrowsBy accepted from (entry.name ∷ []) [] store store_now)
     before now count after result
 
 -- Where a store accepted an archive of this name, it has committed it.

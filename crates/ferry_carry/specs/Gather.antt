@@ -18,6 +18,7 @@ use Rattle.ferry_store.specs.Standing.{Keeps, committed_of, entries_of, live_in}
 use Rattle.ferry_store.specs.State.{IsSound, Written}
 use Rattle.ferry_store.specs.Store.{StoreFits}
 use Rattle.ferry_store.specs.declared.store.Store.{Store}
+use Rattle.ferry_carry.specs.Puts.{Addition, AddsAll, GoesOn, contents_in}
 
 -- ---- contents
 
@@ -67,34 +68,38 @@ pub record Moved (keys : Keys) (written written_now : Written) : Type 0 where
   pub config : written_now.config ≡ written.config
 
 -- Committed are entries by which all is live that was, and what is new opens, with the settings as they were: the manifest too is the one that was.
-pub record StandsFrom (keys : Keys) (written : Written) (image : Files) : Type 0 where
+-- They are those that were, or go on from what was written.
+pub record StandsFrom (keys : Keys) (most : ℕ) (written : Written) (image : Files) : Type 0 where
   pub entries : List LogEntry
   pub shown : Shows image (Some entries)
   pub keeps : Keeps (committed_of written) entries
   pub opening : BringsOpening keys (entries_of written) entries
+  pub puts : GoesOn keys most written entries
   pub config : image.config ≡ written.config
 
 -- At each moment each stop shows so, and no counter block serves two blobs.
-abbrev pub EachStands : Store → History → History → Type 0
-EachStands store before now = (counts : Bool) (fits : StoreFits counts store before)
-    → Moments (IsSound (StandsFrom (repo_view store.repo).keys fits.written) counts) before now
+abbrev pub EachStands : ℕ → Store → History → History → Type 0
+EachStands most store before now = (counts : Bool) (fits : StoreFits counts store before)
+    → Moments (IsSound (StandsFrom (repo_view store.repo).keys most fits.written) counts) before now
 
 -- The same where no line was told.
-abbrev pub KeepsStanding : Store → History → History → Type 0
-KeepsStanding store before now = TellsNothing before now × EachStands store before now
+abbrev pub KeepsStanding : ℕ → Store → History → History → Type 0
+KeepsStanding most store before now = TellsNothing before now × EachStands most store before now
 
 -- ---- what was added
 
--- A store fits with these contents added.
-pub record Gathered (counts : Bool) (store : Store) (contents : List (List ℕ)) (store_now : Store) (before now : History)
+-- A store fits with these added, of which no more than `most` are pending.
+pub record Gathered (most : ℕ) (counts : Bool) (store : Store) (added : List Addition) (store_now : Store) (before now : History)
     (fits : StoreFits counts store before) : Type 0 where
   pub fits_now : StoreFits counts store_now now
   pub moved : Moved (repo_view store.repo).keys fits.written fits_now.written
-  pub brings : Brings (repo_view store.repo) contents (repo_view store_now.repo) before now
+  pub puts : AddsAll (repo_view store.repo).keys most (entries_of fits.written) added (entries_of fits_now.written)
+  pub committed : GoesOn (repo_view store.repo).keys most fits.written (committed_of fits_now.written)
+  pub brings : Brings (repo_view store.repo) (contents_in added) (repo_view store_now.repo) before now
 
-abbrev pub Gathers : Store → List (List ℕ) → Store → History → History → Type 0
-Gathers store contents store_now before now = (counts : Bool) (fits : StoreFits counts store before)
-    → Gathered counts store contents store_now before now fits
+abbrev pub Gathers : ℕ → Store → List Addition → Store → History → History → Type 0
+Gathers most store added store_now before now = (counts : Bool) (fits : StoreFits counts store before)
+    → Gathered most counts store added store_now before now fits
 
 -- Its repository has the settings, the secrets and the manifest that it had, and what was accepted is the same.
 pub record KeepsRest (store store_now : Store) : Type 0 where

@@ -1,3 +1,4 @@
+pub mod Puts
 pub mod Gather
 pub mod Fault
 pub mod Work
@@ -14,4 +15,6 @@ pub mod Step
 pub mod Carrying
 pub mod Progress
 pub mod Telling
+pub mod Listing
+pub mod Accepting
 pub mod Refusals

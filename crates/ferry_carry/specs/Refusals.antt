@@ -1,5 +1,6 @@
 -- Why archives aren't carried: what a refusal says of the source's archive, of the target's archive of the same name, and of what would be written.
-use Rattle.std.specs.Prelude.{◌≡◌, ◌<◌, ◌*◌, ℕ, Bool, true, false, List, [], ◌∷◌, ◌++◌, length, map, sum_by, slice_get, Option, Some, None, IfSome, IsSome}
+use Rattle.std.specs.Prelude.{◌≡◌, ◌≢◌, ◌⊎◌, ◌<◌, ◌*◌, ℕ, Bool, true, false, List, [], ◌∷◌, ◌++◌, length, map, sum_by, slice_get, Option, Some, None}
+use Rattle.std.specs.Prelude.{IfSome, IsSome}
 use Rattle.ferry_base.specs.Limits.{content_limit}
 use Rattle.ferry_blob.specs.Blob.{content_id}
 use Rattle.ferry_disk.specs.Device.{Told, told_files}
@@ -7,9 +8,12 @@ use Rattle.ferry_disk.specs.Files.{Files}
 use Rattle.ferry_item.specs.Item.{ItemText}
 use Rattle.ferry_item.specs.declared.item.ChunkRef.{ChunkRef}
 use Rattle.ferry_mac.specs.declared.keys.Keys.{Keys}
+use Rattle.ferry_manifest.specs.Manifest.Text.{ManifestText}
+use Rattle.ferry_manifest.specs.Manifest.Writing.{manifest_text}
 use Rattle.ferry_manifest.specs.Record.Text.{ArchiveText}
 use Rattle.ferry_manifest.specs.Record.Writing.{archive_text}
 use Rattle.ferry_manifest.specs.declared.manifest.ArchiveRef.{ArchiveRef}
+use Rattle.ferry_next.specs.Next.{next_manifest, written_at}
 use Rattle.ferry_repo.specs.Archives.{HoldsRecord, IsNoRecord, RefusesContent, RefusesRecord, archive_named}
 use Rattle.ferry_repo.specs.Fault.{IsOfFiles}
 use Rattle.ferry_repo.specs.Opening.{RepoState, repo_view}
@@ -17,14 +21,18 @@ use Rattle.ferry_repo.specs.Walk.{Comes, IsToCome, WalkState}
 use Rattle.ferry_repo.specs.Whole.{RefusesJoined, RefusesWhole, WholeArchive, WholeItem, WholesCome}
 use Rattle.ferry_repo.specs.declared.fault.RepoFault.{RepoFault}
 use Rattle.ferry_store.specs.Causes.{StopsAt}
+use Rattle.ferry_store.specs.Commit.{accepted_in}
 use Rattle.ferry_store.specs.Store.{StoreFits}
+use Rattle.ferry_store.specs.declared.fault.StoreRefusal.TheVariants.{TooLarge, Write}
 use Rattle.ferry_store.specs.declared.store.Store.{Store}
+use Rattle.ferry_write.specs.declared.fault.WriteFault.TheVariants as Writes
 use Rattle.ferry_carry.specs.Carrying.{Origin, SaysIn}
 use Rattle.ferry_carry.specs.Chosen.{IsMissingName}
 use Rattle.ferry_carry.specs.Copied.{stream_pieces}
-use Rattle.ferry_carry.specs.Gather.{IsAmong}
 use Rattle.ferry_carry.specs.Grow.{KeepsMost}
-use Rattle.ferry_carry.specs.Naming.{copied_archive}
+use Rattle.ferry_carry.specs.Naming.{copied_archive, entry_for}
+use Rattle.ferry_carry.specs.Telling.{TellsNames}
+use Rattle.ferry_carry.specs.Time.{time_for}
 use Rattle.ferry_carry.specs.declared.fault.CarryFault.{CarryFault}
 use Rattle.ferry_carry.specs.declared.fault.CarryFault.TheVariants.{Source, Target, Taken, NotFound, Pieces, Memory, Record}
 
@@ -36,10 +44,21 @@ is_target (Target refusal) = true
 is_target Memory = true
 is_target fault = false
 
+-- whether a fault can be that of a line that isn't told
+abbrev pub is_of_telling : CarryFault → Bool
+is_of_telling (Target (Write Writes.Device)) = true
+is_of_telling Memory = true
+is_of_telling fault = false
+
 -- What a refusal of the target says of its files as they are then.
 abbrev pub StopsTarget : Option Told → Keys → CarryFault → Type 0
 StopsTarget now keys (Target refusal) = IfSome now (λ t. StopsAt (told_files t) keys refusal)
 StopsTarget now keys fault = Unit {0}
+
+-- The same of a body that puts no manifest, so that none is too large.
+abbrev pub StopsPieces : Option Told → Keys → CarryFault → Type 0
+StopsPieces now keys (Target refusal) = IfSome now (λ t. (refusal ≢ TooLarge) × StopsAt (told_files t) keys refusal)
+StopsPieces now keys fault = Unit {0}
 
 -- ---- the contents of an item
 
@@ -149,6 +168,33 @@ abbrev pub RefusesEnd : Origin → Option Told → Keys → List ℕ → CarryFa
 RefusesEnd from heard keys name Record = WhereTold from heard (λ there. HasLargeRecord there from keys name)
 RefusesEnd from heard keys name fault = is_target fault ≡ true
 
+-- ---- the manifest of a target
+
+-- the manifest with an archive of the source, whose record has this id, written at the time that is given, or else at the later of both manifests' times
+abbrev pub named_next : Option (List ℕ) → RepoState → Store → ArchiveRef → List ℕ → ManifestText
+named_next given source store named id =
+    written_at (next_manifest (accepted_in store) (entry_for named id) source.manifest.item_keys)
+    (time_for given source.manifest.timestamp (repo_view store.repo).manifest.timestamp)
+
+-- Why a manifest isn't committed: where it is too large, with some salt of 64 bytes it is larger than the content of an object may be.
+abbrev pub LimitsManifest : Keys → ManifestText → CarryFault → Type 0
+LimitsManifest keys manifest fault = fault ≡ Target TooLarge
+    → (salt : List ℕ) × ((length salt ≡ 64) × (content_limit < length (manifest_text keys salt manifest)))
+
+-- With an archive of the source that wasn't accepted, whose record has some text, and some salt of 64 bytes the manifest is larger than the content of an
+-- object may be.
+pub record HasLargeManifest (given : Option (List ℕ)) (source : RepoState) (store : Store) (named : ArchiveRef) : Type 0 where
+  pub lacks : archive_named named.name (accepted_in store).archives ≡ None
+  pub text : List ℕ
+  pub salt : List ℕ
+  pub salt_size : length salt ≡ 64
+  pub large : content_limit < length (manifest_text (repo_view store.repo).keys salt
+      (named_next given source store named (content_id (repo_view store.repo).keys text)))
+
+-- Where the target tells its acts, a manifest is too large only with this archive.
+abbrev pub IsLimited : Option Told → Option (List ℕ) → RepoState → Store → ArchiveRef → CarryFault → Type 0
+IsLimited now given source store named fault = IfSome now (λ _. fault ≡ Target TooLarge → HasLargeManifest given source store named)
+
 -- ---- the archive of the same name in a target
 
 -- The archive of a name is whole in the source, and the target's isn't, or says something else.
@@ -190,12 +236,20 @@ RefusesName from heard store now store_now name Pieces = LacksName store name ×
 RefusesName from heard store now store_now name Memory = Unit {0}
 RefusesName from heard store now store_now name Record = LacksName store name × RefusesEnd from heard (repo_view store.repo).keys name Record
 
--- The archive of one of these names isn't carried, so.
+-- Behind a front of these names, which were told, and nothing else, the archive of the next isn't carried, so.
+pub record RefusesBehind (from : Origin) (heard : Option Told) (store : Store) (now : Option Told) (store_now : Store) (names : List (List ℕ))
+    (fault : CarryFault) : Type 0 where
+  pub done : List (List ℕ)
+  pub name : List ℕ
+  pub rest : List (List ℕ)
+  pub split : names ≡ done ++ name ∷ rest
+  pub told : IfSome heard (λ b. IfSome now (λ t. TellsNames (accepted_in store) done b.history t.history))
+  pub refused : RefusesName from heard store now store_now name fault
+
+-- The archive of one of these names isn't carried, so; or a line isn't told.
 abbrev pub RefusesOne : Origin → Option Told → Store → Option Told → Store → List (List ℕ) → CarryFault → Type 0
-RefusesOne from heard store now store_now names (Target refusal) = StopsTarget now (repo_view store.repo).keys (Target refusal)
-RefusesOne from heard store now store_now names Memory = Unit {0}
-RefusesOne from heard store now store_now names fault =
-    (name : List ℕ) × (IsAmong names name × RefusesName from heard store now store_now name fault)
+RefusesOne from heard store now store_now names fault = RefusesBehind from heard store now store_now names fault
+    ⊎ ((is_of_telling fault ≡ true) × StopsTarget now (repo_view store.repo).keys fault)
 
 -- Why archives of names aren't carried: that of one of them isn't; or the source lacks one, and this is the first.
 abbrev pub RefusesNames : Origin → Option Told → Store → Option Told → Store → List (List ℕ) → CarryFault → Type 0

@@ -1,11 +1,10 @@
 -- What a transfer tells while archives come: a name is told only once each stop shows it carried.
-use Rattle.std.specs.Prelude.{◌≡◌, ◌⊎◌, ◌++◌, ℕ, Bool, true, false, List, [], ◌∷◌, Option, IsSome, Result}
+use Rattle.std.specs.Prelude.{◌≡◌, ◌++◌, ℕ, Bool, true, false, List, [], ◌∷◌, Option, Result}
 use Rattle.ferry_disk.specs.Act.{History}
 use Rattle.ferry_disk.specs.Device.{Told}
 use Rattle.ferry_disk.specs.Files.{Files}
-use Rattle.ferry_disk.specs.Moments.{Moments}
+use Rattle.ferry_disk.specs.Moments.{Between, Moments}
 use Rattle.ferry_manifest.specs.Manifest.Text.{ManifestText}
-use Rattle.ferry_repo.specs.Archives.{archive_named}
 use Rattle.ferry_repo.specs.Opening.{RepoState, repo_view}
 use Rattle.ferry_stops.specs.Tells.{lines_of}
 use Rattle.ferry_store.specs.Commit.{accepted_in}
@@ -13,18 +12,15 @@ use Rattle.ferry_store.specs.State.{IsSound, Written}
 use Rattle.ferry_store.specs.Store.{StoreFits}
 use Rattle.ferry_store.specs.declared.store.Store.{Store}
 use Rattle.ferry_carry.specs.Carrying.{Origin}
-use Rattle.ferry_carry.specs.Gather.{IsAmong}
 use Rattle.ferry_carry.specs.Grow.{Grows, StandsOn}
+use Rattle.ferry_carry.specs.Listing.{IsThere, ListsNames}
+use Rattle.ferry_carry.specs.Puts.{Addition}
 use Rattle.ferry_carry.specs.Lines.{name_line, told_of, total_line}
 use Rattle.ferry_carry.specs.Work.{Works}
 use Rattle.ferry_carry.specs.declared.fault.CarryFault.{CarryFault}
 use Rattle.ferry_carry.specs.declared.options.Carried.{Carried}
 
 -- ---- lines
-
--- An accepted manifest, or these names, have a name.
-abbrev pub IsThere : ManifestText → List (List ℕ) → List ℕ → Type 0
-IsThere accepted before name = IsSome (archive_named name accepted.archives) ⊎ IsAmong before name
 
 -- What is told of a name behind these: that its archive was copied where neither the accepted manifest nor these have it, and else that it was there.
 abbrev pub TellsNew : ManifestText → List (List ℕ) → List ℕ → Bool → Type 0
@@ -89,14 +85,28 @@ abbrev pub TellsWhole : ManifestText → List (List ℕ) → History → History
 TellsWhole accepted names before now = (lines : List (List ℕ)) × ((carried : Carried)
     × ((lines_of now.acts ≡ lines_of before.acts ++ (lines ++ total_line carried ∷ [])) × AreLines accepted [] lines names))
 
+-- These names were carried, and what was added is all that is added for them.
+abbrev pub CarriesNames : Origin → List (List ℕ) → Store → Store → History → History → Type 0
+CarriesNames from chosen store store_now before now = (added : List Addition) × (Grows from chosen added store store_now before now
+    × ListsNames from (repo_view store.repo).keys (accepted_in store) [] chosen added)
+
 -- What was done of the archives of names, one after another, each of which was told behind it.
 abbrev pub Reports : {T : Type 0} → Origin → List (List ℕ) → Store → Store → Option Told → Option Told → ℕ → ℕ → Result T CarryFault → Type 0
 Reports from chosen store store_now before now count after result =
-    Works (KeepsReported from chosen store) (λ _ h g. Grows from chosen store store_now h g × TellsNames (accepted_in store) chosen h g)
+    Works (KeepsReported from chosen store) (λ _ h g. CarriesNames from chosen store store_now h g × TellsNames (accepted_in store) chosen h g)
     before now count after result
 
 -- The same, and behind them the whole was told.
 abbrev pub ReportsWhole : {T : Type 0} → Origin → List (List ℕ) → Store → Store → Option Told → Option Told → ℕ → ℕ → Result T CarryFault → Type 0
 ReportsWhole from chosen store store_now before now count after result =
-    Works (KeepsReported from chosen store) (λ _ h g. Grows from chosen store store_now h g × TellsWhole (accepted_in store) chosen h g)
+    Works (KeepsReported from chosen store) (λ _ h g. CarriesNames from chosen store store_now h g × TellsWhole (accepted_in store) chosen h g)
     before now count after result
+
+-- ---- where it is refused
+
+-- Of these names those of a front were carried and told, and no other came.
+pub record StopsBehind (from : Origin) (names : List (List ℕ)) (store : Store) (before now : Option Told) : Type 0 where
+  pub done : List (List ℕ)
+  pub rest : List (List ℕ)
+  pub split : names ≡ done ++ rest
+  pub each : Between before now (λ h g. KeepsReported from done store h g × TellsNames (accepted_in store) done h g)

@@ -1,22 +1,27 @@
 //! The chosen archives, one after another.
-ghost use Rattle.std.specs.Prelude.{◌≡◌, ◌⊎◌, ℕ, List, [], ◌∷◌, None, Some, Err, true, false, slice_get, IfErr, IfOk, IfSome, IsSome, OnOk};
+ghost use Rattle.std.specs.Prelude.{◌≡◌, ◌≤◌, ◌⊎◌, ◌++◌, ℕ, List, [], ◌∷◌, None, Some, Err, true, false, slice_get, IfErr, IfOk, IfSome, IsSome, OnOk};
+ghost use Rattle.ferry_carry.specs.Accepting.{AreNextOf, HasLargeNext, IsNextOf, LimitsNames};
 ghost use Rattle.ferry_carry.specs.Chosen.{IsMissingName, TellsLine};
-ghost use Rattle.ferry_carry.specs.Fault.{random_failed, shelf_failed};
+ghost use Rattle.ferry_carry.specs.Fault.{IsOfWork, random_failed, shelf_failed};
 ghost use Rattle.ferry_carry.specs.Carrying.{origin};
-ghost use Rattle.ferry_carry.specs.Flight.{AreRight, Carries, FlightFits, IsSettled, flown_from};
-ghost use Rattle.ferry_carry.specs.Grow.{KeepsMost};
+ghost use Rattle.ferry_carry.specs.Flight.{AreRight, Carries, FlightFits, IsSettled, ListsDone, flown_from};
+ghost use Rattle.ferry_carry.specs.Grow.{KeepsGrowing, KeepsMost};
 ghost use Rattle.ferry_carry.specs.Lines.{name_line, told_of};
-ghost use Rattle.ferry_carry.specs.Refusals.{RefusesName, RefusesNames, RefusesOne, StopsTarget, is_target};
-ghost use Rattle.ferry_carry.specs.Telling.{Reports, ReportsWhole, TellsNew};
+ghost use Rattle.ferry_carry.specs.Puts.{Addition, pieces};
+ghost use Rattle.ferry_carry.specs.Refusals.{RefusesName, RefusesNames, RefusesOne, StopsTarget, is_target, is_of_telling};
+ghost use Rattle.ferry_carry.specs.Telling.{Reports, ReportsWhole, StopsBehind, TellsNew, TellsNames};
 ghost use Rattle.ferry_carry.specs.Work.{Works};
 ghost use Rattle.ferry_disk.specs.Act.{TellOf};
 ghost use Rattle.ferry_disk.specs.Device.{HasCause, KeepsTold, told_files};
+ghost use Rattle.ferry_disk.specs.Moments.{Between};
 ghost use Rattle.ferry_manifest.specs.Manifest.Writing.{IsPackable};
 ghost use Rattle.ferry_repo.specs.Archives.{archive_named};
 ghost use Rattle.ferry_repo.specs.Opening.{FitsRepo, cached_in, repo_view};
+ghost use Rattle.ferry_stops.specs.Tells.{TellsNothing};
 ghost use Rattle.ferry_store.specs.Commit.{accepted_in};
 ghost use Rattle.ferry_store.specs.State.{IsStep};
 ghost use Rattle.ferry_store.specs.Store.{IsUnspent, StoreFits};
+ghost use Rattle.ferry_store.specs.declared.fault.StoreRefusal.{StoreRefusal};
 
 use crate::fault::CarryFault;
 use crate::flight::{Flight, Turn};
@@ -58,15 +63,16 @@ pub fn carry<S: Shelf, D: Depot, E: Entropy>(
 ) -> Result<Carried, CarryFault>
     requires options { AreRight options.now }
     requires source_fits { IfSome (S.told shelf.old) (λ t. FitsRepo (told_files t) (repo_view source.old) (cached_in source.old)) }
+    requires pending { store.old.pending ≤ options.now.checkpoint }
     requires unspent { IsUnspent store.old }
     requires fits { IfSome (D.told depot.old) (λ t. StoreFits false store.old t.history) }
     requires packable { IsPackable (accepted_in store.old) }
     requires settled { IsSettled store.old }
-    ensures works { ReportsWhole (origin (S.told shelf.old) (repo_view source.old) options.now.block) names.now store.old store.new
+    ensures works { ReportsWhole (origin (S.told shelf.old) (repo_view source.old) options.now.block options.now.checkpoint) names.now store.old store.new
         (D.told depot.old) (D.told depot.new) (D.faults depot.old) (D.faults depot.new) result }
     ensures settled { OnOk result (IsSettled store.new) }
-    ensures refused { IfErr result (RefusesNames (origin (S.told shelf.old) (repo_view source.old) options.now.block) (D.told depot.old) store.old
-        (D.told depot.new) store.new names.now) }
+    ensures refused { IfErr result (RefusesNames (origin (S.told shelf.old) (repo_view source.old) options.now.block options.now.checkpoint)
+        (D.told depot.old) store.old (D.told depot.new) store.new names.now) }
     // Where a name is missing nothing is done.
     ensures nothing { (missing : List ℕ) → result ≡ Err (CarryFault.NotFound missing) → (source.new ≡ source.old) × (shelf.new ≡ shelf.old)
         × (store.new ≡ store.old) × (depot.new ≡ depot.old) × (entropy.new ≡ entropy.old) }
@@ -74,6 +80,14 @@ pub fn carry<S: Shelf, D: Depot, E: Entropy>(
     ensures missing { (place : ℕ) (name : List ℕ) → slice_get names.now place ≡ Some name
         → archive_named name (repo_view source.old).manifest.archives ≡ None
         → (result ≡ Err CarryFault.Memory) ⊎ ((missing : List ℕ) × (result ≡ Err (CarryFault.NotFound missing))) }
+    ensures limit { IfErr result (λ fault. fault ≡ CarryFault.Target StoreRefusal.TooLarge
+        → IfSome (D.told depot.old) (λ b. IfSome (D.told depot.new) (λ t. LimitsNames options.now.timestamp (repo_view source.old).manifest
+        (repo_view store.old.repo).keys (accepted_in store.old) names.now (λ done. TellsNames (accepted_in store.old) done b.history t.history)))) }
+    ensures ended { OnOk result (store.old.pending ≡ 0 → store.new.pending ≡ 0) }
+    // Where it is refused, but for a device that failed and want of memory, the archives came that were told, and no other.
+    ensures stands { IfErr result (λ fault. IsOfWork fault
+        → StopsBehind (origin (S.told shelf.old) (repo_view source.old) options.now.block options.now.checkpoint) names.now store.old
+        (D.told depot.old) (D.told depot.new)) }
     ensures most { OnOk result (KeepsMost store.old store.new) }
     ensures fits { OnOk result (IfSome (D.told depot.new) (λ t. StoreFits false store.new t.history)) }
     ensures source_fits { IfSome (S.told shelf.new) (λ t. FitsRepo (told_files t) (repo_view source.new) (cached_in source.new)) }
@@ -117,17 +131,28 @@ fn carry_all<S: Shelf, D: Depot, E: Entropy>(
 ) -> Result<(), CarryFault>
     requires options { AreRight options.now }
     requires source_fits { IfSome (S.told shelf.old) (λ t. FitsRepo (told_files t) (repo_view source.old) (cached_in source.old)) }
+    requires pending { store.old.pending ≤ options.now.checkpoint }
     requires unspent { IsUnspent store.old }
     requires fits { IfSome (D.told depot.old) (λ t. StoreFits false store.old t.history) }
     requires packable { IsPackable (accepted_in store.old) }
     requires settled { IsSettled store.old }
     ensures settled { OnOk result (IsSettled store.new) }
+    ensures pending { OnOk result (store.new.pending ≤ options.now.checkpoint) }
     ensures packable { OnOk result (IsPackable (accepted_in store.new)) }
     ensures unspent { OnOk result (IsUnspent store.new) }
-    ensures works { Reports (origin (S.told shelf.old) (repo_view source.old) options.now.block) names.now store.old store.new
+    ensures works { Reports (origin (S.told shelf.old) (repo_view source.old) options.now.block options.now.checkpoint) names.now store.old store.new
         (D.told depot.old) (D.told depot.new) (D.faults depot.old) (D.faults depot.new) result }
-    ensures refused { IfErr result (RefusesOne (origin (S.told shelf.old) (repo_view source.old) options.now.block) (D.told depot.old) store.old
-        (D.told depot.new) store.new names.now) }
+    ensures refused { IfErr result (RefusesOne (origin (S.told shelf.old) (repo_view source.old) options.now.block options.now.checkpoint)
+        (D.told depot.old) store.old (D.told depot.new) store.new names.now) }
+    ensures next { OnOk result (AreNextOf options.now.timestamp (repo_view source.old).manifest (repo_view store.old.repo).keys
+        (accepted_in store.old) names.now (accepted_in store.new)) }
+    ensures limit { IfErr result (λ fault. fault ≡ CarryFault.Target StoreRefusal.TooLarge
+        → IfSome (D.told depot.old) (λ b. IfSome (D.told depot.new) (λ t. LimitsNames options.now.timestamp (repo_view source.old).manifest
+        (repo_view store.old.repo).keys (accepted_in store.old) names.now (λ done. TellsNames (accepted_in store.old) done b.history t.history)))) }
+    ensures ended { OnOk result (store.old.pending ≡ 0 → store.new.pending ≡ 0) }
+    ensures stands { IfErr result (λ fault. IsOfWork fault
+        → StopsBehind (origin (S.told shelf.old) (repo_view source.old) options.now.block options.now.checkpoint) names.now store.old
+        (D.told depot.old) (D.told depot.new)) }
     ensures most { OnOk result (KeepsMost store.old store.new) }
     ensures fits { OnOk result (IfSome (D.told depot.new) (λ t. StoreFits false store.new t.history)) }
     ensures source_fits { IfSome (S.told shelf.new) (λ t. FitsRepo (told_files t) (repo_view source.new) (cached_in source.new)) }
@@ -159,17 +184,27 @@ fn carry_one<S: Shelf, D: Depot, E: Entropy>(
 ) -> Result<(), CarryFault>
     requires options { AreRight options.now }
     requires source_fits { IfSome (S.told shelf.old) (λ t. FitsRepo (told_files t) (repo_view source.old) (cached_in source.old)) }
+    requires pending { store.old.pending ≤ options.now.checkpoint }
     requires unspent { IsUnspent store.old }
     requires fits { IfSome (D.told depot.old) (λ t. StoreFits false store.old t.history) }
     requires packable { IsPackable (accepted_in store.old) }
     requires settled { IsSettled store.old }
     ensures settled { OnOk result (IsSettled store.new) }
+    ensures pending { OnOk result (store.new.pending ≡ 0) }
     ensures packable { OnOk result (IsPackable (accepted_in store.new)) }
     ensures unspent { OnOk result (IsUnspent store.new) }
-    ensures works { Reports (origin (S.told shelf.old) (repo_view source.old) options.now.block) (name.now ∷ []) store.old store.new
+    ensures works { Reports (origin (S.told shelf.old) (repo_view source.old) options.now.block options.now.checkpoint) (name.now ∷ []) store.old store.new
         (D.told depot.old) (D.told depot.new) (D.faults depot.old) (D.faults depot.new) result }
-    ensures refused { IfErr result (RefusesName (origin (S.told shelf.old) (repo_view source.old) options.now.block) (D.told depot.old) store.old
-        (D.told depot.new) store.new name.now) }
+    ensures refused { IfErr result (RefusesName (origin (S.told shelf.old) (repo_view source.old) options.now.block options.now.checkpoint)
+        (D.told depot.old) store.old (D.told depot.new) store.new name.now) }
+    // What refuses it, but for a line that isn't told and want of memory, does so before it is told.
+    ensures untold { IfErr result (λ fault. is_of_telling fault ≡ false → Between (D.told depot.old) (D.told depot.new) TellsNothing) }
+    ensures next { OnOk result (IsNextOf options.now.timestamp (repo_view source.old).manifest (repo_view store.old.repo).keys (accepted_in store.old)
+        name.now (accepted_in store.new)) }
+    ensures limit { IfErr result (λ fault. fault ≡ CarryFault.Target StoreRefusal.TooLarge → IfSome (D.told depot.new) (λ _.
+        HasLargeNext options.now.timestamp (repo_view source.old).manifest (repo_view store.old.repo).keys (accepted_in store.old) name.now)) }
+    ensures stands { IfErr result (λ fault. IsOfWork fault → Between (D.told depot.old) (D.told depot.new)
+        (KeepsGrowing (origin (S.told shelf.old) (repo_view source.old) options.now.block options.now.checkpoint) [] store.old)) }
     ensures most { OnOk result (KeepsMost store.old store.new) }
     ensures fits { OnOk result (IfSome (D.told depot.new) (λ t. StoreFits false store.new t.history)) }
     ensures source_fits { IfSome (S.told shelf.new) (λ t. FitsRepo (told_files t) (repo_view source.new) (cached_in source.new)) }
@@ -204,20 +239,30 @@ fn carry_flight<S: Shelf, D: Depot, E: Entropy>(
     name: &[u8],
     carried: &mut Carried,
 ) -> Result<(), CarryFault>
-    requires flight { FlightFits (S.told shelf.old) (repo_view source.old) (D.told depot.old) store.old flight.old }
+    requires flight { (fits : FlightFits (S.told shelf.old) (repo_view source.old) (D.told depot.old) store.old flight.old) × (fits.added ≡ []) }
     requires called { name.now ≡ flight.old.named.name }
     requires source_fits { IfSome (S.told shelf.old) (λ t. FitsRepo (told_files t) (repo_view source.old) (cached_in source.old)) }
+    requires pending { store.old.pending ≤ flight.old.options.checkpoint }
     requires unspent { IsUnspent store.old }
     requires fits { IfSome (D.told depot.old) (λ t. StoreFits false store.old t.history) }
     requires packable { IsPackable (accepted_in store.old) }
     requires settled { IsSettled store.old }
     ensures settled { OnOk result (IsSettled store.new) }
+    ensures pending { OnOk result (store.new.pending ≡ 0) }
     ensures packable { OnOk result (IsPackable (accepted_in store.new)) }
     ensures unspent { OnOk result (IsUnspent store.new) }
     ensures works { Reports (flown_from (S.told shelf.old) (repo_view source.old) flight.old) (flight.old.named.name ∷ []) store.old store.new
         (D.told depot.old) (D.told depot.new) (D.faults depot.old) (D.faults depot.new) result }
     ensures refused { IfErr result (RefusesName (flown_from (S.told shelf.old) (repo_view source.old) flight.old) (D.told depot.old) store.old
         (D.told depot.new) store.new flight.old.named.name) }
+    ensures untold { IfErr result (λ fault. is_of_telling fault ≡ false → Between (D.told depot.old) (D.told depot.new) TellsNothing) }
+    ensures next { OnOk result (IsNextOf flight.old.options.timestamp (repo_view source.old).manifest (repo_view store.old.repo).keys (accepted_in store.old)
+        flight.old.named.name (accepted_in store.new)) }
+    ensures limit { IfErr result (λ fault. fault ≡ CarryFault.Target StoreRefusal.TooLarge → IfSome (D.told depot.new) (λ _.
+        HasLargeNext flight.old.options.timestamp (repo_view source.old).manifest (repo_view store.old.repo).keys (accepted_in store.old)
+        flight.old.named.name)) }
+    ensures stands { IfErr result (λ fault. IsOfWork fault → Between (D.told depot.old) (D.told depot.new)
+        (KeepsGrowing (flown_from (S.told shelf.old) (repo_view source.old) flight.old) [] store.old)) }
     ensures most { OnOk result (KeepsMost store.old store.new) }
     ensures fits { OnOk result (IfSome (D.told depot.new) (λ t. StoreFits false store.new t.history)) }
     ensures source_fits { IfSome (S.told shelf.new) (λ t. FitsRepo (told_files t) (repo_view source.new) (cached_in source.new)) }
@@ -243,18 +288,30 @@ fn fly<S: Shelf, D: Depot, E: Entropy>(
 ) -> Result<bool, CarryFault>
     requires flight { FlightFits (S.told shelf.old) (repo_view source.old) (D.told depot.old) store.old flight.old }
     requires source_fits { IfSome (S.told shelf.old) (λ t. FitsRepo (told_files t) (repo_view source.old) (cached_in source.old)) }
+    requires pending { store.old.pending ≤ flight.old.options.checkpoint }
     requires unspent { IsUnspent store.old }
     requires fits { IfSome (D.told depot.old) (λ t. StoreFits false store.old t.history) }
     requires packable { IsPackable (accepted_in store.old) }
     requires settled { IsSettled store.old }
     ensures settled { OnOk result (IsSettled store.new) }
+    ensures pending { OnOk result (store.new.pending ≡ 0) }
     ensures packable { OnOk result (IsPackable (accepted_in store.new)) }
     ensures unspent { OnOk result (IsUnspent store.new) }
-    ensures works { Carries (flown_from (S.told shelf.old) (repo_view source.old) flight.old) (flight.old.named.name ∷ []) store.old store.new
-        (D.told depot.old) (D.told depot.new) (D.faults depot.old) (D.faults depot.new) result }
+    ensures works { (fits : FlightFits (S.told shelf.old) (repo_view source.old) (D.told depot.old) store.old flight.old) → (more : List Addition)
+        × (Carries (flown_from (S.told shelf.old) (repo_view source.old) flight.old) (flight.old.named.name ∷ []) more store.old store.new
+        (D.told depot.old) (D.told depot.new) (D.faults depot.old) (D.faults depot.new) result
+        × IfOk result (ListsDone (D.told depot.old) (flown_from (S.told shelf.old) (repo_view source.old) flight.old) (repo_view store.old.repo).keys
+        flight.old.named.name (pieces fits.added ++ more))) }
     ensures word { IfOk result (λ copied. TellsNew (accepted_in store.old) [] flight.old.named.name copied) }
     ensures refused { IfErr result (RefusesName (flown_from (S.told shelf.old) (repo_view source.old) flight.old) (D.told depot.old) store.old
         (D.told depot.new) store.new flight.old.named.name) }
+    ensures next { OnOk result (IsNextOf flight.old.options.timestamp (repo_view source.old).manifest (repo_view store.old.repo).keys (accepted_in store.old)
+        flight.old.named.name (accepted_in store.new)) }
+    ensures limit { IfErr result (λ fault. fault ≡ CarryFault.Target StoreRefusal.TooLarge → IfSome (D.told depot.new) (λ _.
+        HasLargeNext flight.old.options.timestamp (repo_view source.old).manifest (repo_view store.old.repo).keys (accepted_in store.old)
+        flight.old.named.name)) }
+    ensures stands { IfErr result (λ fault. IsOfWork fault → Between (D.told depot.old) (D.told depot.new)
+        (KeepsGrowing (flown_from (S.told shelf.old) (repo_view source.old) flight.old) [] store.old)) }
     ensures most { OnOk result (KeepsMost store.old store.new) }
     ensures fits { OnOk result (IfSome (D.told depot.new) (λ t. StoreFits false store.new t.history)) }
     ensures source_fits { IfSome (S.told shelf.new) (λ t. FitsRepo (told_files t) (repo_view source.new) (cached_in source.new)) }
@@ -288,6 +345,7 @@ fn tell_name<D: Depot>(
     ensures stops { IfErr result (StopsTarget (D.told depot.new) (repo_view store.now.repo).keys) }
     ensures shelf { IfErr result (λ fault. shelf_failed fault ≡ false) }
     ensures target { IfErr result (λ fault. is_target fault ≡ true) }
+    ensures telling { IfErr result (λ fault. is_of_telling fault ≡ true) }
     ensures drawn { IfErr result (λ fault. random_failed fault ≡ false) }
 {
     let line = name_line(alloc, what_of(named), name)?;
@@ -310,6 +368,7 @@ fn tell<D: Depot>(store: &Store, depot: &mut D, line: &[u8]) -> Result<(), Carry
     ensures stops { IfErr result (StopsTarget (D.told depot.new) (repo_view store.now.repo).keys) }
     ensures shelf { IfErr result (λ fault. shelf_failed fault ≡ false) }
     ensures target { IfErr result (λ fault. is_target fault ≡ true) }
+    ensures telling { IfErr result (λ fault. is_of_telling fault ≡ true) }
     ensures drawn { IfErr result (λ fault. random_failed fault ≡ false) }
 {
     depot.tell(line)?;

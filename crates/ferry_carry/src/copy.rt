@@ -6,8 +6,9 @@ ghost use Rattle.ferry_carry.specs.Copied.{IsRead};
 ghost use Rattle.ferry_carry.specs.Copying.{CopiesContent, IsReady, TakesItem, WritesContent, WritesContents, WritesItem};
 ghost use Rattle.ferry_carry.specs.Fault.{random_failed, shelf_failed, target_failed};
 ghost use Rattle.ferry_carry.specs.Gather.{Gathers, KeepsRest, KeepsStanding};
-ghost use Rattle.ferry_carry.specs.Progress.{IsAllCopied, IsCopiedSoFar};
-ghost use Rattle.ferry_carry.specs.Refusals.{RefusesBegin, RefusesContents, RefusesCopying, RefusesNext, RefusesStep, RefusesText, RefusesWriting, StopsTarget};
+ghost use Rattle.ferry_carry.specs.Progress.{CopiesOn, IsCopiedSoFar};
+ghost use Rattle.ferry_carry.specs.Puts.{IsCheckpoint, pieces};
+ghost use Rattle.ferry_carry.specs.Refusals.{RefusesBegin, RefusesContents, RefusesCopying, RefusesNext, RefusesStep, RefusesText, RefusesWriting, StopsPieces};
 ghost use Rattle.ferry_carry.specs.Refusals.{is_target, total_size};
 ghost use Rattle.ferry_carry.specs.Step.{StepsOn};
 ghost use Rattle.ferry_carry.specs.Work.{Works};
@@ -62,12 +63,14 @@ impl Copy {
     ) -> Result<Copy, CarryFault>
         requires least { 64 ≤ options.now.block }
         requires most { options.now.block ≤ 8388608 }
+        requires checkpoint { IsCheckpoint options.now.checkpoint }
         requires fits { IfSome (S.told shelf.old) (λ t. FitsRepo (told_files t) (repo_view source.old) (cached_in source.old)) }
         ensures ready { IfOk result (IsReady) }
         ensures archive { IfOk result (λ copy. IfSome (S.told shelf.old) (λ t.
             HoldsRecord (told_files t) (repo_view source.old).log (repo_view source.old).keys id.now (archive_view copy.archive))) }
         ensures walk { IfOk result (λ copy. walk_view copy.walk ≡ begin_walk id.now (archive_view copy.archive).items) }
         ensures block { IfOk result (λ copy. copy.block ≡ options.now.block) }
+        ensures checkpoint { IfOk result (λ copy. copy.contents.checkpoint ≡ options.now.checkpoint) }
         ensures stream { IfOk result (λ copy. (copy.stream.cutter.piece ≡ []) × (copy.stream.chunks.items ≡ [])) }
         ensures walk_fits { IfOk result (λ copy. IfSome (S.told shelf.new) (λ t.
             FitsWalk (told_files t) (repo_view source.new).log (repo_view source.new).keys (walk_view copy.walk))) }
@@ -103,31 +106,39 @@ impl Copy {
         requires walk_fits { IfSome (S.told shelf.old) (λ t.
             FitsWalk (told_files t) (repo_view source.old).log (repo_view source.old).keys (walk_view self.old.walk)) }
         requires source_fits { IfSome (S.told shelf.old) (λ t. FitsRepo (told_files t) (repo_view source.old) (cached_in source.old)) }
+        requires pending { store.old.pending ≤ self.old.contents.checkpoint }
         requires unspent { IsUnspent store.old }
         requires fits { IfSome (D.told depot.old) (λ t. StoreFits false store.old t.history) }
-        ensures works { (more : List (List ℕ)) × Works (KeepsStanding store.old) (λ _. Gathers store.old more store.new)
+        ensures works { (more : List (List ℕ)) × Works (KeepsStanding self.old.contents.checkpoint store.old)
+            (λ _. Gathers self.old.contents.checkpoint store.old (pieces more) store.new)
             (D.told depot.old) (D.told depot.new) (D.faults depot.old) (D.faults depot.new) result }
-        ensures steps { (more : List (List ℕ)) × (Works (KeepsStanding store.old) (λ _. Gathers store.old more store.new)
+        ensures steps { (more : List (List ℕ)) × (Works (KeepsStanding self.old.contents.checkpoint store.old)
+            (λ _. Gathers self.old.contents.checkpoint store.old (pieces more) store.new)
             (D.told depot.old) (D.told depot.new) (D.faults depot.old) (D.faults depot.new) result
             × IfOk result (StepsOn (S.told shelf.old) (repo_view source.old) (repo_view store.old.repo).keys self.old more self.new)) }
-        ensures copied { (named : ArchiveRef) → result ≡ Ok true
-            → IsCopiedSoFar (origin (S.told shelf.old) (repo_view source.old) self.old.block) named (D.told depot.old) store.old self.old
-            → IsCopiedSoFar (origin (S.told shelf.old) (repo_view source.old) self.old.block) named (D.told depot.new) store.new self.new }
-        ensures ended { (named : ArchiveRef) → result ≡ Ok false
-            → archive_named named.name (repo_view source.old).manifest.archives ≡ Some named
-            → IsCopiedSoFar (origin (S.told shelf.old) (repo_view source.old) self.old.block) named (D.told depot.old) store.old self.old
-            → IsAllCopied (origin (S.told shelf.old) (repo_view source.old) self.old.block) named (D.told depot.new) store.new self.new }
-        ensures refused { (named : ArchiveRef) → archive_named named.name (repo_view source.old).manifest.archives ≡ Some named
-            → IsCopiedSoFar (origin (S.told shelf.old) (repo_view source.old) self.old.block) named (D.told depot.old) store.old self.old
-            → IfErr result (RefusesStep (origin (S.told shelf.old) (repo_view source.old) self.old.block) (D.told depot.old) named.name) }
+        ensures copied { (named : ArchiveRef) (added : List (List ℕ))
+            → IsCopiedSoFar (origin (S.told shelf.old) (repo_view source.old) self.old.block self.old.contents.checkpoint) named
+            (D.told depot.old) store.old self.old added
+            → (more : List (List ℕ)) × (Works (KeepsStanding self.old.contents.checkpoint store.old)
+            (λ _. Gathers self.old.contents.checkpoint store.old (pieces more) store.new)
+            (D.told depot.old) (D.told depot.new) (D.faults depot.old) (D.faults depot.new) result
+            × IfOk result (CopiesOn (origin (S.told shelf.old) (repo_view source.old) self.old.block self.old.contents.checkpoint) named
+            (D.told depot.new) store.new self.new added more)) }
+        ensures refused { (named : ArchiveRef) (added : List (List ℕ)) → archive_named named.name (repo_view source.old).manifest.archives ≡ Some named
+            → IsCopiedSoFar (origin (S.told shelf.old) (repo_view source.old) self.old.block self.old.contents.checkpoint) named
+            (D.told depot.old) store.old self.old added
+            → IfErr result (RefusesStep (origin (S.told shelf.old) (repo_view source.old) self.old.block self.old.contents.checkpoint)
+            (D.told depot.old) named.name) }
         ensures archive { OnOk result (self.new.archive ≡ self.old.archive) }
+        ensures checkpoint { OnOk result (self.new.contents.checkpoint ≡ self.old.contents.checkpoint) }
+        ensures pending { OnOk result (store.new.pending ≤ self.old.contents.checkpoint) }
         ensures block { OnOk result (self.new.block ≡ self.old.block) }
         ensures ready { OnOk result (IsReady self.new) }
         ensures walk_fits { OnOk result (IfSome (S.told shelf.new) (λ t.
             FitsWalk (told_files t) (repo_view source.new).log (repo_view source.new).keys (walk_view self.new.walk))) }
         ensures rest { OnOk result (KeepsRest store.old store.new) }
         ensures fits { OnOk result (IfSome (D.told depot.new) (λ t. StoreFits false store.new t.history)) }
-        ensures stops { IfErr result (StopsTarget (D.told depot.new) (repo_view store.old.repo).keys) }
+        ensures stops { IfErr result (StopsPieces (D.told depot.new) (repo_view store.old.repo).keys) }
         ensures unspent { OnOk result (IsUnspent store.new) }
         ensures source_fits { IfSome (S.told shelf.new) (λ t. FitsRepo (told_files t) (repo_view source.new) (cached_in source.new)) }
         ensures kept { repo_view source.new ≡ repo_view source.old }
@@ -184,17 +195,22 @@ impl Copy {
         requires packable { IsPackableItem (item_view item.now) }
         requires most { self.old.stream.cutter.block ≤ 8388608 }
         requires room { length self.old.stream.cutter.piece < self.old.stream.cutter.block }
+        requires checkpoint { IsCheckpoint self.old.stream.checkpoint }
+        requires pending { store.old.pending ≤ self.old.stream.checkpoint }
         requires unspent { IsUnspent store.old }
         requires fits { IfSome (D.told depot.old) (λ t. StoreFits false store.old t.history) }
-        ensures written { (more : List (List ℕ)) × (Works (KeepsStanding store.old) (λ _. Gathers store.old more store.new)
+        ensures written { (more : List (List ℕ)) × (Works (KeepsStanding self.old.stream.checkpoint store.old)
+            (λ _. Gathers self.old.stream.checkpoint store.old (pieces more) store.new)
             (D.told depot.old) (D.told depot.new) (D.faults depot.old) (D.faults depot.new) result
             × OnOk result (WritesItem (repo_view store.old.repo).keys self.old.stream.cutter self.old.stream.chunks.items (item_view item.now) more
             self.new.stream.cutter self.new.stream.chunks.items)) }
         ensures again { OnOk result (is_healed (field_pairs (item_view item.now)) ≡ false → IsRead (item_view item.now)) }
         ensures others { OnOk result (self.new ≡ record self.old { stream = self.new.stream }) }
+        ensures checkpoint { OnOk result (self.new.stream.checkpoint ≡ self.old.stream.checkpoint) }
+        ensures pending { OnOk result (store.new.pending ≤ self.old.stream.checkpoint) }
         ensures rest { OnOk result (KeepsRest store.old store.new) }
         ensures fits { OnOk result (IfSome (D.told depot.new) (λ t. StoreFits false store.new t.history)) }
-        ensures stops { IfErr result (StopsTarget (D.told depot.new) (repo_view store.old.repo).keys) }
+        ensures stops { IfErr result (StopsPieces (D.told depot.new) (repo_view store.old.repo).keys) }
         ensures unspent { OnOk result (IsUnspent store.new) }
         ensures target { IfErr result (λ fault. is_target fault ≡ true) }
         ensures shelf { IfErr result (λ fault. shelf_failed fault ≡ false) }
@@ -216,17 +232,21 @@ impl Copy {
     ) -> Result<Option<ChunkRefs>, CarryFault>
         requires ready { IsReady self.old }
         requires source_fits { IfSome (S.told shelf.old) (λ t. FitsRepo (told_files t) (repo_view source.old) (cached_in source.old)) }
+        requires pending { store.old.pending ≤ self.old.contents.checkpoint }
         requires unspent { IsUnspent store.old }
         requires fits { IfSome (D.told depot.old) (λ t. StoreFits false store.old t.history) }
-        ensures copied { (more : List (List ℕ)) × (Works (KeepsStanding store.old) (λ _. Gathers store.old more store.new)
+        ensures copied { (more : List (List ℕ)) × (Works (KeepsStanding self.old.contents.checkpoint store.old)
+            (λ _. Gathers self.old.contents.checkpoint store.old (pieces more) store.new)
             (D.told depot.old) (D.told depot.new) (D.faults depot.old) (D.faults depot.new) result
             × IfOk result (CopiesContent (S.told shelf.old) (repo_view source.old) self.old.block (repo_view store.old.repo).keys chunks.now more)) }
         ensures refused { IfErr result (RefusesCopying (S.told shelf.old) (repo_view source.old) self.old.block chunks.now) }
         ensures ready { OnOk result (IsReady self.new) }
         ensures others { OnOk result (self.new ≡ record self.old { contents = self.new.contents }) }
+        ensures checkpoint { OnOk result (self.new.contents.checkpoint ≡ self.old.contents.checkpoint) }
+        ensures pending { OnOk result (store.new.pending ≤ self.old.contents.checkpoint) }
         ensures rest { OnOk result (KeepsRest store.old store.new) }
         ensures fits { OnOk result (IfSome (D.told depot.new) (λ t. StoreFits false store.new t.history)) }
-        ensures stops { IfErr result (StopsTarget (D.told depot.new) (repo_view store.old.repo).keys) }
+        ensures stops { IfErr result (StopsPieces (D.told depot.new) (repo_view store.old.repo).keys) }
         ensures unspent { OnOk result (IsUnspent store.new) }
         ensures source_fits { IfSome (S.told shelf.new) (λ t. FitsRepo (told_files t) (repo_view source.new) (cached_in source.new)) }
         ensures kept { repo_view source.new ≡ repo_view source.old }
@@ -254,18 +274,22 @@ impl Copy {
     ) -> Result<ChunkRefs, CarryFault>
         requires ready { IsReady self.old }
         requires source_fits { IfSome (S.told shelf.old) (λ t. FitsRepo (told_files t) (repo_view source.old) (cached_in source.old)) }
+        requires pending { store.old.pending ≤ self.old.contents.checkpoint }
         requires unspent { IsUnspent store.old }
         requires fits { IfSome (D.told depot.old) (λ t. StoreFits false store.old t.history) }
-        ensures copied { (more : List (List ℕ)) × (Works (KeepsStanding store.old) (λ _. Gathers store.old more store.new)
+        ensures copied { (more : List (List ℕ)) × (Works (KeepsStanding self.old.contents.checkpoint store.old)
+            (λ _. Gathers self.old.contents.checkpoint store.old (pieces more) store.new)
             (D.told depot.old) (D.told depot.new) (D.faults depot.old) (D.faults depot.new) result
             × IfOk result (λ copied. CopiesContent (S.told shelf.old) (repo_view source.old) self.old.block (repo_view store.old.repo).keys
             (Some chunks.now) more (Some copied))) }
         ensures refused { IfErr result (RefusesCopying (S.told shelf.old) (repo_view source.old) self.old.block (Some chunks.now)) }
         ensures ready { OnOk result (IsReady self.new) }
         ensures others { OnOk result (self.new ≡ record self.old { contents = self.new.contents }) }
+        ensures checkpoint { OnOk result (self.new.contents.checkpoint ≡ self.old.contents.checkpoint) }
+        ensures pending { OnOk result (store.new.pending ≤ self.old.contents.checkpoint) }
         ensures rest { OnOk result (KeepsRest store.old store.new) }
         ensures fits { OnOk result (IfSome (D.told depot.new) (λ t. StoreFits false store.new t.history)) }
-        ensures stops { IfErr result (StopsTarget (D.told depot.new) (repo_view store.old.repo).keys) }
+        ensures stops { IfErr result (StopsPieces (D.told depot.new) (repo_view store.old.repo).keys) }
         ensures unspent { OnOk result (IsUnspent store.new) }
         ensures source_fits { IfSome (S.told shelf.new) (λ t. FitsRepo (told_files t) (repo_view source.new) (cached_in source.new)) }
         ensures kept { repo_view source.new ≡ repo_view source.old }
@@ -297,16 +321,21 @@ fn write_contents<S: Shelf, D: Depot>(
     requires most { writer.old.cutter.block ≤ 8388608 }
     requires room { length writer.old.cutter.piece < writer.old.cutter.block }
     requires source_fits { IfSome (S.told shelf.old) (λ t. FitsRepo (told_files t) (repo_view source.old) (cached_in source.old)) }
+    requires checkpoint { IsCheckpoint writer.old.checkpoint }
+    requires pending { store.old.pending ≤ writer.old.checkpoint }
     requires unspent { IsUnspent store.old }
     requires fits { IfSome (D.told depot.old) (λ t. StoreFits false store.old t.history) }
-    ensures written { (more : List (List ℕ)) × (Works (KeepsStanding store.old) (λ _. Gathers store.old more store.new)
+    ensures written { (more : List (List ℕ)) × (Works (KeepsStanding writer.old.checkpoint store.old)
+        (λ _. Gathers writer.old.checkpoint store.old (pieces more) store.new)
         (D.told depot.old) (D.told depot.new) (D.faults depot.old) (D.faults depot.new) result
         × OnOk result (WritesContents (S.told shelf.old) (repo_view source.old) (repo_view store.old.repo).keys chunks.now writer.old.cutter
         writer.old.chunks.items more writer.new.cutter writer.new.chunks.items)) }
     ensures refused { IfErr result (RefusesContents (S.told shelf.old) (repo_view source.old) chunks.now) }
+    ensures checkpoint { OnOk result (writer.new.checkpoint ≡ writer.old.checkpoint) }
+    ensures pending { OnOk result (store.new.pending ≤ writer.old.checkpoint) }
     ensures rest { OnOk result (KeepsRest store.old store.new) }
     ensures fits { OnOk result (IfSome (D.told depot.new) (λ t. StoreFits false store.new t.history)) }
-    ensures stops { IfErr result (StopsTarget (D.told depot.new) (repo_view store.old.repo).keys) }
+    ensures stops { IfErr result (StopsPieces (D.told depot.new) (repo_view store.old.repo).keys) }
     ensures unspent { OnOk result (IsUnspent store.new) }
     ensures source_fits { IfSome (S.told shelf.new) (λ t. FitsRepo (told_files t) (repo_view source.new) (cached_in source.new)) }
     ensures kept { repo_view source.new ≡ repo_view source.old }
@@ -333,16 +362,21 @@ fn write_content<S: Shelf, D: Depot>(
     requires most { writer.old.cutter.block ≤ 8388608 }
     requires room { length writer.old.cutter.piece < writer.old.cutter.block }
     requires source_fits { IfSome (S.told shelf.old) (λ t. FitsRepo (told_files t) (repo_view source.old) (cached_in source.old)) }
+    requires checkpoint { IsCheckpoint writer.old.checkpoint }
+    requires pending { store.old.pending ≤ writer.old.checkpoint }
     requires unspent { IsUnspent store.old }
     requires fits { IfSome (D.told depot.old) (λ t. StoreFits false store.old t.history) }
-    ensures written { (more : List (List ℕ)) × (Works (KeepsStanding store.old) (λ _. Gathers store.old more store.new)
+    ensures written { (more : List (List ℕ)) × (Works (KeepsStanding writer.old.checkpoint store.old)
+        (λ _. Gathers writer.old.checkpoint store.old (pieces more) store.new)
         (D.told depot.old) (D.told depot.new) (D.faults depot.old) (D.faults depot.new) result
         × OnOk result (WritesContent (S.told shelf.old) (repo_view source.old) (repo_view store.old.repo).keys chunk.now writer.old.cutter
         writer.old.chunks.items more writer.new.cutter writer.new.chunks.items)) }
     ensures refused { IfErr result (RefusesWriting (S.told shelf.old) (repo_view source.old) chunk.now) }
+    ensures checkpoint { OnOk result (writer.new.checkpoint ≡ writer.old.checkpoint) }
+    ensures pending { OnOk result (store.new.pending ≤ writer.old.checkpoint) }
     ensures rest { OnOk result (KeepsRest store.old store.new) }
     ensures fits { OnOk result (IfSome (D.told depot.new) (λ t. StoreFits false store.new t.history)) }
-    ensures stops { IfErr result (StopsTarget (D.told depot.new) (repo_view store.old.repo).keys) }
+    ensures stops { IfErr result (StopsPieces (D.told depot.new) (repo_view store.old.repo).keys) }
     ensures unspent { OnOk result (IsUnspent store.new) }
     ensures source_fits { IfSome (S.told shelf.new) (λ t. FitsRepo (told_files t) (repo_view source.new) (cached_in source.new)) }
     ensures kept { repo_view source.new ≡ repo_view source.old }

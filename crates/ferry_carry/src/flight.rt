@@ -1,16 +1,19 @@
 //! One archive, item by item.
-ghost use Rattle.std.specs.Prelude.{◌≡◌, ◌⊎◌, ◌∷◌, ℕ, Option, None, Ok, [], true, false, IfErr, IfOk, IfSome, IsSome, OnOk};
-ghost use Rattle.ferry_carry.specs.Fault.{random_failed, shelf_failed, target_failed};
-ghost use Rattle.ferry_carry.specs.Flight.{AreRight, Flies, FlightFits, FlightStands, IsCommitted, IsSame, IsSettled, ReadsStore, flown_from};
+ghost use Rattle.std.specs.Prelude.{◌≡◌, ◌≢◌, ◌≤◌, ◌⊎◌, ◌∷◌, ℕ, List, Option, None, Ok, [], true, false, IfErr, IfOk, IfSome, IsSome, OnOk};
+ghost use Rattle.ferry_blob.specs.Blob.{content_id};
+ghost use Rattle.ferry_carry.specs.Fault.{IsOfWork, random_failed, shelf_failed, target_failed};
+ghost use Rattle.ferry_carry.specs.Flight.{AreRight, Flies, FlightFits, FlightStands, IsCommitted, IsSame, IsSettled, ReadsStore, TurnLists, flown_from};
 ghost use Rattle.ferry_carry.specs.Carrying.{origin};
 ghost use Rattle.ferry_carry.specs.Copying.{IsReady};
 ghost use Rattle.ferry_carry.specs.Gather.{Gathers, KeepsRest, KeepsStanding};
 ghost use Rattle.ferry_carry.specs.Grow.{AcceptsMore, KeepsMost};
 ghost use Rattle.ferry_carry.specs.Progress.{IsCopiedSoFar};
-ghost use Rattle.ferry_carry.specs.Refusals.{DiffersThere, RefusesComparing, RefusesName, StopsTarget, is_target};
+ghost use Rattle.ferry_carry.specs.Puts.{Addition};
+ghost use Rattle.ferry_carry.specs.Refusals.{DiffersThere, IsLimited, RefusesComparing, RefusesName, StopsPieces, is_target, named_next};
 ghost use Rattle.ferry_carry.specs.Work.{Works};
 ghost use Rattle.ferry_compare.specs.Compare.{Differ, FitsTold, comparison_view};
 ghost use Rattle.ferry_disk.specs.Device.{HasCause, KeepsTold, Told, told_files};
+ghost use Rattle.ferry_disk.specs.Moments.{Between};
 ghost use Rattle.ferry_manifest.specs.Manifest.Writing.{IsPackable};
 ghost use Rattle.ferry_repo.specs.Archives.{archive_named};
 ghost use Rattle.ferry_repo.specs.Opening.{FitsRepo, cached_in, repo_view};
@@ -77,7 +80,8 @@ impl Flight {
         options: &Options,
     ) -> Result<Flight, CarryFault>
         requires options { AreRight options.now }
-        ensures flight { IfOk result (λ flight. (told heard : Option Told) (store : Store) → FlightFits told (repo_view source.now) heard store flight) }
+        ensures flight { IfOk result (λ flight. (told heard : Option Told) (store : Store)
+            → (fits : FlightFits told (repo_view source.now) heard store flight) × (fits.added ≡ [])) }
         ensures name { IfOk result (λ flight. flight.named.name ≡ name.now) }
         ensures options { IfOk result (λ flight. flight.options ≡ options.now) }
         ensures refused { IfErr result (λ fault. (fault ≡ CarryFault.Memory) ⊎ ((fault ≡ CarryFault.NotFound name.now)
@@ -115,21 +119,34 @@ impl Flight {
         entropy: &mut E,
     ) -> Result<Turn, CarryFault>
         requires source_fits { IfSome (S.told shelf.old) (λ t. FitsRepo (told_files t) (repo_view source.old) (cached_in source.old)) }
+        requires pending { store.old.pending ≤ self.old.options.checkpoint }
         requires unspent { IsUnspent store.old }
         requires fits { IfSome (D.told depot.old) (λ t. StoreFits false store.old t.history) }
         requires packable { IsPackable (accepted_in store.old) }
         requires accepts { AcceptsMore store.old }
         requires committed { IsCommitted store.old self.old.named.name }
         requires flight { FlightFits (S.told shelf.old) (repo_view source.old) (D.told depot.old) store.old self.old }
-        ensures works { Flies (flown_from (S.told shelf.old) (repo_view source.old) self.old) self.old.named.name store.old store.new
-            (D.told depot.old) (D.told depot.new) (D.faults depot.old) (D.faults depot.new) result }
+        ensures works { (fits : FlightFits (S.told shelf.old) (repo_view source.old) (D.told depot.old) store.old self.old) → (more : List Addition)
+            × (Flies (flown_from (S.told shelf.old) (repo_view source.old) self.old) self.old.named.name more store.old store.new
+            (D.told depot.old) (D.told depot.new) (D.faults depot.old) (D.faults depot.new) result
+            × IfOk result (TurnLists (S.told shelf.new) (repo_view source.new) (D.told depot.new) store.new self.new
+            (D.told depot.old) (flown_from (S.told shelf.old) (repo_view source.old) self.old) (repo_view store.old.repo).keys fits.added more)) }
         ensures refused { IfErr result (RefusesName (flown_from (S.told shelf.old) (repo_view source.old) self.old) (D.told depot.old) store.old
             (D.told depot.new) store.new self.old.named.name) }
+        ensures limit { IfErr result (IsLimited (D.told depot.new) self.old.options.timestamp (repo_view source.old) store.old self.old.named) }
+        // Where it is refused, but for a device that failed and want of memory, nothing is named.
+        ensures stands { IfErr result (λ fault. IsOfWork fault
+            → Between (D.told depot.old) (D.told depot.new) (KeepsStanding self.old.options.checkpoint store.old)) }
+        // And nothing is named by a turn that takes a further item.
+        ensures more_stands { result ≡ Ok Turn.More
+            → Between (D.told depot.old) (D.told depot.new) (KeepsStanding self.old.options.checkpoint store.old) }
         ensures most { OnOk result (KeepsMost store.old store.new) }
         ensures packable { OnOk result (IsPackable (accepted_in store.new)) }
         ensures accepts { OnOk result (AcceptsMore store.new) }
         ensures committed { OnOk result (IsCommitted store.new self.new.named.name) }
         ensures settled { OnOk result (IsSettled store.old → IsSettled store.new) }
+        ensures pending { OnOk result (store.new.pending ≤ self.old.options.checkpoint) }
+        ensures ended { IfOk result (λ turn. turn ≢ Turn.More → store.new.pending ≡ 0) }
         ensures fits { OnOk result (IfSome (D.told depot.new) (λ t. StoreFits false store.new t.history)) }
         ensures unspent { OnOk result (IsUnspent store.new) }
         ensures source_fits { IfSome (S.told shelf.new) (λ t. FitsRepo (told_files t) (repo_view source.new) (cached_in source.new)) }
@@ -137,11 +154,13 @@ impl Flight {
         ensures same { KeepsTold shelf_failed (S.told shelf.old) (S.told shelf.new) result }
         ensures cause { HasCause shelf_failed (S.faults shelf.old) (S.faults shelf.new) result }
         ensures entropy { HasCause random_failed (E.faults entropy.old) (E.faults entropy.new) result }
-        ensures flight { result ≡ Ok Turn.More → FlightFits (S.told shelf.new) (repo_view source.new) (D.told depot.new) store.new self.new }
         // An archive is named whose name was in no archive that the store had accepted, and answered as present where its name was in one.
         ensures more { result ≡ Ok Turn.More → accepted_in store.new ≡ accepted_in store.old }
         ensures new { result ≡ Ok Turn.Named → archive_named self.old.named.name (accepted_in store.old).archives ≡ None }
         ensures there { result ≡ Ok Turn.Present → IsSome (archive_named self.old.named.name (accepted_in store.old).archives) }
+        ensures next { result ≡ Ok Turn.Named → (text : List ℕ) × (accepted_in store.new ≡ named_next self.old.options.timestamp
+            (repo_view source.old) store.old self.old.named (content_id (repo_view store.old.repo).keys text)) }
+        ensures still { result ≡ Ok Turn.Present → accepted_in store.new ≡ accepted_in store.old }
         ensures name { self.new.named ≡ self.old.named }
         ensures options { self.new.options ≡ self.old.options }
     {
@@ -162,21 +181,32 @@ impl Flight {
         entropy: &mut E,
     ) -> Result<Turn, CarryFault>
         requires source_fits { IfSome (S.told shelf.old) (λ t. FitsRepo (told_files t) (repo_view source.old) (cached_in source.old)) }
+        requires pending { store.old.pending ≤ self.old.options.checkpoint }
         requires unspent { IsUnspent store.old }
         requires fits { IfSome (D.told depot.old) (λ t. StoreFits false store.old t.history) }
         requires packable { IsPackable (accepted_in store.old) }
         requires accepts { AcceptsMore store.old }
         requires committed { IsCommitted store.old self.old.named.name }
         requires flight { FlightStands (repo_view source.old) self.old }
-        ensures works { Flies (flown_from (S.told shelf.old) (repo_view source.old) self.old) self.old.named.name store.old store.new
-            (D.told depot.old) (D.told depot.new) (D.faults depot.old) (D.faults depot.new) result }
+        ensures works { (more : List Addition)
+            × (Flies (flown_from (S.told shelf.old) (repo_view source.old) self.old) self.old.named.name more store.old store.new
+            (D.told depot.old) (D.told depot.new) (D.faults depot.old) (D.faults depot.new) result
+            × IfOk result (TurnLists (S.told shelf.new) (repo_view source.new) (D.told depot.new) store.new self.new
+            (D.told depot.old) (flown_from (S.told shelf.old) (repo_view source.old) self.old) (repo_view store.old.repo).keys [] more)) }
         ensures refused { IfErr result (RefusesName (flown_from (S.told shelf.old) (repo_view source.old) self.old) (D.told depot.old) store.old
             (D.told depot.new) store.new self.old.named.name) }
+        ensures limit { IfErr result (IsLimited (D.told depot.new) self.old.options.timestamp (repo_view source.old) store.old self.old.named) }
+        ensures stands { IfErr result (λ fault. IsOfWork fault
+            → Between (D.told depot.old) (D.told depot.new) (KeepsStanding self.old.options.checkpoint store.old)) }
+        ensures more_stands { result ≡ Ok Turn.More
+            → Between (D.told depot.old) (D.told depot.new) (KeepsStanding self.old.options.checkpoint store.old) }
         ensures most { OnOk result (KeepsMost store.old store.new) }
         ensures packable { OnOk result (IsPackable (accepted_in store.new)) }
         ensures accepts { OnOk result (AcceptsMore store.new) }
         ensures committed { OnOk result (IsCommitted store.new self.new.named.name) }
         ensures settled { OnOk result (IsSettled store.old → IsSettled store.new) }
+        ensures pending { OnOk result (store.new.pending ≤ self.old.options.checkpoint) }
+        ensures ended { IfOk result (λ turn. turn ≢ Turn.More → store.new.pending ≡ 0) }
         ensures fits { OnOk result (IfSome (D.told depot.new) (λ t. StoreFits false store.new t.history)) }
         ensures unspent { OnOk result (IsUnspent store.new) }
         ensures source_fits { IfSome (S.told shelf.new) (λ t. FitsRepo (told_files t) (repo_view source.new) (cached_in source.new)) }
@@ -184,10 +214,12 @@ impl Flight {
         ensures same { KeepsTold shelf_failed (S.told shelf.old) (S.told shelf.new) result }
         ensures cause { HasCause shelf_failed (S.faults shelf.old) (S.faults shelf.new) result }
         ensures entropy { HasCause random_failed (E.faults entropy.old) (E.faults entropy.new) result }
-        ensures flight { result ≡ Ok Turn.More → FlightFits (S.told shelf.new) (repo_view source.new) (D.told depot.new) store.new self.new }
         ensures more { result ≡ Ok Turn.More → accepted_in store.new ≡ accepted_in store.old }
         ensures new { result ≡ Ok Turn.Named → archive_named self.old.named.name (accepted_in store.old).archives ≡ None }
         ensures there { result ≡ Ok Turn.Present → IsSome (archive_named self.old.named.name (accepted_in store.old).archives) }
+        ensures next { result ≡ Ok Turn.Named → (text : List ℕ) × (accepted_in store.new ≡ named_next self.old.options.timestamp
+            (repo_view source.old) store.old self.old.named (content_id (repo_view store.old.repo).keys text)) }
+        ensures still { result ≡ Ok Turn.Present → accepted_in store.new ≡ accepted_in store.old }
         ensures name { self.new.named ≡ self.old.named }
         ensures options { self.new.options ≡ self.old.options }
     {
@@ -211,6 +243,7 @@ impl Flight {
         copy: Copy,
     ) -> Result<Turn, CarryFault>
         requires source_fits { IfSome (S.told shelf.old) (λ t. FitsRepo (told_files t) (repo_view source.old) (cached_in source.old)) }
+        requires pending { store.old.pending ≤ self.old.options.checkpoint }
         requires unspent { IsUnspent store.old }
         requires fits { IfSome (D.told depot.old) (λ t. StoreFits false store.old t.history) }
         requires packable { IsPackable (accepted_in store.old) }
@@ -221,16 +254,29 @@ impl Flight {
         requires unnamed { archive_named self.old.named.name (accepted_in store.old).archives ≡ None }
         requires walk_fits { IfSome (S.told shelf.old) (λ t.
             FitsWalk (told_files t) (repo_view source.old).log (repo_view source.old).keys (walk_view copy.walk)) }
-        requires copied { IsCopiedSoFar (flown_from (S.told shelf.old) (repo_view source.old) self.old) self.old.named (D.told depot.old) store.old copy }
-        ensures works { Flies (flown_from (S.told shelf.old) (repo_view source.old) self.old) self.old.named.name store.old store.new
-            (D.told depot.old) (D.told depot.new) (D.faults depot.old) (D.faults depot.new) result }
+        requires copied { (added : List (List ℕ))
+            × IsCopiedSoFar (flown_from (S.told shelf.old) (repo_view source.old) self.old) self.old.named (D.told depot.old) store.old copy added }
+        ensures works { (added : List (List ℕ))
+            → IsCopiedSoFar (flown_from (S.told shelf.old) (repo_view source.old) self.old) self.old.named (D.told depot.old) store.old copy added
+            → (more : List Addition)
+            × (Flies (flown_from (S.told shelf.old) (repo_view source.old) self.old) self.old.named.name more store.old store.new
+            (D.told depot.old) (D.told depot.new) (D.faults depot.old) (D.faults depot.new) result
+            × IfOk result (TurnLists (S.told shelf.new) (repo_view source.new) (D.told depot.new) store.new self.new
+            (D.told depot.old) (flown_from (S.told shelf.old) (repo_view source.old) self.old) (repo_view store.old.repo).keys added more)) }
         ensures refused { IfErr result (RefusesName (flown_from (S.told shelf.old) (repo_view source.old) self.old) (D.told depot.old) store.old
             (D.told depot.new) store.new self.old.named.name) }
+        ensures limit { IfErr result (IsLimited (D.told depot.new) self.old.options.timestamp (repo_view source.old) store.old self.old.named) }
+        ensures stands { IfErr result (λ fault. IsOfWork fault
+            → Between (D.told depot.old) (D.told depot.new) (KeepsStanding self.old.options.checkpoint store.old)) }
+        ensures more_stands { result ≡ Ok Turn.More
+            → Between (D.told depot.old) (D.told depot.new) (KeepsStanding self.old.options.checkpoint store.old) }
         ensures most { OnOk result (KeepsMost store.old store.new) }
         ensures packable { OnOk result (IsPackable (accepted_in store.new)) }
         ensures accepts { OnOk result (AcceptsMore store.new) }
         ensures committed { OnOk result (IsCommitted store.new self.new.named.name) }
         ensures settled { OnOk result (IsSettled store.old → IsSettled store.new) }
+        ensures pending { OnOk result (store.new.pending ≤ self.old.options.checkpoint) }
+        ensures ended { IfOk result (λ turn. turn ≢ Turn.More → store.new.pending ≡ 0) }
         ensures fits { OnOk result (IfSome (D.told depot.new) (λ t. StoreFits false store.new t.history)) }
         ensures unspent { OnOk result (IsUnspent store.new) }
         ensures source_fits { IfSome (S.told shelf.new) (λ t. FitsRepo (told_files t) (repo_view source.new) (cached_in source.new)) }
@@ -238,10 +284,12 @@ impl Flight {
         ensures same { KeepsTold shelf_failed (S.told shelf.old) (S.told shelf.new) result }
         ensures cause { HasCause shelf_failed (S.faults shelf.old) (S.faults shelf.new) result }
         ensures entropy { HasCause random_failed (E.faults entropy.old) (E.faults entropy.new) result }
-        ensures flight { result ≡ Ok Turn.More → FlightFits (S.told shelf.new) (repo_view source.new) (D.told depot.new) store.new self.new }
         ensures more { result ≡ Ok Turn.More → accepted_in store.new ≡ accepted_in store.old }
         ensures new { result ≡ Ok Turn.Named → archive_named self.old.named.name (accepted_in store.old).archives ≡ None }
         ensures there { result ≡ Ok Turn.Present → IsSome (archive_named self.old.named.name (accepted_in store.old).archives) }
+        ensures next { result ≡ Ok Turn.Named → (text : List ℕ) × (accepted_in store.new ≡ named_next self.old.options.timestamp
+            (repo_view source.old) store.old self.old.named (content_id (repo_view store.old.repo).keys text)) }
+        ensures still { result ≡ Ok Turn.Present → accepted_in store.new ≡ accepted_in store.old }
         ensures name { self.new.named ≡ self.old.named }
         ensures options { self.new.options ≡ self.old.options }
     {
@@ -273,6 +321,7 @@ impl Flight {
         comparison: Comparison,
     ) -> Result<Turn, CarryFault>
         requires source_fits { IfSome (S.told shelf.old) (λ t. FitsRepo (told_files t) (repo_view source.old) (cached_in source.old)) }
+        requires pending { store.old.pending ≤ self.old.options.checkpoint }
         requires unspent { IsUnspent store.old }
         requires fits { IfSome (D.told depot.old) (λ t. StoreFits false store.old t.history) }
         requires packable { IsPackable (accepted_in store.old) }
@@ -282,15 +331,25 @@ impl Flight {
         requires comparison { FitsTold (S.told shelf.old) (repo_view source.old) (D.told depot.old) (repo_view store.old.repo) (comparison_view comparison) }
         requires same_name { (comparison_view comparison).name ≡ self.old.named.name }
         requires there { IsSome (archive_named self.old.named.name (repo_view store.old.repo).manifest.archives) }
-        ensures works { Flies (flown_from (S.told shelf.old) (repo_view source.old) self.old) self.old.named.name store.old store.new
-            (D.told depot.old) (D.told depot.new) (D.faults depot.old) (D.faults depot.new) result }
+        ensures works { (more : List Addition)
+            × (Flies (flown_from (S.told shelf.old) (repo_view source.old) self.old) self.old.named.name more store.old store.new
+            (D.told depot.old) (D.told depot.new) (D.faults depot.old) (D.faults depot.new) result
+            × IfOk result (TurnLists (S.told shelf.new) (repo_view source.new) (D.told depot.new) store.new self.new
+            (D.told depot.old) (flown_from (S.told shelf.old) (repo_view source.old) self.old) (repo_view store.old.repo).keys [] more)) }
         ensures refused { IfErr result (RefusesName (flown_from (S.told shelf.old) (repo_view source.old) self.old) (D.told depot.old) store.old
             (D.told depot.new) store.new self.old.named.name) }
+        ensures limit { IfErr result (IsLimited (D.told depot.new) self.old.options.timestamp (repo_view source.old) store.old self.old.named) }
+        ensures stands { IfErr result (λ fault. IsOfWork fault
+            → Between (D.told depot.old) (D.told depot.new) (KeepsStanding self.old.options.checkpoint store.old)) }
+        ensures more_stands { result ≡ Ok Turn.More
+            → Between (D.told depot.old) (D.told depot.new) (KeepsStanding self.old.options.checkpoint store.old) }
         ensures most { OnOk result (KeepsMost store.old store.new) }
         ensures packable { OnOk result (IsPackable (accepted_in store.new)) }
         ensures accepts { OnOk result (AcceptsMore store.new) }
         ensures committed { OnOk result (IsCommitted store.new self.new.named.name) }
         ensures settled { OnOk result (IsSettled store.old → IsSettled store.new) }
+        ensures pending { OnOk result (store.new.pending ≤ self.old.options.checkpoint) }
+        ensures ended { IfOk result (λ turn. turn ≢ Turn.More → store.new.pending ≡ 0) }
         ensures fits { OnOk result (IfSome (D.told depot.new) (λ t. StoreFits false store.new t.history)) }
         ensures unspent { OnOk result (IsUnspent store.new) }
         ensures source_fits { IfSome (S.told shelf.new) (λ t. FitsRepo (told_files t) (repo_view source.new) (cached_in source.new)) }
@@ -298,10 +357,12 @@ impl Flight {
         ensures same { KeepsTold shelf_failed (S.told shelf.old) (S.told shelf.new) result }
         ensures cause { HasCause shelf_failed (S.faults shelf.old) (S.faults shelf.new) result }
         ensures drawn { IfErr result (λ fault. random_failed fault ≡ false) }
-        ensures flight { result ≡ Ok Turn.More → FlightFits (S.told shelf.new) (repo_view source.new) (D.told depot.new) store.new self.new }
         ensures more { result ≡ Ok Turn.More → accepted_in store.new ≡ accepted_in store.old }
         ensures new { result ≡ Ok Turn.Named → archive_named self.old.named.name (accepted_in store.old).archives ≡ None }
         ensures there { result ≡ Ok Turn.Present → IsSome (archive_named self.old.named.name (accepted_in store.old).archives) }
+        ensures next { result ≡ Ok Turn.Named → (text : List ℕ) × (accepted_in store.new ≡ named_next self.old.options.timestamp
+            (repo_view source.old) store.old self.old.named (content_id (repo_view store.old.repo).keys text)) }
+        ensures still { result ≡ Ok Turn.Present → accepted_in store.new ≡ accepted_in store.old }
         ensures name { self.new.named ≡ self.old.named }
         ensures options { self.new.options ≡ self.old.options }
     {
@@ -329,7 +390,7 @@ impl Flight {
         requires fits { IfSome (D.told depot.old) (λ t. StoreFits false store.old t.history) }
         requires flight { FlightStands (repo_view source.old) self.now }
         requires there { IsSome (archive_named self.now.named.name (repo_view store.old.repo).manifest.archives) }
-        ensures works { Works (KeepsStanding store.old) (λ _. Gathers store.old [] store.new)
+        ensures works { (most : ℕ) → Works (KeepsStanding most store.old) (λ _. Gathers most store.old [] store.new)
             (D.told depot.old) (D.told depot.new) (D.faults depot.old) (D.faults depot.new) result }
         ensures read { ReadsStore store.old store.new }
         ensures comparison { IfOk result (λ comparison. FitsTold (S.told shelf.new) (repo_view source.new) (D.told depot.new) (repo_view store.new.repo)
@@ -337,7 +398,7 @@ impl Flight {
         ensures name { IfOk result (λ comparison. (comparison_view comparison).name ≡ self.now.named.name) }
         ensures refused { IfErr result (RefusesComparing (S.told shelf.old) (repo_view source.old) self.now.named.name) }
         ensures fits { IfSome (D.told depot.new) (λ t. StoreFits false store.new t.history) }
-        ensures stops { IfErr result (StopsTarget (D.told depot.new) (repo_view store.old.repo).keys) }
+        ensures stops { IfErr result (StopsPieces (D.told depot.new) (repo_view store.old.repo).keys) }
         ensures source_fits { IfSome (S.told shelf.new) (λ t. FitsRepo (told_files t) (repo_view source.new) (cached_in source.new)) }
         ensures kept { repo_view source.new ≡ repo_view source.old }
         ensures same { KeepsTold shelf_failed (S.told shelf.old) (S.told shelf.new) result }
@@ -362,21 +423,21 @@ fn compare_item<S: Shelf, D: Depot>(
     requires source_fits { IfSome (S.told shelf.old) (λ t. FitsRepo (told_files t) (repo_view source.old) (cached_in source.old)) }
     requires fits { IfSome (D.told depot.old) (λ t. StoreFits false store.old t.history) }
     requires comparison { FitsTold (S.told shelf.old) (repo_view source.old) (D.told depot.old) (repo_view store.old.repo) (comparison_view comparison.old) }
-    ensures works { Works (KeepsStanding store.old) (λ _. Gathers store.old [] store.new)
+    ensures works { (most : ℕ) → Works (KeepsStanding most store.old) (λ _. Gathers most store.old [] store.new)
         (D.told depot.old) (D.told depot.new) (D.faults depot.old) (D.faults depot.new) result }
     ensures read { ReadsStore store.old store.new }
     ensures comparison { result ≡ Ok Compared.More → FitsTold (S.told shelf.new) (repo_view source.new) (D.told depot.new) (repo_view store.new.repo)
         (comparison_view comparison.new) }
     ensures name { (comparison_view comparison.new).name ≡ (comparison_view comparison.old).name }
-    ensures equal { result ≡ Ok Compared.Equal → (block : ℕ) → IsSame (origin (S.told shelf.old) (repo_view source.old) block) (D.told depot.new)
+    ensures equal { result ≡ Ok Compared.Equal → (block most : ℕ) → IsSame (origin (S.told shelf.old) (repo_view source.old) block most) (D.told depot.new)
         (repo_view store.new.repo) (comparison_view comparison.old).name }
     ensures differs { result ≡ Ok Compared.Differs → Differ (S.told shelf.old) (repo_view source.old) (D.told depot.old) (repo_view store.old.repo)
         (comparison_view comparison.old).name }
-    ensures differs_now { result ≡ Ok Compared.Differs → (block : ℕ) → DiffersThere (origin (S.told shelf.old) (repo_view source.old) block)
+    ensures differs_now { result ≡ Ok Compared.Differs → (block most : ℕ) → DiffersThere (origin (S.told shelf.old) (repo_view source.old) block most)
         (D.told depot.new) (repo_view store.new.repo) (comparison_view comparison.old).name }
     ensures refused { IfErr result (RefusesComparing (S.told shelf.old) (repo_view source.old) (comparison_view comparison.old).name) }
     ensures fits { IfSome (D.told depot.new) (λ t. StoreFits false store.new t.history) }
-    ensures stops { IfErr result (StopsTarget (D.told depot.new) (repo_view store.old.repo).keys) }
+    ensures stops { IfErr result (StopsPieces (D.told depot.new) (repo_view store.old.repo).keys) }
     ensures source_fits { IfSome (S.told shelf.new) (λ t. FitsRepo (told_files t) (repo_view source.new) (cached_in source.new)) }
     ensures kept { repo_view source.new ≡ repo_view source.old }
     ensures same { KeepsTold shelf_failed (S.told shelf.old) (S.told shelf.new) result }
@@ -391,13 +452,13 @@ fn compare_item<S: Shelf, D: Depot>(
 fn present<D: Depot>(store: &mut Store, depot: &mut D) -> Result<Turn, CarryFault>
     requires unspent { IsUnspent store.old }
     requires fits { IfSome (D.told depot.old) (λ t. StoreFits false store.old t.history) }
-    ensures works { Works (KeepsStanding store.old) (λ _. Gathers store.old [] store.new)
+    ensures works { (most : ℕ) → Works (KeepsStanding most store.old) (λ _. Gathers most store.old [] store.new)
         (D.told depot.old) (D.told depot.new) (D.faults depot.old) (D.faults depot.new) result }
     ensures present { IfOk result (λ turn. turn ≡ Turn.Present) }
     ensures pending { OnOk result (store.new.pending ≡ 0) }
     ensures rest { OnOk result (KeepsRest store.old store.new) }
     ensures fits { OnOk result (IfSome (D.told depot.new) (λ t. StoreFits false store.new t.history)) }
-    ensures stops { IfErr result (StopsTarget (D.told depot.new) (repo_view store.old.repo).keys) }
+    ensures stops { IfErr result (StopsPieces (D.told depot.new) (repo_view store.old.repo).keys) }
     ensures unspent { OnOk result (IsUnspent store.new) }
     ensures target { IfErr result (λ fault. is_target fault ≡ true) }
     ensures drawn { IfErr result (λ fault. random_failed fault ≡ false) }

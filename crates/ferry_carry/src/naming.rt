@@ -3,17 +3,19 @@ ghost use Rattle.std.specs.Prelude.{◌≡◌, ◌≤◌, ◌∷◌, ◌++◌, [
 ghost use Rattle.ferry_base.specs.Limits.{content_limit};
 ghost use Rattle.ferry_blob.specs.Blob.{content_id};
 ghost use Rattle.ferry_carry.specs.Copying.{IsReady};
-ghost use Rattle.ferry_carry.specs.Fault.{random_failed, shelf_failed, target_failed};
+ghost use Rattle.ferry_carry.specs.Fault.{IsOfWork, random_failed, shelf_failed, target_failed};
 ghost use Rattle.ferry_carry.specs.Gather.{Gathers, KeepsRest, KeepsStanding, chunks_of};
 ghost use Rattle.ferry_carry.specs.Carrying.{Origin};
-ghost use Rattle.ferry_carry.specs.Flight.{AcceptsOne, Carries, NamesArchive};
+ghost use Rattle.ferry_carry.specs.Flight.{AcceptsOne, Carries, ListsDone, NamesArchive};
 ghost use Rattle.ferry_carry.specs.Grow.{AcceptsMore, KeepsMost};
 ghost use Rattle.ferry_carry.specs.Progress.{IsAllCopied};
+ghost use Rattle.ferry_carry.specs.Puts.{Addition, IsCheckpoint, Record, pieces};
 ghost use Rattle.ferry_carry.specs.Naming.{IsRecord, copied_archive, entry_for, fixed_params};
-ghost use Rattle.ferry_carry.specs.Refusals.{RefusesEnd, RefusesRecordText, StopsTarget, is_target};
+ghost use Rattle.ferry_carry.specs.Refusals.{IsLimited, LimitsManifest, RefusesEnd, RefusesRecordText, StopsPieces, StopsTarget, is_target, named_next};
 ghost use Rattle.ferry_msgpack.specs.View.{value_view};
 ghost use Rattle.ferry_carry.specs.Work.{Works};
 ghost use Rattle.ferry_disk.specs.Device.{HasCause, Told};
+ghost use Rattle.ferry_disk.specs.Moments.{Between};
 ghost use Rattle.ferry_mac.specs.declared.keys.Keys.{Keys};
 ghost use Rattle.ferry_manifest.specs.Manifest.Text.{ManifestText};
 ghost use Rattle.ferry_manifest.specs.Manifest.Writing.{IsPackable};
@@ -98,7 +100,7 @@ fn record_text(
     ensures reads { IfOk result (λ text. archive_of keys.now text.items ≡ Ok (as_tagged (archive_view archive.now))) }
     ensures small { IfOk result (λ text. length text.items ≤ content_limit) }
     ensures refused { IfErr result (RefusesRecordText keys.now (archive_view archive.now)) }
-    ensures stops { IfErr result (λ fault. (now : Option Told) (secrets : Keys) → StopsTarget now secrets fault) }
+    ensures stops { IfErr result (λ fault. (now : Option Told) (secrets : Keys) → StopsPieces now secrets fault) }
     ensures shelf { IfErr result (λ fault. shelf_failed fault ≡ false) }
     ensures still { IfErr result (λ fault. target_failed fault ≡ false) }
     ensures drawn { IfErr result (λ fault. random_failed fault ≡ false) }
@@ -122,7 +124,7 @@ fn tagged_record<E: Entropy>(
     ensures reads { IfOk result (λ text. archive_of keys.now text.items ≡ Ok (as_tagged (archive_view archive.now))) }
     ensures small { IfOk result (λ text. length text.items ≤ content_limit) }
     ensures refused { IfErr result (RefusesRecordText keys.now (archive_view archive.now)) }
-    ensures stops { IfErr result (λ fault. (now : Option Told) (secrets : Keys) → StopsTarget now secrets fault) }
+    ensures stops { IfErr result (λ fault. (now : Option Told) (secrets : Keys) → StopsPieces now secrets fault) }
     ensures shelf { IfErr result (λ fault. shelf_failed fault ≡ false) }
     ensures still { IfErr result (λ fault. target_failed fault ≡ false) }
     ensures entropy { HasCause random_failed (E.faults entropy.old) (E.faults entropy.new) result }
@@ -137,12 +139,13 @@ fn add_record<D: Depot>(store: &mut Store, depot: &mut D, text: &[u8]) -> Result
     requires size { length text.now ≤ content_limit }
     requires unspent { IsUnspent store.old }
     requires fits { IfSome (D.told depot.old) (λ t. StoreFits false store.old t.history) }
-    ensures works { Works (KeepsStanding store.old) (λ _. Gathers store.old (text.now ∷ []) store.new)
+    ensures works { (most : ℕ) → IsCheckpoint most → store.old.pending ≤ most
+        → Works (KeepsStanding most store.old) (λ _. Gathers most store.old (Record text.now ∷ []) store.new)
         (D.told depot.old) (D.told depot.new) (D.faults depot.old) (D.faults depot.new) result }
     ensures id { IfOk result (λ id. id ≡ content_id (repo_view store.old.repo).keys text.now) }
     ensures rest { OnOk result (KeepsRest store.old store.new) }
     ensures fits { OnOk result (IfSome (D.told depot.new) (λ t. StoreFits false store.new t.history)) }
-    ensures stops { IfErr result (StopsTarget (D.told depot.new) (repo_view store.old.repo).keys) }
+    ensures stops { IfErr result (StopsPieces (D.told depot.new) (repo_view store.old.repo).keys) }
     ensures unspent { OnOk result (IsUnspent store.new) }
     ensures drawn { IfErr result (λ fault. random_failed fault ≡ false) }
     ensures target { IfErr result (λ fault. is_target fault ≡ true) }
@@ -173,13 +176,14 @@ fn put_record<D: Depot, E: Entropy>(
     requires packable { IsPackableArchive (archive_view archive.now) }
     requires unspent { IsUnspent store.old }
     requires fits { IfSome (D.told depot.old) (λ t. StoreFits false store.old t.history) }
-    ensures put { (text : List ℕ) × (Works (KeepsStanding store.old) (λ _. Gathers store.old (text ∷ []) store.new)
-        (D.told depot.old) (D.told depot.new) (D.faults depot.old) (D.faults depot.new) result
+    ensures put { (text : List ℕ) × (((most : ℕ) → IsCheckpoint most → store.old.pending ≤ most
+        → Works (KeepsStanding most store.old) (λ _. Gathers most store.old (Record text ∷ []) store.new)
+        (D.told depot.old) (D.told depot.new) (D.faults depot.old) (D.faults depot.new) result)
         × IfOk result (λ id. (id ≡ content_id (repo_view store.old.repo).keys text)
         × (archive_of (repo_view store.old.repo).keys text ≡ Ok (as_tagged (archive_view archive.now))))) }
     ensures rest { OnOk result (KeepsRest store.old store.new) }
     ensures fits { OnOk result (IfSome (D.told depot.new) (λ t. StoreFits false store.new t.history)) }
-    ensures stops { IfErr result (StopsTarget (D.told depot.new) (repo_view store.old.repo).keys) }
+    ensures stops { IfErr result (StopsPieces (D.told depot.new) (repo_view store.old.repo).keys) }
     ensures unspent { OnOk result (IsUnspent store.new) }
     ensures entropy { HasCause random_failed (E.faults entropy.old) (E.faults entropy.new) result }
     ensures refused { IfErr result (RefusesRecordText (repo_view store.old.repo).keys (archive_view archive.now)) }
@@ -202,12 +206,13 @@ fn put_copied<D: Depot, E: Entropy>(
     requires packable { IsPackableArchive (archive_view archive) }
     requires unspent { IsUnspent store.old }
     requires fits { IfSome (D.told depot.old) (λ t. StoreFits false store.old t.history) }
-    ensures put { (text : List ℕ) × (Works (KeepsStanding store.old) (λ _. Gathers store.old (text ∷ []) store.new)
-        (D.told depot.old) (D.told depot.new) (D.faults depot.old) (D.faults depot.new) result
+    ensures put { (text : List ℕ) × (((most : ℕ) → IsCheckpoint most → store.old.pending ≤ most
+        → Works (KeepsStanding most store.old) (λ _. Gathers most store.old (Record text ∷ []) store.new)
+        (D.told depot.old) (D.told depot.new) (D.faults depot.old) (D.faults depot.new) result)
         × IfOk result (λ id. IsRecord (repo_view store.old.repo).keys (archive_view archive) block pieces.now text id)) }
     ensures rest { OnOk result (KeepsRest store.old store.new) }
     ensures fits { OnOk result (IfSome (D.told depot.new) (λ t. StoreFits false store.new t.history)) }
-    ensures stops { IfErr result (StopsTarget (D.told depot.new) (repo_view store.old.repo).keys) }
+    ensures stops { IfErr result (StopsPieces (D.told depot.new) (repo_view store.old.repo).keys) }
     ensures unspent { OnOk result (IsUnspent store.new) }
     ensures entropy { HasCause random_failed (E.faults entropy.old) (E.faults entropy.new) result }
     ensures refused { IfErr result (RefusesRecordText (repo_view store.old.repo).keys
@@ -232,16 +237,18 @@ fn end_stream<D: Depot, E: Entropy>(
     requires least { 1 ≤ stream.old.cutter.block }
     requires most { stream.old.cutter.block ≤ 8388608 }
     requires within { length stream.old.cutter.piece ≤ stream.old.cutter.block }
+    requires checkpoint { IsCheckpoint stream.old.checkpoint }
+    requires pending { store.old.pending ≤ stream.old.checkpoint }
     requires unspent { IsUnspent store.old }
     requires fits { IfSome (D.told depot.old) (λ t. StoreFits false store.old t.history) }
-    ensures ended { (text : List ℕ) × (Works (KeepsStanding store.old)
-        (λ _. Gathers store.old (cut stream.old.cutter.block stream.old.cutter.piece ++ text ∷ []) store.new)
+    ensures ended { (text : List ℕ) × (Works (KeepsStanding stream.old.checkpoint store.old)
+        (λ _. Gathers stream.old.checkpoint store.old (pieces (cut stream.old.cutter.block stream.old.cutter.piece) ++ Record text ∷ []) store.new)
         (D.told depot.old) (D.told depot.new) (D.faults depot.old) (D.faults depot.new) result
         × IfOk result (λ id. IsRecord (repo_view store.old.repo).keys (archive_view archive) block (stream.old.chunks.items
         ++ chunks_of (repo_view store.old.repo).keys (cut stream.old.cutter.block stream.old.cutter.piece)) text id)) }
     ensures rest { OnOk result (KeepsRest store.old store.new) }
     ensures fits { OnOk result (IfSome (D.told depot.new) (λ t. StoreFits false store.new t.history)) }
-    ensures stops { IfErr result (StopsTarget (D.told depot.new) (repo_view store.old.repo).keys) }
+    ensures stops { IfErr result (StopsPieces (D.told depot.new) (repo_view store.old.repo).keys) }
     ensures unspent { OnOk result (IsUnspent store.new) }
     ensures entropy { HasCause random_failed (E.faults entropy.old) (E.faults entropy.new) result }
     ensures refused { IfErr result (RefusesRecordText (repo_view store.old.repo).keys (copied_archive (archive_view archive) block
@@ -253,7 +260,7 @@ fn end_stream<D: Depot, E: Entropy>(
     put_copied(alloc, store, depot, entropy, archive, block, &pieces)
 }
 
-/// NamesArchive an archive whose record was added under its name.
+/// Names an archive whose record was added.
 fn name_record<D: Depot, E: Entropy>(
     alloc: Global,
     source: &Repo,
@@ -271,13 +278,19 @@ fn name_record<D: Depot, E: Entropy>(
     requires unnamed { archive_named named.now.name (accepted_in store.old).archives ≡ None }
     ensures works { NamesArchive (accepted_in store.old) (entry_for named.now id) store.old store.new
         (D.told depot.old) (D.told depot.new) (D.faults depot.old) (D.faults depot.new) result }
+    // Where it is refused, but for a device that failed and want of memory, nothing is named.
+    ensures stands { IfErr result (λ fault. IsOfWork fault
+        → (most : ℕ) → Between (D.told depot.old) (D.told depot.new) (KeepsStanding most store.old)) }
     ensures most { OnOk result (KeepsMost store.old store.new) }
-    ensures named { OnOk result ((time : List ℕ) × (repo_view store.new.repo ≡ with_manifest (repo_view store.old.repo)
-        (written_at (next_manifest (accepted_in store.old) (entry_for named.now id) (repo_view source.now).manifest.item_keys) time))) }
+    ensures named { OnOk result (repo_view store.new.repo ≡ with_manifest (repo_view store.old.repo)
+        (named_next timestamp.now (repo_view source.now) store.old named.now id)) }
     ensures accepted { OnOk result (accepted_in store.new ≡ (repo_view store.new.repo).manifest) }
+    ensures pending { OnOk result (store.new.pending ≡ 0) }
     ensures packable { OnOk result (IsPackable (accepted_in store.new)) }
     ensures fits { OnOk result (IfSome (D.told depot.new) (λ t. StoreFits false store.new t.history)) }
     ensures stops { IfErr result (StopsTarget (D.told depot.new) (repo_view store.old.repo).keys) }
+    ensures limit { IfErr result (LimitsManifest (repo_view store.old.repo).keys
+        (named_next timestamp.now (repo_view source.now) store.old named.now id)) }
     ensures unspent { OnOk result (IsUnspent store.new) }
     ensures entropy { HasCause random_failed (E.faults entropy.old) (E.faults entropy.new) result }
     ensures target { IfErr result (λ fault. is_target fault ≡ true) }
@@ -305,22 +318,30 @@ pub(crate) fn end_copy<D: Depot, E: Entropy>(
     timestamp: &Option<Bytes>,
 ) -> Result<Carried, CarryFault>
     requires ready { IsReady copy }
+    requires pending { store.old.pending ≤ copy.contents.checkpoint }
     requires unspent { IsUnspent store.old }
     requires fits { IfSome (D.told depot.old) (λ t. StoreFits false store.old t.history) }
     requires packable { IsPackable (accepted_in store.old) }
     requires accepts { AcceptsMore store.old }
     requires unnamed { archive_named named.now.name (accepted_in store.old).archives ≡ None }
-    ensures works { (from : Origin) → IsAllCopied from named.now (D.told depot.old) store.old copy
-        → Carries from (named.now.name ∷ []) store.old store.new
-        (D.told depot.old) (D.told depot.new) (D.faults depot.old) (D.faults depot.new) result }
+    ensures works { (from : Origin) (added : List (List ℕ)) → IsAllCopied from named.now (D.told depot.old) store.old copy added
+        → (more : List Addition) × (Carries from (named.now.name ∷ []) more store.old store.new
+        (D.told depot.old) (D.told depot.new) (D.faults depot.old) (D.faults depot.new) result
+        × IfOk result (λ _. ListsDone (D.told depot.old) from (repo_view store.old.repo).keys named.now.name (pieces added ++ more) true)) }
+    ensures stands { IfErr result (λ fault. IsOfWork fault
+        → Between (D.told depot.old) (D.told depot.new) (KeepsStanding copy.contents.checkpoint store.old)) }
     ensures most { OnOk result (KeepsMost store.old store.new) }
+    ensures named { OnOk result ((text : List ℕ) × (accepted_in store.new
+        ≡ named_next timestamp.now (repo_view source.now) store.old named.now (content_id (repo_view store.old.repo).keys text))) }
     ensures accepted { OnOk result (accepted_in store.new ≡ (repo_view store.new.repo).manifest) }
+    ensures pending { OnOk result (store.new.pending ≡ 0) }
     ensures packable { OnOk result (IsPackable (accepted_in store.new)) }
     ensures fits { OnOk result (IfSome (D.told depot.new) (λ t. StoreFits false store.new t.history)) }
     ensures stops { IfErr result (StopsTarget (D.told depot.new) (repo_view store.old.repo).keys) }
+    ensures limit { IfErr result (IsLimited (D.told depot.new) timestamp.now (repo_view source.now) store.old named.now) }
     ensures unspent { OnOk result (IsUnspent store.new) }
     ensures entropy { HasCause random_failed (E.faults entropy.old) (E.faults entropy.new) result }
-    ensures refused { (from : Origin) → IsAllCopied from named.now (D.told depot.old) store.old copy
+    ensures refused { (from : Origin) (added : List (List ℕ)) → IsAllCopied from named.now (D.told depot.old) store.old copy added
         → IfErr result (RefusesEnd from (D.told depot.old) (repo_view store.old.repo).keys named.now.name) }
     ensures shelf { IfErr result (λ fault. shelf_failed fault ≡ false) }
 {
@@ -354,13 +375,19 @@ fn commit_named<D: Depot, E: Entropy>(
     requires unnamed { archive_named entry.name (accepted_in store.old).archives ≡ None }
     ensures works { NamesArchive (accepted_in store.old) entry store.old store.new
         (D.told depot.old) (D.told depot.new) (D.faults depot.old) (D.faults depot.new) result }
+    // Where it is refused, but for a device that failed and want of memory, nothing is named.
+    ensures stands { IfErr result (λ fault. IsOfWork fault
+        → (most : ℕ) → Between (D.told depot.old) (D.told depot.new) (KeepsStanding most store.old)) }
     ensures most { OnOk result (KeepsMost store.old store.new) }
     ensures named { OnOk result (repo_view store.new.repo ≡ with_manifest (repo_view store.old.repo)
         (written_at (next_manifest (accepted_in store.old) entry (repo_view source.now).manifest.item_keys) timestamp.now)) }
     ensures accepted { OnOk result (accepted_in store.new ≡ (repo_view store.new.repo).manifest) }
+    ensures pending { OnOk result (store.new.pending ≡ 0) }
     ensures packable { OnOk result (IsPackable (accepted_in store.new)) }
     ensures fits { OnOk result (IfSome (D.told depot.new) (λ t. StoreFits false store.new t.history)) }
     ensures stops { IfErr result (StopsTarget (D.told depot.new) (repo_view store.old.repo).keys) }
+    ensures limit { IfErr result (LimitsManifest (repo_view store.old.repo).keys
+        (written_at (next_manifest (accepted_in store.old) entry (repo_view source.now).manifest.item_keys) timestamp.now)) }
     ensures unspent { OnOk result (IsUnspent store.new) }
     ensures entropy { HasCause random_failed (E.faults entropy.old) (E.faults entropy.new) result }
     ensures target { IfErr result (λ fault. is_target fault ≡ true) }
@@ -370,7 +397,7 @@ fn commit_named<D: Depot, E: Entropy>(
     commit(store, depot, entropy, timestamp)
 }
 
-/// NamesArchive what was put and what was accepted.
+/// Commits what was put and what was accepted.
 #[tactic(auto, using(crate::proofs::FaultLemmas::conversions))]
 fn commit<D: Depot, E: Entropy>(
     store: &mut Store,
@@ -384,12 +411,17 @@ fn commit<D: Depot, E: Entropy>(
     requires accepts { AcceptsMore store.old }
     ensures works { (accepted : ManifestText) (entry : ArchiveRef) → AcceptsOne accepted store.old entry → NamesArchive accepted entry store.old store.new
         (D.told depot.old) (D.told depot.new) (D.faults depot.old) (D.faults depot.new) result }
+    // Where it is refused, but for a device that failed and want of memory, nothing is named.
+    ensures stands { IfErr result (λ fault. IsOfWork fault
+        → (most : ℕ) → Between (D.told depot.old) (D.told depot.new) (KeepsStanding most store.old)) }
     ensures most { OnOk result (KeepsMost store.old store.new) }
     ensures committed { OnOk result (repo_view store.new.repo ≡ with_manifest (repo_view store.old.repo) (written_at (accepted_in store.old) timestamp.now)) }
     ensures accepted { OnOk result (accepted_in store.new ≡ (repo_view store.new.repo).manifest) }
+    ensures pending { OnOk result (store.new.pending ≡ 0) }
     ensures packable { OnOk result (IsPackable (accepted_in store.new)) }
     ensures fits { OnOk result (IfSome (D.told depot.new) (λ t. StoreFits false store.new t.history)) }
     ensures stops { IfErr result (StopsTarget (D.told depot.new) (repo_view store.old.repo).keys) }
+    ensures limit { IfErr result (LimitsManifest (repo_view store.old.repo).keys (written_at (accepted_in store.old) timestamp.now)) }
     ensures unspent { OnOk result (IsUnspent store.new) }
     ensures entropy { HasCause random_failed (E.faults entropy.old) (E.faults entropy.new) result }
     ensures target { IfErr result (λ fault. is_target fault ≡ true) }

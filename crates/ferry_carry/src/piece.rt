@@ -1,14 +1,17 @@
 //! Bytes that are cut into pieces, each of which is added to a store.
-ghost use Rattle.std.specs.Prelude.{◌≡◌, ◌≤◌, ◌<◌, ◌+◌, ◌++◌, ◌∷◌, [], ℕ, List, false, true, length, IfErr, IfOk, IfSome, OnOk};
+ghost use Rattle.std.specs.Prelude.{◌≡◌, ◌≤◌, ◌<◌, ◌↔◌, ◌+◌, ◌++◌, ◌∷◌, [], ℕ, List, false, true, length, IfErr, IfOk, IfSome, IsTrue, OnOk};
 ghost use Rattle.ferry_base.specs.Limits.{content_limit};
 ghost use Rattle.ferry_blob.specs.Blob.{content_id};
 ghost use Rattle.ferry_carry.specs.Fault.{random_failed, shelf_failed};
 ghost use Rattle.ferry_carry.specs.Gather.{Gathers, KeepsRest, KeepsStanding, chunk_of, chunks_of};
-ghost use Rattle.ferry_carry.specs.Piece.{WritesOn};
-ghost use Rattle.ferry_carry.specs.Refusals.{StopsTarget, is_target};
+ghost use Rattle.ferry_carry.specs.Piece.{HasRoom, WritesOn};
+ghost use Rattle.ferry_carry.specs.Puts.{Addition, IsCheckpoint, Piece, content_in, pieces};
+ghost use Rattle.ferry_carry.specs.Refusals.{StopsPieces, is_target};
 ghost use Rattle.ferry_carry.specs.Work.{Works};
 ghost use Rattle.ferry_rechunk.specs.Cut.{cut};
 ghost use Rattle.ferry_repo.specs.Opening.{repo_view};
+ghost use Rattle.ferry_store.specs.Adding.{id_under, pending_after};
+ghost use Rattle.ferry_store.specs.Content.{IsNew};
 ghost use Rattle.ferry_store.specs.Store.{IsUnspent, StoreFits};
 
 use crate::fault::CarryFault;
@@ -30,14 +33,17 @@ fn add_piece<D: Depot>(
     piece: &[u8],
 ) -> Result<Added, CarryFault>
     requires size { length piece.now ≤ content_limit }
+    requires checkpoint { IsCheckpoint checkpoint }
+    requires pending { store.old.pending ≤ checkpoint }
     requires unspent { IsUnspent store.old }
     requires fits { IfSome (D.told depot.old) (λ t. StoreFits false store.old t.history) }
-    ensures works { Works (KeepsStanding store.old) (λ _. Gathers store.old (piece.now ∷ []) store.new)
+    ensures works { Works (KeepsStanding checkpoint store.old) (λ _. Gathers checkpoint store.old (Piece piece.now ∷ []) store.new)
         (D.told depot.old) (D.told depot.new) (D.faults depot.old) (D.faults depot.new) result }
     ensures id { IfOk result (λ added. added.id ≡ content_id (repo_view store.old.repo).keys piece.now) }
+    ensures pending { OnOk result (store.new.pending ≤ checkpoint) }
     ensures rest { OnOk result (KeepsRest store.old store.new) }
     ensures fits { OnOk result (IfSome (D.told depot.new) (λ t. StoreFits false store.new t.history)) }
-    ensures stops { IfErr result (StopsTarget (D.told depot.new) (repo_view store.old.repo).keys) }
+    ensures stops { IfErr result (StopsPieces (D.told depot.new) (repo_view store.old.repo).keys) }
     ensures unspent { OnOk result (IsUnspent store.new) }
     ensures shelf { IfErr result (λ fault. shelf_failed fault ≡ false) }
     ensures target { IfErr result (λ fault. is_target fault ≡ true) }
@@ -54,13 +60,17 @@ fn make_room<D: Depot>(
     checkpoint: u64,
     piece: &[u8],
 ) -> Result<(), CarryFault>
+    requires checkpoint { IsCheckpoint checkpoint }
+    requires pending { store.old.pending ≤ checkpoint }
     requires unspent { IsUnspent store.old }
     requires fits { IfSome (D.told depot.old) (λ t. StoreFits false store.old t.history) }
-    ensures works { Works (KeepsStanding store.old) (λ _. Gathers store.old [] store.new)
+    ensures works { Works (KeepsStanding checkpoint store.old) (λ _. Gathers checkpoint store.old [] store.new)
         (D.told depot.old) (D.told depot.new) (D.faults depot.old) (D.faults depot.new) result }
+    ensures pending { OnOk result (store.new.pending ≤ checkpoint) }
+    ensures room { OnOk result (IsNew (repo_view store.new.repo) (id_under store.new piece.now) → store.new.pending < checkpoint) }
     ensures rest { OnOk result (KeepsRest store.old store.new) }
     ensures fits { OnOk result (IfSome (D.told depot.new) (λ t. StoreFits false store.new t.history)) }
-    ensures stops { IfErr result (StopsTarget (D.told depot.new) (repo_view store.old.repo).keys) }
+    ensures stops { IfErr result (StopsPieces (D.told depot.new) (repo_view store.old.repo).keys) }
     ensures unspent { OnOk result (IsUnspent store.new) }
     ensures shelf { IfErr result (λ fault. shelf_failed fault ≡ false) }
     ensures target { IfErr result (λ fault. is_target fault ≡ true) }
@@ -77,12 +87,12 @@ fn make_room<D: Depot>(
 pub(crate) fn commit_pieces<D: Depot>(store: &mut Store, depot: &mut D) -> Result<(), CarryFault>
     requires unspent { IsUnspent store.old }
     requires fits { IfSome (D.told depot.old) (λ t. StoreFits false store.old t.history) }
-    ensures works { Works (KeepsStanding store.old) (λ _. Gathers store.old [] store.new)
+    ensures works { (most : ℕ) → Works (KeepsStanding most store.old) (λ _. Gathers most store.old [] store.new)
         (D.told depot.old) (D.told depot.new) (D.faults depot.old) (D.faults depot.new) result }
     ensures rest { OnOk result (KeepsRest store.old store.new) }
     ensures pending { OnOk result (store.new.pending ≡ 0) }
     ensures fits { OnOk result (IfSome (D.told depot.new) (λ t. StoreFits false store.new t.history)) }
-    ensures stops { IfErr result (StopsTarget (D.told depot.new) (repo_view store.old.repo).keys) }
+    ensures stops { IfErr result (StopsPieces (D.told depot.new) (repo_view store.old.repo).keys) }
     ensures unspent { OnOk result (IsUnspent store.new) }
     ensures shelf { IfErr result (λ fault. shelf_failed fault ≡ false) }
     ensures target { IfErr result (λ fault. is_target fault ≡ true) }
@@ -102,12 +112,15 @@ pub(crate) fn add<D: Depot>(
     requires size { length content.now ≤ content_limit }
     requires unspent { IsUnspent store.old }
     requires fits { IfSome (D.told depot.old) (λ t. StoreFits false store.old t.history) }
-    ensures works { Works (KeepsStanding store.old) (λ _. Gathers store.old (content.now ∷ []) store.new)
+    ensures works { (most : ℕ) (one : Addition) → content_in one ≡ content.now → HasRoom most one store.old
+        → Works (KeepsStanding most store.old) (λ _. Gathers most store.old (one ∷ []) store.new)
         (D.told depot.old) (D.told depot.new) (D.faults depot.old) (D.faults depot.new) result }
+    ensures pending { IfOk result (λ added. store.new.pending ≡ pending_after store.old.pending added.new) }
+    ensures new { IfOk result (λ added. IsTrue added.new ↔ IsNew (repo_view store.old.repo) (id_under store.old content.now)) }
     ensures id { IfOk result (λ added. added.id ≡ content_id (repo_view store.old.repo).keys content.now) }
     ensures rest { OnOk result (KeepsRest store.old store.new) }
     ensures fits { OnOk result (IfSome (D.told depot.new) (λ t. StoreFits false store.new t.history)) }
-    ensures stops { IfErr result (StopsTarget (D.told depot.new) (repo_view store.old.repo).keys) }
+    ensures stops { IfErr result (StopsPieces (D.told depot.new) (repo_view store.old.repo).keys) }
     ensures unspent { OnOk result (IsUnspent store.new) }
     ensures shelf { IfErr result (λ fault. shelf_failed fault ≡ false) }
     ensures target { IfErr result (λ fault. is_target fault ≡ true) }
@@ -137,6 +150,7 @@ impl PieceWriter {
     ) -> Result<PieceWriter, AllocError>
         requires least { 64 ≤ block }
         requires most { block ≤ 8388608 }
+        ensures checkpoint { IfOk result (λ writer. writer.checkpoint ≡ checkpoint) }
         ensures block { IfOk result (λ writer. writer.cutter.block ≡ block) }
         ensures piece { IfOk result (λ writer. writer.cutter.piece ≡ []) }
         ensures chunks { IfOk result (λ writer. writer.chunks.items ≡ []) }
@@ -165,15 +179,20 @@ impl PieceWriter {
     ) -> Result<(), CarryFault>
         requires most { self.old.cutter.block ≤ 8388608 }
         requires room { length self.old.cutter.piece < self.old.cutter.block }
+        requires checkpoint { IsCheckpoint self.old.checkpoint }
+        requires pending { store.old.pending ≤ self.old.checkpoint }
         requires unspent { IsUnspent store.old }
         requires fits { IfSome (D.told depot.old) (λ t. StoreFits false store.old t.history) }
-        ensures written { (more : List (List ℕ)) × (Works (KeepsStanding store.old) (λ _. Gathers store.old more store.new)
+        ensures written { (more : List (List ℕ)) × (Works (KeepsStanding self.old.checkpoint store.old)
+            (λ _. Gathers self.old.checkpoint store.old (pieces more) store.new)
             (D.told depot.old) (D.told depot.new) (D.faults depot.old) (D.faults depot.new) result
             × OnOk result (WritesOn (repo_view store.old.repo).keys self.old.cutter self.old.chunks.items bytes.now more
             self.new.cutter self.new.chunks.items)) }
+        ensures checkpoint { OnOk result (self.new.checkpoint ≡ self.old.checkpoint) }
+        ensures pending { OnOk result (store.new.pending ≤ self.old.checkpoint) }
         ensures rest { OnOk result (KeepsRest store.old store.new) }
         ensures fits { OnOk result (IfSome (D.told depot.new) (λ t. StoreFits false store.new t.history)) }
-        ensures stops { IfErr result (StopsTarget (D.told depot.new) (repo_view store.old.repo).keys) }
+        ensures stops { IfErr result (StopsPieces (D.told depot.new) (repo_view store.old.repo).keys) }
         ensures unspent { OnOk result (IsUnspent store.new) }
         ensures shelf { IfErr result (λ fault. shelf_failed fault ≡ false) }
         ensures target { IfErr result (λ fault. is_target fault ≡ true) }
@@ -199,17 +218,22 @@ impl PieceWriter {
         requires least { 1 ≤ self.old.cutter.block }
         requires most { self.old.cutter.block ≤ 8388608 }
         requires within { length self.old.cutter.piece ≤ self.old.cutter.block }
+        requires checkpoint { IsCheckpoint self.old.checkpoint }
+        requires pending { store.old.pending ≤ self.old.checkpoint }
         requires unspent { IsUnspent store.old }
         requires fits { IfSome (D.told depot.old) (λ t. StoreFits false store.old t.history) }
-        ensures works { Works (KeepsStanding store.old) (λ _. Gathers store.old (cut self.old.cutter.block self.old.cutter.piece) store.new)
+        ensures works { Works (KeepsStanding self.old.checkpoint store.old)
+            (λ _. Gathers self.old.checkpoint store.old (pieces (cut self.old.cutter.block self.old.cutter.piece)) store.new)
             (D.told depot.old) (D.told depot.new) (D.faults depot.old) (D.faults depot.new) result }
         ensures chunks { IfOk result (λ chunks. chunks.items
             ≡ self.old.chunks.items ++ chunks_of (repo_view store.old.repo).keys (cut self.old.cutter.block self.old.cutter.piece)) }
         ensures begun { OnOk result ((self.new.cutter.piece ≡ []) × (self.new.chunks.items ≡ [])) }
         ensures block { self.new.cutter.block ≡ self.old.cutter.block }
+        ensures checkpoint { OnOk result (self.new.checkpoint ≡ self.old.checkpoint) }
+        ensures pending { OnOk result (store.new.pending ≤ self.old.checkpoint) }
         ensures rest { OnOk result (KeepsRest store.old store.new) }
         ensures fits { OnOk result (IfSome (D.told depot.new) (λ t. StoreFits false store.new t.history)) }
-        ensures stops { IfErr result (StopsTarget (D.told depot.new) (repo_view store.old.repo).keys) }
+        ensures stops { IfErr result (StopsPieces (D.told depot.new) (repo_view store.old.repo).keys) }
         ensures unspent { OnOk result (IsUnspent store.new) }
         ensures shelf { IfErr result (λ fault. shelf_failed fault ≡ false) }
         ensures target { IfErr result (λ fault. is_target fault ≡ true) }
@@ -224,17 +248,22 @@ impl PieceWriter {
         requires least { 1 ≤ self.old.cutter.block }
         requires most { self.old.cutter.block ≤ 8388608 }
         requires within { length self.old.cutter.piece ≤ self.old.cutter.block }
+        requires checkpoint { IsCheckpoint self.old.checkpoint }
+        requires pending { store.old.pending ≤ self.old.checkpoint }
         requires unspent { IsUnspent store.old }
         requires fits { IfSome (D.told depot.old) (λ t. StoreFits false store.old t.history) }
-        ensures works { Works (KeepsStanding store.old) (λ _. Gathers store.old (cut self.old.cutter.block self.old.cutter.piece) store.new)
+        ensures works { Works (KeepsStanding self.old.checkpoint store.old)
+            (λ _. Gathers self.old.checkpoint store.old (pieces (cut self.old.cutter.block self.old.cutter.piece)) store.new)
             (D.told depot.old) (D.told depot.new) (D.faults depot.old) (D.faults depot.new) result }
         ensures chunks { OnOk result (self.new.chunks.items
             ≡ self.old.chunks.items ++ chunks_of (repo_view store.old.repo).keys (cut self.old.cutter.block self.old.cutter.piece)) }
         ensures cleared { OnOk result (self.new.cutter.piece ≡ []) }
         ensures block { self.new.cutter.block ≡ self.old.cutter.block }
+        ensures checkpoint { OnOk result (self.new.checkpoint ≡ self.old.checkpoint) }
+        ensures pending { OnOk result (store.new.pending ≤ self.old.checkpoint) }
         ensures rest { OnOk result (KeepsRest store.old store.new) }
         ensures fits { OnOk result (IfSome (D.told depot.new) (λ t. StoreFits false store.new t.history)) }
-        ensures stops { IfErr result (StopsTarget (D.told depot.new) (repo_view store.old.repo).keys) }
+        ensures stops { IfErr result (StopsPieces (D.told depot.new) (repo_view store.old.repo).keys) }
         ensures unspent { OnOk result (IsUnspent store.new) }
         ensures shelf { IfErr result (λ fault. shelf_failed fault ≡ false) }
         ensures target { IfErr result (λ fault. is_target fault ≡ true) }
@@ -251,17 +280,22 @@ impl PieceWriter {
         requires most { self.old.cutter.block ≤ 8388608 }
         requires within { length self.old.cutter.piece ≤ self.old.cutter.block }
         requires piece { 1 ≤ length self.old.cutter.piece }
+        requires checkpoint { IsCheckpoint self.old.checkpoint }
+        requires pending { store.old.pending ≤ self.old.checkpoint }
         requires unspent { IsUnspent store.old }
         requires fits { IfSome (D.told depot.old) (λ t. StoreFits false store.old t.history) }
-        ensures works { Works (KeepsStanding store.old) (λ _. Gathers store.old (self.old.cutter.piece ∷ []) store.new)
+        ensures works { Works (KeepsStanding self.old.checkpoint store.old)
+            (λ _. Gathers self.old.checkpoint store.old (Piece self.old.cutter.piece ∷ []) store.new)
             (D.told depot.old) (D.told depot.new) (D.faults depot.old) (D.faults depot.new) result }
         ensures chunks { OnOk result (self.new.chunks.items ≡ self.old.chunks.items
             ++ chunk_of (repo_view store.old.repo).keys self.old.cutter.piece ∷ []) }
         ensures cleared { OnOk result (self.new.cutter.piece ≡ []) }
         ensures block { self.new.cutter.block ≡ self.old.cutter.block }
+        ensures checkpoint { OnOk result (self.new.checkpoint ≡ self.old.checkpoint) }
+        ensures pending { OnOk result (store.new.pending ≤ self.old.checkpoint) }
         ensures rest { OnOk result (KeepsRest store.old store.new) }
         ensures fits { OnOk result (IfSome (D.told depot.new) (λ t. StoreFits false store.new t.history)) }
-        ensures stops { IfErr result (StopsTarget (D.told depot.new) (repo_view store.old.repo).keys) }
+        ensures stops { IfErr result (StopsPieces (D.told depot.new) (repo_view store.old.repo).keys) }
         ensures unspent { OnOk result (IsUnspent store.new) }
         ensures shelf { IfErr result (λ fault. shelf_failed fault ≡ false) }
         ensures target { IfErr result (λ fault. is_target fault ≡ true) }
@@ -282,6 +316,7 @@ impl PieceWriter {
         requires small { size ≤ content_limit }
         ensures chunks { OnOk result (self.new.chunks.items ≡ self.old.chunks.items
             ++ record { id = added.id; size = size; csize = 43 + size } ∷ []) }
+        ensures checkpoint { OnOk result (self.new.checkpoint ≡ self.old.checkpoint) }
         ensures cutter { self.new.cutter ≡ self.old.cutter }
     {
         let id = added.id;
@@ -297,6 +332,7 @@ impl PieceWriter {
     /// Counts a piece, where it was put.
     fn count(&mut self, new: bool, size: u64)
         ensures chunks { self.new.chunks ≡ self.old.chunks }
+        ensures checkpoint { self.new.checkpoint ≡ self.old.checkpoint }
         ensures cutter { self.new.cutter ≡ self.old.cutter }
     {
         if new {

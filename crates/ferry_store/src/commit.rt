@@ -1,5 +1,5 @@
 //! A manifest that is put and committed.
-ghost use Rattle.std.specs.Prelude.{◌≡◌, ◌++◌, ℕ, List, false, true, length, option_map, IfErr, IfSome, OnOk};
+ghost use Rattle.std.specs.Prelude.{◌≡◌, ◌≢◌, ◌++◌, ℕ, List, false, true, length, option_map, IfErr, IfSome, OnOk};
 ghost use Rattle.ferry_disk.specs.Device.{HasCause};
 ghost use Rattle.ferry_disk.specs.Image.{settled};
 ghost use Rattle.ferry_disk.specs.Moments.{Between};
@@ -9,9 +9,10 @@ ghost use Rattle.ferry_repo.specs.Opening.{repo_view};
 ghost use Rattle.ferry_stops.specs.Tells.{TellsNothing};
 ghost use Rattle.ferry_store.specs.Causes.{Stops};
 ghost use Rattle.ferry_store.specs.Commit.{CommitsEntry, HasCommitted, RefusesManifestOf, manifest_entry};
-ghost use Rattle.ferry_store.specs.Fault.{source_failed};
+ghost use Rattle.ferry_store.specs.Fault.{depot_failed, source_failed};
 ghost use Rattle.ferry_store.specs.Standing.{with_manifest};
-ghost use Rattle.ferry_store.specs.State.{Did};
+ghost use Rattle.ferry_store.specs.State.{Did, KeepsSound};
+ghost use Rattle.ferry_store.specs.declared.fault.StoreRefusal.TheVariants as Refusal;
 
 use crate::fault::StoreRefusal;
 use crate::put::{packed, put_object};
@@ -49,6 +50,9 @@ pub(crate) fn commit_manifest<D: Depot, E: Entropy>(
     ensures session { OnOk result (session.new.spent ≡ false) }
     ensures counter { OnOk result (counter.new.spent ≡ false) }
     ensures stops { IfErr result (λ refusal. Between (D.told depot.old) (D.told depot.new) (Stops session.old counter.old refusal)) }
+    // Where neither the device failed nor memory was refused, nothing is committed.
+    ensures keeps { IfErr result (λ refusal. depot_failed refusal ≡ false → refusal ≢ Refusal.Memory
+        → Between (D.told depot.old) (D.told depot.new) (KeepsSound session.old counter.old)) }
     ensures cause { HasCause source_failed (E.faults entropy.old) (E.faults entropy.new) result }
 {
     let mut buffer = packed(alloc, entropy, repo.keys(), manifest)?;

@@ -1,5 +1,5 @@
 //! The first steps of a repository that is made: what is there already, and the files beside the segments.
-ghost use Rattle.std.specs.Prelude.{◌≡◌, ◌↔◌, ℕ, true, false, Ok, IfOk, IfErr, IfSome, IsErrOf, OnOk};
+ghost use Rattle.std.specs.Prelude.{◌≡◌, ◌≢◌, ◌↔◌, ℕ, true, false, Ok, IfOk, IfErr, IfSome, IsErrOf, OnOk};
 ghost use Rattle.ferry_config.specs.Config.{config_of};
 ghost use Rattle.ferry_config.specs.Text.{config_text};
 ghost use Rattle.ferry_disk.specs.Act.{IsPlain, ReplaceBy, with_act};
@@ -114,6 +114,7 @@ pub(crate) fn commit<D: Depot>(depot: &mut D, session: &mut Session) -> Result<(
     ensures refused { IfErr result (RefusesCommit session.old) }
     ensures stops { (counter : Counter) → IfErr result (λ refusal. Between (D.told depot.old) (D.told depot.new) (Stops session.old counter refusal)) }
     ensures numbers { IsErrOf result (Refusal.Write Writes.Numbers) ↔ AreUsedUp session.old.last }
+    ensures nothing { IfErr result (λ refusal. depot_failed refusal ≡ false → refusal ≢ Refusal.Memory → D.told depot.new ≡ D.told depot.old) }
 {
     session.commit(depot)?;
     Ok(())

@@ -18,7 +18,7 @@ ghost use Rattle.ferry_store.specs.Causes.{Stops, StopsAt};
 ghost use Rattle.ferry_store.specs.Commit.{Commits, CommitsEntry, HasCommitted, RefusesManifestOf, accepted_in, manifest_entry};
 ghost use Rattle.ferry_blob.specs.Blob.{OpensTo};
 ghost use Rattle.ferry_store.specs.Content.{IsNew, Learns, RefusesNew, RefusesOld, blob_for};
-ghost use Rattle.ferry_store.specs.Fault.{source_failed, spends};
+ghost use Rattle.ferry_store.specs.Fault.{depot_failed, source_failed, spends};
 ghost use Rattle.ferry_store.specs.Standing.{with_manifest};
 ghost use Rattle.ferry_store.specs.State.{CommitsSound, Did, KeepsSound, RefusesCommit};
 ghost use Rattle.ferry_store.specs.Store.{InitEach, InitFits, InitMakes, IsKnown, IsUnspent, OpenEach, OpenFits, RefusesInit, RefusesOpen, StoreFits};
@@ -340,6 +340,9 @@ impl Store {
         ensures packable { IfOk result (λ manifest. IsPackable (manifest_view manifest)) }
         ensures rest { self.new ≡ record self.old { session = self.new.session; counter = self.new.counter } }
         ensures stops { IfErr result (λ refusal. Between (D.told depot.old) (D.told depot.new) (Stops self.old.session self.old.counter refusal)) }
+        // Where neither the device failed nor memory was refused, nothing is committed.
+        ensures keeps { IfErr result (λ refusal. depot_failed refusal ≡ false → refusal ≢ Refusal.Memory
+            → Between (D.told depot.old) (D.told depot.new) (KeepsSound self.old.session self.old.counter)) }
         ensures session { OnOk result (self.new.session.spent ≡ false) }
         ensures counter { OnOk result (self.new.counter.spent ≡ false) }
         ensures entropy { HasCause source_failed (E.faults entropy.old) (E.faults entropy.new) result }
@@ -459,6 +462,9 @@ impl Store {
         ensures unspent { OnOk result (IsUnspent self.new) }
         ensures spent { IfErr result (λ refusal. self.new.spent ≡ spends refusal) }
         ensures stops { IfErr result (λ refusal. IfSome (D.told depot.new) (λ t. StopsAt (told_files t) (repo_view self.old.repo).keys refusal)) }
+        // Where neither the device failed nor memory was refused, nothing is committed.
+        ensures keeps { IfErr result (λ refusal. depot_failed refusal ≡ false → refusal ≢ Refusal.Memory
+            → Between (D.told depot.old) (D.told depot.new) (KeepsSound self.old.session self.old.counter)) }
         ensures entropy { HasCause source_failed (E.faults entropy.old) (E.faults entropy.new) result }
     {
         match self.commit_accepted(depot, entropy, timestamp) {

@@ -7,5 +7,7 @@ pub mod InitLemmas
 pub mod RunLemmas
 pub mod TransferLemmas
 pub mod RerunLemmas
+pub mod VerifyLemmas
 pub mod LeftLemmas
 pub mod TransferCauseLemmas
+pub mod ToldLemmas

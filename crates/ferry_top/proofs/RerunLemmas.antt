@@ -17,7 +17,7 @@ use Rattle.ferry_top.specs.Transfer.{Arrives, IsChosenFront, KeepsArchives, Requ
 
 -- ---- what arrived is equal
 
-each_equal : (request : Request) (source image : Files) (repo : RepoState) (done : List (List ℕ))
+pub each_equal : (request : Request) (source image : Files) (repo : RepoState) (done : List (List ℕ))
     → (arrived : AllByRecursion (Arrives request source image repo) done) → EachApart request source image repo done arrived
     → AllByRecursion (IsEqualThere request source image) done
 each_equal request source image repo [] arrived apart = tt

@@ -257,7 +257,7 @@ does_nothing (Ok (Init iterations timestamp)) secrets all = record {
 }
 does_nothing (Ok (MakeKey iterations)) secrets all = record { source = refl; target = refl; prints = inl refl }
 does_nothing (Ok (Transfer block checkpoint timestamp names)) secrets all =
-    let request = asked secrets block names all.source.told in
+    let request = asked secrets (record { block = block; checkpoint = checkpoint; timestamp = timestamp }) names all.source.told in
     let told = all.target.told in
     let refused : IsRefusedSo request told told Memory =
     record { fault = CarryFault.Memory; status_is = refl; refuses = memory_refused request told told } in
@@ -267,6 +267,7 @@ does_nothing (Ok (Transfer block checkpoint timestamp names)) secrets all =
       refused = inr refused;
       ended = λ e. absurd (let no : ⊥ = cc in no);
       left = between_map told told (TransferEach request) (TransferLeaves request) (left_of request) (transfer_told request told);
+      only_told = λ e. absurd (let no : ⊥ = cc in no);
       each = transfer_told request told;
     }
 does_nothing (Err word) secrets all = refl

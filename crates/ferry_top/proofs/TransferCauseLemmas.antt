@@ -1,34 +1,35 @@
 -- Lemmas on specs/TransferCauses.antt: why a transfer isn't done, and that it is done where what is asked for is there.
-use Rattle.std.proofs.Common.{◌≡◌, ◌≢◌, ◌⊎◌, inl, inr, ℕ, true, false, List, [], Option, Some, None}
+use Rattle.std.proofs.Common.{◌≡◌, ◌≢◌, ◌⊎◌, ◌++◌, inl, inr, ℕ, true, false, List, [], ◌∷◌, Option, Some, None}
 use Rattle.std.proofs.Common.{Ok, unwrap_or, refl, sym, ◌∙◌, ap, subst, slice_get, IfSome, IsSome}
 use Rattle.ferry_base.specs.Limits.{zero_id}
 use Rattle.ferry_blob.proofs.BlobLemmas.{opens_no_fault}
-use Rattle.ferry_blob.specs.Blob.{OpensTo, blob_fault}
+use Rattle.ferry_blob.specs.Blob.{OpensTo}
 use Rattle.ferry_blob.specs.declared.fault.BlobFault.{BlobFault}
-use Rattle.ferry_carry.proofs.WholeLemmas.{whole_kept}
+use Rattle.ferry_carry.proofs.WholeLemmas.{among_next, whole_kept}
+use Rattle.ferry_carry.specs.Accepting.{AreNextOf, LimitsNames}
 use Rattle.ferry_carry.specs.Carrying.{SaysIn, origin}
 use Rattle.ferry_carry.specs.Chosen.{IsMissingName}
 use Rattle.ferry_carry.specs.Fault.{source_fault, target_fault}
 use Rattle.ferry_carry.specs.Gather.{IsAmong}
-use Rattle.ferry_carry.specs.Grow.{KeepsMost}
-use Rattle.ferry_carry.specs.Refusals.{RefusesName, RefusesNames}
+use Rattle.ferry_carry.specs.Refusals.{HasLargeRecord, HasLongItem, RefusesBehind, RefusesName, RefusesNames, is_of_telling}
+use Rattle.ferry_carry.specs.Telling.{AreLines, TellsNames}
 use Rattle.ferry_carry.specs.declared.fault.CarryFault.{CarryFault}
 use Rattle.ferry_carry.specs.declared.fault.CarryFault.TheVariants as Carry
+use Rattle.ferry_carry.specs.declared.options.Options.{Options}
 use Rattle.ferry_disk.specs.Act.{History, files_now}
 use Rattle.ferry_disk.specs.Device.{Told, told_files}
 use Rattle.ferry_disk.specs.Files.{Files, file_at}
 use Rattle.ferry_disk.specs.Moments.{Between}
 use Rattle.ferry_disk.specs.declared.name.Name.TheVariants.{Nonce as NonceFile}
 use Rattle.ferry_manifest.specs.Manifest.Text.{ManifestText}
-use Rattle.ferry_manifest.specs.declared.manifest.ArchiveRef.{ArchiveRef}
 use Rattle.ferry_nonce.specs.declared.fault.NonceFault.TheVariants as Nonces
 use Rattle.ferry_repo.proofs.LawLemmas.{one_repo, repo_apart}
 use Rattle.ferry_repo.proofs.WholeLemmas.{one_whole, whole_apart}
 use Rattle.ferry_repo.specs.Archives.{archive_named}
 use Rattle.ferry_repo.specs.Fault.{IsOfFiles}
-use Rattle.ferry_repo.specs.Objects.{BreaksObject, HasBlob, HoldsChunk}
+use Rattle.ferry_repo.specs.Objects.{BreaksObject, HasBlob}
 use Rattle.ferry_repo.specs.Opening.{OpensFilesTo, RefusesRepo, RepoState, UnlockedText, repo_view}
-use Rattle.ferry_repo.specs.Whole.{HasWhole, IsWhole, WholeArchive}
+use Rattle.ferry_repo.specs.Whole.{HasWhole, IsWhole, RefusesWhole, WholeArchive}
 use Rattle.ferry_repo.specs.declared.fault.RepoFault.{RepoFault}
 use Rattle.ferry_repo.specs.declared.fault.RepoFault.TheVariants as Repos
 use Rattle.ferry_repo.specs.declared.secret.Secret.{Secret}
@@ -36,9 +37,10 @@ use Rattle.ferry_segment.specs.Entry.{LogEntry}
 use Rattle.ferry_stops.specs.Chance.{EachStop}
 use Rattle.ferry_stops.specs.Counters.{IsNonce, SpellsNumber}
 use Rattle.ferry_stops.specs.Entries.{Shows}
-use Rattle.ferry_stops.specs.Tells.{lines_of}
+use Rattle.ferry_stops.specs.Tells.{TellsNothing, lines_of}
 use Rattle.ferry_store.proofs.StandingLemmas.{opened_unlocks, opens_live, state_live}
-use Rattle.ferry_store.specs.Causes.{BreaksLive, StopsAt}
+use Rattle.ferry_store.specs.Causes.{StopsAt}
+use Rattle.ferry_store.specs.Commit.{accepted_in}
 use Rattle.ferry_store.specs.New.{OpensNew}
 use Rattle.ferry_store.specs.Standing.{UnlocksSettings, committed_of, live_in}
 use Rattle.ferry_store.specs.Store.{RefusesOpen, StoreFits}
@@ -47,11 +49,12 @@ use Rattle.ferry_store.specs.declared.fault.StoreRefusal.TheVariants as Store
 use Rattle.ferry_store.specs.declared.store.Store.{Store as TheStore}
 use Rattle.ferry_top.proofs.LeftLemmas.{now_left}
 use Rattle.ferry_top.proofs.RerunLemmas.{meets_again}
-use Rattle.ferry_top.specs.Rerun.{EachChosen, IsAbsentOrEqual, MeetsConditions, NoneCollideIn}
+use Rattle.ferry_top.proofs.TransferLemmas.{untold_yet}
+use Rattle.ferry_top.specs.Rerun.{EachChosen, IsAbsentOrEqual, LacksName, MeetsConditions, NoneCollideIn}
 use Rattle.ferry_top.specs.Status.{carry_status, repo_status, store_status, target_status}
-use Rattle.ferry_top.specs.Transfer.{KeepsArchives, Request, TransferEach, TransferLeaves, asked, chosen_of}
-use Rattle.ferry_top.specs.TransferCauses.{EndsDone, IsDoneUnless, IsFirstMissing, IsReadyFor, IsRefusedSo, IsTaken, RefusesAsked, RefusesTransfer}
-use Rattle.ferry_top.specs.TransferCauses.{RefusesSource, StopsWriting, WhereRead}
+use Rattle.ferry_top.specs.Transfer.{KeepsArchives, Request, TransferEach, TransferLeaves, asked, chosen_of, from_source}
+use Rattle.ferry_top.specs.TransferCauses.{EndsDone, HasLargeTarget, IsDoneUnless, IsFirstMissing, IsOfChosen, IsReadyFor, IsRefusedSo, IsTaken, RefusesAsked}
+use Rattle.ferry_top.specs.TransferCauses.{RefusesSource, RefusesTransfer, StopsWriting, WhereRead}
 use Rattle.ferry_top.specs.declared.status.Secrets.{Secrets}
 use Rattle.ferry_top.specs.declared.status.Status.{Status}
 use Rattle.ferry_top.specs.declared.status.Status.TheVariants as Statuses
@@ -116,75 +119,151 @@ module _ (secret : Secret) (now : TheStore) (h : History) (repo : RepoState) (fi
 -- ---- the target
 
 -- a live chunk that breaks a rule at the end was live at the begin
-stops_writing : (request : Request) (start image : Files) (before : RepoState) (lines : List (List ℕ)) → OpensFilesTo start request.secrets.target before
-    → KeepsArchives request start before.manifest lines image → (refusal : StoreRefusal) → StopsAt image before.keys refusal
-    → StopsWriting request start image refusal
-stops_writing request start image before lines opens keeps (Store.Repo (Repos.Blob id fault)) breaks =
+stops_writing : (request : Request) (source start image : Files) (before : RepoState) (lines : List (List ℕ))
+    → OpensFilesTo start request.secrets.target before → KeepsArchives request start before.manifest lines image → (refusal : StoreRefusal)
+    → (refusal ≡ Store.TooLarge → HasLargeTarget request source start lines) → StopsAt image before.keys refusal
+    → StopsWriting request source start lines image refusal
+stops_writing request source start image before lines opens keeps (Store.Repo (Repos.Blob id fault)) large breaks =
     so (keeps.opening before opens id breaks.blob breaks.chunk
     ((state_live image keeps.repo.log breaks.entries keeps.opens.opens.unlocks.reads breaks.shown id breaks.blob).1 breaks.live))
   where
     so : HasBlob start before.log id breaks.blob ⊎ ((content : List ℕ) × OpensTo before.keys id breaks.blob content)
-        → StopsWriting request start image (Store.Repo (Repos.Blob id fault))
+        → StopsWriting request source start lines image (Store.Repo (Repos.Blob id fault))
     so (inl has) =
         record { repo = before; opens = opens; holds = (breaks.chunk, record { blob = breaks.blob; has = has; breaks = breaks.breaks }) }
     so (inr opens_to) =
         absurd (let e : None ≡ Some fault = sym (opens_no_fault before.keys id breaks.blob opens_to.0 opens_to.1) ∙ breaks.breaks in
         let no : ⊥ = cc in no)
-stops_writing request start image before lines opens keeps (Store.Repo Repos.NoCommit) never = absurd never
-stops_writing request start image before lines opens keeps (Store.Repo (Repos.Damaged segment at)) never = absurd never
-stops_writing request start image before lines opens keeps (Store.Repo (Repos.Config fault)) never = absurd never
-stops_writing request start image before lines opens keeps (Store.Repo (Repos.Key fault)) never = absurd never
-stops_writing request start image before lines opens keeps (Store.Repo (Repos.Missing id)) never = absurd never
-stops_writing request start image before lines opens keeps (Store.Repo (Repos.Manifest fault)) never = absurd never
-stops_writing request start image before lines opens keeps (Store.Repo (Repos.Archive id fault)) never = absurd never
-stops_writing request start image before lines opens keeps (Store.Repo (Repos.Item id fault)) never = absurd never
-stops_writing request start image before lines opens keeps (Store.Repo (Repos.Size id)) never = absurd never
-stops_writing request start image before lines opens keeps (Store.Repo (Repos.KeyFile fault)) never = absurd never
-stops_writing request start image before lines opens keeps (Store.Repo (Repos.Other file config)) never = absurd never
-stops_writing request start image before lines opens keeps (Store.Repo Repos.NoKey) never = absurd never
-stops_writing request start image before lines opens keeps (Store.Repo Repos.Device) is = tt
-stops_writing request start image before lines opens keeps (Store.Repo Repos.Memory) never = absurd never
-stops_writing request start image before lines opens keeps (Store.Write Writes.Numbers) is = is
-stops_writing request start image before lines opens keeps (Store.Write Writes.Device) is = tt
-stops_writing request start image before lines opens keeps (Store.Write Writes.Memory) is = tt
-stops_writing request start image before lines opens keeps (Store.Nonce Nonces.Exhausted) is = is
-stops_writing request start image before lines opens keeps (Store.Nonce Nonces.Device) is = tt
-stops_writing request start image before lines opens keeps (Store.Nonce Nonces.Missing) never = absurd never
-stops_writing request start image before lines opens keeps (Store.Nonce Nonces.Text) never = absurd never
-stops_writing request start image before lines opens keeps (Store.Nonce Nonces.Memory) never = absurd never
-stops_writing request start image before lines opens keeps Store.Committed never = absurd never
-stops_writing request start image before lines opens keeps Store.TooLarge is = tt
-stops_writing request start image before lines opens keeps Store.Entropy is = tt
-stops_writing request start image before lines opens keeps Store.Memory is = tt
+stops_writing request source start image before lines opens keeps (Store.Repo Repos.NoCommit) large never = absurd never
+stops_writing request source start image before lines opens keeps (Store.Repo (Repos.Damaged segment at)) large never = absurd never
+stops_writing request source start image before lines opens keeps (Store.Repo (Repos.Config fault)) large never = absurd never
+stops_writing request source start image before lines opens keeps (Store.Repo (Repos.Key fault)) large never = absurd never
+stops_writing request source start image before lines opens keeps (Store.Repo (Repos.Missing id)) large never = absurd never
+stops_writing request source start image before lines opens keeps (Store.Repo (Repos.Manifest fault)) large never = absurd never
+stops_writing request source start image before lines opens keeps (Store.Repo (Repos.Archive id fault)) large never = absurd never
+stops_writing request source start image before lines opens keeps (Store.Repo (Repos.Item id fault)) large never = absurd never
+stops_writing request source start image before lines opens keeps (Store.Repo (Repos.Size id)) large never = absurd never
+stops_writing request source start image before lines opens keeps (Store.Repo (Repos.KeyFile fault)) large never = absurd never
+stops_writing request source start image before lines opens keeps (Store.Repo (Repos.Other file config)) large never = absurd never
+stops_writing request source start image before lines opens keeps (Store.Repo Repos.NoKey) large never = absurd never
+stops_writing request source start image before lines opens keeps (Store.Repo Repos.Device) large is = tt
+stops_writing request source start image before lines opens keeps (Store.Repo Repos.Memory) large never = absurd never
+stops_writing request source start image before lines opens keeps (Store.Write Writes.Numbers) large is = is
+stops_writing request source start image before lines opens keeps (Store.Write Writes.Device) large is = tt
+stops_writing request source start image before lines opens keeps (Store.Write Writes.Memory) large is = tt
+stops_writing request source start image before lines opens keeps (Store.Nonce Nonces.Exhausted) large is = is
+stops_writing request source start image before lines opens keeps (Store.Nonce Nonces.Device) large is = tt
+stops_writing request source start image before lines opens keeps (Store.Nonce Nonces.Missing) large never = absurd never
+stops_writing request source start image before lines opens keeps (Store.Nonce Nonces.Text) large never = absurd never
+stops_writing request source start image before lines opens keeps (Store.Nonce Nonces.Memory) large never = absurd never
+stops_writing request source start image before lines opens keeps Store.Committed large never = absurd never
+stops_writing request source start image before lines opens keeps Store.TooLarge large is = large refl
+stops_writing request source start image before lines opens keeps Store.Entropy large is = tt
+stops_writing request source start image before lines opens keeps Store.Memory large is = tt
 
 -- ---- causes
 
 -- what was asked, over a source that opened, and a target that opened to the repository of a store
-module _ (secrets : Secrets) (block : ℕ) (names : List (List ℕ)) (source : RepoState) (t a b d : Told) (chosen : List (List ℕ)) (store now : TheStore)
+module _ (secrets : Secrets) (options : Options) (names : List (List ℕ)) (source : RepoState) (t a b d : Told) (chosen : List (List ℕ)) (store now : TheStore)
     (source_opens : OpensFilesTo (told_files t) secrets.source source) (chosen_is : chosen ≡ chosen_of names source.manifest)
-    (opens : OpensFilesTo (told_files a) secrets.target (repo_view store.repo)) where
+    (opens : OpensFilesTo (told_files a) secrets.target (repo_view store.repo)) (begun : a.history.acts ≡ [])
+    (untold : TellsNothing a.history b.history) (accepts : accepted_in store ≡ (repo_view store.repo).manifest) where
   abbrev asks : Request
-  asks = asked secrets block names (Some t)
+  asks = asked secrets options names (Some t)
 
   abbrev Keeps : Type 0
   Keeps = KeepsArchives asks (told_files a) (repo_view store.repo).manifest (lines_of d.history.acts) (told_files d)
 
-  among_chosen : (name : List ℕ) → IsAmong chosen name → IsAmong (chosen_of names source.manifest) name
-  among_chosen name among = subst (λ (l : List (List ℕ)). IsAmong l name) chosen_is among
+  abbrev Refused : CarryFault → Type 0
+  Refused fault = RefusesBehind (origin (Some t) source options.block options.checkpoint) (Some b) store (Some d) now chosen fault
 
-  taken_there : (name : List ℕ) → Keeps → IsAmong chosen name
-      → RefusesName (origin (Some t) source block) (Some b) store (Some d) now name (Carry.Taken name) → IsTaken asks (told_files t) (told_files d) name
-  taken_there name keeps among refused =
+  split_chosen : (done : List (List ℕ)) (name : List ℕ) (rest : List (List ℕ)) → chosen ≡ done ++ name ∷ rest
+      → chosen_of names source.manifest ≡ done ++ name ∷ rest
+  split_chosen done name rest split = sym chosen_is ∙ split
+
+  -- the lines of the whole run are those of the names before the refused one
+  all_lines : (done : List (List ℕ)) → TellsNames (accepted_in store) done b.history d.history
+      → AreLines (repo_view store.repo).manifest [] (lines_of d.history.acts) done
+  all_lines done told =
+      let is : lines_of d.history.acts ≡ told.0 =
+      told.1.0 ∙ ap (λ (l : List (List ℕ)). l ++ told.0) (untold ∙ untold_yet a.history begun) in
+      subst (λ (m : ManifestText). AreLines m [] (lines_of d.history.acts) done) accepts
+      (subst (λ (l : List (List ℕ)). AreLines (accepted_in store) [] l done) (sym is) told.1.1)
+
+  -- what holds of a refused name
+  of_chosen : (fault : CarryFault) (Holds : RepoState → RepoState → List ℕ → Type 0) → (one : Refused fault)
+      → Holds source (repo_view store.repo) one.name → IsOfChosen asks (told_files t) (told_files a) (lines_of d.history.acts) Holds
+  of_chosen fault Holds one holds = record {
+    repo = source;
+    opens = source_opens;
+    target = repo_view store.repo;
+    target_opens = opens;
+    done = one.done;
+    name = one.name;
+    rest = one.rest;
+    split = split_chosen one.done one.name one.rest one.split;
+    told = all_lines one.done one.told;
+    holds = holds;
+  }
+
+  -- a manifest that is too large with the next of the chosen names
+  abbrev Limited : Type 0
+  Limited = LimitsNames options.timestamp source.manifest (repo_view store.repo).keys (accepted_in store) chosen
+      (λ done. TellsNames (accepted_in store) done b.history d.history)
+
+  large_there : Limited → HasLargeTarget asks (told_files t) (told_files a) (lines_of d.history.acts)
+  large_there limited = record {
+    repo = source;
+    opens = source_opens;
+    target = repo_view store.repo;
+    target_opens = opens;
+    limits = record {
+      done = limited.done;
+      name = limited.name;
+      rest = limited.rest;
+      split = split_chosen limited.done limited.name limited.rest limited.split;
+      told = all_lines limited.done limited.told;
+      middle = limited.middle;
+      behind = subst (λ (m : ManifestText). AreNextOf options.timestamp source.manifest (repo_view store.repo).keys m limited.done limited.middle) accepts
+          limited.behind;
+      large = limited.large;
+    };
+  }
+
+  -- the target isn't written
+  target_told : Keeps → (refusal : StoreRefusal) → (Carry.Target refusal ≡ Carry.Target Store.TooLarge → Limited)
+      → StopsAt (told_files d) (repo_view store.repo).keys refusal
+      → StopsWriting asks (told_files t) (told_files a) (lines_of d.history.acts) (told_files d) refusal
+  target_told keeps refusal limit stops =
+      stops_writing asks (told_files t) (told_files a) (told_files d) (repo_view store.repo) (lines_of d.history.acts) opens keeps refusal
+      (λ is. large_there (limit (ap Carry.Target is))) stops
+
+  -- a fault that isn't that of a line
+  told_line : (X : Type 0) (fault : CarryFault) → is_of_telling fault ≡ false → is_of_telling fault ≡ true → X
+  told_line X fault still telling = absurd (let no : ⊥ = cc in no)
+
+  taken_there : (name : List ℕ) → Keeps → (one : Refused (Carry.Taken name)) → one.name ≡ name
+      → IsTaken asks (told_files t) (told_files a) (lines_of d.history.acts) (told_files d) name
+  taken_there name keeps one is =
+      let refused =
+      subst (λ (n : List ℕ). RefusesName (origin (Some t) source options.block options.checkpoint) (Some b) store (Some d) now n (Carry.Taken name)) is
+      one.refused in
       let differs = refused.1.0 in
       let at = refused.1.1 in
       let settings : (files_now d.history).config ≡ (told_files a).config = keeps.config in
-      let begun = opened_unlocks (told_files a) secrets.target (repo_view store.repo) opens in
+      let opened = opened_unlocks (told_files a) secrets.target (repo_view store.repo) opens in
       let unlocks : UnlocksSettings secrets.target (files_now d.history).config (repo_view now.repo).config (repo_view now.repo).keys =
-      rw (settings, at.most.config, at.most.keys) begun in
+      rw (settings, at.most.config, at.most.keys) opened in
       record {
         from = source;
         source_opens = source_opens;
-        chosen = among_chosen name among;
+        before = repo_view store.repo;
+        target_opens = opens;
+        done = one.done;
+        rest = one.rest;
+        split = subst (λ (n : List ℕ). chosen_of names source.manifest ≡ one.done ++ n ∷ one.rest) is
+            (split_chosen one.done one.name one.rest one.split);
+        told = all_lines one.done one.told;
         whole = differs.whole;
         whole_there = record { repo = source; opens = source_opens; is = differs.source };
         repo = keeps.repo;
@@ -194,60 +273,65 @@ module _ (secrets : Secrets) (block : ℕ) (names : List (List ℕ)) (source : R
         differs = λ had. differs.target_is (says_held secrets.target now d.history keeps.repo at.fits keeps.opens unlocks name differs.whole had);
       }
 
-  refused_told : Keeps → (fault : CarryFault) → RefusesNames (origin (Some t) source block) (Some b) store (Some d) now chosen fault
-      → RefusesTransfer asks (told_files t) (told_files a) (told_files d) fault
-  refused_told keeps (Carry.Source fault) refused = λ of_files.
-      inr (record { repo = source; opens = source_opens; name = refused.0; chosen = among_chosen refused.0 refused.1.0; holds = refused.1.1 of_files })
-  refused_told keeps (Carry.Target refusal) refused =
-      inr (stops_writing asks (told_files a) (told_files d) (repo_view store.repo) (lines_of d.history.acts) opens keeps refusal refused)
-  refused_told keeps (Carry.Taken name) refused =
-      let is : name ≡ refused.0 = refused.1.1.0 in
-      taken_there name keeps (subst (IsAmong chosen) (sym is) refused.1.0)
-      (subst (λ (n : List ℕ). RefusesName (origin (Some t) source block) (Some b) store (Some d) now n (Carry.Taken name)) (sym is) refused.1.1)
-  refused_told keeps (Carry.NotFound name) refused = record {
+  refused_told : Keeps → (fault : CarryFault) → (fault ≡ Carry.Target Store.TooLarge → Limited)
+      → RefusesNames (origin (Some t) source options.block options.checkpoint) (Some b) store (Some d) now chosen fault
+      → RefusesTransfer asks (told_files t) (told_files a) (lines_of d.history.acts) (told_files d) fault
+  refused_told keeps (Carry.Source fault) limit (inl refused) = λ of_files.
+      inr (of_chosen (Carry.Source fault) (λ repo target name. RefusesWhole (told_files t) repo.log repo.keys repo.manifest.archives name fault) refused
+      (refused.refused of_files))
+  refused_told keeps (Carry.Source fault) limit (inr untold) = told_line _ (Carry.Source fault) refl untold.0
+  refused_told keeps (Carry.Target refusal) limit (inl refused) =
+      inr (
+        target_told keeps refusal limit refused.refused,
+        λ still. of_chosen (Carry.Target refusal) (λ repo target name. Unit {0}) refused tt,
+      )
+  refused_told keeps (Carry.Target refusal) limit (inr untold) =
+      inr (target_told keeps refusal limit untold.1, λ still. told_line _ (Carry.Target refusal) still untold.0)
+  refused_told keeps (Carry.Taken name) limit (inl refused) = taken_there name keeps refused (sym refused.refused.0)
+  refused_told keeps (Carry.Taken name) limit (inr untold) = told_line _ (Carry.Taken name) refl untold.0
+  refused_told keeps (Carry.NotFound name) limit refused = record {
     repo = source;
     opens = source_opens;
     place = refused.0;
     missing = subst (λ (l : List (List ℕ)). IsMissingName source.manifest l refused.0) chosen_is refused.1.0;
     name_is = subst (λ (l : List (List ℕ)). slice_get l refused.0 ≡ Some name) chosen_is refused.1.1;
   }
-  refused_told keeps Carry.Pieces refused = record {
-    repo = source;
-    opens = source_opens;
-    name = refused.0;
-    chosen = among_chosen refused.0 refused.1.0;
-    holds = record { repo = repo_view store.repo; opens = opens; holds = refused.1.1 };
-  }
-  refused_told keeps Carry.Memory refused = tt
-  refused_told keeps Carry.Record refused = record {
-    repo = source;
-    opens = source_opens;
-    name = refused.0;
-    chosen = among_chosen refused.0 refused.1.0;
-    holds = record { repo = repo_view store.repo; opens = opens; holds = refused.1.1 };
-  }
+  refused_told keeps Carry.Pieces limit (inl refused) =
+      of_chosen Carry.Pieces (λ repo target name. LacksName target.manifest name × HasLongItem (told_files t) (from_source asks (told_files t) repo) name)
+      refused refused.refused
+  refused_told keeps Carry.Pieces limit (inr untold) = told_line _ Carry.Pieces refl untold.0
+  refused_told keeps Carry.Memory limit refused = tt
+  refused_told keeps Carry.Record limit (inl refused) =
+      of_chosen Carry.Record (λ repo target name. LacksName target.manifest name
+      × HasLargeRecord (told_files t) (from_source asks (told_files t) repo) target.keys name) refused refused.refused
+  refused_told keeps Carry.Record limit (inr untold) = told_line _ Carry.Record refl untold.0
 
 -- a transfer that was refused while archives came
-pub names_refused : (secrets : Secrets) (block : ℕ) (names : List (List ℕ)) (source : RepoState) (told a b d : Option Told) (chosen : List (List ℕ))
+pub names_refused : (secrets : Secrets) (options : Options) (names : List (List ℕ)) (source : RepoState) (told a b d : Option Told) (chosen : List (List ℕ))
     (store now : TheStore) → IfSome told (λ t. OpensFilesTo (told_files t) secrets.source source) → chosen ≡ chosen_of names source.manifest
-    → IfSome a (λ t. OpensFilesTo (told_files t) secrets.target (repo_view store.repo)) → (B : History → History → Type 0) → Between a b B
-    → Between a d (TransferEach (asked secrets block names told)) → (fault : CarryFault)
-    → RefusesNames (origin told source block) b store d now chosen fault → RefusesAsked (asked secrets block names told) a d fault
-names_refused secrets block names source None a b d chosen store now source_opens chosen_is opens B between each fault refused = tt
-names_refused secrets block names source (Some t) None b d chosen store now source_opens chosen_is opens B between each fault refused = tt
-names_refused secrets block names source (Some t) (Some a) b None chosen store now source_opens chosen_is opens B between each fault refused = tt
-names_refused secrets block names source (Some t) (Some a) None (Some d) chosen store now source_opens chosen_is opens B between each fault refused =
-    absurd (let e : None ≡ Some between.0 = between.1 in let no : ⊥ = cc in no)
-names_refused secrets block names source (Some t) (Some a) (Some b) (Some d) chosen store now source_opens chosen_is opens B between each fault refused =
+    → IfSome a (λ t. OpensFilesTo (told_files t) secrets.target (repo_view store.repo)) → accepted_in store ≡ (repo_view store.repo).manifest
+    → Between a b TellsNothing → Between a d (TransferEach (asked secrets options names told)) → (fault : CarryFault)
+    → (fault ≡ Carry.Target Store.TooLarge → IfSome b (λ x. IfSome d (λ y. LimitsNames options.timestamp source.manifest (repo_view store.repo).keys
+    (accepted_in store) chosen (λ done. TellsNames (accepted_in store) done x.history y.history))))
+    → RefusesNames (origin told source options.block options.checkpoint) b store d now chosen fault → RefusesAsked (asked secrets options names told) a d fault
+names_refused secrets options names source None a b d chosen store now from chosen_is opens accepts untold each fault limit refused = tt
+names_refused secrets options names source (Some t) None b d chosen store now from chosen_is opens accepts untold each fault limit refused = tt
+names_refused secrets options names source (Some t) (Some a) b None chosen store now from chosen_is opens accepts untold each fault limit refused = tt
+names_refused secrets options names source (Some t) (Some a) None (Some d) chosen store now from chosen_is opens accepts untold each fault limit refused =
+    absurd (let e : None ≡ Some untold.0 = untold.1 in let no : ⊥ = cc in no)
+names_refused secrets options names source (Some t) (Some a) (Some b) (Some d) chosen store now from chosen_is opens accepts untold each fault limit refused =
     λ begun.
     let same : each.0 ≡ d = (let e : Some d ≡ Some each.0 = each.1 in cc) in
-    let left = left_of (asked secrets block names (Some t)) a.history d.history
-    (subst (λ (x : Told). TransferEach (asked secrets block names (Some t)) a.history x.history) same each.2) begun (repo_view store.repo) opens in
-    refused_told secrets block names source t a b d chosen store now source_opens chosen_is opens left fault refused
+    let first : untold.0 ≡ b = (let e : Some b ≡ Some untold.0 = untold.1 in cc) in
+    let left = left_of (asked secrets options names (Some t)) a.history d.history
+    (subst (λ (x : Told). TransferEach (asked secrets options names (Some t)) a.history x.history) same each.2) begun (repo_view store.repo) opens in
+    refused_told secrets options names source t a b d chosen store now from chosen_is opens begun
+    (subst (λ (x : Told). TellsNothing a.history x.history) first untold.2) accepts left fault limit refused
 
 -- where files are read
-where_read : (source : Option Files) (before now : Option Told) (P : Files → Files → Files → Type 0)
-    → ((files : Files) (b t : Told) → source ≡ Some files → before ≡ Some b → now ≡ Some t → b.history.acts ≡ [] → P files (told_files b) (told_files t))
+where_read : (source : Option Files) (before now : Option Told) (P : Files → Files → List (List ℕ) → Files → Type 0)
+    → ((files : Files) (b t : Told) → source ≡ Some files → before ≡ Some b → now ≡ Some t → b.history.acts ≡ []
+    → P files (told_files b) (lines_of t.history.acts) (told_files t))
     → WhereRead source before now P
 where_read None before now P step = tt
 where_read (Some files) None now P step = tt
@@ -257,9 +341,9 @@ where_read (Some files) (Some b) (Some t) P step = λ begun. step files b t refl
 -- why a transfer isn't done
 asked_refused : (request : Request) (before now : Option Told) (fault : CarryFault)
     → ((files : Files) (b t : Told) → request.source ≡ Some files → before ≡ Some b → now ≡ Some t → b.history.acts ≡ []
-    → RefusesTransfer request files (told_files b) (told_files t) fault) → RefusesAsked request before now fault
+    → RefusesTransfer request files (told_files b) (lines_of t.history.acts) (told_files t) fault) → RefusesAsked request before now fault
 asked_refused request before now fault step =
-    where_read request.source before now (λ files start image. RefusesTransfer request files start image fault) step
+    where_read request.source before now (λ files start lines image. RefusesTransfer request files start lines image fault) step
 
 -- where memory was refused
 pub memory_refused : (request : Request) (before now : Option Told) → RefusesAsked request before now Carry.Memory
@@ -308,24 +392,24 @@ unread_refused request before now fault refused =
     (λ files b t e is k begun of_files.
     inl (subst (λ (o : Option Files). IfSome o (λ f. RefusesRepo f request.secrets.source fault)) e refused)))
 
-pub asked_source : (secrets : Secrets) (block : ℕ) (names : List (List ℕ)) (told : Option Told) (fault : RepoFault)
+pub asked_source : (secrets : Secrets) (options : Options) (names : List (List ℕ)) (told : Option Told) (fault : RepoFault)
     → IfSome told (λ t. RefusesRepo (told_files t) secrets.source fault)
-    → IfSome (asked secrets block names told).source (λ files. RefusesRepo files secrets.source fault)
-asked_source secrets block names None fault refused = tt
-asked_source secrets block names (Some t) fault refused = refused
+    → IfSome (asked secrets options names told).source (λ files. RefusesRepo files secrets.source fault)
+asked_source secrets options names None fault refused = tt
+asked_source secrets options names (Some t) fault refused = refused
 
 -- where a name is missing
-pub missing_refused : (secrets : Secrets) (block : ℕ) (names : List (List ℕ)) (source : RepoState) (told a b : Option Told) (chosen : List (List ℕ))
+pub missing_refused : (secrets : Secrets) (options : Options) (names : List (List ℕ)) (source : RepoState) (told a b : Option Told) (chosen : List (List ℕ))
     → IfSome told (λ t. OpensFilesTo (told_files t) secrets.source source) → chosen ≡ chosen_of names source.manifest → (fault : CarryFault)
     → (fault ≡ Carry.Memory) ⊎ ((place : ℕ) × ((name : List ℕ)
     × (IsMissingName source.manifest chosen place × ((slice_get chosen place ≡ Some name) × (fault ≡ Carry.NotFound name)))))
-    → RefusesAsked (asked secrets block names told) a b fault
-missing_refused secrets block names source None a b chosen source_opens chosen_is fault refused = tt
-missing_refused secrets block names source (Some t) a b chosen source_opens chosen_is fault (inl memory) =
-    subst (RefusesAsked (asked secrets block names (Some t)) a b) (sym memory) (memory_refused (asked secrets block names (Some t)) a b)
-missing_refused secrets block names source (Some t) a b chosen source_opens chosen_is fault (inr missing) =
-    subst (RefusesAsked (asked secrets block names (Some t)) a b) (sym missing.1.1.1.1)
-    (asked_refused (asked secrets block names (Some t)) a b (Carry.NotFound missing.1.0)
+    → RefusesAsked (asked secrets options names told) a b fault
+missing_refused secrets options names source None a b chosen source_opens chosen_is fault refused = tt
+missing_refused secrets options names source (Some t) a b chosen source_opens chosen_is fault (inl memory) =
+    subst (RefusesAsked (asked secrets options names (Some t)) a b) (sym memory) (memory_refused (asked secrets options names (Some t)) a b)
+missing_refused secrets options names source (Some t) a b chosen source_opens chosen_is fault (inr missing) =
+    subst (RefusesAsked (asked secrets options names (Some t)) a b) (sym missing.1.1.1.1)
+    (asked_refused (asked secrets options names (Some t)) a b (Carry.NotFound missing.1.0)
     (λ files x y e is k begun.
     let same : told_files t ≡ files = (let both : Some (told_files t) ≡ Some files = e in cc) in
     record {
@@ -339,20 +423,22 @@ missing_refused secrets block names source (Some t) a b chosen source_opens chos
 -- ---- where a transfer is done
 
 -- what is asked for is there
-module _ (request : Request) (source start image : Files) (ready : IsReadyFor request source start) where
+module _ (request : Request) (source start image : Files) (lines : List (List ℕ)) (ready : IsReadyFor request source start) where
   -- the source isn't refused
-  source_ready : (fault : RepoFault) → IsOfFiles fault → RefusesSource request source fault → ⊥
+  source_ready : (fault : RepoFault) → IsOfFiles fault → RefusesSource request source start lines fault → ⊥
   source_ready fault of_files (inl refuses) = repo_apart source request.secrets.source ready.from fault ready.source_opens of_files refuses
   source_ready fault of_files (inr one) =
       let same = one_repo source request.secrets.source one.repo ready.from one.opens ready.source_opens in
-      let had = ready.whole one.name (subst (λ (r : RepoState). IsAmong (chosen_of request.names r.manifest) one.name) same one.chosen) in
+      let had = ready.whole one.name (subst (λ (r : RepoState). IsAmong (chosen_of request.names r.manifest) one.name) same
+      (among_next (chosen_of request.names one.repo.manifest) one.done one.rest one.name one.split)) in
       let there = had.1 in
       let is : IsWhole source one.repo.log one.repo.keys one.repo.manifest.archives one.name had.0 =
       subst (λ (r : RepoState). IsWhole source r.log r.keys r.manifest.archives one.name had.0)
       (one_repo source request.secrets.source there.repo one.repo there.opens one.opens) there.is in
       whole_apart source one.repo.log one.repo.keys one.repo.manifest.archives one.name had.0 fault is of_files one.holds
 
-  source_ends : (fault : RepoFault) → (IsOfFiles fault → RefusesSource request source fault) → IsDoneUnless request source start image (repo_status fault)
+  source_ends : (fault : RepoFault) → (IsOfFiles fault → RefusesSource request source start lines fault)
+      → IsDoneUnless request source start lines image (repo_status fault)
   source_ends Repos.NoCommit refused = absurd (source_ready Repos.NoCommit tt (refused tt))
   source_ends (Repos.Damaged segment at) refused = absurd (source_ready (Repos.Damaged segment at) tt (refused tt))
   source_ends (Repos.Config cause) refused = absurd (source_ready (Repos.Config cause) tt (refused tt))
@@ -370,7 +456,7 @@ module _ (request : Request) (source start image : Files) (ready : IsReadyFor re
   source_ends Repos.Memory refused = tt
 
   -- the target opens
-  opened_ends : (fault : RepoFault) → RefusesRepo start request.secrets.target fault → IsDoneUnless request source start image (target_status fault)
+  opened_ends : (fault : RepoFault) → RefusesRepo start request.secrets.target fault → IsDoneUnless request source start lines image (target_status fault)
   opened_ends Repos.NoCommit refused = absurd (repo_apart start request.secrets.target ready.repo Repos.NoCommit ready.opens tt refused)
   opened_ends (Repos.Damaged segment at) refused = absurd (repo_apart start request.secrets.target ready.repo (Repos.Damaged segment at) ready.opens tt refused)
   opened_ends (Repos.Config cause) refused = absurd (repo_apart start request.secrets.target ready.repo (Repos.Config cause) ready.opens tt refused)
@@ -388,7 +474,7 @@ module _ (request : Request) (source start image : Files) (ready : IsReadyFor re
   opened_ends Repos.Memory refused = tt
 
   begun_ends : (refusal : StoreRefusal) → RefusesOpen request.secrets.target start refusal
-      → IsDoneUnless request source start image (store_status refusal)
+      → IsDoneUnless request source start lines image (store_status refusal)
   begun_ends (Store.Repo fault) refused = opened_ends fault refused
   begun_ends (Store.Write Writes.Device) refused = tt
   begun_ends (Store.Write Writes.Memory) refused = tt
@@ -405,7 +491,7 @@ module _ (request : Request) (source start image : Files) (ready : IsReadyFor re
   begun_ends Store.Memory refused = tt
 
   -- what is live in it opens
-  live_ready : (id : List ℕ) (fault : BlobFault) → StopsWriting request start image (Store.Repo (Repos.Blob id fault)) → ⊥
+  live_ready : (id : List ℕ) (fault : BlobFault) → StopsWriting request source start lines image (Store.Repo (Repos.Blob id fault)) → ⊥
   live_ready id fault stops =
       let same = one_repo start request.secrets.target stops.repo ready.repo stops.opens ready.opens in
       let breaks = subst (λ (r : RepoState). BreaksObject start r.log r.keys id fault) same stops.holds.1 in
@@ -413,7 +499,8 @@ module _ (request : Request) (source start image : Files) (ready : IsReadyFor re
       let e : None ≡ Some fault = sym (opens_no_fault ready.repo.keys id breaks.blob opens_to.0 opens_to.1) ∙ breaks.breaks in
       let no : ⊥ = cc in no
 
-  stopped_ends : (refusal : StoreRefusal) → StopsWriting request start image refusal → IsDoneUnless request source start image (store_status refusal)
+  stopped_ends : (refusal : StoreRefusal) → StopsWriting request source start lines image refusal
+      → IsDoneUnless request source start lines image (store_status refusal)
   stopped_ends (Store.Repo (Repos.Blob id fault)) stops = absurd (live_ready id fault stops)
   stopped_ends (Store.Repo Repos.NoCommit) stops = absurd stops
   stopped_ends (Store.Repo (Repos.Damaged segment at)) stops = absurd stops
@@ -438,7 +525,7 @@ module _ (request : Request) (source start image : Files) (ready : IsReadyFor re
   stopped_ends (Store.Nonce Nonces.Device) stops = tt
   stopped_ends (Store.Nonce Nonces.Memory) stops = tt
   stopped_ends Store.Committed stops = absurd stops
-  stopped_ends Store.TooLarge stops = tt
+  stopped_ends Store.TooLarge stops = stops
   stopped_ends Store.Entropy stops = tt
   stopped_ends Store.Memory stops = tt
 
@@ -468,8 +555,10 @@ module _ (request : Request) (source start image : Files) (ready : IsReadyFor re
             (one_repo source request.secrets.source from ready.from opens ready.source_opens) among));
       }
 
-  equal_there : (name : List ℕ) → IsTaken request source image name → MeetsConditions request image → request.source ≡ Some source → ⊥
-  equal_there name taken meets told = so (chosen taken.from taken.source_opens name taken.chosen)
+  equal_there : (name : List ℕ) → IsTaken request source start lines image name → MeetsConditions request image → request.source ≡ Some source → ⊥
+  equal_there name taken meets told =
+      so (chosen taken.from taken.source_opens name
+      (among_next (chosen_of request.names taken.from.manifest) taken.done taken.rest name taken.split))
     where
       chosen : (from : RepoState) → OpensFilesTo source request.secrets.source from → (other : List ℕ)
           → IsAmong (chosen_of request.names from.manifest) other → IsAbsentOrEqual request source image meets.repo other
@@ -491,18 +580,18 @@ module _ (request : Request) (source start image : Files) (ready : IsReadyFor re
           (one_repo source request.secrets.source b.repo a.repo b.opens a.opens) b.is) in
           taken.differs (subst (HasWhole image request.secrets.target name) one is.1.1)
 
-  refused_ends : (lines : List (List ℕ)) (keeps : KeepsArchives request start ready.repo.manifest lines image)
+  refused_ends : (keeps : KeepsArchives request start ready.repo.manifest lines image)
       → NoneCollideIn request image keeps.repo keeps.done request.source keeps.arrived → request.source ≡ Some source → (fault : CarryFault)
-      → RefusesTransfer request source start image fault → IsDoneUnless request source start image (carry_status fault)
-  refused_ends lines keeps apart told (Carry.Source fault) refused = source_ends fault refused
-  refused_ends lines keeps apart told (Carry.Target refusal) (inl refused) = begun_ends refusal refused
-  refused_ends lines keeps apart told (Carry.Target refusal) (inr stops) = stopped_ends refusal stops
-  refused_ends lines keeps apart told (Carry.Taken name) taken =
+      → RefusesTransfer request source start lines image fault → IsDoneUnless request source start lines image (carry_status fault)
+  refused_ends keeps apart told (Carry.Source fault) refused = source_ends fault refused
+  refused_ends keeps apart told (Carry.Target refusal) (inl refused) = begun_ends refusal refused
+  refused_ends keeps apart told (Carry.Target refusal) (inr stops) = stopped_ends refusal stops.0
+  refused_ends keeps apart told (Carry.Taken name) taken =
       absurd (equal_there name taken (meets_again request start image ready.repo lines ready.opens keeps apart (meets_ready told)) told)
-  refused_ends lines keeps apart told (Carry.NotFound name) missing = absurd (none_missing name missing)
-  refused_ends lines keeps apart told Carry.Pieces long = long
-  refused_ends lines keeps apart told Carry.Memory refused = tt
-  refused_ends lines keeps apart told Carry.Record large = large
+  refused_ends keeps apart told (Carry.NotFound name) missing = absurd (none_missing name missing)
+  refused_ends keeps apart told Carry.Pieces long = long
+  refused_ends keeps apart told Carry.Memory refused = tt
+  refused_ends keeps apart told Carry.Record large = large
 
 if_some : {A : Type 0} (o : Option A) (P : A → Type 0) → ((x : A) → o ≡ Some x → P x) → IfSome o P
 if_some None P step = tt
@@ -517,7 +606,8 @@ ends_done request before now status (inl done) =
     if_some before _
     (λ b is.
     if_some now _
-    (λ t at begun ready keeps apart. subst (IsDoneUnless request source (told_files b) (told_files t)) (sym done) tt)))
+    (λ t at begun ready keeps apart.
+    subst (IsDoneUnless request source (told_files b) (lines_of t.history.acts) (told_files t)) (sym done) tt)))
 ends_done request before now status (inr refused) =
     if_some request.source _
     (λ source told.
@@ -525,25 +615,26 @@ ends_done request before now status (inr refused) =
     (λ b is.
     if_some now _
     (λ t at begun ready keeps apart.
-    let causes : RefusesTransfer request source (told_files b) (told_files t) refused.fault =
+    let causes : RefusesTransfer request source (told_files b) (lines_of t.history.acts) (told_files t) refused.fault =
     all_three source b t told is at refused.refuses begun in
-    subst (IsDoneUnless request source (told_files b) (told_files t)) (sym refused.status_is)
-    (refused_ends request source (told_files b) (told_files t) ready (lines_of t.history.acts) keeps apart told refused.fault causes))))
+    subst (IsDoneUnless request source (told_files b) (lines_of t.history.acts) (told_files t)) (sym refused.status_is)
+    (refused_ends request source (told_files b) (told_files t) (lines_of t.history.acts) ready keeps apart told refused.fault causes))))
   where
     all_three : (source : Files) (b t : Told) → request.source ≡ Some source → before ≡ Some b → now ≡ Some t
         → RefusesAsked request before now refused.fault → b.history.acts ≡ []
-        → RefusesTransfer request source (told_files b) (told_files t) refused.fault
+        → RefusesTransfer request source (told_files b) (lines_of t.history.acts) (told_files t) refused.fault
     all_three source b t told is at asked begun =
-        subst (λ (o : Option Told). IfSome o (λ y. b.history.acts ≡ [] → RefusesTransfer request source (told_files b) (told_files y) refused.fault)) at
+        subst (λ (o : Option Told). IfSome o (λ y. b.history.acts ≡ []
+        → RefusesTransfer request source (told_files b) (lines_of y.history.acts) (told_files y) refused.fault)) at
         (subst (λ (o : Option Told). IfSome o (λ x. IfSome now
-        (λ y. x.history.acts ≡ [] → RefusesTransfer request source (told_files x) (told_files y) refused.fault))) is
+        (λ y. x.history.acts ≡ [] → RefusesTransfer request source (told_files x) (lines_of y.history.acts) (told_files y) refused.fault))) is
         (subst (λ (o : Option Files). IfSome o (λ f. IfSome before (λ x. IfSome now
-        (λ y. x.history.acts ≡ [] → RefusesTransfer request f (told_files x) (told_files y) refused.fault)))) told asked)) begun
+        (λ y. x.history.acts ≡ [] → RefusesTransfer request f (told_files x) (lines_of y.history.acts) (told_files y) refused.fault)))) told asked)) begun
 
 -- ---- the rerun
 
 -- a file `config` opens to one key
-one_keys : (secret : Secret) (file : Option (List ℕ)) (a b : RepoState) → UnlocksSettings secret file a.config a.keys
+pub one_keys : (secret : Secret) (file : Option (List ℕ)) (a b : RepoState) → UnlocksSettings secret file a.config a.keys
     → UnlocksSettings secret file b.config b.keys → a.keys ≡ b.keys
 one_keys secret file a b p q =
     let one : UnlockedText = record { config = a.config; text = record { iterations = p.iterations; key = p.key } } in
@@ -573,7 +664,7 @@ ready_again request source start image lines told ready keeps apart text number 
       (one_repo image request.secrets.target meets.repo keeps.repo meets.opens keeps.opens) (chosen ready.from ready.source_opens name among);
 } where
   meets : MeetsConditions request image
-  meets = meets_again request start image ready.repo lines ready.opens keeps apart (meets_ready request source start image ready told)
+  meets = meets_again request start image ready.repo lines ready.opens keeps apart (meets_ready request source start image lines ready told)
 
   chosen : (from : RepoState) → OpensFilesTo source request.secrets.source from → (name : List ℕ) → IsAmong (chosen_of request.names from.manifest) name
       → IsAbsentOrEqual request source image meets.repo name

@@ -1,21 +1,25 @@
 -- A transfer: what each stop leaves opens, with each archive that was there and those of a front of the chosen names, and at the end with all of them.
 use Rattle.std.proofs.Common.{◌≡◌, ◌↔◌, ◌⊎◌, inl, inr, ℕ, suc, map, Bool, true, false, List, [], ◌∷◌, ◌++◌, Option, Some, None, Ok}
-use Rattle.std.proofs.Common.{Err, unwrap_or, option_map, slice_get, refl, sym, ◌∙◌, ap, subst, IfSome}
+use Rattle.std.proofs.Common.{Err, ◌-◌, ◌^◌, length, min, unwrap_or, option_map, slice_get, refl, arith, sym, ◌∙◌, ap, subst, IfSome}
 use Rattle.std.proofs.lemmas.List.{append-nil}
 use Rattle.std.specs.List.{AllByRecursion}
 use Rattle.ferry_blob.specs.Blob.{OpensTo as OpensBlob}
+use Rattle.ferry_carry.proofs.PutsLemmas.{adds_here}
 use Rattle.ferry_carry.proofs.ReportLemmas.{report_none, untold_moments, whole_report}
 use Rattle.ferry_carry.proofs.WholeLemmas.{each_to, whole_kept}
 use Rattle.ferry_carry.proofs.WorkLemmas.{works_both, works_err, works_nothing, works_ok, works_then}
 use Rattle.ferry_carry.specs.Carrying.{AreCut, CarriesOver, IsCarried, Origin, origin}
 use Rattle.ferry_carry.specs.Gather.{BringsOpening}
-use Rattle.ferry_carry.specs.Grow.{Grown, Grows, IsNamedBy, KeepsChunks, KeepsNames, StandsOn}
-use Rattle.ferry_carry.specs.Telling.{IsReport, IsReported, KeepsReported, ReportsWhole, ShowsReport, TellsWhole}
+use Rattle.ferry_carry.specs.Grow.{Grown, IsNamedBy, KeepsChunks, KeepsNames, StandsOn}
+use Rattle.ferry_carry.specs.Listing.{ListsNames}
+use Rattle.ferry_carry.specs.Puts.{Addition, AddsAll, GoesOn}
+use Rattle.ferry_carry.specs.Telling.{CarriesNames, IsReport, IsReported, KeepsReported, ReportsWhole, ShowsReport, TellsWhole}
 use Rattle.ferry_carry.specs.Lines.{total_line}
 use Rattle.ferry_carry.specs.Work.{Works}
 use Rattle.ferry_carry.specs.declared.fault.CarryFault.{CarryFault}
 use Rattle.ferry_carry.specs.Flight.{IsSettled}
 use Rattle.ferry_carry.specs.Fault.{target_failed as depot_failed, target_fault}
+use Rattle.ferry_carry.specs.declared.options.Options.{Options}
 use Rattle.ferry_disk.proofs.ImageLemmas.{plain_read}
 use Rattle.ferry_disk.proofs.MomentLemmas.{between_map}
 use Rattle.ferry_disk.specs.Act.{History, files_now}
@@ -36,7 +40,7 @@ use Rattle.ferry_repo.specs.declared.repo.Repo.{Repo}
 use Rattle.ferry_repo.specs.Whole.{HasWhole, IsWhole, WholeArchive}
 use Rattle.ferry_repo.specs.declared.secret.Secret.{Secret}
 use Rattle.ferry_segment.specs.Entry.{LogEntry}
-use Rattle.ferry_stops.proofs.EntryLemmas.{log_shown}
+use Rattle.ferry_stops.proofs.EntryLemmas.{log_shown, one_shown}
 use Rattle.ferry_stops.specs.Blobs.{AllTraced}
 use Rattle.ferry_stops.specs.Chance.{EachStop}
 use Rattle.ferry_stops.specs.Counters.{IsKept}
@@ -47,13 +51,13 @@ use Rattle.ferry_store.proofs.StandingLemmas.{manifest_learnt, opened_manifest, 
 use Rattle.ferry_store.proofs.StepLemmas.{did_known, first_kept, moments_map, moments_then}
 use Rattle.ferry_store.specs.Commit.{accepted_in}
 use Rattle.ferry_store.specs.Standing.{OpensLive, UnlocksSettings, committed_of, entries_of, live_in, with_manifest}
-use Rattle.ferry_store.specs.State.{Did, IsSound, ShowsStanding, Written, found}
+use Rattle.ferry_store.specs.State.{Did, ShowsStanding, Written, found}
 use Rattle.ferry_store.specs.Store.{OpenEach, OpenFits, OpensFound, StoreFits}
 use Rattle.ferry_store.specs.declared.fault.StoreRefusal.{StoreRefusal}
 use Rattle.ferry_store.specs.declared.store.Store.{Store}
-use Rattle.ferry_top.specs.Transfer.{AreCutThere, Arrives, BringsWhatOpens, IsChosen, IsChosenFront, KeepsArchives, Request}
+use Rattle.ferry_top.specs.Transfer.{AddsBehind, AreCutThere, Arrives, BringsWhatOpens, IsChosen, IsChosenFront, KeepsArchives, ListsChosen, Request}
 use Rattle.ferry_top.specs.Transfer.{TransferEach, TransferEnds, TransferShows}
-use Rattle.ferry_top.specs.Transfer.{asked, chosen_of}
+use Rattle.ferry_top.specs.Transfer.{asked, chosen_of, from_source}
 use Rattle.ferry_top.specs.declared.status.Secrets.{Secrets}
 use Rattle.ferry_write.proofs.LawLemmas.{fits_now}
 use Rattle.ferry_write.specs.Room.{behind}
@@ -106,6 +110,48 @@ brings_opening request start image repo next committed entries log opens shown o
     so (inl live) = inl ((state_live start before.log committed other.opens.unlocks.reads shown id blob).1 live)
     so (inr opens_to) = inr (opens_to.0, subst (λ (r : RepoState). OpensBlob r.keys id blob opens_to.0) same opens_to.1)
 
+-- ---- what is put
+
+-- what stands goes on from what was there
+adds_shown : (request : Request) (start image : Files) (repo : RepoState) (committed entries : List LogEntry) (added : List Addition)
+    → OpensFilesTo start request.secrets.target repo → Shows start (Some committed) → Shows image (Some entries)
+    → AddsAll repo.keys request.checkpoint committed added entries → AddsBehind request start image added
+adds_shown request start image repo committed entries added opens shown shown_now adds before other others shown_then =
+    let both : Some committed ≡ Some others = one_shown start (Some committed) (Some others) shown shown_then in
+    let same : committed ≡ others = cc in (
+      entries,
+      (
+        shown_now,
+        subst (λ (front : List LogEntry). AddsAll before.keys request.checkpoint front added entries) same
+            (subst (λ (r : RepoState). AddsAll r.keys request.checkpoint committed added entries)
+            (one_repo start request.secrets.target repo before opens other) adds),
+      ),
+    )
+
+-- entries that go on from what was written, where nothing was pending
+adds_on : (request : Request) (start image : Files) (repo : RepoState) (written : Written) (committed entries : List LogEntry)
+    → OpensFilesTo start request.secrets.target repo → Shows start (Some committed) → Shows image (Some entries) → committed_of written ≡ committed
+    → entries_of written ≡ committed → GoesOn repo.keys request.checkpoint written entries
+    → (added : List Addition) × AddsBehind request start image added
+adds_on request start image repo written committed entries opens shown shown_now same all (inl is) = (
+  [],
+  adds_shown request start image repo committed entries [] opens shown shown_now
+      (subst (AddsAll repo.keys request.checkpoint committed []) (sym (is ∙ same)) (adds_here repo.keys request.checkpoint committed)),
+)
+adds_on request start image repo written committed entries opens shown shown_now same all (inr adds) = (
+  adds.0,
+  adds_shown request start image repo committed entries adds.0 opens shown shown_now
+      (subst (λ (front : List LogEntry). AddsAll repo.keys request.checkpoint front adds.0 entries) all adds.1),
+)
+
+-- where a store counts nothing as pending, what was written is committed
+none_pending : (store : Store) (h : History) (fits : StoreFits false store h) → store.pending ≡ 0 → entries_of fits.written ≡ committed_of fits.written
+none_pending store h fits none = by_pending fits.written.pending (sym fits.pending ∙ none) where
+  by_pending : (pending : List LogEntry) → min (length pending) (2 ^ 64 - 1) ≡ 0
+      → committed_of fits.written ++ pending ≡ committed_of fits.written
+  by_pending [] is = append-nil (committed_of fits.written)
+  by_pending (entry ∷ pending) is = absurd (let some : ⊥ = omega (arith, is) in some)
+
 -- none of the chosen names
 front_here : (request : Request) (source : Option Files) → IfSome source (IsChosenFront request [])
 front_here request None = tt
@@ -143,8 +189,17 @@ shown_keeps request start image repo committed opens shown standing =
       only = λ name entry is. inl is;
       opening = brings_opening request start image repo repo committed committed live.log opens shown (λ id blob apart e. inl e)
           (λ id blob has. (live.blobs id blob).0 has);
+      adds = ([], adds_shown request start image repo committed committed [] opens shown standing.0 (adds_here repo.keys request.checkpoint committed));
       told = report_none repo.manifest [];
     }
+
+-- with none of the chosen names
+pub shown_none : (request : Request) (start image : Files) (repo : RepoState) (committed : List LogEntry)
+    → (opens : OpensFilesTo start request.secrets.target repo) (shown : Shows start (Some committed))
+    → (standing : ShowsStanding (found (Some committed) start) image)
+    → [] ≡ (shown_keeps request start image repo committed opens shown standing).done
+unfolding shown_keeps
+shown_none request start image repo committed opens shown standing = refl
 
 -- ---- the names that were carried
 
@@ -155,7 +210,7 @@ HasAll files log entries = (id blob : List ℕ) → HasBlob files log id blob �
 arrives : (request : Request) (there image : Files) (source next : RepoState) (entries : List LogEntry) (log : LogState) (name : List ℕ)
     → OpensFilesTo there request.secrets.source source → OpensFilesTo image request.secrets.target (record next { log = log })
     → HasAll image log entries
-    → CarriesOver there (record { files = Some there; repo = source; block = request.block }) next.keys entries next.manifest.archives name
+    → CarriesOver there (from_source request there source) next.keys entries next.manifest.archives name
     → Arrives request there image (record next { log = log }) name
 arrives request there image source next entries log name source_opens opens blobs c = record {
   whole = c.whole;
@@ -177,36 +232,51 @@ arrives request there image source next entries log name source_opens opens blob
 }
 
 -- what was asked, over a source that opened to a repository
-module _ (secrets : Secrets) (block : ℕ) (names : List (List ℕ)) (source : RepoState) where
+module _ (secrets : Secrets) (options : Options) (names : List (List ℕ)) (source : RepoState) where
   -- The source's files, where they are told, open to the repository.
   abbrev SourceOpens : Option Told → Type 0
   SourceOpens told = IfSome told (λ t. OpensFilesTo (told_files t) secrets.source source)
 
   front_of : (told : Option Told) (done rest : List (List ℕ)) → SourceOpens told → chosen_of names source.manifest ≡ done ++ rest
-      → IfSome (asked secrets block names told).source (IsChosenFront (asked secrets block names told) done)
+      → IfSome (asked secrets options names told).source (IsChosenFront (asked secrets options names told) done)
   front_of None done rest opens front = tt
   front_of (Some t) done rest opens front = λ repo other.
       (rest, ap (λ (r : RepoState). chosen_of names r.manifest) (one_repo (told_files t) secrets.source repo source other opens) ∙ front)
 
   all_of : (told : Option Told) (done : List (List ℕ)) → SourceOpens told → done ≡ chosen_of names source.manifest
-      → IfSome (asked secrets block names told).source (IsChosen (asked secrets block names told) done)
+      → IfSome (asked secrets options names told).source (IsChosen (asked secrets options names told) done)
   all_of None done opens all = tt
   all_of (Some t) done opens all = (source, (opens, all))
 
+  all_listed : (told : Option Told) (chosen : List (List ℕ)) (accepted : ManifestText) (repo : RepoState) (added : List Addition) → SourceOpens told
+      → chosen ≡ chosen_of names source.manifest → accepted ≡ repo.manifest
+      → ListsNames (origin told source options.block options.checkpoint) repo.keys accepted [] chosen added
+      → IfSome (asked secrets options names told).source (ListsChosen (asked secrets options names told) repo added)
+  all_listed None chosen accepted repo added opens chosen_is accepted_is lists = tt
+  all_listed (Some t) chosen accepted repo added opens chosen_is accepted_is lists =
+      let from = origin (Some t) source options.block options.checkpoint in (
+        source,
+        (
+          opens,
+          subst (λ (all : List (List ℕ)). ListsNames from repo.keys repo.manifest [] all added) chosen_is
+              (subst (λ (m : ManifestText). ListsNames from repo.keys m [] chosen added) accepted_is lists),
+        ),
+      )
+
   all_arrived : (told : Option Told) (image : Files) (next : RepoState) (entries : List LogEntry) (log : LogState) (done : List (List ℕ)) → SourceOpens told
       → OpensFilesTo image secrets.target (record next { log = log }) → HasAll image log entries
-      → AllByRecursion (IsCarried (origin told source block) next.keys entries next.manifest.archives) done
-      → IfSome (asked secrets block names told).source
-      (λ files. AllByRecursion (Arrives (asked secrets block names told) files image (record next { log = log })) done)
+      → AllByRecursion (IsCarried (origin told source options.block options.checkpoint) next.keys entries next.manifest.archives) done
+      → IfSome (asked secrets options names told).source
+      (λ files. AllByRecursion (Arrives (asked secrets options names told) files image (record next { log = log })) done)
   all_arrived None image next entries log done source_opens opens blobs carried = tt
   all_arrived (Some t) image next entries log done source_opens opens blobs carried =
-      each_to (IsCarried (origin (Some t) source block) next.keys entries next.manifest.archives)
-      (Arrives (asked secrets block names (Some t)) (told_files t) image (record next { log = log })) done
-      (λ name c. arrives (asked secrets block names (Some t)) (told_files t) image source next entries log name source_opens opens blobs c) carried
+      each_to (IsCarried (origin (Some t) source options.block options.checkpoint) next.keys entries next.manifest.archives)
+      (Arrives (asked secrets options names (Some t)) (told_files t) image (record next { log = log })) done
+      (λ name c. arrives (asked secrets options names (Some t)) (told_files t) image source next entries log name source_opens opens blobs c) carried
 
   all_cut : (told : Option Told) (accepted before : ManifestText) (next : RepoState) (log : LogState) (done : List (List ℕ)) → SourceOpens told
-      → accepted ≡ before → AreCut accepted (origin told source block) next.keys next.manifest.archives done
-      → IfSome (asked secrets block names told).source (AreCutThere (asked secrets block names told) before (record next { log = log }) done)
+      → accepted ≡ before → AreCut accepted (origin told source options.block options.checkpoint) next.keys next.manifest.archives done
+      → IfSome (asked secrets options names told).source (AreCutThere (asked secrets options names told) before (record next { log = log }) done)
   all_cut None accepted before next log done source_opens same cut = tt
   all_cut (Some t) accepted before next log done source_opens same cut = λ name among none.
       let c = cut name among (ap (λ (m : ManifestText). archive_named name m.archives) same ∙ none) in
@@ -224,9 +294,10 @@ module _ (secrets : Secrets) (block : ℕ) (names : List (List ℕ)) (source : R
   stands_keeps : (told : Option Told) (chosen : List (List ℕ)) (accepted : ManifestText) (start image : Files) (repo : RepoState) (written : Written)
       (committed : List LogEntry) → SourceOpens told → chosen ≡ chosen_of names source.manifest → accepted ≡ repo.manifest
       → OpensFilesTo start secrets.target repo → Shows start (Some committed) → committed_of written ≡ committed → entries_of written ≡ committed
-      → written.config ≡ start.config → (lines : List (List ℕ)) → (stands : StandsOn (origin told source block) chosen accepted repo written image)
+      → written.config ≡ start.config → (lines : List (List ℕ))
+      → (stands : StandsOn (origin told source options.block options.checkpoint) chosen accepted repo written image)
       → IsReport accepted lines stands.done
-      → (keeps : KeepsArchives (asked secrets block names told) start repo.manifest lines image) × (keeps.done ≡ stands.done)
+      → (keeps : KeepsArchives (asked secrets options names told) start repo.manifest lines image) × (keeps.done ≡ stands.done)
   stands_keeps told chosen accepted start image repo written committed source_opens chosen_is accepted_is opens shown same all config lines stands
       report =
       let secret = secrets.target in
@@ -247,8 +318,9 @@ module _ (secrets : Secrets) (block : ℕ) (names : List (List ℕ)) (source : R
           arrived = all_arrived told image next stands.entries live.log stands.done source_opens live.opens live.blobs stands.carried;
           cut = all_cut told accepted repo.manifest next live.log stands.done source_opens accepted_is stands.cut;
           only = subst (λ (m : ManifestText). IsNamedBy m stands.done stands.manifest) accepted_is stands.only;
-          opening = brings_opening (asked secrets block names told) start image repo next committed stands.entries live.log opens shown
+          opening = brings_opening (asked secrets options names told) start image repo next committed stands.entries live.log opens shown
               (subst (λ (c : List LogEntry). BringsOpening repo.keys c stands.entries) all stands.opening) (λ id blob has. (live.blobs id blob).0 has);
+          adds = adds_on (asked secrets options names told) start image repo written committed stands.entries opens shown stands.shown same all stands.puts;
           told = subst (λ (m : ManifestText). IsReport m lines stands.done) accepted_is report;
         },
         refl,
@@ -261,7 +333,7 @@ abbrev KeepsAt : Request → History → ManifestText → History → Type 0
 KeepsAt request before manifest moment = EachStop (KeepsArchives request (files_now before) manifest (lines_of moment.acts)) moment
 
 -- a run that had made no act told no line
-untold_yet : (h : History) → h.acts ≡ [] → lines_of h.acts ≡ []
+pub untold_yet : (h : History) → h.acts ≡ [] → lines_of h.acts ≡ []
 unfolding lines_of
 untold_yet h begun = ap lines_of begun
 
@@ -286,10 +358,11 @@ sound_kept from chosen accepted repo h k written reported =
 -- ---- the end
 
 -- what is committed in a store into which the archives came stands, with all of them
-grown_stands : (from : Origin) (chosen : List (List ℕ)) (accepted : ManifestText) (store now : Store) (h g : History) (fits : StoreFits false store h)
-    → accepted_in now ≡ (repo_view now.repo).manifest → Grown accepted from chosen false store now h g fits
-    → (stands : StandsOn from chosen accepted (repo_view store.repo) fits.written (files_now g)) × (stands.done ≡ chosen)
-grown_stands from chosen accepted store now h g fits settled grown =
+grown_stands : (from : Origin) (chosen : List (List ℕ)) (added : List Addition) (accepted : ManifestText) (store now : Store) (h g : History)
+    (fits : StoreFits false store h) → accepted_in now ≡ (repo_view now.repo).manifest → (grown : Grown accepted from chosen added false store now h g fits)
+    → (stands : StandsOn from chosen accepted (repo_view store.repo) fits.written (files_now g)) × ((stands.done ≡ chosen)
+    × (committed_of grown.fits_now.written ≡ stands.entries))
+grown_stands from chosen added accepted store now h g fits settled grown =
     let fits_then = grown.fits_now in
     let after = fits_then.written in
     let manifest = (repo_view now.repo).manifest in
@@ -308,6 +381,7 @@ grown_stands from chosen accepted store now h g fits settled grown =
         chunks = subst (λ (c : List LogEntry). KeepsChunks (committed_of fits.written) c) entries_are grown.chunks;
         opening = λ id blob apart live. grown.opening id blob apart
             (fits_then.keeps id blob (subst (λ (c : List LogEntry). live_in id c ≡ Some blob) (sym entries_are) live));
+        puts = subst (GoesOn (repo_view store.repo).keys from.most fits.written) entries_are grown.committed;
         holds = commits.holds;
         names = grown.most.names;
         config = config ∙ grown.config;
@@ -319,28 +393,28 @@ grown_stands from chosen accepted store now h g fits settled grown =
         cut = subst (λ k. AreCut accepted from k manifest.archives chosen) grown.most.keys grown.cut;
         only = subst (λ (m : ManifestText). IsNamedBy accepted chosen m) settled grown.only;
       },
-      refl,
+      (refl, entries_are),
     )
 
 -- ---- the whole command
 
 -- what was asked, over a source that opened to a repository, with the names that it chose
-module _ (secrets : Secrets) (block : ℕ) (names : List (List ℕ)) (source : RepoState) (told : Option Told) (chosen : List (List ℕ))
+module _ (secrets : Secrets) (options : Options) (names : List (List ℕ)) (source : RepoState) (told : Option Told) (chosen : List (List ℕ))
     (source_opens : IfSome told (λ t. OpensFilesTo (told_files t) secrets.source source)) (chosen_is : chosen ≡ chosen_of names source.manifest) where
   abbrev request : Request
-  request = asked secrets block names told
+  request = asked secrets options names told
 
   abbrev from : Origin
-  from = origin told source block
+  from = origin told source options.block options.checkpoint
 
   -- what stands behind the opening keeps the archives
-  stands_opened : (store : Store) (h g : History) (lines : List (List ℕ)) (image : Files) → IsSettled store
+  pub stands_opened : (store : Store) (h g : History) (lines : List (List ℕ)) (image : Files) → IsSettled store
       → OpensFilesTo (files_now h) secrets.target (repo_view store.repo)
       → (o : OpensFound false store h g) → (stands : StandsOn from chosen (accepted_in store) (repo_view store.repo) o.fits.written image)
       → IsReport (accepted_in store) lines stands.done
       → (keeps : KeepsArchives request (files_now h) (repo_view store.repo).manifest lines image) × (keeps.done ≡ stands.done)
   stands_opened store h g lines image settled opens o stands report =
-      stands_keeps secrets block names source told chosen (accepted_in store) (files_now h) image (repo_view store.repo) o.fits.written o.committed
+      stands_keeps secrets options names source told chosen (accepted_in store) (files_now h) image (repo_view store.repo) o.fits.written o.committed
       source_opens chosen_is settled opens o.shown (ap committed_of o.found_is) (ap entries_of o.found_is ∙ append-nil o.committed)
       (ap (λ (w : Written). w.config) o.found_is) lines stands report
 
@@ -381,12 +455,17 @@ module _ (secrets : Secrets) (block : ℕ) (names : List (List ℕ)) (source : R
     ),
   )
 
-  ends_then : (store now : Store) (h g i : History) → IsSettled store → IsSettled now
-      → OpensFilesTo (files_now h) secrets.target (repo_view store.repo) → TellsNothing h g → OpenFits store h g → Grows from chosen store now g i
+  ends_then : (store now : Store) (h g i : History) → IsSettled store → IsSettled now → now.pending ≡ 0
+      → OpensFilesTo (files_now h) secrets.target (repo_view store.repo) → TellsNothing h g → OpenFits store h g → CarriesNames from chosen store now g i
       → TellsWhole (accepted_in store) chosen g i → TransferEnds request h i
-  ends_then store now h g i settled settled_now opens untold fits grows told_then begun =
+  ends_then store now h g i settled settled_now none opens untold fits carries told_then begun =
       let o = fits false begun (λ c. absurd (let no : ⊥ = cc in no)) in
-      let stands = grown_stands from chosen (accepted_in store) store now g i o.fits settled_now (grows false o.fits) in
+      let added = carries.0 in
+      let grown = carries.1.0 false o.fits in
+      let stands = grown_stands from chosen added (accepted_in store) store now g i o.fits settled_now grown in
+      let keys = (repo_view store.repo).keys in
+      let written : entries_of o.fits.written ≡ o.committed = ap entries_of o.found_is ∙ append-nil o.committed in
+      let entries : entries_of grown.fits_now.written ≡ stands.0.entries = none_pending now i grown.fits_now none ∙ stands.1.1 in
       let whole : TellsWhole (accepted_in store) chosen h i = (
         told_then.0,
         (
@@ -397,16 +476,22 @@ module _ (secrets : Secrets) (block : ℕ) (names : List (List ℕ)) (source : R
           ),
         ),
       ) in
-      let report = subst (λ (l : List (List ℕ)). IsReport (accepted_in store) (lines_of i.acts) l) (sym stands.1)
+      let report = subst (λ (l : List (List ℕ)). IsReport (accepted_in store) (lines_of i.acts) l) (sym stands.1.0)
       (whole_report (accepted_in store) chosen h i (untold_yet h begun) whole) in
       let kept = stands_opened store h g (lines_of i.acts) (files_now i) settled opens o stands.0 report in
       record {
         repo = repo_view store.repo;
         opens = opens;
         keeps = kept.0;
-        all = all_of secrets block names source told kept.0.done source_opens (kept.1 ∙ (stands.1 ∙ chosen_is));
+        all = all_of secrets options names source told kept.0.done source_opens (kept.1 ∙ (stands.1.0 ∙ chosen_is));
         told_all = subst (λ (m : ManifestText). TellsWhole m kept.0.done h i) settled
-            (subst (λ (l : List (List ℕ)). TellsWhole (accepted_in store) l h i) (sym (kept.1 ∙ stands.1)) whole);
+            (subst (λ (l : List (List ℕ)). TellsWhole (accepted_in store) l h i) (sym (kept.1 ∙ stands.1.0)) whole);
+        added = added;
+        adds = adds_shown request (files_now h) (files_now i) (repo_view store.repo) o.committed stands.0.entries added opens o.shown stands.0.shown
+            (subst (AddsAll keys options.checkpoint o.committed added) entries
+            (subst (λ (front : List LogEntry). AddsAll keys options.checkpoint front added (entries_of grown.fits_now.written)) written grown.puts));
+        lists = all_listed secrets options names source told chosen (accepted_in store) (repo_view store.repo) added source_opens chosen_is settled
+            carries.1.1;
       }
 
   -- the store that was opened, over the files that opened to its repository
@@ -430,15 +515,15 @@ module _ (secrets : Secrets) (block : ℕ) (names : List (List ℕ)) (source : R
 
   -- the archives of the chosen names were copied
   pub copied_all : {T U : Type 0} (store now : Store) (a b c : Option Told) (n m k : ℕ) (x : T) (y : U) → IsSettled store → IsSettled now
-      → IfSome a (λ t. OpensFilesTo (files_now t.history) secrets.target (repo_view store.repo)) → Between a b TellsNothing
+      → now.pending ≡ 0 → IfSome a (λ t. OpensFilesTo (files_now t.history) secrets.target (repo_view store.repo)) → Between a b TellsNothing
       → Did OpenEach OpenFits a b n m (Ok store) → ReportsWhole {T = T} from chosen store now b c m k (Ok x)
       → Works (TransferEach request) (λ (_ : U). TransferEnds request) a c n k (Ok y)
-  copied_all {T} {U} store now a b c n m k x y settled settled_now opens untold opened carried =
+  copied_all {T} {U} store now a b c n m k x y settled settled_now none opens untold opened carried =
       let all = works_then OpensUntold OpensToUntold (KeepsReported from chosen store)
-      (λ (_ : T) h g. Grows from chosen store now h g × TellsWhole (accepted_in store) chosen h g) (TransferEach request)
+      (λ (_ : T) h g. CarriesNames from chosen store now h g × TellsWhole (accepted_in store) chosen h g) (TransferEach request)
       (λ (_ : T). TransferEnds request) a b c n m k store (Ok x)
       (λ h g i each done fits reported. transfer_then store h g i settled fits.1.0 each.0 each.1 done fits.1.1 reported)
-      (λ _ h g i fits end. ends_then store now h g i settled settled_now fits.1.0 fits.0.0 fits.1.1 end.0 end.1)
+      (λ _ h g i fits end. ends_then store now h g i settled settled_now none fits.1.0 fits.0.0 fits.1.1 end.0 end.1)
       (opened_works store a b n m opens untold opened) carried in
       record { each = all.each; end = all.end; ends = all.ends; cause = all.cause }
 
@@ -449,7 +534,7 @@ module _ (secrets : Secrets) (block : ℕ) (names : List (List ℕ)) (source : R
       → Works (TransferEach request) (λ (_ : U). TransferEnds request) a c n k (Err fault)
   copied_some {T} {U} store now a b c n m k fault settled opens untold opened carried =
       let all = works_then OpensUntold OpensToUntold (KeepsReported from chosen store)
-      (λ (_ : T) h g. Grows from chosen store now h g × TellsWhole (accepted_in store) chosen h g) (TransferEach request)
+      (λ (_ : T) h g. CarriesNames from chosen store now h g × TellsWhole (accepted_in store) chosen h g) (TransferEach request)
       (λ (_ : T) (h : History) (g : History). Unit {0}) a b c n m k store (Err fault)
       (λ h g i each done fits reported. transfer_then store h g i settled fits.1.0 each.0 each.1 done fits.1.1 reported) (λ _ h g i e f. tt)
       (opened_works store a b n m opens untold opened) carried in
@@ -458,7 +543,7 @@ module _ (secrets : Secrets) (block : ℕ) (names : List (List ℕ)) (source : R
 -- ---- the devices
 
 -- the entries that files show which open
-entries_of_files : (files : Files) (secret : Secret) (repo : RepoState) → OpensFilesTo files secret repo
+pub entries_of_files : (files : Files) (secret : Secret) (repo : RepoState) → OpensFilesTo files secret repo
     → (entries : List LogEntry) × Shows files (Some entries)
 entries_of_files files secret repo opens =
     let reads = opens.opens.unlocks.reads in
@@ -504,10 +589,17 @@ files_kept is_device (Some told) None x same = absurd (let no : ⊥ = cc in no)
 files_kept is_device (Some told) (Some now) x same =
     let heard_same : heard_of now ≡ heard_of told = cc in ap (λ (h : Heard). Some (files_now h.history)) heard_same
 
-pub asked_kept : {T F : Type 0} (secrets : Secrets) (block : ℕ) (names : List (List ℕ)) (is_device : F → Bool) (a b : Option Told) (x : T)
-    → KeepsTold {F = F} is_device a b (Ok x) → asked secrets block names b ≡ asked secrets block names a
-asked_kept {T} {F} secrets block names is_device a b x same =
-    ap (λ (files : Option Files). record { secrets = secrets; block = block; names = names; source = files }) (files_kept {T = T} {F = F} is_device a b x same)
+pub asked_kept : {T F : Type 0} (secrets : Secrets) (options : Options) (names : List (List ℕ)) (is_device : F → Bool) (a b : Option Told) (x : T)
+    → KeepsTold {F = F} is_device a b (Ok x) → asked secrets options names b ≡ asked secrets options names a
+asked_kept {T} {F} secrets options names is_device a b x same =
+    ap (λ (files : Option Files). record {
+      secrets = secrets;
+      block = options.block;
+      checkpoint = options.checkpoint;
+      timestamp = options.timestamp;
+      names = names;
+      source = files;
+    }) (files_kept {T = T} {F = F} is_device a b x same)
 
 -- the repository that was opened, over what is told then
 pub source_opens : (a b : Option Told) (repo : Repo) (secret : Secret) → IfSome a (λ t. OpensFilesTo (told_files t) secret (repo_view repo))

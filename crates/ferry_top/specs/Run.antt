@@ -100,7 +100,7 @@ DoesCommand (Ok (Init iterations timestamp)) secrets before status after =
     MakesRepository secrets.target iterations (time_or timestamp) before status after
 DoesCommand (Ok (MakeKey iterations)) secrets before status after = MakesKey secrets.target iterations before status after
 DoesCommand (Ok (Transfer block checkpoint timestamp names)) secrets before status after =
-    Transfers (asked secrets block names before.source.told) before status after
+    Transfers (asked secrets (record { block = block; checkpoint = checkpoint; timestamp = timestamp }) names before.source.told) before status after
 DoesCommand (Err word) secrets before status after = after ≡ before
 
 -- A line went to the output in one write, whatever the write answered.

@@ -107,6 +107,15 @@ carry_status Carry.Pieces = Limit Limits.Item
 carry_status Carry.Memory = Memory
 carry_status Carry.Record = Limit Limits.Archive
 
+-- whether a status is that of a refusal which is no failed device's, and not for want of memory
+abbrev pub is_of_work : Status → Bool
+is_of_work (SourceRefused refusal) = true
+is_of_work (TargetRefused refusal) = true
+is_of_work (Taken name) = true
+is_of_work (NotFound what) = true
+is_of_work (Limit limit) = true
+is_of_work status = false
+
 -- ---- lines
 
 -- the fault line of the first wrong word

@@ -3,22 +3,27 @@ use Rattle.std.specs.Prelude.{◌≡◌, ◌≢◌, ◌⊎◌, ℕ, List, [], �
 use Rattle.std.specs.List.{AllByRecursion}
 use Rattle.ferry_base.specs.Limits.{zero_id}
 use Rattle.ferry_blob.specs.Blob.{OpensTo, content_id}
-use Rattle.ferry_carry.specs.Carrying.{IsRecordText}
+use Rattle.ferry_carry.specs.Carrying.{IsRecordText, Origin}
 use Rattle.ferry_carry.specs.Copied.{IsCopyOf, adds_of}
 use Rattle.ferry_carry.specs.Gather.{HoldsWithin, IsAmong, NoCollision}
 use Rattle.ferry_carry.specs.Grow.{IsNamedBy, KeepsNames}
-use Rattle.ferry_carry.specs.Telling.{IsReport, TellsWhole}
+use Rattle.ferry_carry.specs.Listing.{ListsNames}
+use Rattle.ferry_carry.specs.Puts.{Addition, AddsAll}
+use Rattle.ferry_carry.specs.Telling.{AreLines, IsReport, TellsWhole}
+use Rattle.ferry_carry.specs.declared.options.Options.{Options}
 use Rattle.ferry_disk.specs.Act.{History, files_now}
 use Rattle.ferry_disk.specs.Device.{Told, told_files}
 use Rattle.ferry_disk.specs.Files.{Files}
-use Rattle.ferry_disk.specs.Moments.{Between, Moments}
+use Rattle.ferry_disk.specs.Moments.{Moments}
 use Rattle.ferry_manifest.specs.Manifest.Text.{ManifestText}
 use Rattle.ferry_manifest.specs.declared.manifest.ArchiveRef.{ArchiveRef}
 use Rattle.ferry_repo.specs.Archives.{archive_named}
 use Rattle.ferry_repo.specs.Objects.{HasBlob}
 use Rattle.ferry_repo.specs.Opening.{RepoState, OpensFilesTo}
 use Rattle.ferry_repo.specs.Whole.{HasWhole, WholeArchive}
+use Rattle.ferry_segment.specs.Entry.{LogEntry}
 use Rattle.ferry_stops.specs.Chance.{EachStop}
+use Rattle.ferry_stops.specs.Entries.{Shows}
 use Rattle.ferry_stops.specs.Tells.{lines_of}
 use Rattle.ferry_store.specs.Store.{InitKeeps}
 use Rattle.ferry_top.specs.declared.status.Secrets.{Secrets}
@@ -31,17 +36,29 @@ abbrev pub chosen_of : List (List ℕ) → ManifestText → List (List ℕ)
 chosen_of [] manifest = map (λ (entry : ArchiveRef). entry.name) manifest.archives
 chosen_of (name ∷ names) manifest = name ∷ names
 
--- what a transfer is asked for: the secrets of both repositories, the length of the pieces that contents are cut into in the target, the names that
--- are given, and the files of the source, where they are told
+-- what a transfer is asked for: the secrets of both repositories, the length of the pieces that contents are cut into in the target, how many of them may
+-- be pending, the time of the manifest, where it is given, the names that are given, and the files of the source, where they are told
 pub record Request : Type 0 where
   pub secrets : Secrets
   pub block : ℕ
+  pub checkpoint : ℕ
+  pub timestamp : Option (List ℕ)
   pub names : List (List ℕ)
   pub source : Option Files
 
-abbrev pub asked : Secrets → ℕ → List (List ℕ) → Option Told → Request
-asked secrets block names told =
-    record { secrets = secrets; block = block; names = names; source = option_map (λ (t : Told). told_files t) told }
+abbrev pub asked : Secrets → Options → List (List ℕ) → Option Told → Request
+asked secrets options names told = record {
+  secrets = secrets;
+  block = options.block;
+  checkpoint = options.checkpoint;
+  timestamp = options.timestamp;
+  names = names;
+  source = option_map (λ (t : Told). told_files t) told;
+}
+
+-- the source that archives are copied from
+abbrev pub from_source : Request → Files → RepoState → Origin
+from_source request source repo = record { files = Some source; repo = repo; block = request.block; most = request.checkpoint }
 
 -- ---- what is there
 
@@ -80,15 +97,20 @@ abbrev pub BringsWhatOpens : Request → Files → Files → RepoState → Type 
 BringsWhatOpens request start image repo = (before : RepoState) → OpensFilesTo start request.secrets.target before → (id blob : List ℕ) → id ≢ zero_id
     → HasBlob image repo.log id blob → HasBlob start before.log id blob ⊎ ((content : List ℕ) × OpensTo before.keys id blob content)
 
+-- Behind the entries that these files showed, these additions were made one after another, and nothing else but commits and manifests: what was live isn't put
+-- again, nothing is put twice, and no more are pending than may be.
+abbrev pub AddsBehind : Request → Files → Files → List Addition → Type 0
+AddsBehind request start image added = (before : RepoState) → OpensFilesTo start request.secrets.target before → (entries : List LogEntry)
+    → Shows start (Some entries) → (after : List LogEntry) × (Shows image (Some after) × AddsAll before.keys request.checkpoint entries added after)
+
 -- Where the source's files open, these names are a front of those that are chosen.
 abbrev pub IsChosenFront : Request → List (List ℕ) → Files → Type 0
 IsChosenFront request done files = (repo : RepoState) → OpensFilesTo files request.secrets.source repo
     → (rest : List (List ℕ)) × (chosen_of request.names repo.manifest ≡ done ++ rest)
 
--- Files open under the target's secret, with the settings that these had, and each archive of these is named there, and says the same where it was
--- whole. Of the chosen names
--- those of a front arrived, cut anew where they weren't there, and beside them and those that were there no other is named. What chunks came, open.
--- These lines tell a front of those that arrived, and behind them perhaps the whole.
+-- Files open under the target's secret, with the settings that these had, and each archive of these is named there, and says the same where it was whole. Of
+-- the chosen names those of a front arrived, cut anew where they weren't there, and beside them and those that were there no other is named. What chunks
+-- came, open, and each was put because none was live under its id. These lines tell a front of those that arrived, and behind them perhaps the whole.
 pub record KeepsArchives (request : Request) (start : Files) (before : ManifestText) (lines : List (List ℕ)) (image : Files) : Type 0 where
   pub repo : RepoState
   pub opens : OpensFilesTo image request.secrets.target repo
@@ -102,6 +124,7 @@ pub record KeepsArchives (request : Request) (start : Files) (before : ManifestT
   pub cut : IfSome request.source (AreCutThere request before repo done)
   pub only : IsNamedBy before done repo.manifest
   pub opening : BringsWhatOpens request start image repo
+  pub adds : (added : List Addition) × AddsBehind request start image added
   pub told : IsReport before lines done
 
 -- ---- each stop
@@ -123,13 +146,22 @@ abbrev pub IsChosen : Request → List (List ℕ) → Files → Type 0
 IsChosen request done files =
     (repo : RepoState) × (OpensFilesTo files request.secrets.source repo × (done ≡ chosen_of request.names repo.manifest))
 
--- The target's files opened, and now they open with each archive that was there. All chosen names arrived and were told, and behind them the whole.
+-- The source's files open, and this is all that is added for the chosen names to a target that opened so.
+abbrev pub ListsChosen : Request → RepoState → List Addition → Files → Type 0
+ListsChosen request before added files = (repo : RepoState) × (OpensFilesTo files request.secrets.source repo
+    × ListsNames (from_source request files repo) before.keys before.manifest [] (chosen_of request.names repo.manifest) added)
+
+-- The target's files opened, and now they open with each archive that was there. All chosen names arrived and were told, and behind them the whole. What was
+-- added is all that is added for them.
 pub record HasTransferred (request : Request) (before now : History) : Type 0 where
   pub repo : RepoState
   pub opens : OpensFilesTo (files_now before) request.secrets.target repo
   pub keeps : KeepsArchives request (files_now before) repo.manifest (lines_of now.acts) (files_now now)
   pub all : IfSome request.source (IsChosen request keeps.done)
   pub told_all : TellsWhole repo.manifest keeps.done before now
+  pub added : List Addition
+  pub adds : AddsBehind request (files_now before) (files_now now) added
+  pub lists : IfSome request.source (ListsChosen request repo added)
 
 -- The same of a run that had made no act.
 abbrev pub TransferEnds : Request → History → History → Type 0
@@ -141,3 +173,9 @@ TransferEnds request before now = before.acts ≡ [] → HasTransferred request 
 abbrev pub TransferLeaves : Request → History → History → Type 0
 TransferLeaves request before now = before.acts ≡ [] → (repo : RepoState) → OpensFilesTo (files_now before) request.secrets.target repo
     → KeepsArchives request (files_now before) repo.manifest (lines_of now.acts) (files_now now)
+
+-- The same, and these lines tell all of the archives that came, so that no other did.
+abbrev pub LeavesTold : Request → History → History → Type 0
+LeavesTold request before now = before.acts ≡ [] → (repo : RepoState) → OpensFilesTo (files_now before) request.secrets.target repo
+    → (keeps : KeepsArchives request (files_now before) repo.manifest (lines_of now.acts) (files_now now))
+    × AreLines repo.manifest [] (lines_of now.acts) keeps.done

@@ -1,12 +1,12 @@
 -- Why a transfer isn't done, by the files of both repositories, and where it is done.
-use Rattle.std.specs.Prelude.{◌≡◌, ◌≢◌, ◌⊎◌, ℕ, List, [], Option, Some, IfSome, IsSome, slice_get}
+use Rattle.std.specs.Prelude.{◌≡◌, ◌≢◌, ◌⊎◌, ◌++◌, ℕ, false, List, [], ◌∷◌, Option, Some, IfSome, IsSome, slice_get}
 use Rattle.ferry_base.specs.Limits.{zero_id}
 use Rattle.ferry_blob.specs.Blob.{OpensTo}
-use Rattle.ferry_blob.specs.declared.fault.BlobFault.{BlobFault}
-use Rattle.ferry_carry.specs.Carrying.{Origin}
 use Rattle.ferry_carry.specs.Chosen.{IsMissingName}
 use Rattle.ferry_carry.specs.Gather.{IsAmong}
-use Rattle.ferry_carry.specs.Refusals.{HasLargeRecord, HasLongItem}
+use Rattle.ferry_carry.specs.Accepting.{LimitsNames}
+use Rattle.ferry_carry.specs.Refusals.{HasLargeRecord, HasLongItem, is_of_telling}
+use Rattle.ferry_carry.specs.Telling.{AreLines}
 use Rattle.ferry_carry.specs.declared.fault.CarryFault.{CarryFault}
 use Rattle.ferry_carry.specs.declared.fault.CarryFault.TheVariants as Carry
 use Rattle.ferry_disk.specs.Device.{Told, told_files}
@@ -28,7 +28,7 @@ use Rattle.ferry_store.specs.declared.fault.StoreRefusal.{StoreRefusal}
 use Rattle.ferry_store.specs.declared.fault.StoreRefusal.TheVariants as Store
 use Rattle.ferry_top.specs.Rerun.{IsAbsentOrEqual, LacksName, NoneCollideIn}
 use Rattle.ferry_top.specs.Status.{carry_status}
-use Rattle.ferry_top.specs.Transfer.{KeepsArchives, Request, chosen_of}
+use Rattle.ferry_top.specs.Transfer.{KeepsArchives, Request, chosen_of, from_source}
 use Rattle.ferry_top.specs.declared.status.Limit.{Limit}
 use Rattle.ferry_top.specs.declared.status.Limit.TheVariants as Limits
 use Rattle.ferry_top.specs.declared.status.Status.{Status}
@@ -37,18 +37,23 @@ use Rattle.ferry_write.specs.declared.fault.WriteFault.TheVariants as Writes
 
 -- ---- the source
 
--- The source's files open, and this holds of a chosen name.
-pub record IsOfChosen (request : Request) (source : Files) (Holds : RepoState → List ℕ → Type 0) : Type 0 where
+-- The source's files open, and the target's at the begin, and this holds of a chosen name. These lines tell the chosen names before it, and nothing else.
+pub record IsOfChosen (request : Request) (source start : Files) (lines : List (List ℕ)) (Holds : RepoState → RepoState → List ℕ → Type 0) : Type 0 where
   pub repo : RepoState
   pub opens : OpensFilesTo source request.secrets.source repo
+  pub target : RepoState
+  pub target_opens : OpensFilesTo start request.secrets.target target
+  pub done : List (List ℕ)
   pub name : List ℕ
-  pub chosen : IsAmong (chosen_of request.names repo.manifest) name
-  pub holds : Holds repo name
+  pub rest : List (List ℕ)
+  pub split : chosen_of request.names repo.manifest ≡ done ++ name ∷ rest
+  pub told : AreLines target.manifest [] lines done
+  pub holds : Holds repo target name
 
 -- Why the source is refused: its files don't open, or a chosen archive isn't whole there.
-abbrev pub RefusesSource : Request → Files → RepoFault → Type 0
-RefusesSource request source fault = RefusesRepo source request.secrets.source fault
-    ⊎ IsOfChosen request source (λ repo name. RefusesWhole source repo.log repo.keys repo.manifest.archives name fault)
+abbrev pub RefusesSource : Request → Files → Files → List (List ℕ) → RepoFault → Type 0
+RefusesSource request source start lines fault = RefusesRepo source request.secrets.source fault
+    ⊎ IsOfChosen request source start lines (λ repo target name. RefusesWhole source repo.log repo.keys repo.manifest.archives name fault)
 
 -- Of the chosen names this is the first that the source lacks.
 pub record IsFirstMissing (request : Request) (source : Files) (name : List ℕ) : Type 0 where
@@ -66,32 +71,54 @@ pub record IsOfTarget (request : Request) (files : Files) (Holds : RepoState →
   pub opens : OpensFilesTo files request.secrets.target repo
   pub holds : Holds repo
 
+-- The target's manifest, behind archives that these lines tell, and nothing else, is too large with the next of the chosen names.
+pub record HasLargeTarget (request : Request) (source start : Files) (lines : List (List ℕ)) : Type 0 where
+  pub repo : RepoState
+  pub opens : OpensFilesTo source request.secrets.source repo
+  pub target : RepoState
+  pub target_opens : OpensFilesTo start request.secrets.target target
+  pub limits : LimitsNames request.timestamp repo.manifest target.keys target.manifest (chosen_of request.names repo.manifest)
+      (AreLines target.manifest [] lines)
+
 -- Why the target isn't written: a chunk that is live in it breaks a rule, it has few counter blocks left at the end, or the numbers of segments are used
--- up then; or a manifest is too large, a device failed, or memory was refused.
-abbrev pub StopsWriting : Request → Files → Files → StoreRefusal → Type 0
-StopsWriting request start image (Store.Repo (Repos.Blob id fault)) =
+-- up then; or its manifest is too large, a device failed, or memory was refused.
+abbrev pub StopsWriting : Request → Files → Files → List (List ℕ) → Files → StoreRefusal → Type 0
+StopsWriting request source start lines image (Store.Repo (Repos.Blob id fault)) =
     IsOfTarget request start (λ repo. (id ≢ zero_id) × BreaksObject start repo.log repo.keys id fault)
-StopsWriting request start image (Store.Repo Repos.Device) = Unit {0}
-StopsWriting request start image (Store.Repo fault) = ⊥
-StopsWriting request start image (Store.Write Writes.Numbers) = HasLastSegment image
-StopsWriting request start image (Store.Write fault) = Unit {0}
-StopsWriting request start image (Store.Nonce Nonces.Exhausted) = HasFewBlocks image
-StopsWriting request start image (Store.Nonce Nonces.Device) = Unit {0}
-StopsWriting request start image (Store.Nonce fault) = ⊥
-StopsWriting request start image Store.Committed = ⊥
-StopsWriting request start image Store.TooLarge = Unit {0}
-StopsWriting request start image Store.Entropy = Unit {0}
-StopsWriting request start image Store.Memory = Unit {0}
+StopsWriting request source start lines image (Store.Repo Repos.Device) = Unit {0}
+StopsWriting request source start lines image (Store.Repo fault) = ⊥
+StopsWriting request source start lines image (Store.Write Writes.Numbers) = HasLastSegment image
+StopsWriting request source start lines image (Store.Write fault) = Unit {0}
+StopsWriting request source start lines image (Store.Nonce Nonces.Exhausted) = HasFewBlocks image
+StopsWriting request source start lines image (Store.Nonce Nonces.Device) = Unit {0}
+StopsWriting request source start lines image (Store.Nonce fault) = ⊥
+StopsWriting request source start lines image Store.Committed = ⊥
+StopsWriting request source start lines image Store.TooLarge = HasLargeTarget request source start lines
+StopsWriting request source start lines image Store.Entropy = Unit {0}
+StopsWriting request source start lines image Store.Memory = Unit {0}
 
--- Why the target is refused: its files don't open to be written, or they can't be written on.
-abbrev pub RefusesTarget : Request → Files → Files → StoreRefusal → Type 0
-RefusesTarget request start image refusal = RefusesOpen request.secrets.target start refusal ⊎ StopsWriting request start image refusal
+-- These lines tell a front of the chosen names, behind which is one more, and nothing else.
+abbrev pub IsBehindTold : Request → Files → Files → List (List ℕ) → Type 0
+IsBehindTold request source start lines = IsOfChosen request source start lines (λ repo target name. Unit {0})
 
--- A chosen archive is whole in the source, and its name is taken in the target: the archive there isn't whole, or says something else.
-pub record IsTaken (request : Request) (source image : Files) (name : List ℕ) : Type 0 where
+-- Why the target is refused: its files don't open to be written, or they can't be written on; but for a line that isn't told, in front of a name that isn't
+-- told.
+abbrev pub RefusesTarget : Request → Files → Files → List (List ℕ) → Files → StoreRefusal → Type 0
+RefusesTarget request source start lines image refusal = RefusesOpen request.secrets.target start refusal
+    ⊎ (StopsWriting request source start lines image refusal
+    × (is_of_telling (Carry.Target refusal) ≡ false → IsBehindTold request source start lines))
+
+-- A chosen archive is whole in the source, and its name is taken in the target: the archive there isn't whole, or says something else. These lines tell the
+-- chosen names before it, and nothing else.
+pub record IsTaken (request : Request) (source start : Files) (lines : List (List ℕ)) (image : Files) (name : List ℕ) : Type 0 where
   pub from : RepoState
   pub source_opens : OpensFilesTo source request.secrets.source from
-  pub chosen : IsAmong (chosen_of request.names from.manifest) name
+  pub before : RepoState
+  pub target_opens : OpensFilesTo start request.secrets.target before
+  pub done : List (List ℕ)
+  pub rest : List (List ℕ)
+  pub split : chosen_of request.names from.manifest ≡ done ++ name ∷ rest
+  pub told : AreLines before.manifest [] lines done
   pub whole : WholeArchive
   pub whole_there : HasWhole source request.secrets.source name whole
   pub repo : RepoState
@@ -101,39 +128,39 @@ pub record IsTaken (request : Request) (source image : Files) (name : List ℕ) 
 
 -- ---- limits
 
--- the source that archives are copied from
-abbrev pub from_source : Request → Files → RepoState → Origin
-from_source request source repo = record { files = Some source; repo = repo; block = request.block }
-
 -- A chosen archive that the target lacked has an item that is too long.
-abbrev pub HasLongChosen : Request → Files → Files → Type 0
-HasLongChosen request source start = IsOfChosen request source (λ repo name.
-    IsOfTarget request start (λ target. LacksName target.manifest name × HasLongItem source (from_source request source repo) name))
+abbrev pub HasLongChosen : Request → Files → Files → List (List ℕ) → Type 0
+HasLongChosen request source start lines = IsOfChosen request source start lines (λ repo target name.
+    LacksName target.manifest name × HasLongItem source (from_source request source repo) name)
 
 -- A chosen archive that the target lacked is whole, and its record would be too large.
-abbrev pub HasLargeChosen : Request → Files → Files → Type 0
-HasLargeChosen request source start = IsOfChosen request source (λ repo name.
-    IsOfTarget request start (λ target. LacksName target.manifest name × HasLargeRecord source (from_source request source repo) target.keys name))
+abbrev pub HasLargeChosen : Request → Files → Files → List (List ℕ) → Type 0
+HasLargeChosen request source start lines = IsOfChosen request source start lines (λ repo target name.
+    LacksName target.manifest name × HasLargeRecord source (from_source request source repo) target.keys name)
 
 -- ---- causes
 
--- Why a transfer isn't done, by the files of the source, by those of the target at its begin, and by what is read of the target at its end.
-abbrev pub RefusesTransfer : Request → Files → Files → Files → CarryFault → Type 0
-RefusesTransfer request source start image (Carry.Source fault) = IsOfFiles fault → RefusesSource request source fault
-RefusesTransfer request source start image (Carry.Target refusal) = RefusesTarget request start image refusal
-RefusesTransfer request source start image (Carry.Taken name) = IsTaken request source image name
-RefusesTransfer request source start image (Carry.NotFound name) = IsFirstMissing request source name
-RefusesTransfer request source start image Carry.Pieces = HasLongChosen request source start
-RefusesTransfer request source start image Carry.Memory = Unit {0}
-RefusesTransfer request source start image Carry.Record = HasLargeChosen request source start
+-- Why a transfer isn't done, by the files of the source, by those of the target at its begin, by the lines that were told, and by what is read of the target
+-- at its end.
+abbrev pub RefusesTransfer : Request → Files → Files → List (List ℕ) → Files → CarryFault → Type 0
+RefusesTransfer request source start lines image (Carry.Source fault) = IsOfFiles fault → RefusesSource request source start lines fault
+RefusesTransfer request source start lines image (Carry.Target refusal) = RefusesTarget request source start lines image refusal
+RefusesTransfer request source start lines image (Carry.Taken name) = IsTaken request source start lines image name
+RefusesTransfer request source start lines image (Carry.NotFound name) = IsFirstMissing request source name
+RefusesTransfer request source start lines image Carry.Pieces = HasLongChosen request source start lines
+RefusesTransfer request source start lines image Carry.Memory = Unit {0}
+RefusesTransfer request source start lines image Carry.Record = HasLargeChosen request source start lines
 
--- What holds of the source's files, of the target's in a run that had made no act, and of the target's as they are read at its end, where all are told.
-abbrev pub WhereRead : Option Files → Option Told → Option Told → (Files → Files → Files → Type 0) → Type 0
-WhereRead source before now P = IfSome source (λ files. IfSome before (λ b. IfSome now (λ t. b.history.acts ≡ [] → P files (told_files b) (told_files t))))
+-- What holds of the source's files, of the target's in a run that had made no act, of the lines that it told, and of the target's files as they are read at
+-- its end, where all are told.
+abbrev pub WhereRead : Option Files → Option Told → Option Told → (Files → Files → List (List ℕ) → Files → Type 0) → Type 0
+WhereRead source before now P = IfSome source (λ files. IfSome before (λ b. IfSome now
+    (λ t. b.history.acts ≡ [] → P files (told_files b) (lines_of t.history.acts) (told_files t))))
 
 -- Why a transfer isn't done, where the files are told.
 abbrev pub RefusesAsked : Request → Option Told → Option Told → CarryFault → Type 0
-RefusesAsked request before now fault = WhereRead request.source before now (λ source start image. RefusesTransfer request source start image fault)
+RefusesAsked request before now fault =
+    WhereRead request.source before now (λ source start lines image. RefusesTransfer request source start lines image fault)
 
 -- A status is that of a refusal, which says this of the files.
 pub record IsRefusedSo (request : Request) (before now : Option Told) (status : Status) : Type 0 where
@@ -160,22 +187,22 @@ pub record IsReadyFor (request : Request) (source start : Files) : Type 0 where
   pub chosen : (name : List ℕ) → IsAmong (chosen_of request.names from.manifest) name → IsAbsentOrEqual request source start repo name
 
 -- a limit that is met
-abbrev pub MeetsLimit : Request → Files → Files → Files → Limit → Type 0
-MeetsLimit request source start image Limits.Nonce = HasFewBlocks image
-MeetsLimit request source start image Limits.Manifest = Unit {0}
-MeetsLimit request source start image Limits.Archive = HasLargeChosen request source start
-MeetsLimit request source start image Limits.Segment = HasLastSegment image
-MeetsLimit request source start image Limits.Item = HasLongChosen request source start
+abbrev pub MeetsLimit : Request → Files → Files → List (List ℕ) → Files → Limit → Type 0
+MeetsLimit request source start lines image Limits.Nonce = HasFewBlocks image
+MeetsLimit request source start lines image Limits.Manifest = HasLargeTarget request source start lines
+MeetsLimit request source start lines image Limits.Archive = HasLargeChosen request source start lines
+MeetsLimit request source start lines image Limits.Segment = HasLastSegment image
+MeetsLimit request source start lines image Limits.Item = HasLongChosen request source start lines
 
 -- It is done, unless memory was refused, a device failed, or a limit was met.
-abbrev pub IsDoneUnless : Request → Files → Files → Files → Status → Type 0
-IsDoneUnless request source start image Statuses.Done = Unit {0}
-IsDoneUnless request source start image Statuses.Memory = Unit {0}
-IsDoneUnless request source start image Statuses.SourceDevice = Unit {0}
-IsDoneUnless request source start image Statuses.TargetDevice = Unit {0}
-IsDoneUnless request source start image Statuses.EntropyDevice = Unit {0}
-IsDoneUnless request source start image (Statuses.Limit limit) = MeetsLimit request source start image limit
-IsDoneUnless request source start image status = ⊥
+abbrev pub IsDoneUnless : Request → Files → Files → List (List ℕ) → Files → Status → Type 0
+IsDoneUnless request source start lines image Statuses.Done = Unit {0}
+IsDoneUnless request source start lines image Statuses.Memory = Unit {0}
+IsDoneUnless request source start lines image Statuses.SourceDevice = Unit {0}
+IsDoneUnless request source start lines image Statuses.TargetDevice = Unit {0}
+IsDoneUnless request source start lines image Statuses.EntropyDevice = Unit {0}
+IsDoneUnless request source start lines image (Statuses.Limit limit) = MeetsLimit request source start lines image limit
+IsDoneUnless request source start lines image status = ⊥
 
 -- Where what is asked is there, and no contents collide among those of each archive that arrived and those that are live at the end, a transfer is done
 -- unless that.
@@ -184,4 +211,4 @@ EndsDone request before now status = IfSome request.source (λ source. IfSome be
     → (ready : IsReadyFor request source (told_files b))
     → (keeps : KeepsArchives request (told_files b) ready.repo.manifest (lines_of t.history.acts) (told_files t))
     → NoneCollideIn request (told_files t) keeps.repo keeps.done request.source keeps.arrived
-    → IsDoneUnless request source (told_files b) (told_files t) status)))
+    → IsDoneUnless request source (told_files b) (lines_of t.history.acts) (told_files t) status)))

@@ -2,6 +2,7 @@
 ghost use Rattle.std.specs.Prelude.{◌≡◌, ◌↔◌, List, [], ℕ, Some};
 ghost use Rattle.std.specs.List.{AllByRecursion};
 ghost use Rattle.ferry_carry.specs.Gather.{IsAmong};
+ghost use Rattle.ferry_check.specs.Verify.{FilesVerify};
 ghost use Rattle.ferry_disk.specs.Device.{Told, told_files};
 ghost use Rattle.ferry_disk.specs.Files.{Files, file_at};
 ghost use Rattle.ferry_disk.specs.declared.name.Name.TheVariants.{Nonce};
@@ -44,6 +45,11 @@ pub fn transfer_laws()
         → (ready : IsReadyFor request source start) → (keeps : KeepsArchives request start ready.repo.manifest lines image)
         → NoneCollideIn request image keeps.repo keeps.done request.source keeps.arrived → (text : List ℕ) (number : ℕ)
         → file_at image Nonce ≡ Some text → SpellsNumber text number → IsReadyFor request source image }
+    // Where the source tells its files, what is left verifies where the start did.
+    ensures verifies { (request : Request) (source start image : Files) (before : RepoState) (lines : List (List ℕ)) → request.source ≡ Some source
+        → OpensFilesTo start request.secrets.target before → FilesVerify start request.secrets.target
+        → (keeps : KeepsArchives request start before.manifest lines image)
+        → NoneCollideIn request image keeps.repo keeps.done request.source keeps.arrived → FilesVerify image request.secrets.target }
     // A target that opens and lacks each chosen name meets the conditions.
     ensures first { (request : Request) (start : Files) (repo : RepoState) → OpensFilesTo start request.secrets.target repo
         → EachChosen request request.source (λ source name. LacksName repo.manifest name) → MeetsConditions request start }

@@ -1,7 +1,7 @@
 //! The command that copies archives.
-ghost use Rattle.std.specs.Prelude.{◌≡◌, ◌⊎◌, ℕ, List, [], false, map, slice_get, IfErr, IfOk, IfSome, Some};
+ghost use Rattle.std.specs.Prelude.{◌≡◌, ◌⊎◌, ℕ, List, [], false, true, map, slice_get, IfErr, IfOk, IfSome, Some};
 ghost use Rattle.ferry_carry.specs.Chosen.{IsMissingName};
-ghost use Rattle.ferry_carry.specs.Fault.{random_failed, shelf_failed, target_failed as depot_failed};
+ghost use Rattle.ferry_carry.specs.Fault.{IsOfWork, random_failed, shelf_failed, target_failed as depot_failed};
 ghost use Rattle.ferry_carry.specs.Flight.{AreRight};
 ghost use Rattle.ferry_carry.specs.Work.{Works};
 ghost use Rattle.ferry_disk.specs.Device.{HasCause, KeepsTold, KeptWhere, RoseWhere, heard, told_files};
@@ -9,8 +9,8 @@ ghost use Rattle.ferry_disk.specs.Faults.{FailedWhere};
 ghost use Rattle.ferry_disk.specs.Moments.{Between};
 ghost use Rattle.ferry_manifest.specs.declared.manifest.ArchiveRef.{ArchiveRef};
 ghost use Rattle.ferry_repo.specs.Opening.{FitsRepo, OpensFilesTo, cached_in, repo_view};
-ghost use Rattle.ferry_top.specs.Status.{entropy_failed, output_failed, source_failed, target_failed};
-ghost use Rattle.ferry_top.specs.Transfer.{TransferEach, TransferEnds, TransferLeaves, asked, chosen_of};
+ghost use Rattle.ferry_top.specs.Status.{entropy_failed, is_of_work, output_failed, source_failed, target_failed};
+ghost use Rattle.ferry_top.specs.Transfer.{LeavesTold, TransferEach, TransferEnds, TransferLeaves, asked, chosen_of};
 ghost use Rattle.ferry_top.specs.TransferCauses.{EndsDone, IsRefusedSo, RefusesAsked};
 
 use crate::status::{Secrets, Status, of_carry, of_repo};
@@ -35,14 +35,16 @@ pub(crate) fn transfer<S: Shelf, D: Depot, E: Entropy>(
     requires options { AreRight options.now }
     requires begun { IfSome (D.told target.old) (λ t. t.history.acts ≡ []) }
     ensures each { Between (D.told target.old) (D.told target.new)
-        (TransferEach (asked secrets.now options.now.block names.now (S.told source.old))) }
+        (TransferEach (asked secrets.now options.now names.now (S.told source.old))) }
     ensures ended { result ≡ Status.Done → Between (D.told target.old) (D.told target.new)
-        (TransferEnds (asked secrets.now options.now.block names.now (S.told source.old))) }
-    ensures refused { (result ≡ Status.Done) ⊎ IsRefusedSo (asked secrets.now options.now.block names.now (S.told source.old))
+        (TransferEnds (asked secrets.now options.now names.now (S.told source.old))) }
+    ensures refused { (result ≡ Status.Done) ⊎ IsRefusedSo (asked secrets.now options.now names.now (S.told source.old))
         (D.told target.old) (D.told target.new) result }
-    ensures completes { EndsDone (asked secrets.now options.now.block names.now (S.told source.old)) (D.told target.old) (D.told target.new) result }
+    ensures completes { EndsDone (asked secrets.now options.now names.now (S.told source.old)) (D.told target.old) (D.told target.new) result }
     ensures left { Between (D.told target.old) (D.told target.new)
-        (TransferLeaves (asked secrets.now options.now.block names.now (S.told source.old))) }
+        (TransferLeaves (asked secrets.now options.now names.now (S.told source.old))) }
+    ensures only_told { is_of_work result ≡ true → Between (D.told target.old) (D.told target.new)
+        (LeavesTold (asked secrets.now options.now names.now (S.told source.old))) }
     ensures same { KeptWhere (source_failed result) (heard (S.told source.old)) (S.told source.new) }
     ensures cause { RoseWhere (source_failed result) (S.faults source.old) (S.faults source.new) }
     ensures ends { FailedWhere (target_failed result) (D.told target.old) (D.told target.new) }
@@ -70,11 +72,13 @@ fn copy<S: Shelf, D: Depot, E: Entropy>(
 ) -> Result<(), CarryFault>
     requires options { AreRight options.now }
     requires begun { IfSome (D.told target.old) (λ t. t.history.acts ≡ []) }
-    ensures works { Works (TransferEach (asked secrets.now options.now.block names.now (S.told source.old)))
-        (λ _. TransferEnds (asked secrets.now options.now.block names.now (S.told source.old)))
+    ensures works { Works (TransferEach (asked secrets.now options.now names.now (S.told source.old)))
+        (λ _. TransferEnds (asked secrets.now options.now names.now (S.told source.old)))
         (D.told target.old) (D.told target.new) (D.faults target.old) (D.faults target.new) result }
-    ensures refused { IfErr result (RefusesAsked (asked secrets.now options.now.block names.now (S.told source.old))
+    ensures refused { IfErr result (RefusesAsked (asked secrets.now options.now names.now (S.told source.old))
         (D.told target.old) (D.told target.new)) }
+    ensures only_told { IfErr result (λ fault. IsOfWork fault → Between (D.told target.old) (D.told target.new)
+        (LeavesTold (asked secrets.now options.now names.now (S.told source.old)))) }
     ensures same { KeepsTold shelf_failed (S.told source.old) (S.told source.new) result }
     ensures cause { HasCause shelf_failed (S.faults source.old) (S.faults source.new) result }
     ensures entropy { HasCause random_failed (E.faults entropy.old) (E.faults entropy.new) result }
@@ -101,11 +105,13 @@ fn copy_into<S: Shelf, D: Depot, E: Entropy>(
     requires begun { IfSome (D.told target.old) (λ t. t.history.acts ≡ []) }
     requires source_opens { IfSome (S.told source.old) (λ t. OpensFilesTo (told_files t) secrets.now.source (repo_view repo.old)) }
     requires source_fits { IfSome (S.told source.old) (λ t. FitsRepo (told_files t) (repo_view repo.old) (cached_in repo.old)) }
-    ensures works { Works (TransferEach (asked secrets.now options.now.block names.now (S.told source.old)))
-        (λ _. TransferEnds (asked secrets.now options.now.block names.now (S.told source.old)))
+    ensures works { Works (TransferEach (asked secrets.now options.now names.now (S.told source.old)))
+        (λ _. TransferEnds (asked secrets.now options.now names.now (S.told source.old)))
         (D.told target.old) (D.told target.new) (D.faults target.old) (D.faults target.new) result }
-    ensures refused { IfErr result (RefusesAsked (asked secrets.now options.now.block names.now (S.told source.old))
+    ensures refused { IfErr result (RefusesAsked (asked secrets.now options.now names.now (S.told source.old))
         (D.told target.old) (D.told target.new)) }
+    ensures only_told { IfErr result (λ fault. IsOfWork fault → Between (D.told target.old) (D.told target.new)
+        (LeavesTold (asked secrets.now options.now names.now (S.told source.old)))) }
     ensures same { KeepsTold shelf_failed (S.told source.old) (S.told source.new) result }
     ensures cause { HasCause shelf_failed (S.faults source.old) (S.faults source.new) result }
     ensures entropy { HasCause random_failed (E.faults entropy.old) (E.faults entropy.new) result }

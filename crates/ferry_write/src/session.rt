@@ -162,6 +162,7 @@ impl Session {
         ensures err { OnErr result (self.new ≡ record self.old { spent = true }) }
         ensures spent { self.new.spent ≡ is_err result }
         ensures numbers { IsErrOf result Write.Numbers ↔ AreUsedUp self.old.last }
+        ensures nothing { IsErrOf result Write.Numbers → D.told depot.new ≡ D.told depot.old }
         ensures cause { HasCause write_failed (D.faults depot.old) (D.faults depot.new) result }
         ensures ends { EndsAtFault write_failed (D.told depot.old) (D.told depot.new) result }
     {
@@ -240,6 +241,7 @@ impl Session {
         ensures ran { Ran (commit_steps self.now.last self.now.size) (D.told depot.old) (D.told depot.new) (D.faults depot.old) (D.faults depot.new)
             result }
         ensures numbers { IsErrOf result Write.Numbers ↔ AreUsedUp self.now.last }
+        ensures nothing { IsErrOf result Write.Numbers → D.told depot.new ≡ D.told depot.old }
     {
         let number = next_number(self.last)?;
         sync_current(depot, self.last, self.size)?;

@@ -1,18 +1,23 @@
-use Rattle.std.proofs.Common.{rules, ◌≡◌, [], None, Result, Ok, Err, refl}
-use Rattle.std.proofs.lemmas.List.{append-nil}
-use Rattle.ferry_carry.proofs.CauseLemmas.{none_missing, not_there}
-use Rattle.ferry_carry.proofs.GatherLemmas.{rest_here}
+use Rattle.std.proofs.Common.{rules, ◌≡◌, None, Result, IfErr, IfSome, refl}
+use Rattle.ferry_carry.proofs.AcceptingLemmas.{telling_small}
+use Rattle.ferry_carry.proofs.CauseLemmas.{line_refused, names_refused, none_missing, not_there}
 use Rattle.ferry_carry.proofs.GrowLemmas.{accepts_on}
 use Rattle.ferry_carry.proofs.ReportLemmas.{reports_whole, whole_err, whole_nothing, whole_untold}
 use Rattle.ferry_carry.proofs.WorkLemmas.{err_is}
 use Rattle.ferry_carry.proofs.chosen.carry.Goals as goal
+use Rattle.ferry_carry.specs.Accepting.{LimitsNames}
 use Rattle.ferry_carry.specs.Carrying.{origin}
 use Rattle.ferry_carry.specs.Lines.{total_line}
-use Rattle.ferry_carry.specs.Telling.{ReportsWhole}
+use Rattle.ferry_carry.specs.Refusals.{RefusesNames}
+use Rattle.ferry_carry.specs.Telling.{ReportsWhole, StopsBehind, TellsNames}
 use Rattle.ferry_carry.specs.declared.fault.CarryFault.{CarryFault}
-use Rattle.ferry_carry.specs.declared.fault.CarryFault.TheVariants.{NotFound, Memory}
+use Rattle.ferry_carry.specs.declared.fault.CarryFault.TheVariants.{NotFound, Memory, Target}
 use Rattle.ferry_carry.specs.declared.options.Carried.{Carried}
 use Rattle.ferry_repo.specs.Opening.{repo_view}
+use Rattle.ferry_store.specs.Commit.{accepted_in}
+use Rattle.ferry_store.specs.declared.fault.StoreRefusal.TheVariants.{TooLarge}
+use Rattle.ferry_carry.proofs.StandLemmas.{memory_apart, stops_here, telling_apart}
+use Rattle.ferry_carry.specs.Fault.{IsOfWork}
 
 pub returns-in_err-name-clause-works : goal.returns-in_err-name-clause-works
 returns-in_err-name-clause-works g c =
@@ -20,7 +25,7 @@ returns-in_err-name-clause-works g c =
     let names = c.args.names.now in
     let a = g.D.Shelf.told c.args.depot.now in
     let n = g.D.Shelf.faults c.args.depot.now in
-    let from = origin (g.S.Shelf.told c.args.shelf.now) (repo_view c.args.source.now) c.args.options.now.block in
+    let from = origin (g.S.Shelf.told c.args.shelf.now) (repo_view c.args.source.now) c.args.options.now.block c.args.options.now.checkpoint in
     err_is c.from_residual.result Memory (λ (r : Result Carried CarryFault). ReportsWhole from names store store a a n n r) c.from_residual.ensures.1
     (whole_nothing {T = Carried} from names store store a n Memory (accepts_on store store c.requires.settled) refl)
 
@@ -28,7 +33,8 @@ pub returns-in-Some-clause-works : goal.returns-in-Some-clause-works
 returns-in-Some-clause-works g c =
     let store = c.args.store.now in
     let names = c.args.names.now in
-    whole_nothing {T = Carried} (origin (g.S.Shelf.told c.args.shelf.now) (repo_view c.args.source.now) c.args.options.now.block) names store store
+    whole_nothing {T = Carried}
+    (origin (g.S.Shelf.told c.args.shelf.now) (repo_view c.args.source.now) c.args.options.now.block c.args.options.now.checkpoint) names store store
     (g.D.Shelf.told c.args.depot.now) (g.D.Shelf.faults c.args.depot.now) (NotFound c.new.result) (accepts_on store store c.requires.settled) refl
 
 pub returns-in_err-carry_all-clause-works : goal.returns-in_err-carry_all-clause-works
@@ -41,7 +47,7 @@ returns-in_err-carry_all-clause-works g c =
     let n = g.D.Shelf.faults c.args.depot.now in
     let m = g.D.Shelf.faults c.carry_all.new.depot in
     let fault = c.in_err-carry_all.field-0.0 in
-    let from = origin (g.S.Shelf.told c.args.shelf.now) (repo_view c.args.source.now) c.args.options.now.block in
+    let from = origin (g.S.Shelf.told c.args.shelf.now) (repo_view c.args.source.now) c.args.options.now.block c.args.options.now.checkpoint in
     err_is c.from_residual-in_err-carry_all.result fault (λ (r : Result Carried CarryFault). ReportsWhole from names store now a b n m r)
     c.from_residual-in_err-carry_all.ensures.1
     (whole_err {T = Unit {0}} {U = Carried} from names store now a b n m fault c.in_err-carry_all.ensures.works)
@@ -62,7 +68,7 @@ returns-in_err-tell-clause-works g c =
     let is : line ≡ total_line carried = search rules in
     let fault = c.in_err-tell.field-0.0 in
     let ensures = c.in_ok-carry_all.ensures in
-    let from = origin (g.S.Shelf.told c.args.shelf.now) (repo_view c.args.source.now) c.args.options.now.block in
+    let from = origin (g.S.Shelf.told c.args.shelf.now) (repo_view c.args.source.now) c.args.options.now.block c.args.options.now.checkpoint in
     err_is c.from_residual-in_err-tell.result fault (λ (r : Result Carried CarryFault). ReportsWhole from names store now a d n k r)
     c.from_residual-in_err-tell.ensures.1
     (whole_untold {T = Unit {0}} {U = Unit {0}} {V = Carried} from carried names line store now a b d n m k tt fault is c.requires.settled
@@ -83,15 +89,29 @@ returns-clause-works g c =
     let line = c.deref.result.now in
     let is : line ≡ total_line carried = search rules in
     let ensures = c.in_ok-carry_all.ensures in
-    let from = origin (g.S.Shelf.told c.args.shelf.now) (repo_view c.args.source.now) c.args.options.now.block in
+    let from = origin (g.S.Shelf.told c.args.shelf.now) (repo_view c.args.source.now) c.args.options.now.block c.args.options.now.checkpoint in
     reports_whole {T = Unit {0}} {U = Unit {0}} {V = Carried} from carried names line store now a b d n m k tt tt carried is
     c.requires.settled (accepts_on now now ensures.settled) ensures.works c.in_ok-tell.ensures.works
+
+pub returns-in_err-carry_all-clause-refused : goal.returns-in_err-carry_all-clause-refused
+returns-in_err-carry_all-clause-refused g c =
+    let none : c.missing_name.result ≡ None = search rules in
+    let a = g.D.Shelf.told c.args.depot.now in
+    let b = g.D.Shelf.told c.carry_all.new.depot in
+    let store = c.args.store.now in
+    let now = c.carry_all.new.store in
+    let names = c.args.names.now in
+    let fault = c.in_err-carry_all.field-0.0 in
+    let from = origin (g.S.Shelf.told c.args.shelf.now) (repo_view c.args.source.now) c.args.options.now.block c.args.options.now.checkpoint in
+    err_is c.from_residual-in_err-carry_all.result fault (λ (r : Result Carried CarryFault). IfErr r (RefusesNames from a store b now names))
+    c.from_residual-in_err-carry_all.ensures.1
+    (names_refused from a b store now names fault (c.missing_name.ensures.found none) c.in_err-carry_all.ensures.refused)
 
 pub returns-in_err-carry_all-clause-nothing : goal.returns-in_err-carry_all-clause-nothing
 returns-in_err-carry_all-clause-nothing g c =
     λ missing is.
     let none : c.missing_name.result ≡ None = search rules in
-    let from = origin (g.S.Shelf.told c.args.shelf.now) (repo_view c.args.source.now) c.args.options.now.block in
+    let from = origin (g.S.Shelf.told c.args.shelf.now) (repo_view c.args.source.now) c.args.options.now.block c.args.options.now.checkpoint in
     absurd (none_missing {T = Carried} from (g.D.Shelf.told c.args.depot.now) (g.D.Shelf.told c.carry_all.new.depot) c.args.store.now
     c.carry_all.new.store c.args.names.now c.from_residual-in_err-carry_all.result c.in_err-carry_all.field-0.0 missing
     (c.missing_name.ensures.found none) c.in_err-carry_all.ensures.refused c.from_residual-in_err-carry_all.ensures.1 is)
@@ -110,3 +130,75 @@ pub returns-clause-missing : goal.returns-clause-missing
 returns-clause-missing g c =
     λ place name there lacks.
     let none : c.missing_name.result ≡ None = search rules in absurd (not_there lacks (c.missing_name.ensures.found none place name there))
+
+pub returns-in_err-line-clause-refused : goal.returns-in_err-line-clause-refused
+returns-in_err-line-clause-refused g c =
+    let a = g.D.Shelf.told c.args.depot.now in
+    let b = g.D.Shelf.told c.carry_all.new.depot in
+    let from = origin (g.S.Shelf.told c.args.shelf.now) (repo_view c.args.source.now) c.args.options.now.block c.args.options.now.checkpoint in
+    line_refused {T = Carried} from a b c.args.store.now c.carry_all.new.store c.args.names.now (repo_view c.args.store.now.repo).keys
+    c.from_residual-in_err-line.result Memory c.from_residual-in_err-line.ensures.1 refl refl tt
+
+pub returns-in_err-tell-clause-refused : goal.returns-in_err-tell-clause-refused
+returns-in_err-tell-clause-refused g c =
+    let a = g.D.Shelf.told c.args.depot.now in
+    let d = g.D.Shelf.told c.tell.new.depot in
+    let from = origin (g.S.Shelf.told c.args.shelf.now) (repo_view c.args.source.now) c.args.options.now.block c.args.options.now.checkpoint in
+    line_refused {T = Carried} from a d c.args.store.now c.carry_all.new.store c.args.names.now (repo_view c.carry_all.new.store.repo).keys
+    c.from_residual-in_err-tell.result c.in_err-tell.field-0.0 c.from_residual-in_err-tell.ensures.1 c.in_ok-carry_all.ensures.most.keys
+    c.in_err-tell.ensures.telling c.in_err-tell.ensures.stops
+
+pub returns-in_err-tell-clause-limit : goal.returns-in_err-tell-clause-limit
+returns-in_err-tell-clause-limit g c =
+    let store = c.args.store.now in
+    let a = g.D.Shelf.told c.args.depot.now in
+    let d = g.D.Shelf.told c.tell.new.depot in
+    let fault = c.in_err-tell.field-0.0 in
+    let accepted = accepted_in store in
+    let Large : Type 0 =
+    IfSome a (λ b. IfSome d (λ t. LimitsNames c.args.options.now.timestamp (repo_view c.args.source.now).manifest (repo_view store.repo).keys accepted
+    c.args.names.now (λ done. TellsNames accepted done b.history t.history))) in
+    err_is c.from_residual-in_err-tell.result fault (λ (r : Result Carried CarryFault). IfErr r (λ (f : CarryFault). f ≡ Target TooLarge → Large))
+    c.from_residual-in_err-tell.ensures.1 (telling_small Large fault c.in_err-tell.ensures.telling)
+
+pub returns-in_err-name-clause-stands : goal.returns-in_err-name-clause-stands
+returns-in_err-name-clause-stands g c =
+    let a = g.D.Shelf.told c.args.depot.now in
+    let from = origin (g.S.Shelf.told c.args.shelf.now) (repo_view c.args.source.now) c.args.options.now.block c.args.options.now.checkpoint in
+    err_is c.from_residual.result Memory
+    (λ (r : Result Carried CarryFault). IfErr r (λ (f : CarryFault). IsOfWork f → StopsBehind from c.args.names.now c.args.store.now a a))
+    c.from_residual.ensures.1 (λ work. memory_apart work)
+
+pub returns-in-Some-clause-stands : goal.returns-in-Some-clause-stands
+returns-in-Some-clause-stands g c = λ _.
+    let store = c.args.store.now in
+    let from = origin (g.S.Shelf.told c.args.shelf.now) (repo_view c.args.source.now) c.args.options.now.block c.args.options.now.checkpoint in
+    stops_here from c.args.names.now store (g.D.Shelf.told c.args.depot.now) (accepts_on store store c.requires.settled)
+
+pub returns-in_err-carry_all-clause-stands : goal.returns-in_err-carry_all-clause-stands
+returns-in_err-carry_all-clause-stands g c =
+    let a = g.D.Shelf.told c.args.depot.now in
+    let b = g.D.Shelf.told c.carry_all.new.depot in
+    let from = origin (g.S.Shelf.told c.args.shelf.now) (repo_view c.args.source.now) c.args.options.now.block c.args.options.now.checkpoint in
+    err_is c.from_residual-in_err-carry_all.result c.in_err-carry_all.field-0.0
+    (λ (r : Result Carried CarryFault). IfErr r (λ (f : CarryFault). IsOfWork f → StopsBehind from c.args.names.now c.args.store.now a b))
+    c.from_residual-in_err-carry_all.ensures.1 c.in_err-carry_all.ensures.stands
+
+pub returns-in_err-line-clause-stands : goal.returns-in_err-line-clause-stands
+returns-in_err-line-clause-stands g c =
+    let a = g.D.Shelf.told c.args.depot.now in
+    let b = g.D.Shelf.told c.carry_all.new.depot in
+    let from = origin (g.S.Shelf.told c.args.shelf.now) (repo_view c.args.source.now) c.args.options.now.block c.args.options.now.checkpoint in
+    err_is c.from_residual-in_err-line.result Memory
+    (λ (r : Result Carried CarryFault). IfErr r (λ (f : CarryFault). IsOfWork f → StopsBehind from c.args.names.now c.args.store.now a b))
+    c.from_residual-in_err-line.ensures.1 (λ work. memory_apart work)
+
+pub returns-in_err-tell-clause-stands : goal.returns-in_err-tell-clause-stands
+returns-in_err-tell-clause-stands g c =
+    let a = g.D.Shelf.told c.args.depot.now in
+    let d = g.D.Shelf.told c.tell.new.depot in
+    let from = origin (g.S.Shelf.told c.args.shelf.now) (repo_view c.args.source.now) c.args.options.now.block c.args.options.now.checkpoint in
+    let fault = c.in_err-tell.field-0.0 in
+    err_is c.from_residual-in_err-tell.result fault
+    (λ (r : Result Carried CarryFault). IfErr r (λ (f : CarryFault). IsOfWork f → StopsBehind from c.args.names.now c.args.store.now a d))
+    c.from_residual-in_err-tell.ensures.1 (λ work. telling_apart fault c.in_err-tell.ensures.telling work)

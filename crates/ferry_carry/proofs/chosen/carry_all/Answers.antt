@@ -1,16 +1,25 @@
-use Rattle.std.proofs.Common.{rules, ◌≡◌, ◌<◌, ◌≤◌, ◌+◌, [], Result, Ok, Err, length, take, get_or, refl, ◌∙◌, arith, IfErr, ℕ, List, Some, slice_get, sym, ap}
+use Rattle.std.proofs.Common.{◌≡◌, ◌<◌, ◌≤◌, ◌+◌, ℕ, List, Result, Ok, Err, length, take, drop, get_or, refl, sym, ◌∙◌, ap, subst, arith, IfErr, IfSome}
+use Rattle.std.proofs.lemmas.List.{take-append-drop, take_all}
+use Rattle.ferry_carry.proofs.AcceptingLemmas.{next_at, one_large}
 use Rattle.ferry_carry.proofs.FlyLemmas.{origin_kept}
 use Rattle.ferry_carry.proofs.GrowLemmas.{accepts_on, most_here, most_then}
 use Rattle.ferry_carry.proofs.ReportLemmas.{reports_all, reports_front, reports_more, reports_none}
 use Rattle.ferry_carry.proofs.WorkLemmas.{err_is}
 use Rattle.ferry_carry.proofs.chosen.carry_all.Goals as goal
+use Rattle.ferry_carry.specs.Accepting.{AreNextOf, HasLargeNext, LimitsNames}
 use Rattle.ferry_carry.specs.Carrying.{origin}
-use Rattle.ferry_carry.specs.Telling.{Reports}
+use Rattle.ferry_carry.specs.Telling.{CarriesNames, Reports, StopsBehind, TellsNames}
 use Rattle.ferry_carry.specs.declared.fault.CarryFault.{CarryFault}
-use Rattle.ferry_repo.specs.Opening.{repo_view}
-use Rattle.ferry_carry.proofs.CauseLemmas.{name_refused, one_refused}
-use Rattle.ferry_carry.specs.Refusals.{RefusesOne}
-use Rattle.std.proofs.lemmas.Option.{slice_get-get_or}
+use Rattle.ferry_carry.specs.declared.fault.CarryFault.TheVariants.{Target}
+use Rattle.ferry_repo.specs.Opening.{RepoState, repo_view}
+use Rattle.ferry_carry.proofs.CauseLemmas.{name_refused, one_refused, split_at, told_still}
+use Rattle.ferry_carry.specs.Refusals.{RefusesOne, is_of_telling}
+use Rattle.ferry_disk.proofs.MomentLemmas.{between_map}
+use Rattle.ferry_store.specs.Commit.{accepted_in}
+use Rattle.ferry_store.specs.declared.fault.StoreRefusal.TheVariants.{TooLarge}
+use Rattle.ferry_write.specs.Script.{AllDone}
+use Rattle.ferry_carry.proofs.StandLemmas.{stops_behind}
+use Rattle.ferry_carry.specs.Fault.{IsOfWork}
 
 pub loop-place-init : goal.loop-place-init
 loop-place-init g c = record {
@@ -23,8 +32,12 @@ loop-place-init g c = record {
   alike = refl;
   faults = refl;
   drawn = refl;
+  pending = c.requires.pending;
+  ended = λ none. none;
   most = most_here c.args.store.now;
-  works = reports_none {T = Unit {0}} (origin (g.S.Shelf.told c.args.shelf.now) (repo_view c.args.source.now) c.args.options.now.block)
+  next = refl;
+  works = reports_none {T = Unit {0}}
+      (origin (g.S.Shelf.told c.args.shelf.now) (repo_view c.args.source.now) c.args.options.now.block c.args.options.now.checkpoint)
       c.args.store.now (g.D.Shelf.told c.args.depot.now) (g.D.Shelf.faults c.args.depot.now) tt
       (accepts_on c.args.store.now c.args.store.now c.requires.settled);
 }
@@ -36,6 +49,7 @@ loop-place-preserved g c =
     let store = c.args.store.now in
     let now = c.carry_one.new.store in
     let block = c.args.options.now.block in
+    let most = c.args.options.now.checkpoint in
     let lt : c.loop-place.place < length c.args.names.now = omega arith in
     let name = c.as_slice-name.result.now in
     let named : name ≡ get_or c.args.names.now c.loop-place.place _ = c.as_slice-name.ensures ∙ c.index-names-place.is in
@@ -53,11 +67,16 @@ loop-place-preserved g c =
       alike = ensures.same ∙ invariant.alike;
       faults = ensures.cause ∙ invariant.faults;
       drawn = ensures.entropy ∙ invariant.drawn;
+      pending = omega (arith, ensures.pending);
+      ended = λ none. ensures.pending;
       most = most_then store c.loop-place.store now invariant.most ensures.most;
-      works = reports_more (origin told source block) (origin later after block) c.args.names.now c.loop-place.place name _ store c.loop-place.store now
-          (g.D.Shelf.told c.args.depot.now) (g.D.Shelf.told c.loop-place.depot) (g.D.Shelf.told c.carry_one.new.depot)
+      next = next_at c.args.options.now.timestamp source.manifest after.manifest (repo_view store.repo).keys (repo_view c.loop-place.store.repo).keys
+          c.args.names.now c.loop-place.place name _ (accepted_in store) (accepted_in c.loop-place.store) (accepted_in now)
+          (ap (λ (r : RepoState). r.manifest) invariant.repo) invariant.most.keys lt named invariant.next ensures.next;
+      works = reports_more (origin told source block most) (origin later after block most) c.args.names.now c.loop-place.place name _ store
+          c.loop-place.store now (g.D.Shelf.told c.args.depot.now) (g.D.Shelf.told c.loop-place.depot) (g.D.Shelf.told c.carry_one.new.depot)
           (g.D.Shelf.faults c.args.depot.now) (g.D.Shelf.faults c.loop-place.depot) (g.D.Shelf.faults c.carry_one.new.depot) (Ok tt)
-          (origin_kept told later source after block block invariant.alike invariant.repo refl) lt named c.requires.settled
+          (origin_kept told later source after block block most most invariant.alike invariant.repo refl refl) lt named c.requires.settled
           (accepts_on c.loop-place.store c.loop-place.store invariant.settled) c.requires.fits invariant.works ensures.works;
     }
 
@@ -72,6 +91,7 @@ returns-in_err-carry_one-clause-works g c =
     let k = g.D.Shelf.faults c.carry_one.new.depot in
     let fault = c.in_err-carry_one.field-0.0 in
     let block = c.args.options.now.block in
+    let most = c.args.options.now.checkpoint in
     let names = c.args.names.now in
     let lt : c.loop-place.place < length names = omega arith in
     let name = c.as_slice-name.result.now in
@@ -80,12 +100,12 @@ returns-in_err-carry_one-clause-works g c =
     let later = g.S.Shelf.told c.loop-place.shelf in
     let source = repo_view c.args.source.now in
     let after = repo_view c.loop-place.source in
-    let from = origin told source block in
+    let from = origin told source block most in
     err_is c.from_residual.result fault (λ (r : Result (Unit {0}) CarryFault). Reports from names store now a d n k r)
     c.from_residual.ensures.1
     (reports_front {T = Unit {0}} {U = Unit {0}} from names (c.loop-place.place + 1) store now a d n k fault
-    (reports_more from (origin later after block) names c.loop-place.place name _ store c.loop-place.store now a (g.D.Shelf.told c.loop-place.depot) d n
-    (g.D.Shelf.faults c.loop-place.depot) k (Err fault) (origin_kept told later source after block block invariant.alike invariant.repo refl) lt
+    (reports_more from (origin later after block most) names c.loop-place.place name _ store c.loop-place.store now a (g.D.Shelf.told c.loop-place.depot) d n
+    (g.D.Shelf.faults c.loop-place.depot) k (Err fault) (origin_kept told later source after block block most most invariant.alike invariant.repo refl refl) lt
     named c.requires.settled (accepts_on c.loop-place.store c.loop-place.store invariant.settled) c.requires.fits invariant.works
     c.in_err-carry_one.ensures.works))
 
@@ -95,9 +115,9 @@ returns-clause-works g c =
     let names = c.args.names.now in
     let le : length names ≤ c.loop-place.place = omega arith in
     reports_all {T = Unit {0}} {U = Unit {0}}
-    (origin (g.S.Shelf.told c.args.shelf.now) (repo_view c.args.source.now) c.args.options.now.block) names c.loop-place.place c.args.store.now
-    c.loop-place.store (g.D.Shelf.told c.args.depot.now) (g.D.Shelf.told c.loop-place.depot) (g.D.Shelf.faults c.args.depot.now)
-    (g.D.Shelf.faults c.loop-place.depot) tt tt le invariant.works
+    (origin (g.S.Shelf.told c.args.shelf.now) (repo_view c.args.source.now) c.args.options.now.block c.args.options.now.checkpoint) names
+    c.loop-place.place c.args.store.now c.loop-place.store (g.D.Shelf.told c.args.depot.now) (g.D.Shelf.told c.loop-place.depot)
+    (g.D.Shelf.faults c.args.depot.now) (g.D.Shelf.faults c.loop-place.depot) tt tt le invariant.works
 
 pub returns-in_err-carry_one-clause-refused : goal.returns-in_err-carry_one-clause-refused
 returns-in_err-carry_one-clause-refused g c =
@@ -109,6 +129,7 @@ returns-in_err-carry_one-clause-refused g c =
     let d = g.D.Shelf.told c.carry_one.new.depot in
     let fault = c.in_err-carry_one.field-0.0 in
     let block = c.args.options.now.block in
+    let most = c.args.options.now.checkpoint in
     let names = c.args.names.now in
     let lt : c.loop-place.place < length names = omega arith in
     let name = c.as_slice-name.result.now in
@@ -117,11 +138,81 @@ returns-in_err-carry_one-clause-refused g c =
     let later = g.S.Shelf.told c.loop-place.shelf in
     let source = repo_view c.args.source.now in
     let after = repo_view c.loop-place.source in
-    let from = origin told source block in
-    let there : slice_get names c.loop-place.place ≡ Some name =
-    slice_get-get_or names c.loop-place.place _ lt ∙ ap (λ (n : List ℕ). Some n) (sym named) in
+    let from = origin told source block most in
+    let accepted = accepted_in store in
+    let done = take c.loop-place.place names in
+    let told_all = between_map a b (λ h g. AllDone h g × (CarriesNames from done store c.loop-place.store h g × TellsNames accepted done h g))
+    (TellsNames accepted done) (λ h g e. e.1.1) invariant.works.end in
     err_is c.from_residual.result fault (λ (r : Result (Unit {0}) CarryFault). IfErr r (RefusesOne from a store d now names)) c.from_residual.ensures.1
-    (one_refused from a d store now names c.loop-place.place name fault there
-    (name_refused {T = Unit {0}} from (origin later after block) a b d _ store c.loop-place.store now name name (Err fault)
-    (origin_kept told later source after block block invariant.alike invariant.repo refl) refl invariant.works.each invariant.most
+    (one_refused from a d store now names done name (drop (c.loop-place.place + 1) names) fault (split_at names c.loop-place.place name _ lt named)
+    (λ still. told_still accepted done a b d told_all (c.in_err-carry_one.ensures.untold still))
+    (name_refused {T = Unit {0}} from (origin later after block most) a b d _ store c.loop-place.store now name name (Err fault)
+    (origin_kept told later source after block block most most invariant.alike invariant.repo refl refl) refl invariant.works.each invariant.most
     c.in_err-carry_one.ensures.refused))
+
+pub returns-clause-next : goal.returns-clause-next
+returns-clause-next g c =
+    let names = c.args.names.now in
+    let le : length names ≤ c.loop-place.place = omega arith in
+    let store = c.args.store.now in
+    subst (λ (l : List (List ℕ)). AreNextOf c.args.options.now.timestamp (repo_view c.args.source.now).manifest (repo_view store.repo).keys
+    (accepted_in store) l (accepted_in c.loop-place.store)) (take_all c.loop-place.place names le) c.loop-place.invariant.next
+
+pub returns-in_err-carry_one-clause-limit : goal.returns-in_err-carry_one-clause-limit
+returns-in_err-carry_one-clause-limit g c =
+    let invariant = c.loop-place.invariant in
+    let store = c.args.store.now in
+    let now = c.carry_one.new.store in
+    let a = g.D.Shelf.told c.args.depot.now in
+    let b = g.D.Shelf.told c.loop-place.depot in
+    let d = g.D.Shelf.told c.carry_one.new.depot in
+    let fault = c.in_err-carry_one.field-0.0 in
+    let block = c.args.options.now.block in
+    let given = c.args.options.now.timestamp in
+    let names = c.args.names.now in
+    let lt : c.loop-place.place < length names = omega arith in
+    let name = c.as_slice-name.result.now in
+    let named : name ≡ get_or c.args.names.now c.loop-place.place _ = c.as_slice-name.ensures ∙ c.index-names-place.is in
+    let source = repo_view c.args.source.now in
+    let after = repo_view c.loop-place.source in
+    let keys = (repo_view store.repo).keys in
+    let from = origin (g.S.Shelf.told c.args.shelf.now) source block c.args.options.now.checkpoint in
+    let accepted = accepted_in store in
+    let done = take c.loop-place.place names in
+    let told_all = between_map a b (λ h g. AllDone h g × (CarriesNames from done store c.loop-place.store h g × TellsNames accepted done h g))
+    (TellsNames accepted done) (λ h g e. e.1.1) invariant.works.end in
+    err_is c.from_residual.result fault
+    (λ (r : Result (Unit {0}) CarryFault). IfErr r (λ (f : CarryFault). f ≡ Target TooLarge
+    → IfSome a (λ b. IfSome d (λ t. LimitsNames given source.manifest keys accepted names (λ told. TellsNames accepted told b.history t.history)))))
+    c.from_residual.ensures.1
+    (λ is.
+    let large : IfSome d (λ _. HasLargeNext given after.manifest (repo_view c.loop-place.store.repo).keys (accepted_in c.loop-place.store) name) =
+    c.in_err-carry_one.ensures.limit is in
+    one_large d given source.manifest after.manifest keys (repo_view c.loop-place.store.repo).keys a names done name
+    (drop (c.loop-place.place + 1) names) accepted (accepted_in c.loop-place.store) (ap (λ (r : RepoState). r.manifest) invariant.repo) invariant.most.keys
+    (split_at names c.loop-place.place name _ lt named) invariant.next
+    (told_still accepted done a b d told_all (c.in_err-carry_one.ensures.untold (ap is_of_telling is))) large)
+
+pub returns-in_err-carry_one-clause-stands : goal.returns-in_err-carry_one-clause-stands
+returns-in_err-carry_one-clause-stands g c =
+    let invariant = c.loop-place.invariant in
+    let store = c.args.store.now in
+    let middle = c.loop-place.store in
+    let a = g.D.Shelf.told c.args.depot.now in
+    let b = g.D.Shelf.told c.loop-place.depot in
+    let d = g.D.Shelf.told c.carry_one.new.depot in
+    let fault = c.in_err-carry_one.field-0.0 in
+    let block = c.args.options.now.block in
+    let most = c.args.options.now.checkpoint in
+    let names = c.args.names.now in
+    let place = c.loop-place.place in
+    let told = g.S.Shelf.told c.args.shelf.now in
+    let later = g.S.Shelf.told c.loop-place.shelf in
+    let source = repo_view c.args.source.now in
+    let after = repo_view c.loop-place.source in
+    let from = origin told source block most in
+    err_is c.from_residual.result fault (λ (r : Result (Unit {0}) CarryFault). IfErr r (λ (f : CarryFault). IsOfWork f → StopsBehind from names store a d))
+    c.from_residual.ensures.1
+    (λ work. stops_behind from (origin later after block most) names (take place names) (drop place names) store middle a b d
+    (origin_kept told later source after block block most most invariant.alike invariant.repo refl refl) (sym (take-append-drop place names))
+    c.requires.settled (accepts_on middle middle invariant.settled) invariant.works.each invariant.works.end (c.in_err-carry_one.ensures.stands work))

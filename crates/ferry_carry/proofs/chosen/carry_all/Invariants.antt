@@ -1,5 +1,6 @@
-use Rattle.std.proofs.Common.{◌≡◌, false, Ok, IfSome, take}
+use Rattle.std.proofs.Common.{◌≡◌, ◌≤◌, false, Ok, IfSome, take}
 use Rattle.ferry_carry.proofs.chosen.carry_all.Given as goal
+use Rattle.ferry_carry.specs.Accepting.{AreNextOf}
 use Rattle.ferry_carry.specs.Carrying.{origin}
 use Rattle.ferry_carry.specs.Flight.{IsSettled}
 use Rattle.ferry_carry.specs.Grow.{KeepsMost}
@@ -22,7 +23,11 @@ invariant-loop-place g l = record {
   alike : heard (g.S.Shelf.told l.shelf) ≡ heard (g.S.Shelf.told l.fn.shelf);
   faults : g.S.Shelf.faults l.shelf ≡ g.S.Shelf.faults l.fn.shelf;
   drawn : g.E.Entropy.faults l.entropy ≡ g.E.Entropy.faults l.fn.entropy;
+  pending : l.store.pending ≤ l.fn.options.checkpoint;
+  ended : l.fn.store.pending ≡ 0 → l.store.pending ≡ 0;
   most : KeepsMost l.fn.store l.store;
-  works : Reports {T = Unit {0}} (origin (g.S.Shelf.told l.fn.shelf) (repo_view l.fn.source) l.fn.options.block) (take l.place l.names) l.fn.store
-      l.store (g.D.Shelf.told l.fn.depot) (g.D.Shelf.told l.depot) (g.D.Shelf.faults l.fn.depot) (g.D.Shelf.faults l.depot) (Ok tt);
+  next : AreNextOf l.fn.options.timestamp (repo_view l.fn.source).manifest (repo_view l.fn.store.repo).keys (accepted_in l.fn.store)
+      (take l.place l.names) (accepted_in l.store);
+  works : Reports {T = Unit {0}} (origin (g.S.Shelf.told l.fn.shelf) (repo_view l.fn.source) l.fn.options.block l.fn.options.checkpoint) (take l.place l.names)
+      l.fn.store l.store (g.D.Shelf.told l.fn.depot) (g.D.Shelf.told l.depot) (g.D.Shelf.faults l.fn.depot) (g.D.Shelf.faults l.depot) (Ok tt);
 }

@@ -1,12 +1,24 @@
-use Rattle.std.proofs.Common.{[], ◌∷◌, Bool, Result, Ok, Err}
+use Rattle.std.proofs.Common.{◌≡◌, ℕ, List, [], ◌∷◌, ◌++◌, Bool, false, Result, Ok, Err, IfErr, subst, IfSome}
+use Rattle.ferry_carry.proofs.AcceptingLemmas.{telling_small}
 use Rattle.ferry_carry.proofs.GrowLemmas.{accepts_on}
 use Rattle.ferry_carry.proofs.ReportLemmas.{reports_name, reports_silent}
 use Rattle.ferry_carry.proofs.WorkLemmas.{err_is}
 use Rattle.ferry_carry.proofs.chosen.carry_flight.Goals as goal
-use Rattle.ferry_carry.specs.Flight.{flown_from}
+use Rattle.ferry_carry.specs.Flight.{ListsDone, flown_from}
+use Rattle.ferry_carry.specs.Grow.{KeepsGrowing}
+use Rattle.ferry_carry.specs.Puts.{pieces}
+use Rattle.ferry_carry.specs.Refusals.{is_of_telling}
+use Rattle.ferry_carry.specs.Accepting.{HasLargeNext}
 use Rattle.ferry_carry.specs.Telling.{Reports}
 use Rattle.ferry_carry.specs.declared.fault.CarryFault.{CarryFault}
+use Rattle.ferry_carry.specs.declared.fault.CarryFault.TheVariants.{Target}
+use Rattle.ferry_disk.proofs.MomentLemmas.{between_map}
+use Rattle.ferry_disk.specs.Moments.{Between}
 use Rattle.ferry_repo.specs.Opening.{repo_view}
+use Rattle.ferry_stops.specs.Tells.{TellsNothing}
+use Rattle.ferry_store.specs.Commit.{accepted_in}
+use Rattle.ferry_store.specs.declared.fault.StoreRefusal.TheVariants.{TooLarge}
+use Rattle.ferry_carry.proofs.StandLemmas.{StandsGrowing, telling_apart}
 
 pub returns-in_err-named-clause-works : goal.returns-in_err-named-clause-works
 returns-in_err-named-clause-works g c =
@@ -19,8 +31,9 @@ returns-in_err-named-clause-works g c =
     let from = flown_from (g.S.Shelf.told c.args.shelf.now) (repo_view c.args.source.now) c.args.flight.now in
     let names = c.args.flight.now.named.name ∷ [] in
     let fault = c.in_err-named.field-0.0 in
+    let flown = c.in_err-named.ensures.works c.requires.flight.0 in
     err_is c.from_residual.result fault (λ (r : Result (Unit {0}) CarryFault). Reports from names store now a b n m r) c.from_residual.ensures.1
-    (reports_silent {T = Bool} {U = Unit {0}} from names store now a b n m fault c.in_err-named.ensures.works)
+    (reports_silent {T = Bool} {U = Unit {0}} from names flown.0 store now a b n m fault flown.1.0)
 
 pub returns-in_err-tell_name-clause-works : goal.returns-in_err-tell_name-clause-works
 returns-in_err-tell_name-clause-works g c =
@@ -36,10 +49,14 @@ returns-in_err-tell_name-clause-works g c =
     let name = c.args.flight.now.named.name in
     let fault = c.in_err-tell_name.field-0.0 in
     let ensures = c.in_ok-named.ensures in
+    let named = c.in_ok-named.named in
+    let flown = ensures.works c.requires.flight.0 in
+    let done : ListsDone a from (repo_view store.repo).keys name flown.0 named =
+    subst (λ (l : List (List ℕ)). ListsDone a from (repo_view store.repo).keys name (pieces l ++ flown.0) named) c.requires.flight.1 flown.1.1 in
     err_is c.from_residual-in_err-tell_name.result fault (λ (r : Result (Unit {0}) CarryFault). Reports from (name ∷ []) store now a d n k r)
     c.from_residual-in_err-tell_name.ensures.1
-    (reports_name {T = Bool} {U = Unit {0}} from c.in_ok-named.named name c.args.name.now store now a b d n m k c.in_ok-named.named (Err fault)
-    c.requires.called (accepts_on now now ensures.settled) ensures.word ensures.works c.in_err-tell_name.ensures.works)
+    (reports_name {T = Bool} {U = Unit {0}} from named name c.args.name.now flown.0 store now a b d n m k named (Err fault) c.requires.called
+    (accepts_on now now ensures.settled) ensures.word done flown.1.0 c.in_err-tell_name.ensures.works)
 
 pub returns-clause-works : goal.returns-clause-works
 returns-clause-works g c =
@@ -54,5 +71,62 @@ returns-clause-works g c =
     let from = flown_from (g.S.Shelf.told c.args.shelf.now) (repo_view c.args.source.now) c.args.flight.now in
     let name = c.args.flight.now.named.name in
     let ensures = c.in_ok-named.ensures in
-    reports_name {T = Bool} {U = Unit {0}} from c.in_ok-named.named name c.args.name.now store now a b d n m k c.in_ok-named.named (Ok tt)
-    c.requires.called (accepts_on now now ensures.settled) ensures.word ensures.works c.in_ok-tell_name.ensures.works
+    let named = c.in_ok-named.named in
+    let flown = ensures.works c.requires.flight.0 in
+    let done : ListsDone a from (repo_view store.repo).keys name flown.0 named =
+    subst (λ (l : List (List ℕ)). ListsDone a from (repo_view store.repo).keys name (pieces l ++ flown.0) named) c.requires.flight.1 flown.1.1 in
+    reports_name {T = Bool} {U = Unit {0}} from named name c.args.name.now flown.0 store now a b d n m k named (Ok tt) c.requires.called
+    (accepts_on now now ensures.settled) ensures.word done flown.1.0 c.in_ok-tell_name.ensures.works
+
+pub returns-in_err-named-clause-untold : goal.returns-in_err-named-clause-untold
+returns-in_err-named-clause-untold g c =
+    let a = g.D.Shelf.told c.args.depot.now in
+    let b = g.D.Shelf.told c.fly.new.depot in
+    let from = flown_from (g.S.Shelf.told c.args.shelf.now) (repo_view c.args.source.now) c.args.flight.now in
+    let fault = c.in_err-named.field-0.0 in
+    err_is c.from_residual.result fault
+    (λ (r : Result (Unit {0}) CarryFault). IfErr r (λ (f : CarryFault). is_of_telling f ≡ false → Between a b TellsNothing)) c.from_residual.ensures.1
+    (λ still. between_map a b (KeepsGrowing from (c.args.flight.now.named.name ∷ []) c.args.store.now) TellsNothing (λ h g e. e.0)
+    (c.in_err-named.ensures.works c.requires.flight.0).1.0.each)
+
+pub returns-in_err-tell_name-clause-untold : goal.returns-in_err-tell_name-clause-untold
+returns-in_err-tell_name-clause-untold g c =
+    let a = g.D.Shelf.told c.args.depot.now in
+    let d = g.D.Shelf.told c.tell_name.new.depot in
+    let fault = c.in_err-tell_name.field-0.0 in
+    err_is c.from_residual-in_err-tell_name.result fault
+    (λ (r : Result (Unit {0}) CarryFault). IfErr r (λ (f : CarryFault). is_of_telling f ≡ false → Between a d TellsNothing))
+    c.from_residual-in_err-tell_name.ensures.1
+    (λ still. absurd (let telling = c.in_err-tell_name.ensures.telling in let no : ⊥ = cc in no))
+
+pub returns-in_err-tell_name-clause-limit : goal.returns-in_err-tell_name-clause-limit
+returns-in_err-tell_name-clause-limit g c =
+    let flight = c.args.flight.now in
+    let store = c.args.store.now in
+    let source = repo_view c.args.source.now in
+    let d = g.D.Shelf.told c.tell_name.new.depot in
+    let fault = c.in_err-tell_name.field-0.0 in
+    let Large : Type 0 =
+    IfSome d (λ _. HasLargeNext flight.options.timestamp source.manifest (repo_view store.repo).keys (accepted_in store) flight.named.name) in
+    err_is c.from_residual-in_err-tell_name.result fault
+    (λ (r : Result (Unit {0}) CarryFault). IfErr r (λ (f : CarryFault). f ≡ Target TooLarge → Large)) c.from_residual-in_err-tell_name.ensures.1
+    (telling_small Large fault c.in_err-tell_name.ensures.telling)
+
+pub returns-in_err-named-clause-stands : goal.returns-in_err-named-clause-stands
+returns-in_err-named-clause-stands g c =
+    let a = g.D.Shelf.told c.args.depot.now in
+    let b = g.D.Shelf.told c.fly.new.depot in
+    let from = flown_from (g.S.Shelf.told c.args.shelf.now) (repo_view c.args.source.now) c.args.flight.now in
+    let fault = c.in_err-named.field-0.0 in
+    err_is c.from_residual.result fault (λ (r : Result (Unit {0}) CarryFault). IfErr r (StandsGrowing from c.args.store.now a b)) c.from_residual.ensures.1
+    c.in_err-named.ensures.stands
+
+pub returns-in_err-tell_name-clause-stands : goal.returns-in_err-tell_name-clause-stands
+returns-in_err-tell_name-clause-stands g c =
+    let a = g.D.Shelf.told c.args.depot.now in
+    let d = g.D.Shelf.told c.tell_name.new.depot in
+    let from = flown_from (g.S.Shelf.told c.args.shelf.now) (repo_view c.args.source.now) c.args.flight.now in
+    let fault = c.in_err-tell_name.field-0.0 in
+    err_is c.from_residual-in_err-tell_name.result fault
+    (λ (r : Result (Unit {0}) CarryFault). IfErr r (StandsGrowing from c.args.store.now a d)) c.from_residual-in_err-tell_name.ensures.1
+    (λ work. telling_apart fault c.in_err-tell_name.ensures.telling work)

@@ -1,23 +1,33 @@
-use Rattle.std.proofs.Common.{◌≡◌, [], ◌∷◌, ℕ, List, Result, ap, IfErr, subst, sym}
-use Rattle.ferry_carry.proofs.GrowLemmas.{accepts_on}
+use Rattle.std.proofs.Common.{◌≡◌, [], ◌∷◌, ℕ, List, false, Result, ap, IfErr, IfSome, OnOk, refl, subst, sym}
+use Rattle.ferry_carry.proofs.AcceptingLemmas.{begin_small}
+use Rattle.ferry_carry.proofs.GrowLemmas.{accepts_on, growing_here}
 use Rattle.ferry_carry.proofs.ReportLemmas.{reports_as, reports_nothing}
 use Rattle.ferry_carry.proofs.TellLemmas.{begin_still}
 use Rattle.ferry_carry.proofs.WorkLemmas.{err_is}
 use Rattle.ferry_carry.proofs.chosen.carry_one.Goals as goal
+use Rattle.ferry_carry.specs.Accepting.{HasLargeNext, IsNextOf}
 use Rattle.ferry_carry.specs.Carrying.{origin, Origin}
 use Rattle.ferry_carry.specs.Flight.{flown_from}
+use Rattle.ferry_carry.specs.Grow.{KeepsGrowing}
 use Rattle.ferry_carry.specs.Telling.{Reports}
 use Rattle.ferry_carry.specs.declared.fault.CarryFault.{CarryFault}
+use Rattle.ferry_carry.specs.declared.fault.CarryFault.TheVariants.{Target}
 use Rattle.ferry_carry.specs.declared.options.Options.{Options}
+use Rattle.ferry_disk.specs.Moments.{Between}
 use Rattle.ferry_repo.specs.Opening.{repo_view}
-use Rattle.ferry_carry.specs.Refusals.{RefusesName}
+use Rattle.ferry_stops.specs.Tells.{TellsNothing}
+use Rattle.ferry_store.proofs.StepLemmas.{here_each}
+use Rattle.ferry_store.specs.Commit.{accepted_in}
+use Rattle.ferry_store.specs.declared.fault.StoreRefusal.TheVariants.{TooLarge}
+use Rattle.ferry_carry.specs.Refusals.{RefusesName, is_of_telling}
+use Rattle.ferry_carry.proofs.StandLemmas.{StandsGrowing}
 
 pub returns-in_err-flight-clause-works : goal.returns-in_err-flight-clause-works
 returns-in_err-flight-clause-works g c =
     let store = c.args.store.now in
     let a = g.D.Shelf.told c.args.depot.now in
     let n = g.D.Shelf.faults c.args.depot.now in
-    let from = origin (g.S.Shelf.told c.args.shelf.now) (repo_view c.args.source.now) c.args.options.now.block in
+    let from = origin (g.S.Shelf.told c.args.shelf.now) (repo_view c.args.source.now) c.args.options.now.block c.args.options.now.checkpoint in
     let names = c.args.name.now ∷ [] in
     let fault = c.in_err-flight.field-0.0 in
     err_is c.from_residual.result fault (λ (r : Result (Unit {0}) CarryFault). Reports from names store store a a n n r)
@@ -36,9 +46,9 @@ returns-clause-works g c =
     let told = g.S.Shelf.told c.args.shelf.now in
     let source = repo_view c.args.source.now in
     let flight = c.in_ok-flight.flight in
-    let is : flown_from told source flight ≡ origin told source c.args.options.now.block =
-    ap (λ (o : Options). origin told source o.block) c.in_ok-flight.ensures.options in
-    reports_as {T = Unit {0}} (origin told source c.args.options.now.block) (flown_from told source flight) (c.args.name.now ∷ [])
+    let is : flown_from told source flight ≡ origin told source c.args.options.now.block c.args.options.now.checkpoint =
+    ap (λ (o : Options). origin told source o.block o.checkpoint) c.in_ok-flight.ensures.options in
+    reports_as {T = Unit {0}} (origin told source c.args.options.now.block c.args.options.now.checkpoint) (flown_from told source flight) (c.args.name.now ∷ [])
     (flight.named.name ∷ []) c.args.store.now c.carry_flight.new.store (g.D.Shelf.told c.args.depot.now) (g.D.Shelf.told c.carry_flight.new.depot)
     (g.D.Shelf.faults c.args.depot.now) (g.D.Shelf.faults c.carry_flight.new.depot) c.carry_flight.result is
     (ap (λ (n : List ℕ). n ∷ []) c.in_ok-flight.ensures.name) c.carry_flight.ensures.works
@@ -52,8 +62,69 @@ returns-clause-refused g c =
     let b = g.D.Shelf.told c.carry_flight.new.depot in
     let store = c.args.store.now in
     let now = c.carry_flight.new.store in
-    let is : flown_from told source flight ≡ origin told source c.args.options.now.block =
-    ap (λ (o : Options). origin told source o.block) c.in_ok-flight.ensures.options in
+    let is : flown_from told source flight ≡ origin told source c.args.options.now.block c.args.options.now.checkpoint =
+    ap (λ (o : Options). origin told source o.block o.checkpoint) c.in_ok-flight.ensures.options in
     subst (λ (f : Origin). IfErr c.carry_flight.result (RefusesName f a store b now c.args.name.now)) is
     (subst (λ (n : List ℕ). IfErr c.carry_flight.result (RefusesName (flown_from told source flight) a store b now n)) c.in_ok-flight.ensures.name
     c.carry_flight.ensures.refused)
+
+pub returns-in_err-flight-clause-untold : goal.returns-in_err-flight-clause-untold
+returns-in_err-flight-clause-untold g c =
+    let a = g.D.Shelf.told c.args.depot.now in
+    let fault = c.in_err-flight.field-0.0 in
+    err_is c.from_residual.result fault
+    (λ (r : Result (Unit {0}) CarryFault). IfErr r (λ (f : CarryFault). is_of_telling f ≡ false → Between a a TellsNothing)) c.from_residual.ensures.1
+    (λ still. here_each TellsNothing a (λ h. refl))
+
+pub returns-in_err-flight-clause-limit : goal.returns-in_err-flight-clause-limit
+returns-in_err-flight-clause-limit g c =
+    let a = g.D.Shelf.told c.args.depot.now in
+    let store = c.args.store.now in
+    let source = repo_view c.args.source.now in
+    let fault = c.in_err-flight.field-0.0 in
+    let Large : Type 0 =
+    IfSome a (λ _. HasLargeNext c.args.options.now.timestamp source.manifest (repo_view store.repo).keys (accepted_in store) c.args.name.now) in
+    err_is c.from_residual.result fault (λ (r : Result (Unit {0}) CarryFault). IfErr r (λ (f : CarryFault). f ≡ Target TooLarge → Large))
+    c.from_residual.ensures.1 (begin_small Large _ fault c.args.name.now c.in_err-flight.ensures.refused)
+
+pub returns-clause-limit : goal.returns-clause-limit
+returns-clause-limit g c =
+    let b = g.D.Shelf.told c.carry_flight.new.depot in
+    let store = c.args.store.now in
+    let manifest = (repo_view c.args.source.now).manifest in
+    let keys = (repo_view store.repo).keys in
+    let flight = c.in_ok-flight.flight in
+    subst (λ (o : Options). IfErr c.carry_flight.result (λ (f : CarryFault). f ≡ Target TooLarge
+    → IfSome b (λ _. HasLargeNext o.timestamp manifest keys (accepted_in store) c.args.name.now))) c.in_ok-flight.ensures.options
+    (subst (λ (n : List ℕ). IfErr c.carry_flight.result (λ (f : CarryFault). f ≡ Target TooLarge
+    → IfSome b (λ _. HasLargeNext flight.options.timestamp manifest keys (accepted_in store) n))) c.in_ok-flight.ensures.name c.carry_flight.ensures.limit)
+
+pub returns-clause-next : goal.returns-clause-next
+returns-clause-next g c =
+    let store = c.args.store.now in
+    let now = c.carry_flight.new.store in
+    let manifest = (repo_view c.args.source.now).manifest in
+    let keys = (repo_view store.repo).keys in
+    let flight = c.in_ok-flight.flight in
+    subst (λ (o : Options). OnOk c.carry_flight.result (IsNextOf o.timestamp manifest keys (accepted_in store) c.args.name.now (accepted_in now)))
+    c.in_ok-flight.ensures.options
+    (subst (λ (n : List ℕ). OnOk c.carry_flight.result (IsNextOf flight.options.timestamp manifest keys (accepted_in store) n (accepted_in now)))
+    c.in_ok-flight.ensures.name c.carry_flight.ensures.next)
+
+pub returns-in_err-flight-clause-stands : goal.returns-in_err-flight-clause-stands
+returns-in_err-flight-clause-stands g c =
+    let a = g.D.Shelf.told c.args.depot.now in
+    let store = c.args.store.now in
+    let from = origin (g.S.Shelf.told c.args.shelf.now) (repo_view c.args.source.now) c.args.options.now.block c.args.options.now.checkpoint in
+    let fault = c.in_err-flight.field-0.0 in
+    err_is c.from_residual.result fault (λ (r : Result (Unit {0}) CarryFault). IfErr r (StandsGrowing from store a a)) c.from_residual.ensures.1
+    (λ _. here_each (KeepsGrowing from [] store) a (λ h. growing_here from [] store h (accepts_on store store c.requires.settled)))
+
+pub returns-clause-stands : goal.returns-clause-stands
+returns-clause-stands g c =
+    let told = g.S.Shelf.told c.args.shelf.now in
+    let source = repo_view c.args.source.now in
+    let a = g.D.Shelf.told c.args.depot.now in
+    let b = g.D.Shelf.told c.carry_flight.new.depot in
+    subst (λ (o : Options). IfErr c.carry_flight.result (StandsGrowing (origin told source o.block o.checkpoint) c.args.store.now a b))
+    c.in_ok-flight.ensures.options c.carry_flight.ensures.stands

@@ -1,10 +1,12 @@
-use Rattle.std.proofs.Common.{Result}
+use Rattle.std.proofs.Common.{◌≡◌, true, Result, IfErr}
 use Rattle.ferry_disk.specs.Act.{TellOf}
+use Rattle.ferry_carry.proofs.AcceptingLemmas.{store_telling}
 use Rattle.ferry_carry.proofs.TellLemmas.{tell_fits, tell_works, untold_works}
 use Rattle.ferry_carry.proofs.WorkLemmas.{err_is}
 use Rattle.ferry_carry.proofs.chosen.tell.Goals as goal
 use Rattle.ferry_carry.specs.Chosen.{TellsLine}
 use Rattle.ferry_carry.specs.Fault.{target_fault}
+use Rattle.ferry_carry.specs.Refusals.{is_of_telling}
 use Rattle.ferry_carry.specs.Work.{Works}
 use Rattle.ferry_carry.specs.declared.fault.CarryFault.{CarryFault}
 use Rattle.ferry_store.specs.Fault.{store_refusal}
@@ -36,3 +38,9 @@ returns-clause-fits g c =
     let m = g.D.Shelf.faults c.tell.new.self in
     tell_fits {T = Unit {0}} c.args.store.now line a b n m tt c.requires.fits
     (tell_works line a b n m c.in_ok-tell.ensures.act c.in_ok-tell.ensures.cause)
+
+pub returns-in_err-tell-clause-telling : goal.returns-in_err-tell-clause-telling
+returns-in_err-tell-clause-telling g c =
+    let fault = c.in_err-tell.field-0.0 in
+    err_is c.from_residual.result (target_fault (store_refusal fault))
+    (λ (r : Result (Unit {0}) CarryFault). IfErr r (λ (f : CarryFault). is_of_telling f ≡ true)) c.from_residual.ensures.1 (store_telling fault)

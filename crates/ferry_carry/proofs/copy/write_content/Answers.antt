@@ -18,8 +18,8 @@ returns-in_err-content-clause-written g c =
     let fault = c.in_err-content.field-0.0 in (
       [],
       err_is c.from_residual.result (source_fault fault)
-          (λ (r : Result (Unit {0}) CarryFault). Works (KeepsStanding store) (λ _. Gathers store [] store) a a n n r
+          (λ (r : Result (Unit {0}) CarryFault). Works (KeepsStanding writer.checkpoint store) (λ _. Gathers writer.checkpoint store [] store) a a n n r
           × OnOk r (WritesContent (g.S.Shelf.told c.args.shelf.now) (repo_view c.args.source.now) (repo_view store.repo).keys c.args.chunk.now
           writer.cutter writer.chunks.items [] writer.cutter writer.chunks.items)) c.from_residual.ensures.1
-          (gathered_nothing {T = Unit {0}} store store [] a n (source_fault fault) (source_still fault), tt),
+          (gathered_nothing {T = Unit {0}} writer.checkpoint store store [] a n (source_fault fault) (source_still fault), tt),
     )

@@ -1,11 +1,13 @@
-use Rattle.std.proofs.Common.{◌<◌, ◌++◌, [], Result, Ok, Err, IfErr, OnOk, length, refl, ◌∙◌, arith}
+use Rattle.std.proofs.Common.{◌≤◌, ◌<◌, ◌++◌, ℕ, [], Result, Ok, Err, IfErr, OnOk, length, refl, ◌∙◌, subst, arith}
 use Rattle.ferry_carry.proofs.CopyLemmas.{contents_written, nothing_written}
 use Rattle.ferry_carry.proofs.GatherLemmas.{rest_here, rest_then}
+use Rattle.ferry_carry.proofs.PieceLemmas.{pieces_then}
 use Rattle.ferry_carry.proofs.RefusalLemmas.{contents_refused}
-use Rattle.ferry_carry.proofs.WorkLemmas.{err_is, gathered_none, gathered_then}
+use Rattle.ferry_carry.proofs.WorkLemmas.{err_is, gathered_none}
 use Rattle.ferry_carry.proofs.copy.write_contents.Goals as goal
 use Rattle.ferry_carry.specs.Copying.{WritesContents}
 use Rattle.ferry_carry.specs.Gather.{Gathers, KeepsStanding}
+use Rattle.ferry_carry.specs.Puts.{pieces}
 use Rattle.ferry_carry.specs.Refusals.{RefusesContents}
 use Rattle.ferry_carry.specs.Work.{Works}
 use Rattle.ferry_carry.specs.declared.fault.CarryFault.{CarryFault}
@@ -17,6 +19,8 @@ loop-place-init g c =
     record {
       room = c.requires.room;
       block = refl;
+      checkpoint = refl;
+      pending = c.requires.pending;
       unspent = c.requires.unspent;
       fits = c.requires.fits;
       rest = rest_here store;
@@ -26,7 +30,7 @@ loop-place-init g c =
       faults = refl;
       written = (
         [],
-        gathered_none {T = Unit {0}} store (g.D.Shelf.told c.args.depot.now) (g.D.Shelf.faults c.args.depot.now) tt,
+        gathered_none {T = Unit {0}} c.args.writer.now.checkpoint store (g.D.Shelf.told c.args.depot.now) (g.D.Shelf.faults c.args.depot.now) tt,
         nothing_written (g.S.Shelf.told c.args.shelf.now) (repo_view c.args.source.now) (repo_view store.repo).keys c.args.writer.now.cutter
             c.args.writer.now.chunks.items c.requires.room,
       );
@@ -45,14 +49,16 @@ returns-in_err-write_content-clause-written g c =
     let m = g.D.Shelf.faults c.write_content.new.depot in
     let writer = c.args.writer.now in
     let writer_now = c.write_content.new.writer in
+    let most = writer.checkpoint in
     let fault = c.in_err-write_content.field-0.0 in (
       more,
       err_is c.from_residual.result fault
-          (λ (r : Result (Unit {0}) CarryFault). Works (KeepsStanding store) (λ _. Gathers store more now) a b n m r
+          (λ (r : Result (Unit {0}) CarryFault). Works (KeepsStanding most store) (λ _. Gathers most store (pieces more) now) a b n m r
           × OnOk r (WritesContents (g.S.Shelf.told c.args.shelf.now) (repo_view c.args.source.now) (repo_view store.repo).keys c.args.chunks.now
           writer.cutter writer.chunks.items more writer_now.cutter writer_now.chunks.items)) c.from_residual.ensures.1 (
-            gathered_then {T = Unit {0}} {U = Unit {0}} store c.loop-place.store now so.0 next.0 a (g.D.Shelf.told c.loop-place.depot) b n
-                (g.D.Shelf.faults c.loop-place.depot) m tt (Err fault) c.loop-place.invariant.rest tt so.1 next.1.0,
+            pieces_then {T = Unit {0}} {U = Unit {0}} most most c.loop-place.writer.checkpoint store c.loop-place.store now so.0 next.0 a
+                (g.D.Shelf.told c.loop-place.depot) b n
+                (g.D.Shelf.faults c.loop-place.depot) m tt (Err fault) refl c.loop-place.invariant.checkpoint c.loop-place.invariant.rest tt so.1 next.1.0,
             tt,
           ),
     )
@@ -69,6 +75,8 @@ loop-place-preserved g c =
     record {
       room = next.1.1.writes.room;
       block = next.1.1.writes.block ∙ invariant.block;
+      checkpoint = c.in_ok-write_content.ensures.checkpoint ∙ invariant.checkpoint;
+      pending = subst (λ (count : ℕ). now.pending ≤ count) invariant.checkpoint c.in_ok-write_content.ensures.pending;
       unspent = c.in_ok-write_content.ensures.unspent;
       fits = c.in_ok-write_content.ensures.fits;
       rest = rest_then store middle now invariant.rest c.in_ok-write_content.ensures.rest;
@@ -78,9 +86,10 @@ loop-place-preserved g c =
       faults = c.in_ok-write_content.ensures.cause ∙ invariant.faults;
       written = (
         so.0 ++ next.0,
-        gathered_then {T = Unit {0}} {U = Unit {0}} store middle now so.0 next.0 (g.D.Shelf.told c.args.depot.now)
+        pieces_then {T = Unit {0}} {U = Unit {0}} c.args.writer.now.checkpoint c.args.writer.now.checkpoint c.loop-place.writer.checkpoint store middle now so.0
+            next.0 (g.D.Shelf.told c.args.depot.now)
             (g.D.Shelf.told c.loop-place.depot) (g.D.Shelf.told c.write_content.new.depot) (g.D.Shelf.faults c.args.depot.now)
-            (g.D.Shelf.faults c.loop-place.depot) (g.D.Shelf.faults c.write_content.new.depot) tt (Ok tt) invariant.rest
+            (g.D.Shelf.faults c.loop-place.depot) (g.D.Shelf.faults c.write_content.new.depot) tt (Ok tt) refl invariant.checkpoint invariant.rest
             c.in_ok-write_content.ensures.rest so.1 next.1.0,
         contents_written (g.S.Shelf.told c.args.shelf.now) (g.S.Shelf.told c.loop-place.shelf) (repo_view c.args.source.now)
             (repo_view c.loop-place.source) (repo_view store.repo).keys (repo_view middle.repo).keys c.args.chunks.now c.loop-place.place _

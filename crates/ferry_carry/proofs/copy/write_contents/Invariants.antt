@@ -1,7 +1,8 @@
-use Rattle.std.proofs.Common.{◌≡◌, ◌<◌, ℕ, false, List, Ok, IfSome, length, take}
+use Rattle.std.proofs.Common.{◌≡◌, ◌≤◌, ◌<◌, ℕ, false, List, Ok, IfSome, length, take}
 use Rattle.ferry_carry.proofs.copy.write_contents.Given as goal
 use Rattle.ferry_carry.specs.Copying.{WritesContents}
 use Rattle.ferry_carry.specs.Gather.{Gathers, KeepsRest, KeepsStanding}
+use Rattle.ferry_carry.specs.Puts.{pieces}
 use Rattle.ferry_carry.specs.Work.{Works}
 use Rattle.ferry_disk.specs.Device.{heard, told_files}
 use Rattle.ferry_repo.specs.Opening.{FitsRepo, cached_in, repo_view}
@@ -12,6 +13,8 @@ abbrev pub invariant-loop-place : goal.invariant-loop-place
 invariant-loop-place g l = record {
   room : length l.writer.cutter.piece < l.writer.cutter.block;
   block : l.writer.cutter.block ≡ l.fn.writer.cutter.block;
+  checkpoint : l.writer.checkpoint ≡ l.fn.writer.checkpoint;
+  pending : l.store.pending ≤ l.fn.writer.checkpoint;
   unspent : IsUnspent l.store;
   fits : IfSome (g.D.Shelf.told l.depot) (λ t. StoreFits false l.store t.history);
   rest : KeepsRest l.fn.store l.store;
@@ -19,7 +22,8 @@ invariant-loop-place g l = record {
   repo : repo_view l.source ≡ repo_view l.fn.source;
   alike : heard (g.S.Shelf.told l.shelf) ≡ heard (g.S.Shelf.told l.fn.shelf);
   faults : g.S.Shelf.faults l.shelf ≡ g.S.Shelf.faults l.fn.shelf;
-  written : (more : List (List ℕ)) × Works {T = Unit {0}} (KeepsStanding l.fn.store) (λ _. Gathers l.fn.store more l.store)
+  written : (more : List (List ℕ)) × Works {T = Unit {0}} (KeepsStanding l.fn.writer.checkpoint l.fn.store)
+      (λ _. Gathers l.fn.writer.checkpoint l.fn.store (pieces more) l.store)
       (g.D.Shelf.told l.fn.depot) (g.D.Shelf.told l.depot) (g.D.Shelf.faults l.fn.depot) (g.D.Shelf.faults l.depot) (Ok tt)
       × WritesContents (g.S.Shelf.told l.fn.shelf) (repo_view l.fn.source) (repo_view l.fn.store.repo).keys (take l.place l.chunks)
       l.fn.writer.cutter l.fn.writer.chunks.items more l.writer.cutter l.writer.chunks.items;

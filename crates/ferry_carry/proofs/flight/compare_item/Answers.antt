@@ -14,7 +14,7 @@ use Rattle.ferry_store.specs.declared.store.Store.{Store}
 use Rattle.ferry_carry.proofs.CauseLemmas.{differs_there}
 
 pub returns-in_err-compared-clause-works : goal.returns-in_err-compared-clause-works
-returns-in_err-compared-clause-works g c =
+returns-in_err-compared-clause-works g c most =
     let a = g.D.Shelf.told c.args.depot.now in
     let b = g.D.Shelf.told c.step.new.other in
     let n = g.D.Shelf.faults c.args.depot.now in
@@ -23,8 +23,8 @@ returns-in_err-compared-clause-works g c =
     let now : Store = record store { repo = c.step.new.target } in
     let fault = c.in_err-compared.field-0.0 in
     err_is c.from_residual.result (compare_fault fault)
-    (λ (r : Result Compared CarryFault). Works (KeepsStanding store) (λ _. Gathers store [] now) a b n m r) c.from_residual.ensures.1
-    (works_unread {U = Compared} Compared store now a b n m fault c.in_err-compared.ensures.target_same c.in_err-compared.ensures.target_cause)
+    (λ (r : Result Compared CarryFault). Works (KeepsStanding most store) (λ _. Gathers most store [] now) a b n m r) c.from_residual.ensures.1
+    (works_unread {U = Compared} Compared most store now a b n m fault c.in_err-compared.ensures.target_same c.in_err-compared.ensures.target_cause)
 
 pub returns-in_err-compared-clause-fits : goal.returns-in_err-compared-clause-fits
 returns-in_err-compared-clause-fits g c =
@@ -32,9 +32,9 @@ returns-in_err-compared-clause-fits g c =
     (c.step.ensures.target_kept ∙ ap repo_view c.repo.ensures.repo) c.step.ensures.target_same c.step.ensures.target_fits c.requires.fits
 
 pub returns-clause-works : goal.returns-clause-works
-returns-clause-works g c =
+returns-clause-works g c most =
     let compared = c.in_ok-compared.compared in
-    works_read {T = Compared} {U = Compared} c.args.store.now c.step.new.target (g.D.Shelf.told c.args.depot.now) (g.D.Shelf.told c.step.new.other)
+    works_read {T = Compared} {U = Compared} most c.args.store.now c.step.new.target (g.D.Shelf.told c.args.depot.now) (g.D.Shelf.told c.step.new.other)
     (g.D.Shelf.faults c.args.depot.now) (g.D.Shelf.faults c.step.new.other) compared compared (c.step.ensures.target_kept ∙ ap repo_view c.repo.ensures.repo)
     c.in_ok-compared.ensures.target_same c.in_ok-compared.ensures.target_cause c.step.ensures.target_fits
 
@@ -44,19 +44,19 @@ returns-clause-fits g c =
     (c.step.ensures.target_kept ∙ ap repo_view c.repo.ensures.repo) c.step.ensures.target_same c.step.ensures.target_fits c.requires.fits
 
 pub returns-clause-equal : goal.returns-clause-equal
-returns-clause-equal g c e block =
+returns-clause-equal g c e block most =
     let is : c.in_ok-compared.compared ≡ Equal = cc in
     same_read {T = Compared} (g.S.Shelf.told c.args.shelf.now) (g.D.Shelf.told c.args.depot.now) (g.D.Shelf.told c.step.new.other)
-    (repo_view c.args.source.now) block (repo_view c.args.store.now.repo) (repo_view c.step.new.target) (comparison_view c.args.comparison.now).name
+    (repo_view c.args.source.now) block most (repo_view c.args.store.now.repo) (repo_view c.step.new.target) (comparison_view c.args.comparison.now).name
     c.in_ok-compared.compared (c.step.ensures.target_kept ∙ ap repo_view c.repo.ensures.repo) c.in_ok-compared.ensures.target_same
     (subst (λ (r : RepoState). AreEqual (g.S.Shelf.told c.args.shelf.now) (repo_view c.args.source.now) (g.D.Shelf.told c.args.depot.now) r
     (comparison_view c.args.comparison.now).name) (ap repo_view c.repo.ensures.repo) (c.in_ok-compared.ensures.equal (ap Ok is)))
 
 pub returns-clause-differs_now : goal.returns-clause-differs_now
-returns-clause-differs_now g c e block =
+returns-clause-differs_now g c e block most =
     let is : c.in_ok-compared.compared ≡ Differs = cc in
     differs_there {T = Compared} (g.S.Shelf.told c.args.shelf.now) (g.D.Shelf.told c.args.depot.now) (g.D.Shelf.told c.step.new.other)
-    (repo_view c.args.source.now) block (repo_view c.args.store.now.repo) (repo_view c.step.new.target) (comparison_view c.args.comparison.now).name
+    (repo_view c.args.source.now) block most (repo_view c.args.store.now.repo) (repo_view c.step.new.target) (comparison_view c.args.comparison.now).name
     c.in_ok-compared.compared (c.step.ensures.target_kept ∙ ap repo_view c.repo.ensures.repo) c.in_ok-compared.ensures.target_same
     (subst (λ (r : RepoState). Differ (g.S.Shelf.told c.args.shelf.now) (repo_view c.args.source.now) (g.D.Shelf.told c.args.depot.now) r
     (comparison_view c.args.comparison.now).name) (ap repo_view c.repo.ensures.repo) (c.in_ok-compared.ensures.differs (ap Ok is)))

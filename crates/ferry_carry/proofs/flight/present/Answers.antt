@@ -1,8 +1,33 @@
-use Rattle.ferry_carry.proofs.WorkLemmas.{gathered_none}
+use Rattle.std.proofs.Common.{[], Result}
+use Rattle.ferry_carry.proofs.WorkLemmas.{err_is, gathered_as, gathered_err, gathered_none}
 use Rattle.ferry_carry.proofs.flight.present.Goals as goal
+use Rattle.ferry_carry.specs.Gather.{Gathers, KeepsStanding}
+use Rattle.ferry_carry.specs.Work.{Works}
+use Rattle.ferry_carry.specs.declared.fault.CarryFault.{CarryFault}
 use Rattle.ferry_carry.specs.declared.flight.Turn.{Turn}
 use Rattle.ferry_carry.specs.declared.flight.Turn.TheVariants.{Present}
 
 pub returns-then-pending-eq0-clause-works : goal.returns-then-pending-eq0-clause-works
 returns-then-pending-eq0-clause-works g c =
-    gathered_none {T = Turn} c.args.store.now (g.D.Shelf.told c.args.depot.now) (g.D.Shelf.faults c.args.depot.now) Present
+    λ most. gathered_none {T = Turn} most c.args.store.now (g.D.Shelf.told c.args.depot.now) (g.D.Shelf.faults c.args.depot.now) Present
+
+pub returns-in_err-commit_pieces-clause-works : goal.returns-in_err-commit_pieces-clause-works
+returns-in_err-commit_pieces-clause-works g c =
+    λ most.
+    let store = c.args.store.now in
+    let now = c.commit_pieces.new.store in
+    let a = g.D.Shelf.told c.args.depot.now in
+    let b = g.D.Shelf.told c.commit_pieces.new.depot in
+    let n = g.D.Shelf.faults c.args.depot.now in
+    let m = g.D.Shelf.faults c.commit_pieces.new.depot in
+    let fault = c.in_err-commit_pieces.field-0.0 in
+    err_is c.from_residual.result fault (λ (r : Result Turn CarryFault). Works (KeepsStanding most store) (λ _. Gathers most store [] now) a b n m r)
+    c.from_residual.ensures.1
+    (gathered_err {T = Unit {0}} {U = Turn} most store now [] [] a b n m fault (c.in_err-commit_pieces.ensures.works most))
+
+pub returns-clause-works : goal.returns-clause-works
+returns-clause-works g c =
+    λ most.
+    gathered_as {T = Unit {0}} {U = Turn} most c.args.store.now c.commit_pieces.new.store [] (g.D.Shelf.told c.args.depot.now)
+    (g.D.Shelf.told c.commit_pieces.new.depot) (g.D.Shelf.faults c.args.depot.now) (g.D.Shelf.faults c.commit_pieces.new.depot) tt Present
+    (c.in_ok-commit_pieces.ensures.works most)

@@ -1,12 +1,12 @@
 use Rattle.std.proofs.Common.{◌≡◌, Result, IfErr, refl, sym, ◌∙◌, ap}
 use Rattle.ferry_carry.proofs.FaultLemmas.{target_stops}
 use Rattle.ferry_carry.proofs.GrowLemmas.{commit_fits}
-use Rattle.ferry_carry.proofs.NamingLemmas.{commit_most, commit_works, commit_works_err}
+use Rattle.ferry_carry.proofs.NamingLemmas.{commit_limit, commit_most, commit_works, commit_works_err}
 use Rattle.ferry_carry.proofs.WorkLemmas.{err_is}
 use Rattle.ferry_carry.proofs.naming.commit.Goals as goal
 use Rattle.ferry_carry.specs.Fault.{target_fault}
 use Rattle.ferry_carry.specs.Flight.{NamesArchive}
-use Rattle.ferry_carry.specs.Refusals.{StopsTarget}
+use Rattle.ferry_carry.specs.Refusals.{LimitsManifest, StopsTarget}
 use Rattle.ferry_carry.specs.declared.fault.CarryFault.{CarryFault}
 use Rattle.ferry_manifest.specs.Manifest.Writing.{manifest_text}
 use Rattle.ferry_next.specs.Next.{written_at}
@@ -14,6 +14,7 @@ use Rattle.ferry_repo.specs.Opening.{RepoState, repo_view}
 use Rattle.ferry_store.specs.Commit.{CommitsEntry, accepted_in, manifest_entry}
 use Rattle.ferry_store.specs.Content.{blob_for}
 use Rattle.ferry_store.specs.Standing.{with_manifest}
+use Rattle.ferry_carry.proofs.StandLemmas.{StandsAll, commit_stands}
 
 pub returns-in_err-commit-clause-works : goal.returns-in_err-commit-clause-works
 returns-in_err-commit-clause-works g c accepted named one =
@@ -65,3 +66,22 @@ returns-in_err-commit-clause-stops g c =
     let refusal = c.in_err-commit.field-0.0 in
     err_is c.from_residual.result (target_fault refusal) (λ (r : Result (Unit {0}) CarryFault). IfErr r (StopsTarget b keys)) c.from_residual.ensures.1
     (target_stops b keys refusal c.in_err-commit.ensures.stops)
+
+pub returns-in_err-commit-clause-limit : goal.returns-in_err-commit-clause-limit
+returns-in_err-commit-clause-limit g c =
+    let store = c.args.store.now in
+    let keys = (repo_view store.repo).keys in
+    let made = c.in_err-commit.ensures.committed in
+    let text = written_at (accepted_in store) c.args.timestamp.now in
+    let refusal = c.in_err-commit.field-0.0 in
+    err_is c.from_residual.result (target_fault refusal) (λ (r : Result (Unit {0}) CarryFault). IfErr r (LimitsManifest keys text)) c.from_residual.ensures.1
+    (commit_limit store keys text made.0 refusal made.1.0 made.1.3)
+
+pub returns-in_err-commit-clause-stands : goal.returns-in_err-commit-clause-stands
+returns-in_err-commit-clause-stands g c =
+    let a = g.D.Shelf.told c.args.depot.now in
+    let b = g.D.Shelf.told c.commit.new.depot in
+    let store = c.args.store.now in
+    let refusal = c.in_err-commit.field-0.0 in
+    err_is c.from_residual.result (target_fault refusal) (λ (r : Result (Unit {0}) CarryFault). IfErr r (StandsAll store a b)) c.from_residual.ensures.1
+    (commit_stands store a b refusal c.commit.ensures.untold c.in_err-commit.ensures.keeps)

@@ -1,5 +1,8 @@
-use Rattle.std.proofs.Common.{rules, ◌≡◌, Result, sym, refl, ap, subst}
-use Rattle.ferry_carry.proofs.GrowLemmas.{accepted_known, accepts_one, names_next}
+use Rattle.std.proofs.Common.{rules, ◌≡◌, Result, IfErr, sym, refl, ap, subst}
+use Rattle.ferry_carry.specs.Refusals.{LimitsManifest}
+use Rattle.ferry_mac.specs.declared.keys.Keys.{Keys}
+use Rattle.ferry_next.specs.Next.{next_manifest, written_at}
+use Rattle.ferry_carry.proofs.GrowLemmas.{accepts_one, names_next}
 use Rattle.ferry_carry.proofs.NamingLemmas.{named_behind, names_nothing}
 use Rattle.ferry_carry.proofs.WorkLemmas.{err_is}
 use Rattle.ferry_carry.proofs.naming.commit_named.Goals as goal
@@ -9,8 +12,11 @@ use Rattle.ferry_carry.specs.declared.fault.CarryFault.{CarryFault}
 use Rattle.ferry_carry.specs.declared.fault.CarryFault.TheVariants.{Memory}
 use Rattle.ferry_manifest.specs.Manifest.Text.{ManifestText}
 use Rattle.ferry_repo.specs.Opening.{repo_view}
+use Rattle.ferry_store.proofs.UseLemmas.{fits_named}
 use Rattle.ferry_store.specs.Commit.{accepted_in}
 use Rattle.ferry_store.specs.declared.store.Store.{Store}
+use Rattle.ferry_carry.proofs.StandLemmas.{StandsAll, accepted_stands, memory_apart}
+use Rattle.std.proofs.lemmas.Result.{IfErr-weaker}
 
 pub returns-in_err-name_archive-clause-works : goal.returns-in_err-name_archive-clause-works
 returns-in_err-name_archive-clause-works g c =
@@ -24,7 +30,7 @@ returns-in_err-name_archive-clause-works g c =
 
 pub commit-requires-clause-fits : goal.commit-requires-clause-fits
 commit-requires-clause-fits g c =
-    accepted_known c.args.store.now c.name_archive.new.self (g.D.Shelf.told c.args.depot.now) c.in_ok-name_archive.ensures.rest c.requires.fits
+    fits_named c.args.store.now c.name_archive.new.self (g.D.Shelf.told c.args.depot.now) c.in_ok-name_archive.ensures.rest c.requires.fits
 
 pub commit-requires-clause-accepts : goal.commit-requires-clause-accepts
 commit-requires-clause-accepts g c =
@@ -47,3 +53,32 @@ returns-clause-works g c =
     (g.D.Shelf.faults c.args.depot.now) (g.D.Shelf.faults c.commit.new.depot) c.commit.result c.in_ok-name_archive.ensures.rest
     (c.commit.ensures.works (accepted_in store) c.args.entry
     (accepts_one store middle c.args.entry _ same c.in_ok-name_archive.ensures.named c.requires.accepts))
+
+pub returns-clause-limit : goal.returns-clause-limit
+returns-clause-limit g c =
+    let store = c.args.store.now in
+    let middle = c.name_archive.new.self in
+    let time = c.args.timestamp.now in
+    let keys : (repo_view middle.repo).keys ≡ (repo_view store.repo).keys =
+    ap (λ (s : Store). (repo_view s.repo).keys) c.in_ok-name_archive.ensures.rest in
+    let named : accepted_in middle ≡ next_manifest (accepted_in store) c.args.entry (repo_view c.args.source.now).manifest.item_keys = search rules in
+    subst (λ (k : Keys). IfErr c.commit.result (LimitsManifest k (written_at (next_manifest (accepted_in store) c.args.entry
+    (repo_view c.args.source.now).manifest.item_keys) time))) keys
+    (subst (λ (m : ManifestText). IfErr c.commit.result (LimitsManifest (repo_view middle.repo).keys (written_at m time)))
+    named c.commit.ensures.limit)
+
+pub returns-in_err-name_archive-clause-stands : goal.returns-in_err-name_archive-clause-stands
+returns-in_err-name_archive-clause-stands g c =
+    let a = g.D.Shelf.told c.args.depot.now in
+    let is : c.in_err-name_archive.field-0.0 ≡ _ = c.in_err-name_archive.ensures.refused in
+    err_is c.from_residual.result Memory (λ (r : Result (Unit {0}) CarryFault). IfErr r (StandsAll c.args.store.now a a)) (search rules)
+    (λ work. memory_apart work)
+
+pub returns-clause-stands : goal.returns-clause-stands
+returns-clause-stands g c =
+    let a = g.D.Shelf.told c.args.depot.now in
+    let b = g.D.Shelf.told c.commit.new.depot in
+    let store = c.args.store.now in
+    let middle = c.name_archive.new.self in
+    IfErr-weaker c.commit.result (StandsAll middle a b) (StandsAll store a b)
+    (λ fault stands work most. accepted_stands most store middle a b c.in_ok-name_archive.ensures.rest (stands work most)) c.commit.ensures.stands

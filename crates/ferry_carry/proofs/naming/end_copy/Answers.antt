@@ -1,24 +1,30 @@
-use Rattle.std.proofs.Common.{ℕ, List, [], ◌∷◌, ◌++◌, Result, Ok, Err, IfErr}
+use Rattle.std.proofs.Common.{ℕ, true, List, [], ◌∷◌, ◌++◌, Result, Ok, Err, IfErr, IfOk, sym, ◌∙◌, subst}
+use Rattle.std.proofs.lemmas.List.{append-nil}
+use Rattle.ferry_carry.proofs.AcceptingLemmas.{record_named}
 use Rattle.ferry_carry.proofs.GrowLemmas.{most_from, most_then}
 use Rattle.ferry_carry.proofs.FlightLemmas.{rest_accepts, rest_packable}
-use Rattle.ferry_carry.proofs.NamingLemmas.{unnamed_rest}
+use Rattle.ferry_carry.proofs.FaultLemmas.{stops_of_pieces}
+use Rattle.ferry_carry.proofs.NamingLemmas.{gathered_at, lists_done, pieces_limit, record_limit, unnamed_rest}
 use Rattle.ferry_carry.proofs.ProgressLemmas.{readies}
 use Rattle.ferry_carry.proofs.WorkLemmas.{carried_as, carried_err, carried_from, carried_from_err, carried_then, err_is}
 use Rattle.ferry_carry.proofs.naming.end_copy.Goals as goal
-use Rattle.ferry_carry.specs.Flight.{Carries}
+use Rattle.ferry_carry.specs.Flight.{Carries, ListsDone}
+use Rattle.ferry_carry.specs.Puts.{Addition, Record, pieces}
 use Rattle.ferry_carry.specs.declared.fault.CarryFault.{CarryFault}
 use Rattle.ferry_carry.specs.declared.options.Carried.{Carried}
 use Rattle.ferry_rechunk.specs.Cut.{cut}
 use Rattle.ferry_carry.proofs.CauseLemmas.{record_refused}
-use Rattle.ferry_carry.specs.Refusals.{RefusesEnd}
+use Rattle.ferry_carry.specs.Refusals.{IsLimited, RefusesEnd, StopsTarget}
 use Rattle.ferry_repo.specs.Opening.{repo_view}
+use Rattle.ferry_carry.proofs.StandLemmas.{Stands, stands_behind}
 
 pub returns-in_err-id-clause-works : goal.returns-in_err-id-clause-works
 returns-in_err-id-clause-works g c =
-    λ from all.
+    λ from added all.
     let store = c.args.store.now in
     let now = c.end_stream.new.store in
-    let chosen = c.args.named.now.name ∷ [] in
+    let name = c.args.named.now.name in
+    let chosen = name ∷ [] in
     let cutter = c.args.copy.stream.cutter in
     let a = g.D.Shelf.told c.args.depot.now in
     let b = g.D.Shelf.told c.end_stream.new.depot in
@@ -26,9 +32,16 @@ returns-in_err-id-clause-works g c =
     let m = g.D.Shelf.faults c.end_stream.new.depot in
     let fault = c.in_err-id.field-0.0 in
     let ended = c.in_err-id.ensures.ended in
-    err_is c.from_residual.result fault (λ (r : Result Carried CarryFault). Carries from chosen store now a b n m r) c.from_residual.ensures.1
-    (carried_from_err {T = List ℕ} {U = Carried} from chosen chosen store now now (cut cutter.block cutter.piece ++ ended.0 ∷ []) a b n m fault
-    c.requires.accepts ended.1.0)
+    let adds = pieces (cut cutter.block cutter.piece) ++ Record ended.0 ∷ [] in (
+      [],
+      err_is c.from_residual.result fault (λ (r : Result Carried CarryFault). Carries from chosen [] store now a b n m r
+          × IfOk r (λ _. ListsDone a from (repo_view store.repo).keys name (pieces added ++ []) true)) c.from_residual.ensures.1 (
+            carried_from_err {T = List ℕ} {U = Carried} from chosen chosen store now now adds [] a b n m fault c.requires.accepts
+                (gathered_at {T = List ℕ} from.most c.args.copy.stream.checkpoint store now adds a b n m (Err fault)
+                (c.requires.ready.same ∙ sym all.0.most) ended.1.0),
+            tt,
+          ),
+    )
 
 pub name_record-requires-clause-packable : goal.name_record-requires-clause-packable
 name_record-requires-clause-packable g c = rest_packable c.args.store.now c.end_stream.new.store c.in_ok-id.ensures.rest c.requires.packable
@@ -42,7 +55,7 @@ name_record-requires-clause-unnamed g c =
 
 pub returns-in_err-name_record-clause-works : goal.returns-in_err-name_record-clause-works
 returns-in_err-name_record-clause-works g c =
-    λ from all.
+    λ from added all.
     let store = c.args.store.now in
     let middle = c.end_stream.new.store in
     let now = c.name_record.new.store in
@@ -59,17 +72,24 @@ returns-in_err-name_record-clause-works g c =
     let id = c.in_ok-id.id in
     let ended = c.in_ok-id.ensures.ended in
     let rest = c.in_ok-id.ensures.rest in
-    let ready = readies {T = List ℕ} from a b named store middle copy ended.0 id n m id c.requires.fits c.requires.ready ended.1.0 rest ended.1.1 all in
-    err_is c.from_residual-in_err-name_record.result fault (λ (r : Result Carried CarryFault). Carries from chosen store now a z n k r)
-    c.from_residual-in_err-name_record.ensures.1
-    (carried_err {T = Unit {0}} {U = Carried} from chosen chosen chosen store now now a z n k fault
-    (carried_then {T = Unit {0}} {U = Unit {0}} from [] chosen store middle now a b z n m k tt (Err fault) (most_from store middle rest)
-    (carried_from {T = List ℕ} {U = Unit {0}} from chosen store middle (cut copy.stream.cutter.block copy.stream.cutter.piece ++ ended.0 ∷ []) a b n m id tt
-    c.requires.accepts rest ended.1.0) (c.in_err-name_record.ensures.works from ready)))
+    let adds = pieces (cut copy.stream.cutter.block copy.stream.cutter.piece) ++ Record ended.0 ∷ [] in
+    let works = gathered_at {T = List ℕ} from.most copy.stream.checkpoint store middle adds a b n m (Ok id) (c.requires.ready.same ∙ sym all.0.most)
+    ended.1.0 in
+    let ready = readies {T = List ℕ} from a b named store middle copy added ended.0 id n m id c.requires.fits c.requires.ready works rest ended.1.1 all in (
+      [],
+      err_is c.from_residual-in_err-name_record.result fault (λ (r : Result Carried CarryFault). Carries from chosen [] store now a z n k r
+          × IfOk r (λ _. ListsDone a from (repo_view store.repo).keys named.name (pieces added ++ []) true)) c.from_residual-in_err-name_record.ensures.1 (
+            carried_err {T = Unit {0}} {U = Carried} from chosen chosen chosen (adds ++ []) [] store now now a z n k fault
+                (carried_then {T = Unit {0}} {U = Unit {0}} from [] chosen adds [] store middle now a b z n m k tt (Err fault)
+                (carried_from {T = List ℕ} {U = Unit {0}} from chosen store middle adds a b n m id tt c.requires.accepts rest works)
+                (c.in_err-name_record.ensures.works from ready)),
+            tt,
+          ),
+    )
 
 pub returns-clause-works : goal.returns-clause-works
 returns-clause-works g c =
-    λ from all.
+    λ from added all.
     let store = c.args.store.now in
     let middle = c.end_stream.new.store in
     let now = c.name_record.new.store in
@@ -85,11 +105,20 @@ returns-clause-works g c =
     let id = c.in_ok-id.id in
     let ended = c.in_ok-id.ensures.ended in
     let rest = c.in_ok-id.ensures.rest in
-    let ready = readies {T = List ℕ} from a b named store middle copy ended.0 id n m id c.requires.fits c.requires.ready ended.1.0 rest ended.1.1 all in
-    carried_as {T = Unit {0}} {U = Carried} from chosen chosen store now a z n k tt c.of_pieces.result
-    (carried_then {T = Unit {0}} {U = Unit {0}} from [] chosen store middle now a b z n m k tt (Ok tt) (most_from store middle rest)
-    (carried_from {T = List ℕ} {U = Unit {0}} from chosen store middle (cut copy.stream.cutter.block copy.stream.cutter.piece ++ ended.0 ∷ []) a b n m id tt
-    c.requires.accepts rest ended.1.0) (c.in_ok-name_record.ensures.works from ready))
+    let adds = pieces (cut copy.stream.cutter.block copy.stream.cutter.piece) ++ Record ended.0 ∷ [] in
+    let works = gathered_at {T = List ℕ} from.most copy.stream.checkpoint store middle adds a b n m (Ok id) (c.requires.ready.same ∙ sym all.0.most)
+    ended.1.0 in
+    let ready = readies {T = List ℕ} from a b named store middle copy added ended.0 id n m id c.requires.fits c.requires.ready works rest ended.1.1 all in
+    let carried = carried_then {T = Unit {0}} {U = Unit {0}} from [] chosen adds [] store middle now a b z n m k tt (Ok tt)
+    (carried_from {T = List ℕ} {U = Unit {0}} from chosen store middle adds a b n m id tt c.requires.accepts rest works)
+    (c.in_ok-name_record.ensures.works from ready) in (
+      adds,
+      (
+        subst (λ (l : List Addition). Carries {T = Carried} from chosen l store now a z n k (Ok c.of_pieces.result)) (append-nil adds)
+            (carried_as {T = Unit {0}} {U = Carried} from chosen chosen (adds ++ []) store now a z n k tt c.of_pieces.result carried),
+        lists_done from named a store copy added ended.0 id c.requires.ready ended.1.1 all,
+      ),
+    )
 
 pub returns-clause-most : goal.returns-clause-most
 returns-clause-most g c =
@@ -99,10 +128,88 @@ returns-clause-most g c =
 
 pub returns-in_err-id-clause-refused : goal.returns-in_err-id-clause-refused
 returns-in_err-id-clause-refused g c =
-    λ from all.
+    λ from added all.
     let store = c.args.store.now in
     let a = g.D.Shelf.told c.args.depot.now in
     let named = c.args.named.now in
     let fault = c.in_err-id.field-0.0 in
     err_is c.from_residual.result fault (λ (r : Result Carried CarryFault). IfErr r (RefusesEnd from a (repo_view store.repo).keys named.name))
-    c.from_residual.ensures.1 (record_refused from a named store c.args.copy fault c.requires.ready all c.in_err-id.ensures.refused)
+    c.from_residual.ensures.1 (record_refused from a named store c.args.copy added fault c.requires.ready all c.in_err-id.ensures.refused)
+
+pub returns-in_err-id-clause-stops : goal.returns-in_err-id-clause-stops
+returns-in_err-id-clause-stops g c =
+    let b = g.D.Shelf.told c.end_stream.new.depot in
+    let keys = (repo_view c.args.store.now.repo).keys in
+    let fault = c.in_err-id.field-0.0 in
+    err_is c.from_residual.result fault (λ (r : Result Carried CarryFault). IfErr r (StopsTarget b keys)) c.from_residual.ensures.1
+    (stops_of_pieces b keys fault c.in_err-id.ensures.stops)
+
+pub returns-in_err-id-clause-limit : goal.returns-in_err-id-clause-limit
+returns-in_err-id-clause-limit g c =
+    let b = g.D.Shelf.told c.end_stream.new.depot in
+    let store = c.args.store.now in
+    let given = c.args.timestamp.now in
+    let source = repo_view c.args.source.now in
+    let named = c.args.named.now in
+    let fault = c.in_err-id.field-0.0 in
+    err_is c.from_residual.result fault (λ (r : Result Carried CarryFault). IfErr r (IsLimited b given source store named)) c.from_residual.ensures.1
+    (pieces_limit b (repo_view store.repo).keys given source store named fault c.in_err-id.ensures.stops)
+
+pub returns-in_err-name_record-clause-limit : goal.returns-in_err-name_record-clause-limit
+returns-in_err-name_record-clause-limit g c =
+    let d = g.D.Shelf.told c.name_record.new.depot in
+    let store = c.args.store.now in
+    let given = c.args.timestamp.now in
+    let source = repo_view c.args.source.now in
+    let named = c.args.named.now in
+    let fault = c.in_err-name_record.field-0.0 in
+    let ended = c.in_ok-id.ensures.ended in
+    err_is c.from_residual-in_err-name_record.result fault (λ (r : Result Carried CarryFault). IfErr r (IsLimited d given source store named))
+    c.from_residual-in_err-name_record.ensures.1
+    (record_limit d given source store c.end_stream.new.store named c.in_ok-id.id ended.0 fault c.in_ok-id.ensures.rest ended.1.1.id_is
+    c.requires.unnamed c.in_err-name_record.ensures.limit)
+
+pub returns-clause-named : goal.returns-clause-named
+returns-clause-named g c =
+    let ended = c.in_ok-id.ensures.ended in (
+      ended.0,
+      record_named c.args.timestamp.now (repo_view c.args.source.now) c.args.store.now c.end_stream.new.store c.name_record.new.store c.args.named.now
+          c.in_ok-id.id ended.0 c.in_ok-id.ensures.rest ended.1.1.id_is c.in_ok-name_record.ensures.named c.in_ok-name_record.ensures.accepted,
+    )
+
+pub returns-in_err-id-clause-stands : goal.returns-in_err-id-clause-stands
+returns-in_err-id-clause-stands g c =
+    let store = c.args.store.now in
+    let now = c.end_stream.new.store in
+    let copy = c.args.copy in
+    let cutter = copy.stream.cutter in
+    let most = copy.contents.checkpoint in
+    let a = g.D.Shelf.told c.args.depot.now in
+    let b = g.D.Shelf.told c.end_stream.new.depot in
+    let fault = c.in_err-id.field-0.0 in
+    let ended = c.in_err-id.ensures.ended in
+    let works = gathered_at {T = List ℕ} most copy.stream.checkpoint store now (pieces (cut cutter.block cutter.piece) ++ Record ended.0 ∷ []) a b
+    (g.D.Shelf.faults c.args.depot.now) (g.D.Shelf.faults c.end_stream.new.depot) (Err fault) c.requires.ready.same ended.1.0 in
+    err_is c.from_residual.result fault (λ (r : Result Carried CarryFault). IfErr r (Stands most store a b)) c.from_residual.ensures.1 (λ _. works.each)
+
+pub returns-in_err-name_record-clause-stands : goal.returns-in_err-name_record-clause-stands
+returns-in_err-name_record-clause-stands g c =
+    let store = c.args.store.now in
+    let middle = c.end_stream.new.store in
+    let copy = c.args.copy in
+    let cutter = copy.stream.cutter in
+    let most = copy.contents.checkpoint in
+    let a = g.D.Shelf.told c.args.depot.now in
+    let b = g.D.Shelf.told c.end_stream.new.depot in
+    let d = g.D.Shelf.told c.name_record.new.depot in
+    let n = g.D.Shelf.faults c.args.depot.now in
+    let m = g.D.Shelf.faults c.end_stream.new.depot in
+    let fault = c.in_err-name_record.field-0.0 in
+    let id = c.in_ok-id.id in
+    let ended = c.in_ok-id.ensures.ended in
+    let adds = pieces (cut cutter.block cutter.piece) ++ Record ended.0 ∷ [] in
+    let works = gathered_at {T = List ℕ} most copy.stream.checkpoint store middle adds a b n m (Ok id) c.requires.ready.same ended.1.0 in
+    err_is c.from_residual-in_err-name_record.result fault (λ (r : Result Carried CarryFault). IfErr r (Stands most store a d))
+    c.from_residual-in_err-name_record.ensures.1
+    (λ work. stands_behind {T = List ℕ} most store middle adds a b d n m id c.in_ok-id.ensures.rest.keys works
+    (c.in_err-name_record.ensures.stands work most))

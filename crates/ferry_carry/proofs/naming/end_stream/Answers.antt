@@ -4,6 +4,7 @@ use Rattle.ferry_carry.proofs.WorkLemmas.{err_is, gathered_err, gathered_then}
 use Rattle.ferry_carry.proofs.naming.end_stream.Goals as goal
 use Rattle.ferry_carry.specs.Gather.{Gathers, KeepsStanding, chunks_of}
 use Rattle.ferry_carry.specs.Naming.{IsRecord}
+use Rattle.ferry_carry.specs.Puts.{Record, pieces}
 use Rattle.ferry_carry.specs.Work.{Works}
 use Rattle.ferry_carry.specs.declared.fault.CarryFault.{CarryFault}
 use Rattle.ferry_item.specs.declared.item.ChunkRef.{ChunkRef}
@@ -17,6 +18,7 @@ returns-in_err-pieces-clause-ended g c =
     let now = c.finish.new.store in
     let keys = (repo_view store.repo).keys in
     let stream = c.args.stream.now in
+    let most = stream.checkpoint in
     let left = cut stream.cutter.block stream.cutter.piece in
     let a = g.D.Shelf.told c.args.depot.now in
     let b = g.D.Shelf.told c.finish.new.depot in
@@ -25,10 +27,11 @@ returns-in_err-pieces-clause-ended g c =
     let fault = c.in_err-pieces.field-0.0 in (
       [],
       err_is c.from_residual.result fault
-          (λ (r : Result (List ℕ) CarryFault). Works (KeepsStanding store) (λ _. Gathers store (left ++ [] ∷ []) now) a b n m r
+          (λ (r : Result (List ℕ) CarryFault). Works (KeepsStanding most store) (λ _. Gathers most store (pieces left ++ Record [] ∷ []) now) a b n m r
           × IfOk r (λ id. IsRecord keys (archive_view c.args.archive) c.args.block (stream.chunks.items ++ chunks_of keys left) [] id))
           c.from_residual.ensures.1 (
-            gathered_err {T = Vec ChunkRef Global} {U = List ℕ} store now left (left ++ [] ∷ []) a b n m fault c.in_err-pieces.ensures.works,
+            gathered_err {T = Vec ChunkRef Global} {U = List ℕ} most store now (pieces left) (pieces left ++ Record [] ∷ []) a b n m fault
+                c.in_err-pieces.ensures.works,
             tt,
           ),
     )
@@ -40,14 +43,16 @@ returns-clause-ended g c =
     let now = c.put_copied.new.store in
     let keys = (repo_view store.repo).keys in
     let stream = c.args.stream.now in
+    let most = stream.checkpoint in
     let left = cut stream.cutter.block stream.cutter.piece in
     let put = c.put_copied.ensures.put in (
       put.0,
       (
-        gathered_then {T = Vec ChunkRef Global} {U = List ℕ} store middle now left (put.0 ∷ []) (g.D.Shelf.told c.args.depot.now)
+        gathered_then {T = Vec ChunkRef Global} {U = List ℕ} most store middle now (pieces left) (Record put.0 ∷ []) (g.D.Shelf.told c.args.depot.now)
             (g.D.Shelf.told c.finish.new.depot) (g.D.Shelf.told c.put_copied.new.depot) (g.D.Shelf.faults c.args.depot.now)
             (g.D.Shelf.faults c.finish.new.depot) (g.D.Shelf.faults c.put_copied.new.depot) c.in_ok-pieces.pieces c.put_copied.result
-            c.in_ok-pieces.ensures.rest c.put_copied.ensures.rest c.in_ok-pieces.ensures.works put.1.0,
+            c.in_ok-pieces.ensures.rest c.put_copied.ensures.rest c.in_ok-pieces.ensures.works
+            (put.1.0 most c.requires.checkpoint c.in_ok-pieces.ensures.pending),
         record_as c.put_copied.result keys (repo_view middle.repo).keys (archive_view c.args.archive) c.args.block
             (stream.chunks.items ++ chunks_of keys left) c.deref.result.now put.0 c.in_ok-pieces.ensures.rest.keys
             (c.deref.ensures.value ∙ c.in_ok-pieces.ensures.chunks) put.1.1,

@@ -4,6 +4,7 @@ use Rattle.ferry_carry.proofs.WorkLemmas.{err_is, gathered_nothing}
 use Rattle.ferry_carry.proofs.naming.put_copied.Goals as goal
 use Rattle.ferry_carry.specs.Gather.{Gathers, KeepsStanding}
 use Rattle.ferry_carry.specs.Naming.{IsRecord}
+use Rattle.ferry_carry.specs.Puts.{Record}
 use Rattle.ferry_carry.specs.Work.{Works}
 use Rattle.ferry_carry.specs.declared.fault.CarryFault.{CarryFault}
 use Rattle.ferry_carry.specs.declared.fault.CarryFault.TheVariants.{Memory}
@@ -16,10 +17,15 @@ returns-in_err-copied-clause-put g c =
     let a = g.D.Shelf.told c.args.depot.now in
     let n = g.D.Shelf.faults c.args.depot.now in (
       [],
-      err_is c.from_residual.result Memory
-          (λ (r : Result (List ℕ) CarryFault). Works (KeepsStanding store) (λ _. Gathers store ([] ∷ []) store) a a n n r
-          × IfOk r (λ id. IsRecord (repo_view store.repo).keys (archive_view c.args.archive) c.args.block c.args.pieces.now [] id))
-          c.from_residual.ensures.1 (gathered_nothing {T = List ℕ} store store ([] ∷ []) a n Memory refl, tt),
+      (
+        λ most checkpoint pending.
+            err_is c.from_residual.result Memory
+            (λ (r : Result (List ℕ) CarryFault). Works (KeepsStanding most store) (λ _. Gathers most store (Record [] ∷ []) store) a a n n r)
+            c.from_residual.ensures.1 (gathered_nothing {T = List ℕ} most store store (Record [] ∷ []) a n Memory refl),
+        err_is c.from_residual.result Memory
+            (λ (r : Result (List ℕ) CarryFault). IfOk r (λ id. IsRecord (repo_view store.repo).keys (archive_view c.args.archive) c.args.block c.args.pieces.now
+            [] id)) c.from_residual.ensures.1 tt,
+      ),
     )
 
 pub returns-clause-put : goal.returns-clause-put

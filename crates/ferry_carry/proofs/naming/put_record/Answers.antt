@@ -4,7 +4,8 @@ use Rattle.ferry_carry.proofs.NamingLemmas.{record_put}
 use Rattle.ferry_carry.proofs.WorkLemmas.{err_is, gathered_nothing}
 use Rattle.ferry_carry.proofs.naming.put_record.Goals as goal
 use Rattle.ferry_carry.specs.Gather.{Gathers, KeepsStanding}
-use Rattle.ferry_carry.specs.Refusals.{StopsTarget}
+use Rattle.ferry_carry.specs.Puts.{Record}
+use Rattle.ferry_carry.specs.Refusals.{StopsPieces}
 use Rattle.ferry_carry.specs.Work.{Works}
 use Rattle.ferry_carry.specs.declared.fault.CarryFault.{CarryFault}
 use Rattle.ferry_manifest.specs.Record.Text.{archive_of, archive_view, as_tagged}
@@ -18,10 +19,15 @@ returns-in_err-text-clause-put g c =
     let n = g.D.Shelf.faults c.args.depot.now in
     let fault = c.in_err-text.field-0.0 in (
       [],
-      err_is c.from_residual.result fault
-          (λ (r : Result (List ℕ) CarryFault). Works (KeepsStanding store) (λ _. Gathers store ([] ∷ []) store) a a n n r
-          × IfOk r (λ id. (id ≡ content_id keys []) × (archive_of keys [] ≡ Ok (as_tagged (archive_view c.args.archive.now))))) c.from_residual.ensures.1
-          (gathered_nothing {T = List ℕ} store store ([] ∷ []) a n fault c.in_err-text.ensures.still, tt),
+      (
+        λ most checkpoint pending.
+            err_is c.from_residual.result fault
+            (λ (r : Result (List ℕ) CarryFault). Works (KeepsStanding most store) (λ _. Gathers most store (Record [] ∷ []) store) a a n n r)
+            c.from_residual.ensures.1 (gathered_nothing {T = List ℕ} most store store (Record [] ∷ []) a n fault c.in_err-text.ensures.still),
+        err_is c.from_residual.result fault
+            (λ (r : Result (List ℕ) CarryFault). IfOk r (λ id. (id ≡ content_id keys [])
+            × (archive_of keys [] ≡ Ok (as_tagged (archive_view c.args.archive.now))))) c.from_residual.ensures.1 tt,
+      ),
     )
 
 pub returns-clause-put : goal.returns-clause-put
@@ -39,5 +45,5 @@ pub returns-in_err-text-clause-stops : goal.returns-in_err-text-clause-stops
 returns-in_err-text-clause-stops g c =
     let a = g.D.Shelf.told c.args.depot.now in
     let keys = (repo_view c.args.store.now.repo).keys in
-    err_is c.from_residual.result c.in_err-text.field-0.0 (λ (r : Result (List ℕ) CarryFault). IfErr r (StopsTarget a keys)) c.from_residual.ensures.1
+    err_is c.from_residual.result c.in_err-text.field-0.0 (λ (r : Result (List ℕ) CarryFault). IfErr r (StopsPieces a keys)) c.from_residual.ensures.1
     (c.in_err-text.ensures.stops a keys)

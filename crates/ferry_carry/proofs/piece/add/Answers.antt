@@ -1,11 +1,15 @@
-use Rattle.std.proofs.Common.{◌∷◌, [], Result, IfErr}
-use Rattle.ferry_carry.proofs.FaultLemmas.{target_stops}
+use Rattle.std.proofs.Common.{◌≢◌, ◌∷◌, [], Result, IfErr}
+use Rattle.std.proofs.lemmas.Option.{IfSome_then}
+use Rattle.ferry_disk.specs.Device.{told_files}
+use Rattle.ferry_store.specs.Fault.{depot_failed}
+use Rattle.ferry_store.specs.declared.fault.StoreRefusal.TheVariants.{TooLarge}
+use Rattle.ferry_carry.proofs.FaultLemmas.{adds_small, pieces_stop, told_behind}
 use Rattle.ferry_carry.proofs.GatherLemmas.{AddedSo, add_gathers, add_stands, added_fits}
 use Rattle.ferry_carry.proofs.WorkLemmas.{err_is, works_err, works_ok}
 use Rattle.ferry_carry.proofs.piece.add.Goals as goal
 use Rattle.ferry_carry.specs.Fault.{target_fault}
 use Rattle.ferry_carry.specs.Gather.{Gathers, KeepsStanding}
-use Rattle.ferry_carry.specs.Refusals.{StopsTarget}
+use Rattle.ferry_carry.specs.Refusals.{StopsPieces}
 use Rattle.ferry_carry.specs.Work.{Works}
 use Rattle.ferry_carry.specs.declared.fault.CarryFault.{CarryFault}
 use Rattle.ferry_repo.specs.Opening.{repo_view}
@@ -14,7 +18,7 @@ use Rattle.ferry_store.specs.State.{KeepsSound}
 use Rattle.ferry_store.specs.declared.content.Added.{Added}
 
 pub returns-in_err-added-clause-works : goal.returns-in_err-added-clause-works
-returns-in_err-added-clause-works g c =
+returns-in_err-added-clause-works g c most one is room =
     let a = g.D.Shelf.told c.args.depot.now in
     let b = g.D.Shelf.told c.add.new.depot in
     let n = g.D.Shelf.faults c.args.depot.now in
@@ -24,12 +28,12 @@ returns-in_err-added-clause-works g c =
     let content = c.args.content.now in
     let refusal = c.in_err-added.field-0.0 in
     err_is c.from_residual.result (target_fault refusal)
-    (λ (r : Result Added CarryFault). Works (KeepsStanding store) (λ _. Gathers store (content ∷ []) now) a b n m r) c.from_residual.ensures.1
-    (works_err {T = Added} (KeepsSound store.session store.counter) (Adds store content now) (KeepsStanding store) (λ _. Gathers store (content ∷ []) now)
-    a b n m refusal (add_stands store) c.add.ensures.untold c.in_err-added.ensures.did)
+    (λ (r : Result Added CarryFault). Works (KeepsStanding most store) (λ _. Gathers most store (one ∷ []) now) a b n m r) c.from_residual.ensures.1
+    (works_err {T = Added} (KeepsSound store.session store.counter) (Adds store content now) (KeepsStanding most store) (λ _. Gathers most store (one ∷ []) now)
+    a b n m refusal (add_stands most store) c.add.ensures.untold c.in_err-added.ensures.did)
 
 pub returns-clause-works : goal.returns-clause-works
-returns-clause-works g c =
+returns-clause-works g c most one is room =
     let a = g.D.Shelf.told c.args.depot.now in
     let b = g.D.Shelf.told c.add.new.depot in
     let n = g.D.Shelf.faults c.args.depot.now in
@@ -46,8 +50,9 @@ returns-clause-works g c =
       opens = c.in_ok-added.ensures.opens;
       accepted = c.add.ensures.accepted;
     } in
-    works_ok (KeepsSound store.session store.counter) (Adds store content now) (KeepsStanding store) (λ _. Gathers store (content ∷ []) now) a b n m added added
-    (add_stands store) (λ h k adds. add_gathers store now content added h k so adds) c.add.ensures.untold
+    works_ok (KeepsSound store.session store.counter) (Adds store content now) (KeepsStanding most store) (λ _. Gathers most store (one ∷ []) now) a b n m
+    added added
+    (add_stands most store) (λ h k adds. add_gathers most store now one content added h k is room so adds) c.add.ensures.untold
     c.in_ok-added.ensures.did
 
 pub returns-clause-fits : goal.returns-clause-fits
@@ -57,8 +62,12 @@ returns-clause-fits g c =
 
 pub returns-in_err-added-clause-stops : goal.returns-in_err-added-clause-stops
 returns-in_err-added-clause-stops g c =
+    let a = g.D.Shelf.told c.args.depot.now in
     let b = g.D.Shelf.told c.add.new.depot in
     let keys = (repo_view c.args.store.now.repo).keys in
     let refusal = c.in_err-added.field-0.0 in
-    err_is c.from_residual.result (target_fault refusal) (λ (r : Result Added CarryFault). IfErr r (StopsTarget b keys)) c.from_residual.ensures.1
-    (target_stops b keys refusal c.in_err-added.ensures.stops)
+    err_is c.from_residual.result (target_fault refusal) (λ (r : Result Added CarryFault). IfErr r (StopsPieces b keys)) c.from_residual.ensures.1
+    (pieces_stop b keys refusal
+    (told_behind (refusal ≢ TooLarge) (depot_failed refusal) a b c.in_err-added.ensures.did.ends
+    (IfSome_then a c.in_err-added.ensures.refused (λ t r. adds_small c.args.store.now c.args.content.now (told_files t) refusal r)))
+    c.in_err-added.ensures.stops)

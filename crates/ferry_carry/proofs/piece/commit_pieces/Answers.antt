@@ -1,11 +1,13 @@
-use Rattle.std.proofs.Common.{[], Result, IfErr}
-use Rattle.ferry_carry.proofs.FaultLemmas.{target_stops}
+use Rattle.std.proofs.Common.{◌≢◌, [], Result, IfErr}
+use Rattle.ferry_disk.proofs.DeviceLemmas.{told_any}
+use Rattle.ferry_store.specs.declared.fault.StoreRefusal.TheVariants.{TooLarge}
+use Rattle.ferry_carry.proofs.FaultLemmas.{commits_small, pieces_stop}
 use Rattle.ferry_carry.proofs.GatherLemmas.{checkpoint_fits, checkpoint_gathers, checkpoint_stands}
 use Rattle.ferry_carry.proofs.WorkLemmas.{err_is, works_err, works_ok}
 use Rattle.ferry_carry.proofs.piece.commit_pieces.Goals as goal
 use Rattle.ferry_carry.specs.Fault.{target_fault}
 use Rattle.ferry_carry.specs.Gather.{Gathers, KeepsStanding}
-use Rattle.ferry_carry.specs.Refusals.{StopsTarget}
+use Rattle.ferry_carry.specs.Refusals.{StopsPieces}
 use Rattle.ferry_carry.specs.Work.{Works}
 use Rattle.ferry_carry.specs.declared.fault.CarryFault.{CarryFault}
 use Rattle.ferry_repo.specs.Opening.{repo_view}
@@ -13,7 +15,7 @@ use Rattle.ferry_store.specs.Adding.{Checkpoints}
 use Rattle.ferry_store.specs.State.{CommitsSound}
 
 pub returns-in_err-checkpoint-clause-works : goal.returns-in_err-checkpoint-clause-works
-returns-in_err-checkpoint-clause-works g c =
+returns-in_err-checkpoint-clause-works g c most =
     let a = g.D.Shelf.told c.args.depot.now in
     let b = g.D.Shelf.told c.checkpoint.new.depot in
     let n = g.D.Shelf.faults c.args.depot.now in
@@ -22,12 +24,12 @@ returns-in_err-checkpoint-clause-works g c =
     let now = c.checkpoint.new.self in
     let refusal = c.in_err-checkpoint.field-0.0 in
     err_is c.from_residual.result (target_fault refusal)
-    (λ (r : Result (Unit {0}) CarryFault). Works (KeepsStanding store) (λ _. Gathers store [] now) a b n m r) c.from_residual.ensures.1
-    (works_err {T = Unit {0}} (CommitsSound store.session store.counter) (λ _. Checkpoints store now) (KeepsStanding store) (λ _. Gathers store [] now)
-    a b n m refusal (checkpoint_stands store) c.checkpoint.ensures.untold c.in_err-checkpoint.ensures.did)
+    (λ (r : Result (Unit {0}) CarryFault). Works (KeepsStanding most store) (λ _. Gathers most store [] now) a b n m r) c.from_residual.ensures.1
+    (works_err {T = Unit {0}} (CommitsSound store.session store.counter) (λ _. Checkpoints store now) (KeepsStanding most store)
+    (λ _. Gathers most store [] now) a b n m refusal (checkpoint_stands most store) c.checkpoint.ensures.untold c.in_err-checkpoint.ensures.did)
 
 pub returns-clause-works : goal.returns-clause-works
-returns-clause-works g c =
+returns-clause-works g c most =
     let a = g.D.Shelf.told c.args.depot.now in
     let b = g.D.Shelf.told c.checkpoint.new.depot in
     let n = g.D.Shelf.faults c.args.depot.now in
@@ -35,8 +37,8 @@ returns-clause-works g c =
     let store = c.args.store.now in
     let now = c.checkpoint.new.self in
     works_ok {T = Unit {0}} {U = Unit {0}} (CommitsSound store.session store.counter) (λ _. Checkpoints store now)
-    (KeepsStanding store) (λ _. Gathers store [] now) a b n m tt tt
-    (checkpoint_stands store) (λ h k takes. checkpoint_gathers store now h k c.checkpoint.ensures.repo takes) c.checkpoint.ensures.untold
+    (KeepsStanding most store) (λ _. Gathers most store [] now) a b n m tt tt
+    (checkpoint_stands most store) (λ h k takes. checkpoint_gathers most store now h k c.checkpoint.ensures.repo takes) c.checkpoint.ensures.untold
     c.in_ok-checkpoint.ensures.did
 
 pub returns-clause-fits : goal.returns-clause-fits
@@ -49,5 +51,7 @@ returns-in_err-checkpoint-clause-stops g c =
     let b = g.D.Shelf.told c.checkpoint.new.depot in
     let keys = (repo_view c.args.store.now.repo).keys in
     let refusal = c.in_err-checkpoint.field-0.0 in
-    err_is c.from_residual.result (target_fault refusal) (λ (r : Result (Unit {0}) CarryFault). IfErr r (StopsTarget b keys)) c.from_residual.ensures.1
-    (target_stops b keys refusal (c.in_err-checkpoint.ensures.stops c.requires.fits))
+    err_is c.from_residual.result (target_fault refusal) (λ (r : Result (Unit {0}) CarryFault). IfErr r (StopsPieces b keys)) c.from_residual.ensures.1
+    (pieces_stop b keys refusal
+    (told_any b (λ _. refusal ≢ TooLarge) (λ _. commits_small c.args.store.now.session refusal c.in_err-checkpoint.ensures.refused))
+    (c.in_err-checkpoint.ensures.stops c.requires.fits))

@@ -1,4 +1,4 @@
-use Rattle.std.proofs.Common.{rules, inl, refl, ◌≡◌, ◌+◌, ◌++◌, ℕ, List, Ok, Err, Result, drop, length, IfErr, OnOk, option_map, ap, ◌∙◌, subst}
+use Rattle.std.proofs.Common.{rules, inl, refl, ◌≡◌, ◌≢◌, false, ◌+◌, ◌++◌, ℕ, List, Ok, Err, Result, drop, length, IfErr, OnOk, option_map, ap, ◌∙◌, subst}
 use Rattle.ferry_base.specs.Limits.{zero_id}
 use Rattle.ferry_blob.specs.Blob.{OpensTo, sealed}
 use Rattle.ferry_blob.specs.declared.mode.Mode.{Mode}
@@ -14,16 +14,18 @@ use Rattle.ferry_stops.proofs.TellLemmas.{told_both, told_none}
 use Rattle.ferry_store.proofs.CauseLemmas.{packed_stops, put_stops}
 use Rattle.ferry_store.proofs.RenewLemmas.{manifest_held, nothing_committed, packed_refused, put_commits, put_refused, still_packed}
 use Rattle.ferry_store.proofs.RenewLemmas.{uncommitted_refused, unput_refused}
-use Rattle.ferry_store.proofs.StepLemmas.{err_is}
+use Rattle.ferry_store.proofs.StepLemmas.{err_is, here_each}
 use Rattle.ferry_store.proofs.commit.commit_manifest.Goals as goal
 use Rattle.ferry_store.specs.Causes.{Stops}
 use Rattle.ferry_store.specs.Commit.{CommitsEntry, HasCommitted, RefusesManifestOf, manifest_entry}
 use Rattle.ferry_store.specs.Content.{blob_for}
-use Rattle.ferry_store.proofs.PutLemmas.{always}
+use Rattle.ferry_store.proofs.PutLemmas.{always, keeps_here}
+use Rattle.ferry_store.specs.Fault.{depot_failed}
 use Rattle.ferry_store.specs.New.{IsPacked}
 use Rattle.ferry_store.specs.Standing.{with_manifest}
 use Rattle.ferry_store.specs.State.{Did, KeepsSound, RefusesManifest, TakesEntry}
 use Rattle.ferry_store.specs.declared.fault.StoreRefusal.{StoreRefusal}
+use Rattle.ferry_store.specs.declared.fault.StoreRefusal.TheVariants.{Memory}
 
 pub returns-in_err-buffer-clause-committed : goal.returns-in_err-buffer-clause-committed
 returns-in_err-buffer-clause-committed g c =
@@ -184,3 +186,12 @@ returns-clause-stops g c =
     let drawn = c.put_object.new.counter in
     put_stops {T = Place} {U = Unit {0}} c.args.session.now c.put_object.new.session c.args.counter.now drawn _ c.in_ok-put_object.field-0 a b d n m
     c.commit.result c.in_ok-put_object.ensures.did (c.commit.ensures.stops drawn)
+
+pub returns-in_err-buffer-clause-keeps : goal.returns-in_err-buffer-clause-keeps
+returns-in_err-buffer-clause-keeps g c =
+    let a = g.D.Shelf.told c.args.depot.now in
+    let session = c.args.session.now in
+    let counter = c.args.counter.now in
+    err_is c.from_residual.result c.in_err-buffer.field-0.0
+    (λ (r : Result (Unit {0}) StoreRefusal). IfErr r (λ f. depot_failed f ≡ false → f ≢ Memory → Between a a (KeepsSound session counter)))
+    c.from_residual.ensures.1 (λ still apart. here_each (KeepsSound session counter) a (keeps_here session counter))

@@ -1,27 +1,28 @@
 use Rattle.std.proofs.Common.{Result, refl, ◌∙◌, ap}
 use Rattle.ferry_carry.proofs.WorkLemmas.{err_is}
-use Rattle.ferry_carry.specs.Fault.{target_fault}
+use Rattle.ferry_carry.specs.Fault.{IsOfWork, target_fault}
 use Rattle.ferry_carry.specs.Work.{Works}
 use Rattle.ferry_carry.specs.declared.fault.CarryFault.{CarryFault}
 use Rattle.ferry_carry.specs.declared.fault.CarryFault.TheVariants.{Memory}
 use Rattle.ferry_carry.specs.declared.options.Carried.{Carried}
+use Rattle.ferry_disk.specs.Moments.{Between}
 use Rattle.ferry_repo.specs.Opening.{repo_view}
 use Rattle.ferry_store.proofs.UseLemmas.{fits_opened}
 use Rattle.ferry_store.specs.Commit.{accepted_or}
 use Rattle.ferry_store.specs.Store.{OpenEach, OpenFits}
+use Rattle.ferry_top.proofs.ToldLemmas.{stopped_told, unopened_told, untouched_told}
 use Rattle.ferry_top.proofs.TransferLemmas.{copied_all, copied_some, unopened, untouched}
 use Rattle.ferry_top.proofs.transfer.copy_into.Goals as goal
-use Rattle.ferry_top.specs.Transfer.{TransferEach, TransferEnds, asked}
+use Rattle.ferry_top.specs.Transfer.{LeavesTold, TransferEach, TransferEnds, asked}
 use Rattle.std.proofs.Common.{IfErr}
 use Rattle.ferry_top.proofs.TransferCauseLemmas.{memory_refused, missing_refused, names_refused, unopened_refused}
 use Rattle.ferry_top.specs.TransferCauses.{RefusesAsked}
-use Rattle.ferry_stops.specs.Tells.{TellsNothing}
 
 pub returns-in_err-chosen-clause-works : goal.returns-in_err-chosen-clause-works
 returns-in_err-chosen-clause-works g c =
     let a = g.D.Shelf.told c.args.target.now in
     let n = g.D.Shelf.faults c.args.target.now in
-    let request = asked c.args.secrets.now c.args.options.now.block c.args.names.now (g.S.Shelf.told c.args.source.now) in
+    let request = asked c.args.secrets.now c.args.options.now c.args.names.now (g.S.Shelf.told c.args.source.now) in
     err_is c.from_residual.result Memory
     (λ (r : Result (Unit {0}) CarryFault). Works (TransferEach request) (λ _. TransferEnds request) a a n n r)
     c.from_residual.ensures.1 (untouched {T = Unit {0}} request a n Memory refl)
@@ -30,7 +31,7 @@ pub returns-in_err-find_names-clause-works : goal.returns-in_err-find_names-clau
 returns-in_err-find_names-clause-works g c =
     let a = g.D.Shelf.told c.args.target.now in
     let n = g.D.Shelf.faults c.args.target.now in
-    let request = asked c.args.secrets.now c.args.options.now.block c.args.names.now (g.S.Shelf.told c.args.source.now) in
+    let request = asked c.args.secrets.now c.args.options.now c.args.names.now (g.S.Shelf.told c.args.source.now) in
     let fault = c.in_err-find_names.field-0.0 in
     err_is c.from_residual-in_err-find_names.result fault
     (λ (r : Result (Unit {0}) CarryFault). Works (TransferEach request) (λ _. TransferEnds request) a a n n r)
@@ -42,7 +43,7 @@ returns-in_err-store-clause-works g c =
     let b = g.D.Shelf.told c.open.new.depot in
     let n = g.D.Shelf.faults c.args.target.now in
     let m = g.D.Shelf.faults c.open.new.depot in
-    let request = asked c.args.secrets.now c.args.options.now.block c.args.names.now (g.S.Shelf.told c.args.source.now) in
+    let request = asked c.args.secrets.now c.args.options.now c.args.names.now (g.S.Shelf.told c.args.source.now) in
     let refusal = c.in_err-store.field-0.0 in
     err_is c.from_residual-in_err-store.result (target_fault refusal)
     (λ (r : Result (Unit {0}) CarryFault). Works (TransferEach request) (λ _. TransferEnds request) a b n m r) c.from_residual-in_err-store.ensures.1
@@ -62,13 +63,13 @@ returns-in_err-carry-clause-works g c =
     let m = g.D.Shelf.faults c.open.new.depot in
     let k = g.D.Shelf.faults c.carry.new.depot in
     let told = g.S.Shelf.told c.args.source.now in
-    let request = asked c.args.secrets.now c.args.options.now.block c.args.names.now told in
+    let request = asked c.args.secrets.now c.args.options.now c.args.names.now told in
     let store = c.in_ok-store.store in
     let fault = c.in_err-carry.field-0.0 in
     err_is c.from_residual-in_err-carry.result fault
     (λ (r : Result (Unit {0}) CarryFault). Works (TransferEach request) (λ _. TransferEnds request) a d n k r)
     c.from_residual-in_err-carry.ensures.1
-    (copied_some c.args.secrets.now c.args.options.now.block c.args.names.now (repo_view c.args.repo.now) told c.deref-2.result.now
+    (copied_some c.args.secrets.now c.args.options.now c.args.names.now (repo_view c.args.repo.now) told c.deref-2.result.now
     c.requires.source_opens (c.deref-2.ensures.value ∙ c.in_ok-chosen.ensures.chosen) {T = Carried} {U = Unit {0}} store c.carry.new.store a b d n m k fault
     (ap (accepted_or (repo_view store.repo).manifest) c.in_ok-store.ensures.accepted) c.in_ok-store.ensures.opened c.open.ensures.untold
     c.in_ok-store.ensures.did c.in_err-carry.ensures.works)
@@ -76,17 +77,18 @@ returns-in_err-carry-clause-works g c =
 pub returns-clause-works : goal.returns-clause-works
 returns-clause-works g c =
     let store = c.in_ok-store.store in
-    copied_all c.args.secrets.now c.args.options.now.block c.args.names.now (repo_view c.args.repo.now) (g.S.Shelf.told c.args.source.now)
+    copied_all c.args.secrets.now c.args.options.now c.args.names.now (repo_view c.args.repo.now) (g.S.Shelf.told c.args.source.now)
     c.deref-2.result.now c.requires.source_opens (c.deref-2.ensures.value ∙ c.in_ok-chosen.ensures.chosen) {T = Carried} {U = Unit {0}} store
     c.carry.new.store (g.D.Shelf.told c.args.target.now) (g.D.Shelf.told c.open.new.depot) (g.D.Shelf.told c.carry.new.depot)
     (g.D.Shelf.faults c.args.target.now) (g.D.Shelf.faults c.open.new.depot) (g.D.Shelf.faults c.carry.new.depot) c.in_ok-carry.field-0 tt
-    (ap (accepted_or (repo_view store.repo).manifest) c.in_ok-store.ensures.accepted) c.in_ok-carry.ensures.settled c.in_ok-store.ensures.opened
-    c.open.ensures.untold c.in_ok-store.ensures.did c.in_ok-carry.ensures.works
+    (ap (accepted_or (repo_view store.repo).manifest) c.in_ok-store.ensures.accepted) c.in_ok-carry.ensures.settled
+    (c.in_ok-carry.ensures.ended c.in_ok-store.ensures.fresh.1) c.in_ok-store.ensures.opened c.open.ensures.untold c.in_ok-store.ensures.did
+    c.in_ok-carry.ensures.works
 
 pub returns-in_err-chosen-clause-refused : goal.returns-in_err-chosen-clause-refused
 returns-in_err-chosen-clause-refused g c =
     let a = g.D.Shelf.told c.args.target.now in
-    let request = asked c.args.secrets.now c.args.options.now.block c.args.names.now (g.S.Shelf.told c.args.source.now) in
+    let request = asked c.args.secrets.now c.args.options.now c.args.names.now (g.S.Shelf.told c.args.source.now) in
     err_is c.from_residual.result Memory (λ (r : Result (Unit {0}) CarryFault). IfErr r (RefusesAsked request a a)) c.from_residual.ensures.1
     (memory_refused request a a)
 
@@ -94,18 +96,18 @@ pub returns-in_err-find_names-clause-refused : goal.returns-in_err-find_names-cl
 returns-in_err-find_names-clause-refused g c =
     let a = g.D.Shelf.told c.args.target.now in
     let told = g.S.Shelf.told c.args.source.now in
-    let request = asked c.args.secrets.now c.args.options.now.block c.args.names.now told in
+    let request = asked c.args.secrets.now c.args.options.now c.args.names.now told in
     let fault = c.in_err-find_names.field-0.0 in
     err_is c.from_residual-in_err-find_names.result fault (λ (r : Result (Unit {0}) CarryFault). IfErr r (RefusesAsked request a a))
     c.from_residual-in_err-find_names.ensures.1
-    (missing_refused c.args.secrets.now c.args.options.now.block c.args.names.now (repo_view c.args.repo.now) told a a c.deref.result.now
+    (missing_refused c.args.secrets.now c.args.options.now c.args.names.now (repo_view c.args.repo.now) told a a c.deref.result.now
     c.requires.source_opens (c.deref.ensures.value ∙ c.in_ok-chosen.ensures.chosen) fault c.in_err-find_names.ensures.refused)
 
 pub returns-in_err-store-clause-refused : goal.returns-in_err-store-clause-refused
 returns-in_err-store-clause-refused g c =
     let a = g.D.Shelf.told c.args.target.now in
     let b = g.D.Shelf.told c.open.new.depot in
-    let request = asked c.args.secrets.now c.args.options.now.block c.args.names.now (g.S.Shelf.told c.args.source.now) in
+    let request = asked c.args.secrets.now c.args.options.now c.args.names.now (g.S.Shelf.told c.args.source.now) in
     let refusal = c.in_err-store.field-0.0 in
     err_is c.from_residual-in_err-store.result (target_fault refusal) (λ (r : Result (Unit {0}) CarryFault). IfErr r (RefusesAsked request a b))
     c.from_residual-in_err-store.ensures.1 (unopened_refused request a b refusal c.in_err-store.ensures.refused)
@@ -119,16 +121,71 @@ returns-in_err-carry-clause-refused g c =
     let m = g.D.Shelf.faults c.open.new.depot in
     let k = g.D.Shelf.faults c.carry.new.depot in
     let told = g.S.Shelf.told c.args.source.now in
-    let request = asked c.args.secrets.now c.args.options.now.block c.args.names.now told in
+    let request = asked c.args.secrets.now c.args.options.now c.args.names.now told in
     let store = c.in_ok-store.store in
     let fault = c.in_err-carry.field-0.0 in
     let chosen_is = c.deref-2.ensures.value ∙ c.in_ok-chosen.ensures.chosen in
-    let works = copied_some c.args.secrets.now c.args.options.now.block c.args.names.now (repo_view c.args.repo.now) told c.deref-2.result.now
-    c.requires.source_opens chosen_is {T = Carried} {U = Unit {0}} store c.carry.new.store a b d n m k fault
-    (ap (accepted_or (repo_view store.repo).manifest) c.in_ok-store.ensures.accepted) c.in_ok-store.ensures.opened c.open.ensures.untold
-    c.in_ok-store.ensures.did c.in_err-carry.ensures.works in
+    let accepts = ap (accepted_or (repo_view store.repo).manifest) c.in_ok-store.ensures.accepted in
+    let works = copied_some c.args.secrets.now c.args.options.now c.args.names.now (repo_view c.args.repo.now) told c.deref-2.result.now
+    c.requires.source_opens chosen_is {T = Carried} {U = Unit {0}} store c.carry.new.store a b d n m k fault accepts
+    c.in_ok-store.ensures.opened c.open.ensures.untold c.in_ok-store.ensures.did c.in_err-carry.ensures.works in
     err_is c.from_residual-in_err-carry.result fault (λ (r : Result (Unit {0}) CarryFault). IfErr r (RefusesAsked request a d))
     c.from_residual-in_err-carry.ensures.1
-    (names_refused c.args.secrets.now c.args.options.now.block c.args.names.now (repo_view c.args.repo.now) told a b d c.deref-2.result.now store
-    c.carry.new.store c.requires.source_opens chosen_is c.in_ok-store.ensures.opened TellsNothing c.open.ensures.untold works.each fault
-    c.in_err-carry.ensures.refused)
+    (names_refused c.args.secrets.now c.args.options.now c.args.names.now (repo_view c.args.repo.now) told a b d c.deref-2.result.now store
+    c.carry.new.store c.requires.source_opens chosen_is c.in_ok-store.ensures.opened accepts c.open.ensures.untold works.each fault
+    c.in_err-carry.ensures.limit c.in_err-carry.ensures.refused)
+
+pub returns-in_err-chosen-clause-only_told : goal.returns-in_err-chosen-clause-only_told
+returns-in_err-chosen-clause-only_told g c =
+    let a = g.D.Shelf.told c.args.target.now in
+    let request = asked c.args.secrets.now c.args.options.now c.args.names.now (g.S.Shelf.told c.args.source.now) in
+    err_is c.from_residual.result Memory
+    (λ (r : Result (Unit {0}) CarryFault). IfErr r (λ (f : CarryFault). IsOfWork f → Between a a (LeavesTold request)))
+    c.from_residual.ensures.1 (λ w. untouched_told request a)
+
+pub returns-in_err-find_names-clause-only_told : goal.returns-in_err-find_names-clause-only_told
+returns-in_err-find_names-clause-only_told g c =
+    let a = g.D.Shelf.told c.args.target.now in
+    let request = asked c.args.secrets.now c.args.options.now c.args.names.now (g.S.Shelf.told c.args.source.now) in
+    let fault = c.in_err-find_names.field-0.0 in
+    err_is c.from_residual-in_err-find_names.result fault
+    (λ (r : Result (Unit {0}) CarryFault). IfErr r (λ (f : CarryFault). IsOfWork f → Between a a (LeavesTold request)))
+    c.from_residual-in_err-find_names.ensures.1 (λ w. untouched_told request a)
+
+pub returns-in_err-store-clause-only_told : goal.returns-in_err-store-clause-only_told
+returns-in_err-store-clause-only_told g c =
+    let a = g.D.Shelf.told c.args.target.now in
+    let b = g.D.Shelf.told c.open.new.depot in
+    let n = g.D.Shelf.faults c.args.target.now in
+    let m = g.D.Shelf.faults c.open.new.depot in
+    let request = asked c.args.secrets.now c.args.options.now c.args.names.now (g.S.Shelf.told c.args.source.now) in
+    let refusal = c.in_err-store.field-0.0 in
+    err_is c.from_residual-in_err-store.result (target_fault refusal)
+    (λ (r : Result (Unit {0}) CarryFault). IfErr r (λ (f : CarryFault). IsOfWork f → Between a b (LeavesTold request)))
+    c.from_residual-in_err-store.ensures.1
+    (λ w. unopened_told request OpenFits a b n m refusal c.open.ensures.untold c.in_err-store.ensures.did)
+
+pub returns-in_err-carry-clause-only_told : goal.returns-in_err-carry-clause-only_told
+returns-in_err-carry-clause-only_told g c =
+    let a = g.D.Shelf.told c.args.target.now in
+    let b = g.D.Shelf.told c.open.new.depot in
+    let d = g.D.Shelf.told c.carry.new.depot in
+    let n = g.D.Shelf.faults c.args.target.now in
+    let m = g.D.Shelf.faults c.open.new.depot in
+    let k = g.D.Shelf.faults c.carry.new.depot in
+    let told = g.S.Shelf.told c.args.source.now in
+    let request = asked c.args.secrets.now c.args.options.now c.args.names.now told in
+    let store = c.in_ok-store.store in
+    let fault = c.in_err-carry.field-0.0 in
+    let chosen_is = c.deref-2.ensures.value ∙ c.in_ok-chosen.ensures.chosen in
+    let accepts = ap (accepted_or (repo_view store.repo).manifest) c.in_ok-store.ensures.accepted in
+    let works = copied_some c.args.secrets.now c.args.options.now c.args.names.now (repo_view c.args.repo.now) told c.deref-2.result.now
+    c.requires.source_opens chosen_is {T = Carried} {U = Unit {0}} store c.carry.new.store a b d n m k fault accepts
+    c.in_ok-store.ensures.opened c.open.ensures.untold c.in_ok-store.ensures.did c.in_err-carry.ensures.works in
+    err_is c.from_residual-in_err-carry.result fault
+    (λ (r : Result (Unit {0}) CarryFault). IfErr r (λ (f : CarryFault). IsOfWork f → Between a d (LeavesTold request)))
+    c.from_residual-in_err-carry.ensures.1
+    (λ w.
+    stopped_told c.args.secrets.now c.args.options.now c.args.names.now (repo_view c.args.repo.now) told c.deref-2.result.now
+    c.requires.source_opens chosen_is store a b d n m accepts c.in_ok-store.ensures.opened c.open.ensures.untold c.in_ok-store.ensures.did
+    works.each (c.in_err-carry.ensures.stands w))

@@ -14,7 +14,8 @@ returns-in-None-clause-copied g c =
     let keys = (repo_view store.repo).keys in (
       [],
       (
-        gathered_none {T = Option ChunkRefs} store (g.D.Shelf.told c.args.depot.now) (g.D.Shelf.faults c.args.depot.now) None,
+        gathered_none {T = Option ChunkRefs} c.args.self.now.contents.checkpoint store (g.D.Shelf.told c.args.depot.now) (g.D.Shelf.faults c.args.depot.now)
+            None,
         subst (λ (chunks : Option (List ChunkRef)). CopiesContent told source c.args.self.now.block keys chunks [] None) (sym c.in-None.is) refl,
       ),
     )

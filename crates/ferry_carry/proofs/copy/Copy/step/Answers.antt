@@ -1,15 +1,18 @@
 use Rattle.std.proofs.Common.{◌≡◌, ◌≤◌, ◌++◌, Bool, true, false, [], Option, Result, Ok, Err, IfErr, IfOk, IfSome, refl, ◌∙◌, ap, arith}
 use Rattle.ferry_carry.proofs.CopyLemmas.{copied_packable}
 use Rattle.ferry_carry.proofs.GatherLemmas.{rest_here, rest_then}
-use Rattle.ferry_carry.proofs.ProgressLemmas.{err_not, steps_copied, steps_ended}
+use Rattle.ferry_carry.proofs.PieceLemmas.{pieces_then}
+use Rattle.ferry_carry.proofs.ProgressLemmas.{steps_copied, steps_ended}
 use Rattle.ferry_carry.proofs.RefusalLemmas.{item_refused, next_refused}
-use Rattle.ferry_carry.proofs.StepLemmas.{step_copies}
-use Rattle.ferry_carry.proofs.WorkLemmas.{err_is, gathered_as, gathered_err, gathered_none, gathered_nothing, gathered_then}
+use Rattle.ferry_carry.proofs.StepLemmas.{most_added, most_taken, step_copies}
+use Rattle.ferry_carry.proofs.WorkLemmas.{err_is, gathered_as, gathered_err, gathered_none, gathered_nothing}
 use Rattle.ferry_carry.proofs.copy.Copy.step.Goals as goal
 use Rattle.ferry_carry.specs.Carrying.{origin}
 use Rattle.ferry_carry.specs.Refusals.{RefusesStep}
 use Rattle.ferry_carry.specs.Gather.{Gathers, KeepsStanding}
 use Rattle.ferry_carry.specs.Copying.{TakesItem}
+use Rattle.ferry_carry.specs.Progress.{CopiesOn}
+use Rattle.ferry_carry.specs.Puts.{pieces}
 use Rattle.ferry_carry.specs.Step.{StepsOn}
 use Rattle.ferry_carry.specs.Work.{Works}
 use Rattle.ferry_carry.specs.declared.copy.Copy.{Copy}
@@ -30,13 +33,17 @@ returns-in_err-item-clause-works g c =
     let n = g.D.Shelf.faults c.args.depot.now in
     let fault = c.in_err-item.field-0.0 in (
       [],
-      err_is c.from_residual.result fault (λ (r : Result Bool CarryFault). Works (KeepsStanding store) (λ _. Gathers store [] store) a a n n r)
-          c.from_residual.ensures.1 (gathered_nothing {T = Bool} store store [] a n fault c.in_err-item.ensures.still),
+      err_is c.from_residual.result fault (λ (r : Result Bool CarryFault). Works (KeepsStanding c.args.self.now.contents.checkpoint store)
+          (λ _. Gathers c.args.self.now.contents.checkpoint store [] store) a a n n r)
+          c.from_residual.ensures.1 (gathered_nothing {T = Bool} c.args.self.now.contents.checkpoint store store [] a n fault c.in_err-item.ensures.still),
     )
 
 pub returns-in_default-clause-works : goal.returns-in_default-clause-works
-returns-in_default-clause-works g c =
-    ([], gathered_none {T = Bool} c.args.store.now (g.D.Shelf.told c.args.depot.now) (g.D.Shelf.faults c.args.depot.now) false)
+returns-in_default-clause-works g c = (
+  [],
+  gathered_none {T = Bool} c.args.self.now.contents.checkpoint c.args.store.now (g.D.Shelf.told c.args.depot.now) (g.D.Shelf.faults c.args.depot.now)
+      false,
+)
 
 pub write_item-requires-clause-packable : goal.write_item-requires-clause-packable
 write_item-requires-clause-packable g c =
@@ -52,6 +59,9 @@ write_item-requires-clause-packable g c =
 pub returns-in_err-write_item-clause-works : goal.returns-in_err-write_item-clause-works
 returns-in_err-write_item-clause-works g c =
     let copied = c.in_ok-chunks.ensures.copied in
+    let begun = most_taken c.args.self.now c.next.new.self c.in_ok-item.ensures.others in
+    let held = most_added c.args.self.now c.next.new.self c.copy_chunks.new.self c.in_ok-item.ensures.others c.in_ok-chunks.ensures.others
+    c.requires.ready.same in
     let wrote = c.in_err-write_item.ensures.written in
     let store = c.args.store.now in
     let now = c.write_item.new.store in
@@ -63,17 +73,22 @@ returns-in_err-write_item-clause-works g c =
     let fault = c.in_err-write_item.field-0.0 in (
       more,
       err_is c.from_residual-in_err-write_item.result fault
-          (λ (r : Result Bool CarryFault). Works (KeepsStanding store) (λ _. Gathers store more now) a b n m r)
+          (λ (r : Result Bool CarryFault). Works (KeepsStanding c.args.self.now.contents.checkpoint store)
+          (λ _. Gathers c.args.self.now.contents.checkpoint store (pieces more) now) a b n m r)
           c.from_residual-in_err-write_item.ensures.1
-          (gathered_err {T = Unit {0}} {U = Bool} store now more more a b n m fault
-          (gathered_then {T = Option ChunkRefs} {U = Unit {0}} store c.copy_chunks.new.store now copied.0 wrote.0 a
+          (gathered_err {T = Unit {0}} {U = Bool} c.args.self.now.contents.checkpoint store now (pieces more) (pieces more) a b n m fault
+          (pieces_then {T = Option ChunkRefs} {U = Unit {0}} c.args.self.now.contents.checkpoint c.next.new.self.contents.checkpoint
+          c.copy_chunks.new.self.stream.checkpoint store c.copy_chunks.new.store now copied.0 wrote.0 a
           (g.D.Shelf.told c.copy_chunks.new.depot) b n (g.D.Shelf.faults c.copy_chunks.new.depot) m c.in_ok-chunks.chunks (Err fault)
-          c.in_ok-chunks.ensures.rest tt copied.1.0 wrote.1.0)),
+          begun held c.in_ok-chunks.ensures.rest tt copied.1.0 wrote.1.0)),
     )
 
 pub returns-clause-works : goal.returns-clause-works
 returns-clause-works g c =
     let copied = c.in_ok-chunks.ensures.copied in
+    let begun = most_taken c.args.self.now c.next.new.self c.in_ok-item.ensures.others in
+    let held = most_added c.args.self.now c.next.new.self c.copy_chunks.new.self c.in_ok-item.ensures.others c.in_ok-chunks.ensures.others
+    c.requires.ready.same in
     let wrote = c.in_ok-write_item.ensures.written in
     let store = c.args.store.now in
     let now = c.write_item.new.store in
@@ -83,10 +98,11 @@ returns-clause-works g c =
     let n = g.D.Shelf.faults c.args.depot.now in
     let m = g.D.Shelf.faults c.write_item.new.depot in (
       more,
-      gathered_as {T = Unit {0}} {U = Bool} store now more a b n m tt true
-          (gathered_then {T = Option ChunkRefs} {U = Unit {0}} store c.copy_chunks.new.store now copied.0 wrote.0 a
+      gathered_as {T = Unit {0}} {U = Bool} c.args.self.now.contents.checkpoint store now (pieces more) a b n m tt true
+          (pieces_then {T = Option ChunkRefs} {U = Unit {0}} c.args.self.now.contents.checkpoint c.next.new.self.contents.checkpoint
+          c.copy_chunks.new.self.stream.checkpoint store c.copy_chunks.new.store now copied.0 wrote.0 a
           (g.D.Shelf.told c.copy_chunks.new.depot) b n (g.D.Shelf.faults c.copy_chunks.new.depot) m c.in_ok-chunks.chunks (Ok tt)
-          c.in_ok-chunks.ensures.rest c.in_ok-write_item.ensures.rest copied.1.0 wrote.1.0),
+          begun held c.in_ok-chunks.ensures.rest c.in_ok-write_item.ensures.rest copied.1.0 wrote.1.0),
     )
 
 pub returns-in_err-item-clause-steps : goal.returns-in_err-item-clause-steps
@@ -97,9 +113,10 @@ returns-in_err-item-clause-steps g c =
     let fault = c.in_err-item.field-0.0 in (
       [],
       err_is c.from_residual.result fault
-          (λ (r : Result Bool CarryFault). Works (KeepsStanding store) (λ _. Gathers store [] store) a a n n r
+          (λ (r : Result Bool CarryFault). Works (KeepsStanding c.args.self.now.contents.checkpoint store)
+          (λ _. Gathers c.args.self.now.contents.checkpoint store [] store) a a n n r
           × IfOk r (StepsOn (g.S.Shelf.told c.args.shelf.now) (repo_view c.args.source.now) (repo_view store.repo).keys c.args.self.now [] c.next.new.self))
-          c.from_residual.ensures.1 (gathered_nothing {T = Bool} store store [] a n fault c.in_err-item.ensures.still, tt),
+          c.from_residual.ensures.1 (gathered_nothing {T = Bool} c.args.self.now.contents.checkpoint store store [] a n fault c.in_err-item.ensures.still, tt),
     )
 
 pub returns-in_default-clause-steps : goal.returns-in_default-clause-steps
@@ -107,7 +124,8 @@ returns-in_default-clause-steps g c =
     let ok : Option Item → Result (Option Item) CarryFault = λ found. Ok found in (
       [],
       (
-        gathered_none {T = Bool} c.args.store.now (g.D.Shelf.told c.args.depot.now) (g.D.Shelf.faults c.args.depot.now) false,
+        gathered_none {T = Bool} c.args.self.now.contents.checkpoint c.args.store.now (g.D.Shelf.told c.args.depot.now) (g.D.Shelf.faults c.args.depot.now)
+            false,
         record {
           none = refl;
           end = c.in_ok-item.ensures.none (ap ok c.in_default.is);
@@ -119,6 +137,9 @@ returns-in_default-clause-steps g c =
 pub returns-in_err-write_item-clause-steps : goal.returns-in_err-write_item-clause-steps
 returns-in_err-write_item-clause-steps g c =
     let copied = c.in_ok-chunks.ensures.copied in
+    let begun = most_taken c.args.self.now c.next.new.self c.in_ok-item.ensures.others in
+    let held = most_added c.args.self.now c.next.new.self c.copy_chunks.new.self c.in_ok-item.ensures.others c.in_ok-chunks.ensures.others
+    c.requires.ready.same in
     let wrote = c.in_err-write_item.ensures.written in
     let store = c.args.store.now in
     let now = c.write_item.new.store in
@@ -130,13 +151,15 @@ returns-in_err-write_item-clause-steps g c =
     let fault = c.in_err-write_item.field-0.0 in (
       more,
       err_is c.from_residual-in_err-write_item.result fault
-          (λ (r : Result Bool CarryFault). Works (KeepsStanding store) (λ _. Gathers store more now) a b n m r
+          (λ (r : Result Bool CarryFault). Works (KeepsStanding c.args.self.now.contents.checkpoint store)
+          (λ _. Gathers c.args.self.now.contents.checkpoint store (pieces more) now) a b n m r
           × IfOk r (StepsOn (g.S.Shelf.told c.args.shelf.now) (repo_view c.args.source.now) (repo_view store.repo).keys c.args.self.now more
           c.write_item.new.self)) c.from_residual-in_err-write_item.ensures.1 (
-            gathered_err {T = Unit {0}} {U = Bool} store now more more a b n m fault
-                (gathered_then {T = Option ChunkRefs} {U = Unit {0}} store c.copy_chunks.new.store now copied.0 wrote.0 a
+            gathered_err {T = Unit {0}} {U = Bool} c.args.self.now.contents.checkpoint store now (pieces more) (pieces more) a b n m fault
+                (pieces_then {T = Option ChunkRefs} {U = Unit {0}} c.args.self.now.contents.checkpoint c.next.new.self.contents.checkpoint
+                c.copy_chunks.new.self.stream.checkpoint store c.copy_chunks.new.store now copied.0 wrote.0 a
                 (g.D.Shelf.told c.copy_chunks.new.depot) b n (g.D.Shelf.faults c.copy_chunks.new.depot) m c.in_ok-chunks.chunks (Err fault)
-                c.in_ok-chunks.ensures.rest tt copied.1.0 wrote.1.0),
+                begun held c.in_ok-chunks.ensures.rest tt copied.1.0 wrote.1.0),
             tt,
           ),
     )
@@ -144,6 +167,9 @@ returns-in_err-write_item-clause-steps g c =
 pub returns-clause-steps : goal.returns-clause-steps
 returns-clause-steps g c =
     let copied = c.in_ok-chunks.ensures.copied in
+    let begun = most_taken c.args.self.now c.next.new.self c.in_ok-item.ensures.others in
+    let held = most_added c.args.self.now c.next.new.self c.copy_chunks.new.self c.in_ok-item.ensures.others c.in_ok-chunks.ensures.others
+    c.requires.ready.same in
     let wrote = c.in_ok-write_item.ensures.written in
     let store = c.args.store.now in
     let now = c.write_item.new.store in
@@ -161,10 +187,11 @@ returns-clause-steps g c =
     c.in-Some.is c.in_ok-item.ensures.item in (
       more,
       (
-        gathered_as {T = Unit {0}} {U = Bool} store now more a b n m tt true
-            (gathered_then {T = Option ChunkRefs} {U = Unit {0}} store c.copy_chunks.new.store now copied.0 wrote.0 a
+        gathered_as {T = Unit {0}} {U = Bool} c.args.self.now.contents.checkpoint store now (pieces more) a b n m tt true
+            (pieces_then {T = Option ChunkRefs} {U = Unit {0}} c.args.self.now.contents.checkpoint c.next.new.self.contents.checkpoint
+            c.copy_chunks.new.self.stream.checkpoint store c.copy_chunks.new.store now copied.0 wrote.0 a
             (g.D.Shelf.told c.copy_chunks.new.depot) b n (g.D.Shelf.faults c.copy_chunks.new.depot) m c.in_ok-chunks.chunks (Ok tt)
-            c.in_ok-chunks.ensures.rest c.in_ok-write_item.ensures.rest copied.1.0 wrote.1.0),
+            begun held c.in_ok-chunks.ensures.rest c.in_ok-write_item.ensures.rest copied.1.0 wrote.1.0),
         step_copies told (g.S.Shelf.told c.next.new.shelf) source (repo_view c.next.new.source) (repo_view store.repo).keys
             (repo_view c.copy_chunks.new.store.repo).keys copy c.next.new.self c.copy_chunks.new.self c.write_item.new.self (item_view c.in-Some.item)
             c.in_ok-chunks.chunks copied.0 wrote.0 c.in_ok-item.ensures.same c.in_ok-item.ensures.kept c.in_ok-chunks.ensures.rest.keys
@@ -175,19 +202,67 @@ returns-clause-steps g c =
 
 pub returns-in_err-item-clause-copied : goal.returns-in_err-item-clause-copied
 returns-in_err-item-clause-copied g c =
-    λ named is so. absurd (err_not {T = Bool} c.from_residual.result c.in_err-item.field-0.0 true c.from_residual.ensures.1 is)
+    λ named added so.
+    let store = c.args.store.now in
+    let copy = c.args.self.now in
+    let most = copy.contents.checkpoint in
+    let a = g.D.Shelf.told c.args.depot.now in
+    let n = g.D.Shelf.faults c.args.depot.now in
+    let from = origin (g.S.Shelf.told c.args.shelf.now) (repo_view c.args.source.now) copy.block most in
+    let fault = c.in_err-item.field-0.0 in (
+      [],
+      err_is c.from_residual.result fault
+          (λ (r : Result Bool CarryFault). Works (KeepsStanding most store) (λ _. Gathers most store [] store) a a n n r
+          × IfOk r (CopiesOn from named a store c.next.new.self added [])) c.from_residual.ensures.1
+          (gathered_nothing {T = Bool} most store store [] a n fault c.in_err-item.ensures.still, tt),
+    )
 
 pub returns-in_default-clause-copied : goal.returns-in_default-clause-copied
-returns-in_default-clause-copied g c = λ named is so. absurd (let no : ⊥ = cc in no)
+returns-in_default-clause-copied g c =
+    λ named added so.
+    let store = c.args.store.now in
+    let a = g.D.Shelf.told c.args.depot.now in
+    let n = g.D.Shelf.faults c.args.depot.now in
+    let copy = c.args.self.now in
+    let copy_now = c.next.new.self in
+    let steps = returns-in_default-clause-steps g c in
+    let archive : copy_now.archive ≡ copy.archive = ap (λ (x : Copy). x.archive) c.in_ok-item.ensures.others in
+    let block : copy_now.block ≡ copy.block = ap (λ (x : Copy). x.block) c.in_ok-item.ensures.others in
+    let most = most_taken copy copy_now c.in_ok-item.ensures.others in (
+      steps.0,
+      (
+        steps.1.0,
+        (
+          steps.1.1.none,
+          λ named_is.
+              steps_ended copy.contents.checkpoint (g.S.Shelf.told c.args.shelf.now) a a (repo_view c.args.source.now) named store store copy copy_now added
+              steps.0 n n named_is c.requires.fits steps.1.0 (rest_here store) archive block most steps.1.1 so,
+        ),
+      ),
+    )
 
 pub returns-in_err-write_item-clause-copied : goal.returns-in_err-write_item-clause-copied
 returns-in_err-write_item-clause-copied g c =
-    λ named is so.
-    absurd (err_not {T = Bool} c.from_residual-in_err-write_item.result c.in_err-write_item.field-0.0 true c.from_residual-in_err-write_item.ensures.1 is)
+    λ named added so.
+    let works = returns-in_err-write_item-clause-works g c in
+    let store = c.args.store.now in
+    let copy = c.args.self.now in
+    let most = copy.contents.checkpoint in
+    let from = origin (g.S.Shelf.told c.args.shelf.now) (repo_view c.args.source.now) copy.block most in
+    let b = g.D.Shelf.told c.write_item.new.depot in
+    let r = c.from_residual-in_err-write_item.result in (
+      works.0,
+      (
+        works.1,
+        err_is r c.in_err-write_item.field-0.0
+            (λ (result : Result Bool CarryFault). IfOk result (CopiesOn from named b c.write_item.new.store c.write_item.new.self added works.0))
+            c.from_residual-in_err-write_item.ensures.1 tt,
+      ),
+    )
 
 pub returns-clause-copied : goal.returns-clause-copied
 returns-clause-copied g c =
-    λ named is so.
+    λ named added so.
     let store = c.args.store.now in
     let middle = c.copy_chunks.new.store in
     let now = c.write_item.new.store in
@@ -200,52 +275,35 @@ returns-clause-copied g c =
     let block : copy_now.block ≡ copy.block =
     ap (λ (x : Copy). x.block) c.in_ok-write_item.ensures.others
     ∙ (ap (λ (x : Copy). x.block) c.in_ok-chunks.ensures.others ∙ ap (λ (x : Copy). x.block) c.in_ok-item.ensures.others) in
-    steps_copied (g.S.Shelf.told c.args.shelf.now) (g.D.Shelf.told c.args.depot.now) (g.D.Shelf.told c.write_item.new.depot)
-    (repo_view c.args.source.now) (cached_in c.args.source.now) named store now copy copy_now steps.0 (g.D.Shelf.faults c.args.depot.now)
-    (g.D.Shelf.faults c.write_item.new.depot) c.requires.source_fits c.requires.fits steps.1.0
-    (rest_then store middle now c.in_ok-chunks.ensures.rest c.in_ok-write_item.ensures.rest) c.requires.ready archive block steps.1.1 so
-
-pub returns-in_err-item-clause-ended : goal.returns-in_err-item-clause-ended
-returns-in_err-item-clause-ended g c =
-    λ named is named_is so. absurd (err_not {T = Bool} c.from_residual.result c.in_err-item.field-0.0 false c.from_residual.ensures.1 is)
-
-pub returns-in_default-clause-ended : goal.returns-in_default-clause-ended
-returns-in_default-clause-ended g c =
-    λ named is named_is so.
-    let store = c.args.store.now in
-    let a = g.D.Shelf.told c.args.depot.now in
-    let n = g.D.Shelf.faults c.args.depot.now in
-    let copy = c.args.self.now in
-    let copy_now = c.next.new.self in
-    let steps = returns-in_default-clause-steps g c in
-    let archive : copy_now.archive ≡ copy.archive = ap (λ (x : Copy). x.archive) c.in_ok-item.ensures.others in
-    let block : copy_now.block ≡ copy.block = ap (λ (x : Copy). x.block) c.in_ok-item.ensures.others in
-    steps_ended (g.S.Shelf.told c.args.shelf.now) a a (repo_view c.args.source.now) named store store copy copy_now steps.0 n n named_is
-    c.requires.fits steps.1.0 (rest_here store) archive block steps.1.1 so
-
-pub returns-in_err-write_item-clause-ended : goal.returns-in_err-write_item-clause-ended
-returns-in_err-write_item-clause-ended g c =
-    λ named is named_is so.
-    absurd (err_not {T = Bool} c.from_residual-in_err-write_item.result c.in_err-write_item.field-0.0 false c.from_residual-in_err-write_item.ensures.1 is)
-
-pub returns-clause-ended : goal.returns-clause-ended
-returns-clause-ended g c = λ named is named_is so. absurd (let no : ⊥ = cc in no)
+    let most : copy_now.contents.checkpoint ≡ copy.contents.checkpoint =
+    ap (λ (x : Copy). x.contents.checkpoint) c.in_ok-write_item.ensures.others
+    ∙ (c.in_ok-chunks.ensures.checkpoint ∙ ap (λ (x : Copy). x.contents.checkpoint) c.in_ok-item.ensures.others) in (
+      steps.0,
+      (
+        steps.1.0,
+        steps_copied copy.contents.checkpoint (g.S.Shelf.told c.args.shelf.now) (g.D.Shelf.told c.args.depot.now) (g.D.Shelf.told c.write_item.new.depot)
+            (repo_view c.args.source.now) (cached_in c.args.source.now) named store now copy copy_now added steps.0 (g.D.Shelf.faults c.args.depot.now)
+            (g.D.Shelf.faults c.write_item.new.depot) c.requires.source_fits c.requires.fits steps.1.0
+            (rest_then store middle now c.in_ok-chunks.ensures.rest c.in_ok-write_item.ensures.rest) c.requires.ready archive block most steps.1.1 so,
+      ),
+    )
 
 pub returns-in_err-item-clause-refused : goal.returns-in_err-item-clause-refused
 returns-in_err-item-clause-refused g c =
-    λ named named_is so.
+    λ named added named_is so.
     let told = g.S.Shelf.told c.args.shelf.now in
     let source = repo_view c.args.source.now in
     let copy = c.args.self.now in
     let heard = g.D.Shelf.told c.args.depot.now in
     let fault = c.in_err-item.field-0.0 in
-    err_is c.from_residual.result fault (λ (r : Result Bool CarryFault). IfErr r (RefusesStep (origin told source copy.block) heard named.name))
+    err_is c.from_residual.result fault
+    (λ (r : Result Bool CarryFault). IfErr r (RefusesStep (origin told source copy.block copy.contents.checkpoint) heard named.name))
     c.from_residual.ensures.1
-    (next_refused told heard source copy.block named c.args.store.now copy fault named_is so c.in_err-item.ensures.refused)
+    (next_refused told heard source copy.block copy.contents.checkpoint named c.args.store.now copy added fault named_is so c.in_err-item.ensures.refused)
 
 pub returns-in_err-chunks-clause-refused : goal.returns-in_err-chunks-clause-refused
 returns-in_err-chunks-clause-refused g c =
-    λ named named_is so.
+    λ named added named_is so.
     let told = g.S.Shelf.told c.args.shelf.now in
     let source = repo_view c.args.source.now in
     let copy = c.args.self.now in
@@ -257,7 +315,9 @@ returns-in_err-chunks-clause-refused g c =
     (λ (item : Item). IfSome told (λ t. TakesItem (told_files t) source (walk_view copy.walk) (item_view item) (walk_view c.next.new.self.walk)))
     c.in-Some.is c.in_ok-item.ensures.item in
     err_is c.from_residual-in_err-chunks.result fault
-    (λ (r : Result Bool CarryFault). IfErr r (RefusesStep (origin told source copy.block) heard named.name)) c.from_residual-in_err-chunks.ensures.1
+    (λ (r : Result Bool CarryFault). IfErr r (RefusesStep (origin told source copy.block copy.contents.checkpoint) heard named.name))
+    c.from_residual-in_err-chunks.ensures.1
     (item_refused told (g.S.Shelf.told c.next.new.shelf) heard source (repo_view c.next.new.source) (cached_in c.args.source.now) copy.block
-    c.next.new.self.block named c.args.store.now copy (item_view c.in-Some.item) (walk_view c.next.new.self.walk) fault c.in_ok-item.ensures.same
+    c.next.new.self.block copy.contents.checkpoint named c.args.store.now copy added (item_view c.in-Some.item) (walk_view c.next.new.self.walk) fault
+    c.in_ok-item.ensures.same
     c.in_ok-item.ensures.kept block c.requires.source_fits taken named_is so c.in_err-chunks.ensures.refused)

@@ -17,7 +17,7 @@ returns-in_err-write_item-clause-written g c =
     let stream = c.args.self.now.stream in (
       [],
       err_is c.from_residual.result Memory
-          (λ (r : Result (Unit {0}) CarryFault). Works (KeepsStanding store) (λ _. Gathers store [] store) a a n n r
+          (λ (r : Result (Unit {0}) CarryFault). Works (KeepsStanding stream.checkpoint store) (λ _. Gathers stream.checkpoint store [] store) a a n n r
           × OnOk r (WritesItem (repo_view store.repo).keys stream.cutter stream.chunks.items (item_view c.args.item.now) [] stream.cutter
-          stream.chunks.items)) c.from_residual.ensures.1 (gathered_nothing {T = Unit {0}} store store [] a n Memory refl, tt),
+          stream.chunks.items)) c.from_residual.ensures.1 (gathered_nothing {T = Unit {0}} stream.checkpoint store store [] a n Memory refl, tt),
     )

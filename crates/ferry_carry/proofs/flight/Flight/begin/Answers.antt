@@ -1,4 +1,4 @@
-use Rattle.std.proofs.Common.{◌≡◌, Some, ap, sym, ◌∙◌, subst}
+use Rattle.std.proofs.Common.{◌≡◌, [], Some, ap, refl, sym, ◌∙◌, subst}
 use Rattle.ferry_carry.proofs.FlightLemmas.{named_so}
 use Rattle.ferry_carry.proofs.flight.Flight.begin.Goals as goal
 use Rattle.ferry_carry.specs.Flight.{AreRight}
@@ -14,13 +14,18 @@ returns-clause-flight c told heard store =
     let name : named.name ≡ c.args.name.now = named_so c.args.name.now archives named found in
     let there : archives ≡ (repo_view c.args.source.now).manifest.archives =
     c.as_slice-archives.ensures.archives ∙ ap (λ (m : ManifestText). m.archives) c.manifest.ensures.manifest in
-    record {
-      stands = record {
-        options = subst AreRight (sym c.in_ok-copy_options.ensures.options) (record { least = c.requires.options.least; most = c.requires.options.most });
-        named = ap (archive_named named.name) (sym there) ∙ (ap (λ n. archive_named n archives) name ∙ found);
-      };
-      work = tt;
-    }
+    let right = c.requires.options in (
+      record {
+        stands = record {
+          options = subst AreRight (sym c.in_ok-copy_options.ensures.options)
+              (record { least = right.least; most = right.most; checkpoint = right.checkpoint });
+          named = ap (archive_named named.name) (sym there) ∙ (ap (λ n. archive_named n archives) name ∙ found);
+        };
+        added = [];
+        work = refl;
+      },
+      refl,
+    )
 
 pub returns-clause-name : goal.returns-clause-name
 returns-clause-name c =

@@ -11,7 +11,7 @@ use Rattle.ferry_repo.specs.Opening.{repo_view}
 use Rattle.ferry_store.specs.declared.store.Store.{Store}
 
 pub returns-in_err-comparison-clause-works : goal.returns-in_err-comparison-clause-works
-returns-in_err-comparison-clause-works g c =
+returns-in_err-comparison-clause-works g c most =
     let a = g.D.Shelf.told c.args.depot.now in
     let b = g.D.Shelf.told c.begin.new.other in
     let n = g.D.Shelf.faults c.args.depot.now in
@@ -20,8 +20,8 @@ returns-in_err-comparison-clause-works g c =
     let now : Store = record store { repo = c.begin.new.target } in
     let fault = c.in_err-comparison.field-0.0 in
     err_is c.from_residual.result (compare_fault fault)
-    (λ (r : Result Comparison CarryFault). Works (KeepsStanding store) (λ _. Gathers store [] now) a b n m r) c.from_residual.ensures.1
-    (works_unread {U = Comparison} Comparison store now a b n m fault c.in_err-comparison.ensures.target_same c.in_err-comparison.ensures.target_cause)
+    (λ (r : Result Comparison CarryFault). Works (KeepsStanding most store) (λ _. Gathers most store [] now) a b n m r) c.from_residual.ensures.1
+    (works_unread {U = Comparison} Comparison most store now a b n m fault c.in_err-comparison.ensures.target_same c.in_err-comparison.ensures.target_cause)
 
 pub returns-in_err-comparison-clause-fits : goal.returns-in_err-comparison-clause-fits
 returns-in_err-comparison-clause-fits g c =
@@ -29,9 +29,9 @@ returns-in_err-comparison-clause-fits g c =
     (c.begin.ensures.target_kept ∙ ap repo_view c.repo.ensures.repo) c.begin.ensures.target_same c.begin.ensures.target_fits c.requires.fits
 
 pub returns-clause-works : goal.returns-clause-works
-returns-clause-works g c =
+returns-clause-works g c most =
     let comparison = c.in_ok-comparison.comparison in
-    works_read {T = Comparison} {U = Comparison} c.args.store.now c.begin.new.target (g.D.Shelf.told c.args.depot.now) (g.D.Shelf.told c.begin.new.other)
+    works_read {T = Comparison} {U = Comparison} most c.args.store.now c.begin.new.target (g.D.Shelf.told c.args.depot.now) (g.D.Shelf.told c.begin.new.other)
     (g.D.Shelf.faults c.args.depot.now) (g.D.Shelf.faults c.begin.new.other) comparison comparison
     (c.begin.ensures.target_kept ∙ ap repo_view c.repo.ensures.repo)
     c.in_ok-comparison.ensures.target_same c.in_ok-comparison.ensures.target_cause c.begin.ensures.target_fits

@@ -1,7 +1,8 @@
-use Rattle.std.proofs.Common.{◌≡◌, [], ◌∷◌, ℕ, List, Result, Ok, Err, refl, sym, ap, subst, IfErr, IsSome}
+use Rattle.std.proofs.Common.{◌≡◌, [], ◌∷◌, ℕ, List, Some, Result, Ok, refl, sym, ◌∙◌, ap, subst, IfErr, IsSome}
+use Rattle.ferry_carry.proofs.AcceptingLemmas.{still_rest}
 use Rattle.ferry_carry.proofs.CopyLemmas.{gathered_fault}
 use Rattle.ferry_carry.proofs.FlightLemmas.{on_ok, read_rest, rest_accepts, rest_there, there_accepted}
-use Rattle.ferry_carry.proofs.FlyLemmas.{flies_as, flies_fault, present_flies, taken_still}
+use Rattle.ferry_carry.proofs.FlyLemmas.{flies_as, flies_fault, present_flies, err_beside, taken_still, turn_present}
 use Rattle.ferry_carry.proofs.GrowLemmas.{most_from}
 use Rattle.ferry_carry.proofs.WorkLemmas.{carried_from, err_is}
 use Rattle.ferry_carry.proofs.flight.Flight.compare.Goals as goal
@@ -10,13 +11,16 @@ use Rattle.ferry_carry.specs.Gather.{KeepsRest}
 use Rattle.ferry_carry.specs.Grow.{AcceptsMore}
 use Rattle.ferry_carry.specs.declared.fault.CarryFault.{CarryFault}
 use Rattle.ferry_carry.specs.declared.flight.Turn.{Turn}
-use Rattle.ferry_carry.specs.declared.flight.Turn.TheVariants.{More}
+use Rattle.ferry_carry.specs.declared.flight.Turn.TheVariants.{More, Present}
 use Rattle.ferry_compare.specs.declared.comparison.Compared.{Compared}
 use Rattle.ferry_repo.specs.Archives.{archive_named}
 use Rattle.ferry_repo.specs.Opening.{RepoState, repo_view}
-use Rattle.ferry_carry.proofs.CauseLemmas.{comparing_refused, taken_refused}
+use Rattle.ferry_carry.proofs.CauseLemmas.{comparing_refused, pending_refused, taken_refused}
+use Rattle.ferry_carry.proofs.NamingLemmas.{pieces_limit, taken_limit}
 use Rattle.ferry_carry.specs.Carrying.{origin}
-use Rattle.ferry_carry.specs.Refusals.{DiffersThere, RefusesComparing, RefusesName}
+use Rattle.ferry_carry.specs.Refusals.{DiffersThere, IsLimited, RefusesComparing, RefusesName, StopsPieces}
+use Rattle.std.proofs.lemmas.Result.{IfErr-weaker}
+use Rattle.ferry_carry.proofs.StandLemmas.{Stands, stands_behind}
 
 pub returns-in-More-clause-works : goal.returns-in-More-clause-works
 returns-in-More-clause-works g c =
@@ -29,9 +33,31 @@ returns-in-More-clause-works g c =
     let n = g.D.Shelf.faults c.args.depot.now in
     let m = g.D.Shelf.faults c.compare_item.new.depot in
     let compared = c.in_ok-compare_item.field-0 in
-    flies_as {T = Compared} from name [] store now a b n m compared More refl
-    (carried_from {T = Compared} {U = Compared} from (name ∷ []) store now [] a b n m compared compared c.requires.accepts
-    (read_rest store now c.compare_item.ensures.read) c.in_ok-compare_item.ensures.works)
+    let read = c.compare_item.ensures.read in (
+      [],
+      (
+        flies_as {T = Compared} from name [] [] store now a b n m compared More refl
+            (carried_from {T = Compared} {U = Compared} from (name ∷ []) store now [] a b n m compared compared c.requires.accepts
+            (read_rest store now read) (c.in_ok-compare_item.ensures.works from.most)),
+        (
+          record {
+            stands = record {
+              options = c.requires.flight.options;
+              named = subst (λ (r : RepoState). archive_named name r.manifest.archives ≡ Some c.args.self.now.named) (sym c.compare_item.ensures.kept)
+                  c.requires.flight.named;
+            };
+            added = [];
+            work = (
+              c.in_ok-compare_item.ensures.comparison (ap Ok c.in-More.is),
+              c.compare_item.ensures.name ∙ c.requires.same_name,
+              subst (λ (r : RepoState). IsSome (archive_named name r.manifest.archives)) (sym read.repo) c.requires.there,
+              refl,
+            );
+          },
+          refl,
+        ),
+      ),
+    )
 
 pub returns-in-More-clause-accepts : goal.returns-in-More-clause-accepts
 returns-in-More-clause-accepts g c =
@@ -55,11 +81,17 @@ returns-in-Equal-clause-works g c =
     let rest = read_rest store middle c.compare_item.ensures.read in
     let same : IsSame from b (repo_view middle.repo) name =
     subst (IsSame from b (repo_view middle.repo)) c.requires.same_name
-    (c.in_ok-compare_item.ensures.equal (ap Ok c.in-Equal.is) c.args.self.now.options.block) in
-    present_flies {T = Compared} from name store middle now a b d n m k c.in_ok-compare_item.field-0 c.present.result c.requires.accepts
-    (rest_accepts store middle rest c.requires.accepts) rest c.present.ensures.rest c.present.ensures.pending c.present.ensures.present
-    (rest_there store middle name rest c.requires.there) same
-    c.in_ok-compare_item.ensures.works c.present.ensures.works
+    (c.in_ok-compare_item.ensures.equal (ap Ok c.in-Equal.is) from.block from.most) in (
+      [],
+      (
+        present_flies {T = Compared} from name store middle now a b d n m k c.in_ok-compare_item.field-0 c.present.result c.requires.accepts
+            (rest_accepts store middle rest c.requires.accepts) rest c.present.ensures.rest c.present.ensures.pending c.present.ensures.present
+            (rest_there store middle name rest c.requires.there) same
+            (c.in_ok-compare_item.ensures.works from.most) (c.present.ensures.works from.most),
+        turn_present (g.S.Shelf.told c.compare_item.new.shelf) (repo_view c.compare_item.new.source) d now _ a from (repo_view store.repo).keys
+            c.present.result c.present.ensures.present,
+      ),
+    )
 
 pub returns-in-Equal-clause-accepts : goal.returns-in-Equal-clause-accepts
 returns-in-Equal-clause-accepts g c =
@@ -80,9 +112,11 @@ returns-in_err-compare_item-clause-works g c =
     let b = g.D.Shelf.told c.compare_item.new.depot in
     let n = g.D.Shelf.faults c.args.depot.now in
     let m = g.D.Shelf.faults c.compare_item.new.depot in
-    let fault = c.in_err-compare_item.field-0.0 in
-    err_is c.from_residual.result fault (λ (r : Result Turn CarryFault). Flies from name store now a b n m r) c.from_residual.ensures.1
-    (flies_fault {T = Compared} from name store now [] a b n m fault c.requires.accepts c.in_err-compare_item.ensures.works)
+    let fault = c.in_err-compare_item.field-0.0 in (
+      [],
+      err_beside c.from_residual.result fault (λ (r : Result Turn CarryFault). Flies from name [] store now a b n m r) _ c.from_residual.ensures.1
+          (flies_fault {T = Compared} from name store now [] [] a b n m fault c.requires.accepts (c.in_err-compare_item.ensures.works from.most)),
+    )
 
 pub returns-in-Differs-clause-works : goal.returns-in-Differs-clause-works
 returns-in-Differs-clause-works g c =
@@ -93,10 +127,15 @@ returns-in-Differs-clause-works g c =
     let a = g.D.Shelf.told c.args.depot.now in
     let b = g.D.Shelf.told c.compare_item.new.depot in
     let n = g.D.Shelf.faults c.args.depot.now in
-    let m = g.D.Shelf.faults c.compare_item.new.depot in
-    flies_fault {T = Compared} from name store now [] a b n m c.taken.result c.requires.accepts
-    (gathered_fault {T = Compared} {U = Compared} store now [] a b n m c.in_ok-compare_item.field-0 c.taken.result
-    (taken_still c.taken.result c.as_slice.result.now c.taken.ensures.taken) c.in_ok-compare_item.ensures.works)
+    let m = g.D.Shelf.faults c.compare_item.new.depot in (
+      [],
+      (
+        flies_fault {T = Compared} from name store now [] [] a b n m c.taken.result c.requires.accepts
+            (gathered_fault {T = Compared} {U = Compared} from.most store now [] a b n m c.in_ok-compare_item.field-0 c.taken.result
+            (taken_still c.taken.result c.as_slice.result.now c.taken.ensures.taken) (c.in_ok-compare_item.ensures.works from.most)),
+        tt,
+      ),
+    )
 
 pub returns-in_err-compare_item-clause-refused : goal.returns-in_err-compare_item-clause-refused
 returns-in_err-compare_item-clause-refused g c =
@@ -105,13 +144,14 @@ returns-in_err-compare_item-clause-refused g c =
     let told = g.S.Shelf.told c.args.shelf.now in
     let source = repo_view c.args.source.now in
     let block = c.args.self.now.options.block in
+    let most = c.args.self.now.options.checkpoint in
     let name = c.args.self.now.named.name in
     let a = g.D.Shelf.told c.args.depot.now in
     let b = g.D.Shelf.told c.compare_item.new.depot in
     let fault = c.in_err-compare_item.field-0.0 in
-    err_is c.from_residual.result fault (λ (r : Result Turn CarryFault). IfErr r (RefusesName (origin told source block) a store b now name))
+    err_is c.from_residual.result fault (λ (r : Result Turn CarryFault). IfErr r (RefusesName (origin told source block most) a store b now name))
     c.from_residual.ensures.1
-    (comparing_refused told a b source block name store now fault c.in_err-compare_item.ensures.stops
+    (comparing_refused told a b source block most name store now fault c.in_err-compare_item.ensures.stops
     (subst (λ (n : List ℕ). RefusesComparing told source n fault) c.requires.same_name c.in_err-compare_item.ensures.refused))
 
 pub returns-in-Differs-clause-refused : goal.returns-in-Differs-clause-refused
@@ -125,7 +165,7 @@ returns-in-Differs-clause-refused g c =
     let read = c.compare_item.ensures.read in
     let differs : DiffersThere from b (repo_view now.repo) name =
     subst (DiffersThere from b (repo_view now.repo)) c.requires.same_name
-    (c.in_ok-compare_item.ensures.differs_now (ap Ok c.in-Differs.is) c.args.self.now.options.block) in
+    (c.in_ok-compare_item.ensures.differs_now (ap Ok c.in-Differs.is) from.block from.most) in
     taken_refused from a b store now name c.as_slice.result.now c.taken.result c.taken.ensures.taken c.as_slice.ensures differs (record {
       fits = c.compare_item.ensures.fits;
       there = subst (λ (r : RepoState). IsSome (archive_named name r.manifest.archives)) (sym read.repo) c.requires.there;
@@ -137,3 +177,75 @@ returns-in-More-clause-more g c = λ _. (read_rest c.args.store.now c.compare_it
 
 pub returns-in-Equal-clause-there : goal.returns-in-Equal-clause-there
 returns-in-Equal-clause-there g c = λ _. there_accepted c.args.store.now c.args.self.now.named.name c.requires.accepts c.requires.there
+
+pub returns-in-Equal-clause-refused : goal.returns-in-Equal-clause-refused
+returns-in-Equal-clause-refused g c =
+    let store = c.args.store.now in
+    let middle = c.compare_item.new.store in
+    let from = flown_from (g.S.Shelf.told c.args.shelf.now) (repo_view c.args.source.now) c.args.self.now in
+    pending_refused {T = Turn} from (g.D.Shelf.told c.args.depot.now) (g.D.Shelf.told c.present.new.depot) store c.present.new.store
+    (repo_view middle.repo).keys c.args.self.now.named.name c.present.result (ap (λ (r : RepoState). r.keys) c.compare_item.ensures.read.repo)
+    c.present.ensures.target c.present.ensures.stops
+
+pub returns-in_err-compare_item-clause-limit : goal.returns-in_err-compare_item-clause-limit
+returns-in_err-compare_item-clause-limit g c =
+    let b = g.D.Shelf.told c.compare_item.new.depot in
+    let store = c.args.store.now in
+    let flight = c.args.self.now in
+    let given = flight.options.timestamp in
+    let source = repo_view c.args.source.now in
+    let fault = c.in_err-compare_item.field-0.0 in
+    err_is c.from_residual.result fault (λ (r : Result Turn CarryFault). IfErr r (IsLimited b given source store flight.named)) c.from_residual.ensures.1
+    (pieces_limit b (repo_view store.repo).keys given source store flight.named fault c.in_err-compare_item.ensures.stops)
+
+pub returns-in-Equal-clause-limit : goal.returns-in-Equal-clause-limit
+returns-in-Equal-clause-limit g c =
+    let d = g.D.Shelf.told c.present.new.depot in
+    let store = c.args.store.now in
+    let flight = c.args.self.now in
+    let given = flight.options.timestamp in
+    let source = repo_view c.args.source.now in
+    let keys = (repo_view c.compare_item.new.store.repo).keys in
+    IfErr-weaker c.present.result (StopsPieces d keys) (IsLimited d given source store flight.named)
+    (λ fault stops. pieces_limit d keys given source store flight.named fault stops) c.present.ensures.stops
+
+pub returns-in-Differs-clause-limit : goal.returns-in-Differs-clause-limit
+returns-in-Differs-clause-limit g c =
+    let flight = c.args.self.now in
+    taken_limit (g.D.Shelf.told c.compare_item.new.depot) flight.options.timestamp (repo_view c.args.source.now) c.args.store.now flight.named
+    c.as_slice.result.now c.taken.result c.taken.ensures.taken
+
+pub returns-in-Equal-clause-still : goal.returns-in-Equal-clause-still
+returns-in-Equal-clause-still g c is =
+    let store = c.args.store.now in
+    let middle = c.compare_item.new.store in
+    still_rest store middle c.present.new.store c.present.result Present (read_rest store middle c.compare_item.ensures.read) c.present.ensures.rest is
+
+pub returns-in_err-compare_item-clause-stands : goal.returns-in_err-compare_item-clause-stands
+returns-in_err-compare_item-clause-stands g c =
+    let a = g.D.Shelf.told c.args.depot.now in
+    let b = g.D.Shelf.told c.compare_item.new.depot in
+    let fault = c.in_err-compare_item.field-0.0 in
+    let most = c.args.self.now.options.checkpoint in
+    err_is c.from_residual.result fault (λ (r : Result Turn CarryFault). IfErr r (Stands most c.args.store.now a b)) c.from_residual.ensures.1
+    (λ _. (c.in_err-compare_item.ensures.works most).each)
+
+pub returns-in-More-clause-more_stands : goal.returns-in-More-clause-more_stands
+returns-in-More-clause-more_stands g c = λ _. (c.in_ok-compare_item.ensures.works c.args.self.now.options.checkpoint).each
+
+pub returns-in-Differs-clause-stands : goal.returns-in-Differs-clause-stands
+returns-in-Differs-clause-stands g c = λ _. (c.in_ok-compare_item.ensures.works c.args.self.now.options.checkpoint).each
+
+-- what is put, if anything, is committed behind the comparison
+pub returns-in-Equal-clause-stands : goal.returns-in-Equal-clause-stands
+returns-in-Equal-clause-stands g c =
+    let store = c.args.store.now in
+    let middle = c.compare_item.new.store in
+    let a = g.D.Shelf.told c.args.depot.now in
+    let b = g.D.Shelf.told c.compare_item.new.depot in
+    let d = g.D.Shelf.told c.present.new.depot in
+    let most = c.args.self.now.options.checkpoint in
+    let rest = read_rest store middle c.compare_item.ensures.read in
+    let behind = stands_behind {T = Compared} most store middle [] a b d (g.D.Shelf.faults c.args.depot.now) (g.D.Shelf.faults c.compare_item.new.depot)
+    c.in_ok-compare_item.field-0 rest.keys (c.in_ok-compare_item.ensures.works most) (c.present.ensures.works most).each in
+    IfErr-weaker c.present.result (StopsPieces d (repo_view middle.repo).keys) (Stands most store a d) (λ fault stops work. behind) c.present.ensures.stops

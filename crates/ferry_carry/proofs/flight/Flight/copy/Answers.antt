@@ -1,11 +1,19 @@
-use Rattle.std.proofs.Common.{rules, ◌≡◌, [], ◌∷◌, false, true, Some, None, Bool, Result, Ok, Err, refl, sym, ap, subst, IfErr, ℕ}
+use Rattle.std.proofs.Common.{rules, ◌≡◌, [], ◌∷◌, ◌++◌, false, true, Some, None, Bool, List, Result, Ok, Err, refl, sym, ap, subst, IfErr, ℕ}
+use Rattle.ferry_carry.proofs.CauseLemmas.{end_refused, lacks_by, step_refused}
+use Rattle.ferry_carry.proofs.AcceptingLemmas.{next_rest}
 use Rattle.ferry_carry.proofs.FlightLemmas.{rest_accepts}
-use Rattle.ferry_carry.proofs.FlyLemmas.{all_as, flies_as, flies_err, flown_more, so_far_as, so_far_later}
+use Rattle.ferry_carry.proofs.FlyLemmas.{done_before, flies_as, flies_err, flies_fault, flown_more, err_beside, so_far_as, so_far_later, stepped_as}
 use Rattle.ferry_carry.proofs.GrowLemmas.{most_from, most_then}
-use Rattle.ferry_carry.proofs.WorkLemmas.{carried_from, carried_from_err, err_is}
+use Rattle.ferry_carry.proofs.NamingLemmas.{pieces_limit, rest_limit}
+use Rattle.ferry_carry.proofs.PutsLemmas.{pieces_append}
+use Rattle.ferry_carry.proofs.WorkLemmas.{carried_from, err_is}
 use Rattle.ferry_carry.proofs.flight.Flight.copy.Goals as goal
 use Rattle.ferry_carry.specs.Carrying.{origin}
 use Rattle.ferry_carry.specs.Flight.{Flies, flown_from}
+use Rattle.ferry_carry.specs.Gather.{KeepsStanding}
+use Rattle.ferry_carry.specs.Progress.{CopiesOn, IsCopiedSoFar}
+use Rattle.ferry_carry.specs.Puts.{pieces}
+use Rattle.ferry_carry.specs.Refusals.{IsLimited, RefusesName, RefusesStep}
 use Rattle.ferry_carry.specs.declared.fault.CarryFault.{CarryFault}
 use Rattle.ferry_carry.specs.declared.flight.Turn.{Turn}
 use Rattle.ferry_carry.specs.declared.flight.Turn.TheVariants.{More, Named}
@@ -13,13 +21,13 @@ use Rattle.ferry_carry.specs.declared.options.Carried.{Carried}
 use Rattle.ferry_manifest.specs.Manifest.Text.{ManifestText}
 use Rattle.ferry_repo.specs.Archives.{archive_named}
 use Rattle.ferry_repo.specs.Opening.{RepoState, repo_view}
-use Rattle.ferry_carry.proofs.CauseLemmas.{end_refused, lacks_by, step_refused}
-use Rattle.ferry_carry.specs.Gather.{KeepsStanding}
-use Rattle.ferry_carry.specs.Refusals.{RefusesName, RefusesStep}
 use Rattle.ferry_store.specs.Commit.{accepted_in}
+use Rattle.ferry_carry.proofs.StandLemmas.{Stands, stands_behind}
+use Rattle.ferry_disk.specs.Moments.{Between}
 
 pub returns-in_err-more-clause-works : goal.returns-in_err-more-clause-works
 returns-in_err-more-clause-works g c =
+    λ added so.
     let a = g.D.Shelf.told c.args.depot.now in
     let b = g.D.Shelf.told c.step.new.depot in
     let n = g.D.Shelf.faults c.args.depot.now in
@@ -27,27 +35,69 @@ returns-in_err-more-clause-works g c =
     let store = c.args.store.now in
     let now = c.step.new.store in
     let fault = c.in_err-more.field-0.0 in
-    let stepped = c.in_err-more.ensures.works in
-    let from = flown_from (g.S.Shelf.told c.args.shelf.now) (repo_view c.args.source.now) c.args.self.now in
-    let name = c.args.self.now.named.name in
-    err_is c.from_residual.result fault (λ (r : Result Turn CarryFault). Flies from name store now a b n m r) c.from_residual.ensures.1
-    (flies_err {T = Turn} from name [] store now now a b n m fault
-    (carried_from_err {T = Bool} {U = Turn} from (name ∷ []) [] store now now stepped.0 a b n m fault c.requires.accepts stepped.1))
+    let told = g.S.Shelf.told c.args.shelf.now in
+    let source = repo_view c.args.source.now in
+    let flight = c.args.self.now in
+    let from = flown_from told source flight in
+    let name = flight.named.name in
+    let copy = c.args.copy in
+    let stepped = c.in_err-more.ensures.copied flight.named added
+    (so_far_as told source from.block from.most flight.named a store copy added so) in
+    let works = stepped_as told source from.block from.most copy.block copy.contents.checkpoint flight.named a b store now c.step.new.self added stepped.0
+    n m (Err fault) (sym so.0.block) (sym so.0.most) stepped.1 in (
+      [],
+      err_beside c.from_residual.result fault (λ (r : Result Turn CarryFault). Flies from name [] store now a b n m r) _ c.from_residual.ensures.1
+          (flies_fault {T = Bool} from name store now (pieces stepped.0) [] a b n m fault c.requires.accepts works.0),
+    )
 
 pub returns-then-more-clause-works : goal.returns-then-more-clause-works
 returns-then-more-clause-works g c =
-    let store = c.args.store.now in
-    let now = c.step.new.store in
-    let stepped = c.in_ok-more.ensures.works in
-    let from = flown_from (g.S.Shelf.told c.args.shelf.now) (repo_view c.args.source.now) c.args.self.now in
-    let name = c.args.self.now.named.name in
+    λ added so.
     let a = g.D.Shelf.told c.args.depot.now in
     let b = g.D.Shelf.told c.step.new.depot in
     let n = g.D.Shelf.faults c.args.depot.now in
     let m = g.D.Shelf.faults c.step.new.depot in
-    flies_as {T = Bool} from name [] store now a b n m c.in_ok-more.more More refl
-    (carried_from {T = Bool} {U = Bool} from (name ∷ []) store now stepped.0 a b n m c.in_ok-more.more c.in_ok-more.more c.requires.accepts
-    c.in_ok-more.ensures.rest stepped.1)
+    let store = c.args.store.now in
+    let now = c.step.new.store in
+    let told = g.S.Shelf.told c.args.shelf.now in
+    let later = g.S.Shelf.told c.step.new.shelf in
+    let source = repo_view c.args.source.now in
+    let after = repo_view c.step.new.source in
+    let flight = c.args.self.now in
+    let from = flown_from told source flight in
+    let named = flight.named in
+    let name = named.name in
+    let copy = c.args.copy in
+    let ensures = c.in_ok-more.ensures in
+    let more = c.in_ok-more.more in
+    let taken : more ≡ true = search rules in
+    let stepped = ensures.copied named added (so_far_as told source from.block from.most named a store copy added so) in
+    let works = stepped_as told source from.block from.most copy.block copy.contents.checkpoint named a b store now c.step.new.self added stepped.0 n m
+    (Ok more) (sym so.0.block) (sym so.0.most) stepped.1 in
+    let so_far : IsCopiedSoFar from named b now c.step.new.self (added ++ stepped.0) =
+    subst (CopiesOn from named b now c.step.new.self added stepped.0) taken works.1 in (
+      pieces stepped.0,
+      (
+        flies_as {T = Bool} from name [] (pieces stepped.0) store now a b n m more More refl
+            (carried_from {T = Bool} {U = Bool} from (name ∷ []) store now (pieces stepped.0) a b n m more more c.requires.accepts ensures.rest works.0),
+        (
+          record {
+            stands = record {
+              options = c.requires.flight.options;
+              named = subst (λ (r : RepoState). archive_named name r.manifest.archives ≡ Some named) (sym ensures.kept) c.requires.flight.named;
+            };
+            added = added ++ stepped.0;
+            work = (
+              ensures.ready,
+              subst (λ (m : ManifestText). archive_named name m.archives ≡ None) (sym ensures.rest.accepted) c.requires.unnamed,
+              ensures.walk_fits,
+              so_far_later told later source after from.block from.most named b now c.step.new.self (added ++ stepped.0) ensures.same ensures.kept so_far,
+            );
+          },
+          pieces_append added stepped.0,
+        ),
+      ),
+    )
 
 pub returns-then-more-clause-accepts : goal.returns-then-more-clause-accepts
 returns-then-more-clause-accepts g c = rest_accepts c.args.store.now c.step.new.store c.in_ok-more.ensures.rest c.requires.accepts
@@ -57,6 +107,7 @@ end_copy-requires-clause-accepts g c = rest_accepts c.args.store.now c.step.new.
 
 pub returns-in_err-self-clause-works : goal.returns-in_err-self-clause-works
 returns-in_err-self-clause-works g c =
+    λ added so.
     let a = g.D.Shelf.told c.args.depot.now in
     let b = g.D.Shelf.told c.step.new.depot in
     let d = g.D.Shelf.told c.end_copy.new.depot in
@@ -67,26 +118,32 @@ returns-in_err-self-clause-works g c =
     let middle = c.step.new.store in
     let now = c.end_copy.new.store in
     let fault = c.in_err-self.field-0.0 in
-    let not_more : c.in_ok-more.more ≡ false = search rules in
-    let stepped = c.in_ok-more.ensures.works in
     let told = g.S.Shelf.told c.args.shelf.now in
     let source = repo_view c.args.source.now in
-    let block = c.args.self.now.options.block in
-    let name = c.args.self.now.named.name in
-    let from = origin told source block in
-    let heard = g.D.Shelf.told c.args.depot.now in
-    let named = c.args.self.now.named in
-    let ended = all_as told source block c.args.copy.block named b middle c.step.new.self (sym c.requires.copied.0)
-    (c.in_ok-more.ensures.ended named (ap Ok not_more) c.requires.flight.named
-    (so_far_as told source block named heard store c.args.copy c.requires.copied)) in
-    flown_more {T = Bool} told told source source block name store middle now stepped.0 a b d n m k c.in_ok-more.more
-    c.from_residual-in_err-self.result refl refl c.requires.accepts c.in_ok-more.ensures.rest stepped.1
-    (err_is c.from_residual-in_err-self.result fault (λ (r : Result Turn CarryFault). Flies from name middle now b d m k r)
-    c.from_residual-in_err-self.ensures.1
-    (flies_err {T = Carried} from name (name ∷ []) middle now now b d m k fault (c.in_err-self.ensures.works from ended)))
+    let flight = c.args.self.now in
+    let from = flown_from told source flight in
+    let named = flight.named in
+    let name = named.name in
+    let copy = c.args.copy in
+    let more = c.in_ok-more.more in
+    let not_more : more ≡ false = search rules in
+    let stepped = c.in_ok-more.ensures.copied named added (so_far_as told source from.block from.most named a store copy added so) in
+    let works = stepped_as told source from.block from.most copy.block copy.contents.checkpoint named a b store middle c.step.new.self added stepped.0 n m
+    (Ok more) (sym so.0.block) (sym so.0.most) stepped.1 in
+    let ended : CopiesOn from named b middle c.step.new.self added stepped.0 false =
+    subst (CopiesOn from named b middle c.step.new.self added stepped.0) not_more works.1 in
+    let ends = c.in_err-self.ensures.works from added (ended.1 c.requires.flight.named) in (
+      pieces stepped.0 ++ [],
+      err_beside c.from_residual-in_err-self.result fault
+          (λ (r : Result Turn CarryFault). Flies from name (pieces stepped.0 ++ []) store now a d n k r) _ c.from_residual-in_err-self.ensures.1
+          (flown_more {T = Bool} told told source source from.block from.most name store middle now (pieces stepped.0) [] a b d n m k more (Err fault) refl
+          refl c.requires.accepts c.in_ok-more.ensures.rest works.0
+          (flies_err {T = Carried} from name (name ∷ []) ends.0 [] middle now now b d m k fault ends.1.0)),
+    )
 
 pub returns-clause-works : goal.returns-clause-works
 returns-clause-works g c =
+    λ added so.
     let a = g.D.Shelf.told c.args.depot.now in
     let b = g.D.Shelf.told c.step.new.depot in
     let d = g.D.Shelf.told c.end_copy.new.depot in
@@ -96,56 +153,38 @@ returns-clause-works g c =
     let store = c.args.store.now in
     let middle = c.step.new.store in
     let now = c.end_copy.new.store in
-    let not_more : c.in_ok-more.more ≡ false = search rules in
-    let stepped = c.in_ok-more.ensures.works in
     let told = g.S.Shelf.told c.args.shelf.now in
     let source = repo_view c.args.source.now in
-    let block = c.args.self.now.options.block in
-    let name = c.args.self.now.named.name in
-    let from = origin told source block in
-    let heard = g.D.Shelf.told c.args.depot.now in
-    let named = c.args.self.now.named in
-    let ended = all_as told source block c.args.copy.block named b middle c.step.new.self (sym c.requires.copied.0)
-    (c.in_ok-more.ensures.ended named (ap Ok not_more) c.requires.flight.named
-    (so_far_as told source block named heard store c.args.copy c.requires.copied)) in
-    flown_more {T = Bool} told told source source block name store middle now stepped.0 a b d n m k c.in_ok-more.more (Ok Named) refl refl
-    c.requires.accepts c.in_ok-more.ensures.rest stepped.1
-    (flies_as {T = Carried} from name (name ∷ []) middle now b d m k c.in_ok-self.field-0 Named refl (c.in_ok-self.ensures.works from ended))
+    let flight = c.args.self.now in
+    let from = flown_from told source flight in
+    let named = flight.named in
+    let name = named.name in
+    let copy = c.args.copy in
+    let more = c.in_ok-more.more in
+    let not_more : more ≡ false = search rules in
+    let rest = c.in_ok-more.ensures.rest in
+    let stepped = c.in_ok-more.ensures.copied named added (so_far_as told source from.block from.most named a store copy added so) in
+    let works = stepped_as told source from.block from.most copy.block copy.contents.checkpoint named a b store middle c.step.new.self added stepped.0 n m
+    (Ok more) (sym so.0.block) (sym so.0.most) stepped.1 in
+    let ended : CopiesOn from named b middle c.step.new.self added stepped.0 false =
+    subst (CopiesOn from named b middle c.step.new.self added stepped.0) not_more works.1 in
+    let ends = c.in_ok-self.ensures.works from added (ended.1 c.requires.flight.named) in (
+      pieces stepped.0 ++ ends.0,
+      (
+        flown_more {T = Bool} told told source source from.block from.most name store middle now (pieces stepped.0) ends.0 a b d n m k more (Ok Named) refl
+            refl c.requires.accepts rest works.0
+            (flies_as {T = Carried} from name (name ∷ []) ends.0 middle now b d m k c.in_ok-self.field-0 Named refl ends.1.0),
+        done_before from from (repo_view store.repo).keys (repo_view middle.repo).keys name (pieces added ++ (pieces stepped.0 ++ ends.0))
+            (pieces added ++ ends.0) true (KeepsStanding from.most store) a b works.0.each refl rest.keys
+            (ap (λ (l : List (List ℕ)). pieces added ++ (pieces l ++ ends.0)) (sym ended.0)) ends.1.1,
+      ),
+    )
 
 pub returns-clause-most : goal.returns-clause-most
 returns-clause-most g c =
     let store = c.args.store.now in
     let middle = c.step.new.store in
     most_then store middle c.end_copy.new.store (most_from store middle c.in_ok-more.ensures.rest) c.in_ok-self.ensures.most
-
-pub returns-then-more-clause-flight : goal.returns-then-more-clause-flight
-returns-then-more-clause-flight g c _ =
-    let told = g.S.Shelf.told c.args.shelf.now in
-    let later = g.S.Shelf.told c.step.new.shelf in
-    let source = repo_view c.args.source.now in
-    let after = repo_view c.step.new.source in
-    let store = c.args.store.now in
-    let now = c.step.new.store in
-    let copy = c.args.copy in
-    let flight = c.args.self.now in
-    let heard = g.D.Shelf.told c.args.depot.now in
-    let ensures = c.in_ok-more.ensures in
-    let taken : c.in_ok-more.more ≡ true = search rules in
-    let named = flight.named in
-    let so_far = ensures.copied named (ap Ok taken) (so_far_as told source flight.options.block named heard store copy c.requires.copied) in
-    record {
-      stands = record {
-        options = c.requires.flight.options;
-        named = subst (λ (r : RepoState). archive_named named.name r.manifest.archives ≡ Some named) (sym ensures.kept) c.requires.flight.named;
-      };
-      work = (
-        ensures.ready,
-        subst (λ (m : ManifestText). archive_named named.name m.archives ≡ None) (sym ensures.rest.accepted) c.requires.unnamed,
-        ensures.walk_fits,
-        so_far_later told later source after flight.options.block copy.block named (g.D.Shelf.told c.step.new.depot) now c.step.new.self ensures.same
-            ensures.kept (sym c.requires.copied.0) so_far,
-      );
-    }
 
 pub returns-in_err-more-clause-refused : goal.returns-in_err-more-clause-refused
 returns-in_err-more-clause-refused g c =
@@ -158,34 +197,110 @@ returns-in_err-more-clause-refused g c =
     let source = repo_view c.args.source.now in
     let flight = c.args.self.now in
     let block = flight.options.block in
+    let most = flight.options.checkpoint in
     let named = flight.named in
-    let refused = c.in_err-more.ensures.refused named c.requires.flight.named (so_far_as told source block named a store c.args.copy c.requires.copied) in
+    let added = c.requires.copied.0 in
+    let so = c.requires.copied.1 in
+    let refused = c.in_err-more.ensures.refused named added c.requires.flight.named (so_far_as told source block most named a store c.args.copy added so) in
     let lacks = lacks_by (repo_view store.repo).manifest (accepted_in store) named.name c.requires.accepts c.requires.unnamed in
-    err_is c.from_residual.result fault (λ (r : Result Turn CarryFault). IfErr r (RefusesName (origin told source block) a store b now named.name))
+    err_is c.from_residual.result fault (λ (r : Result Turn CarryFault). IfErr r (RefusesName (origin told source block most) a store b now named.name))
     c.from_residual.ensures.1
-    (step_refused (origin told source block) a b store now named.name fault lacks c.in_err-more.ensures.stops
-    (subst (λ (n : ℕ). RefusesStep (origin told source n) a named.name fault) (sym c.requires.copied.0) refused))
+    (step_refused (origin told source block most) a b store now named.name fault lacks c.in_err-more.ensures.stops
+    (subst (λ (l : ℕ). RefusesStep (origin told source block l) a named.name fault) (sym so.0.most)
+    (subst (λ (d : ℕ). RefusesStep (origin told source d c.args.copy.contents.checkpoint) a named.name fault) (sym so.0.block) refused)))
 
 pub returns-in_err-self-clause-refused : goal.returns-in_err-self-clause-refused
 returns-in_err-self-clause-refused g c =
     let a = g.D.Shelf.told c.args.depot.now in
     let b = g.D.Shelf.told c.step.new.depot in
     let d = g.D.Shelf.told c.end_copy.new.depot in
+    let n = g.D.Shelf.faults c.args.depot.now in
+    let m = g.D.Shelf.faults c.step.new.depot in
     let store = c.args.store.now in
     let middle = c.step.new.store in
     let now = c.end_copy.new.store in
     let fault = c.in_err-self.field-0.0 in
-    let not_more : c.in_ok-more.more ≡ false = search rules in
     let told = g.S.Shelf.told c.args.shelf.now in
     let source = repo_view c.args.source.now in
-    let block = c.args.self.now.options.block in
+    let from = flown_from told source c.args.self.now in
     let named = c.args.self.now.named in
-    let from = origin told source block in
-    let ended = all_as told source block c.args.copy.block named b middle c.step.new.self (sym c.requires.copied.0)
-    (c.in_ok-more.ensures.ended named (ap Ok not_more) c.requires.flight.named
-    (so_far_as told source block named a store c.args.copy c.requires.copied)) in
+    let copy = c.args.copy in
+    let more = c.in_ok-more.more in
+    let not_more : more ≡ false = search rules in
+    let added = c.requires.copied.0 in
+    let so = c.requires.copied.1 in
+    let stepped = c.in_ok-more.ensures.copied named added (so_far_as told source from.block from.most named a store copy added so) in
+    let works = stepped_as told source from.block from.most copy.block copy.contents.checkpoint named a b store middle c.step.new.self added stepped.0 n m
+    (Ok more) (sym so.0.block) (sym so.0.most) stepped.1 in
+    let ended : CopiesOn from named b middle c.step.new.self added stepped.0 false =
+    subst (CopiesOn from named b middle c.step.new.self added stepped.0) not_more works.1 in
     let lacks = lacks_by (repo_view store.repo).manifest (accepted_in store) named.name c.requires.accepts c.requires.unnamed in
     err_is c.from_residual-in_err-self.result fault (λ (r : Result Turn CarryFault). IfErr r (RefusesName from a store d now named.name))
     c.from_residual-in_err-self.ensures.1
-    (end_refused from a b d (KeepsStanding store) store middle now named.name fault c.in_ok-more.ensures.works.1.each c.in_ok-more.ensures.rest.keys lacks
-    c.in_err-self.ensures.stops (c.in_err-self.ensures.refused from ended))
+    (end_refused from a b d (KeepsStanding from.most store) store middle now named.name fault works.0.each c.in_ok-more.ensures.rest.keys lacks
+    c.in_err-self.ensures.stops (c.in_err-self.ensures.refused from added (ended.1 c.requires.flight.named)))
+
+pub returns-in_err-more-clause-limit : goal.returns-in_err-more-clause-limit
+returns-in_err-more-clause-limit g c =
+    let b = g.D.Shelf.told c.step.new.depot in
+    let store = c.args.store.now in
+    let flight = c.args.self.now in
+    let given = flight.options.timestamp in
+    let source = repo_view c.args.source.now in
+    let fault = c.in_err-more.field-0.0 in
+    err_is c.from_residual.result fault (λ (r : Result Turn CarryFault). IfErr r (IsLimited b given source store flight.named)) c.from_residual.ensures.1
+    (pieces_limit b (repo_view store.repo).keys given source store flight.named fault c.in_err-more.ensures.stops)
+
+pub returns-in_err-self-clause-limit : goal.returns-in_err-self-clause-limit
+returns-in_err-self-clause-limit g c =
+    let d = g.D.Shelf.told c.end_copy.new.depot in
+    let store = c.args.store.now in
+    let flight = c.args.self.now in
+    let given = flight.options.timestamp in
+    let source = repo_view c.args.source.now in
+    let fault = c.in_err-self.field-0.0 in
+    err_is c.from_residual-in_err-self.result fault (λ (r : Result Turn CarryFault). IfErr r (IsLimited d given source store flight.named))
+    c.from_residual-in_err-self.ensures.1
+    (rest_limit d given source (repo_view c.step.new.source) store c.step.new.store flight.named fault c.in_ok-more.ensures.rest c.step.ensures.kept
+    c.in_err-self.ensures.limit)
+
+pub returns-clause-next : goal.returns-clause-next
+returns-clause-next g c _ =
+    let flight = c.args.self.now in
+    next_rest flight.options.timestamp (repo_view c.args.source.now) (repo_view c.step.new.source) c.args.store.now c.step.new.store flight.named
+    (accepted_in c.end_copy.new.store) c.in_ok-more.ensures.rest c.step.ensures.kept c.in_ok-self.ensures.named
+
+pub returns-in_err-more-clause-stands : goal.returns-in_err-more-clause-stands
+returns-in_err-more-clause-stands g c =
+    let a = g.D.Shelf.told c.args.depot.now in
+    let b = g.D.Shelf.told c.step.new.depot in
+    let store = c.args.store.now in
+    let fault = c.in_err-more.field-0.0 in
+    let most = c.args.self.now.options.checkpoint in
+    err_is c.from_residual.result fault (λ (r : Result Turn CarryFault). IfErr r (Stands most store a b)) c.from_residual.ensures.1
+    (λ _. subst (λ (l : ℕ). Between a b (KeepsStanding l store)) (sym c.requires.copied.1.0.most) c.in_err-more.ensures.works.1.each)
+
+pub returns-then-more-clause-more_stands : goal.returns-then-more-clause-more_stands
+returns-then-more-clause-more_stands g c = λ _.
+    let a = g.D.Shelf.told c.args.depot.now in
+    let b = g.D.Shelf.told c.step.new.depot in
+    subst (λ (l : ℕ). Between a b (KeepsStanding l c.args.store.now)) (sym c.requires.copied.1.0.most) c.in_ok-more.ensures.works.1.each
+
+pub returns-in_err-self-clause-stands : goal.returns-in_err-self-clause-stands
+returns-in_err-self-clause-stands g c =
+    let a = g.D.Shelf.told c.args.depot.now in
+    let b = g.D.Shelf.told c.step.new.depot in
+    let d = g.D.Shelf.told c.end_copy.new.depot in
+    let store = c.args.store.now in
+    let middle = c.step.new.store in
+    let fault = c.in_err-self.field-0.0 in
+    let copy = c.args.copy in
+    let ensures = c.in_ok-more.ensures in
+    let most = copy.contents.checkpoint in
+    let same = sym c.requires.copied.1.0.most in
+    err_is c.from_residual-in_err-self.result fault (λ (r : Result Turn CarryFault). IfErr r (Stands c.args.self.now.options.checkpoint store a d))
+    c.from_residual-in_err-self.ensures.1
+    (λ work. subst (λ (l : ℕ). Between a d (KeepsStanding l store)) same
+    (stands_behind {T = Bool} most store middle (pieces ensures.works.0) a b d (g.D.Shelf.faults c.args.depot.now) (g.D.Shelf.faults c.step.new.depot)
+    c.in_ok-more.more ensures.rest.keys ensures.works.1
+    (subst (λ (l : ℕ). Between b d (KeepsStanding l middle)) ensures.checkpoint (c.in_err-self.ensures.stands work))))

@@ -1,20 +1,27 @@
-use Rattle.std.proofs.Common.{◌≡◌, [], ◌∷◌, Result, refl, sym, IfErr, subst}
-use Rattle.ferry_carry.proofs.FlightLemmas.{on_ok, read_rest, rest_accepts}
-use Rattle.ferry_carry.proofs.FlyLemmas.{flies_err, flies_fault, flies_later, flown_more, origin_kept}
+use Rattle.std.proofs.Common.{[], ◌∷◌, Result, refl, sym, IfErr, IfOk, subst, ◌∙◌}
+use Rattle.ferry_carry.proofs.AcceptingLemmas.{next_rest, next_source}
+use Rattle.ferry_carry.proofs.FlightLemmas.{on_ok, read_rest}
+use Rattle.ferry_carry.proofs.FlyLemmas.{flies_err, flies_fault, flies_later, flown_more, origin_kept, err_beside, turns_before}
 use Rattle.ferry_carry.proofs.GrowLemmas.{most_from, most_then}
 use Rattle.ferry_carry.proofs.ProgressLemmas.{begin_copied}
 use Rattle.ferry_carry.proofs.WorkLemmas.{carried_nothing, err_is}
 use Rattle.ferry_carry.proofs.flight.Flight.take_first.Goals as goal
-use Rattle.ferry_carry.specs.Flight.{Flies, flown_from}
+use Rattle.ferry_carry.specs.Flight.{Flies, TurnLists, flown_from}
 use Rattle.ferry_carry.specs.Grow.{KeepsMost}
 use Rattle.ferry_carry.specs.declared.fault.CarryFault.{CarryFault}
 use Rattle.ferry_carry.specs.declared.flight.Turn.{Turn}
 use Rattle.ferry_compare.specs.declared.comparison.Comparison.{Comparison}
-use Rattle.ferry_repo.specs.Opening.{repo_view}
+use Rattle.ferry_repo.specs.Opening.{RepoState, repo_view}
+use Rattle.ferry_store.specs.Commit.{accepted_in}
 use Rattle.ferry_carry.proofs.CauseLemmas.{begin_refused, comparing_refused, name_refused}
 use Rattle.ferry_carry.specs.Carrying.{Origin, origin}
 use Rattle.ferry_carry.specs.Gather.{KeepsStanding}
-use Rattle.ferry_carry.specs.Refusals.{RefusesName}
+use Rattle.ferry_carry.specs.Refusals.{IsLimited, RefusesName}
+use Rattle.ferry_carry.proofs.NamingLemmas.{begin_limit, pieces_limit, rest_limit}
+use Rattle.std.proofs.lemmas.Result.{IfErr-weaker}
+use Rattle.ferry_carry.proofs.StandLemmas.{Stands, stands_behind}
+use Rattle.ferry_carry.proofs.GatherLemmas.{stands_here}
+use Rattle.ferry_store.proofs.StepLemmas.{here_each}
 
 pub returns-in_err-copy-clause-works : goal.returns-in_err-copy-clause-works
 returns-in_err-copy-clause-works g c =
@@ -23,11 +30,13 @@ returns-in_err-copy-clause-works g c =
     let store = c.args.store.now in
     let fault = c.in_err-copy.field-0.0 in
     let from = flown_from (g.S.Shelf.told c.args.shelf.now) (repo_view c.args.source.now) c.args.self.now in
-    let name = c.args.self.now.named.name in
-    err_is c.from_residual-in_err-copy.result fault (λ (r : Result Turn CarryFault). Flies from name store store a a n n r)
-    c.from_residual-in_err-copy.ensures.1
-    (flies_err {T = Turn} from name [] store store store a a n n fault
-    (carried_nothing {T = Turn} from (name ∷ []) [] store store a n fault c.requires.accepts c.in_err-copy.ensures.still))
+    let name = c.args.self.now.named.name in (
+      [],
+      err_beside c.from_residual-in_err-copy.result fault (λ (r : Result Turn CarryFault). Flies from name [] store store a a n n r) _
+          c.from_residual-in_err-copy.ensures.1
+          (flies_err {T = Turn} from name [] [] [] store store store a a n n fault
+          (carried_nothing {T = Turn} from (name ∷ []) [] [] store store a n fault c.requires.accepts c.in_err-copy.ensures.still)),
+    )
 
 pub returns-in_ok-comparison-clause-works : goal.returns-in_ok-comparison-clause-works
 returns-in_ok-comparison-clause-works g c =
@@ -37,12 +46,28 @@ returns-in_ok-comparison-clause-works g c =
     let after = repo_view c.begin_comparing.new.source in
     let store = c.args.store.now in
     let middle = c.begin_comparing.new.store in
+    let now = c.compare.new.store in
     let flight = c.args.self.now in
-    flown_more {T = Comparison} told later source after flight.options.block flight.named.name store middle c.compare.new.store []
-    (g.D.Shelf.told c.args.depot.now) (g.D.Shelf.told c.begin_comparing.new.depot) (g.D.Shelf.told c.compare.new.depot)
-    (g.D.Shelf.faults c.args.depot.now) (g.D.Shelf.faults c.begin_comparing.new.depot) (g.D.Shelf.faults c.compare.new.depot)
-    c.in_ok-comparison.comparison c.compare.result c.in_ok-comparison.ensures.same c.begin_comparing.ensures.kept c.requires.accepts
-    (read_rest store middle c.begin_comparing.ensures.read) c.in_ok-comparison.ensures.works c.compare.ensures.works
+    let block = flight.options.block in
+    let most = flight.options.checkpoint in
+    let a = g.D.Shelf.told c.args.depot.now in
+    let b = g.D.Shelf.told c.begin_comparing.new.depot in
+    let d = g.D.Shelf.told c.compare.new.depot in
+    let alike = c.in_ok-comparison.ensures.same in
+    let kept = c.begin_comparing.ensures.kept in
+    let rest = read_rest store middle c.begin_comparing.ensures.read in
+    let begun = c.in_ok-comparison.ensures.works most in
+    let compared = c.compare.ensures.works in (
+      compared.0,
+      (
+        flown_more {T = Comparison} told later source after block most flight.named.name store middle now [] compared.0 a b d
+            (g.D.Shelf.faults c.args.depot.now) (g.D.Shelf.faults c.begin_comparing.new.depot) (g.D.Shelf.faults c.compare.new.depot)
+            c.in_ok-comparison.comparison c.compare.result alike kept c.requires.accepts rest begun compared.1.0,
+        turns_before (g.S.Shelf.told c.compare.new.shelf) (repo_view c.compare.new.source) d now c.compare.new.self (origin told source block most)
+            (origin later after block most) (repo_view store.repo).keys (repo_view middle.repo).keys [] compared.0 c.compare.result
+            (KeepsStanding most store) a b begun.each (origin_kept told later source after block block most most alike kept refl refl) rest.keys compared.1.1,
+      ),
+    )
 
 pub returns-in_ok-comparison-clause-most : goal.returns-in_ok-comparison-clause-most
 returns-in_ok-comparison-clause-most g c =
@@ -62,24 +87,48 @@ returns-in_err-comparison-clause-works g c =
     let b = g.D.Shelf.told c.begin_comparing.new.depot in
     let n = g.D.Shelf.faults c.args.depot.now in
     let m = g.D.Shelf.faults c.begin_comparing.new.depot in
-    let fault = c.in_err-comparison.field-0.0 in
-    err_is c.from_residual.result fault (λ (r : Result Turn CarryFault). Flies from name store now a b n m r) c.from_residual.ensures.1
-    (flies_fault {T = Comparison} from name store now [] a b n m fault c.requires.accepts c.in_err-comparison.ensures.works)
+    let fault = c.in_err-comparison.field-0.0 in (
+      [],
+      err_beside c.from_residual.result fault (λ (r : Result Turn CarryFault). Flies from name [] store now a b n m r) _ c.from_residual.ensures.1
+          (flies_fault {T = Comparison} from name store now [] [] a b n m fault c.requires.accepts (c.in_err-comparison.ensures.works from.most)),
+    )
 
 pub copy-requires-clause-copied : goal.copy-requires-clause-copied
 copy-requires-clause-copied g c =
     let ensures = c.in_ok-copy.ensures in
-    begin_copied (g.S.Shelf.told c.args.shelf.now) (g.S.Shelf.told c.begin.new.shelf) (g.D.Shelf.told c.args.depot.now) (repo_view c.args.source.now)
-    (repo_view c.begin.new.source) c.args.self.now.options.block c.args.self.now.named c.args.store.now c.in_ok-copy.copy ensures.same
-    c.begin.ensures.kept (sym ensures.block) ensures.archive ensures.walk ensures.stream
+    let options = c.args.self.now.options in (
+      [],
+      begin_copied (g.S.Shelf.told c.args.shelf.now) (g.S.Shelf.told c.begin.new.shelf) (g.D.Shelf.told c.args.depot.now) (repo_view c.args.source.now)
+          (repo_view c.begin.new.source) options.block options.checkpoint c.args.self.now.named c.args.store.now c.in_ok-copy.copy ensures.same
+          c.begin.ensures.kept (sym ensures.block) (sym ensures.checkpoint) ensures.archive ensures.walk ensures.stream,
+    )
 
 pub returns-in_ok-copy-clause-works : goal.returns-in_ok-copy-clause-works
 returns-in_ok-copy-clause-works g c =
+    let told = g.S.Shelf.told c.args.shelf.now in
+    let later = g.S.Shelf.told c.begin.new.shelf in
+    let source = repo_view c.args.source.now in
+    let after = repo_view c.begin.new.source in
+    let store = c.args.store.now in
+    let now = c.copy.new.store in
     let flight = c.args.self.now in
-    flies_later (g.S.Shelf.told c.args.shelf.now) (g.S.Shelf.told c.begin.new.shelf) (repo_view c.args.source.now) (repo_view c.begin.new.source)
-    flight.options.block flight.named.name c.args.store.now c.copy.new.store (g.D.Shelf.told c.args.depot.now) (g.D.Shelf.told c.copy.new.depot)
-    (g.D.Shelf.faults c.args.depot.now) (g.D.Shelf.faults c.copy.new.depot) c.copy.result c.in_ok-copy.ensures.same c.begin.ensures.kept
-    c.copy.ensures.works
+    let block = flight.options.block in
+    let most = flight.options.checkpoint in
+    let a = g.D.Shelf.told c.args.depot.now in
+    let d = g.D.Shelf.told c.copy.new.depot in
+    let ensures = c.in_ok-copy.ensures in
+    let kept = c.begin.ensures.kept in
+    let so = begin_copied told later a source after block most flight.named store c.in_ok-copy.copy ensures.same kept (sym ensures.block)
+    (sym ensures.checkpoint) ensures.archive ensures.walk ensures.stream in
+    let copied = c.copy.ensures.works [] so in (
+      copied.0,
+      (
+        flies_later told later source after block most flight.named.name copied.0 store now a d (g.D.Shelf.faults c.args.depot.now)
+            (g.D.Shelf.faults c.copy.new.depot) c.copy.result ensures.same kept copied.1.0,
+        subst (λ (f : Origin). IfOk c.copy.result (TurnLists (g.S.Shelf.told c.copy.new.shelf) (repo_view c.copy.new.source) d now c.copy.new.self a f
+            (repo_view store.repo).keys [] copied.0)) (origin_kept told later source after block block most most ensures.same kept refl refl) copied.1.1,
+      ),
+    )
 
 pub returns-in_err-copy-clause-refused : goal.returns-in_err-copy-clause-refused
 returns-in_err-copy-clause-refused g c =
@@ -88,11 +137,13 @@ returns-in_err-copy-clause-refused g c =
     let told = g.S.Shelf.told c.args.shelf.now in
     let source = repo_view c.args.source.now in
     let flight = c.args.self.now in
+    let block = flight.options.block in
+    let most = flight.options.checkpoint in
     let fault = c.in_err-copy.field-0.0 in
     err_is c.from_residual-in_err-copy.result fault
-    (λ (r : Result Turn CarryFault). IfErr r (RefusesName (origin told source flight.options.block) a store a store flight.named.name))
+    (λ (r : Result Turn CarryFault). IfErr r (RefusesName (origin told source block most) a store a store flight.named.name))
     c.from_residual-in_err-copy.ensures.1
-    (begin_refused told a a source flight.options.block flight.named store store fault c.requires.flight.named c.in_err-copy.ensures.refused)
+    (begin_refused told a a source block most flight.named store store fault c.requires.flight.named c.in_err-copy.ensures.refused)
 
 pub returns-in_ok-copy-clause-refused : goal.returns-in_ok-copy-clause-refused
 returns-in_ok-copy-clause-refused g c =
@@ -102,8 +153,9 @@ returns-in_ok-copy-clause-refused g c =
     let source = repo_view c.args.source.now in
     let after = repo_view c.begin.new.source in
     let block = flight.options.block in
+    let most = flight.options.checkpoint in
     subst (λ (f : Origin). IfErr c.copy.result (RefusesName f (g.D.Shelf.told c.args.depot.now) c.args.store.now (g.D.Shelf.told c.copy.new.depot)
-    c.copy.new.store flight.named.name)) (origin_kept told later source after block block c.in_ok-copy.ensures.same c.begin.ensures.kept refl)
+    c.copy.new.store flight.named.name)) (origin_kept told later source after block block most most c.in_ok-copy.ensures.same c.begin.ensures.kept refl refl)
     c.copy.ensures.refused
 
 pub returns-in_err-comparison-clause-refused : goal.returns-in_err-comparison-clause-refused
@@ -117,9 +169,9 @@ returns-in_err-comparison-clause-refused g c =
     let b = g.D.Shelf.told c.begin_comparing.new.depot in
     let fault = c.in_err-comparison.field-0.0 in
     err_is c.from_residual.result fault
-    (λ (r : Result Turn CarryFault). IfErr r (RefusesName (origin told source flight.options.block) a store b now flight.named.name))
+    (λ (r : Result Turn CarryFault). IfErr r (RefusesName (origin told source flight.options.block flight.options.checkpoint) a store b now flight.named.name))
     c.from_residual.ensures.1
-    (comparing_refused told a b source flight.options.block flight.named.name store now fault c.in_err-comparison.ensures.stops
+    (comparing_refused told a b source flight.options.block flight.options.checkpoint flight.named.name store now fault c.in_err-comparison.ensures.stops
     c.in_err-comparison.ensures.refused)
 
 pub returns-in_ok-comparison-clause-refused : goal.returns-in_ok-comparison-clause-refused
@@ -132,8 +184,113 @@ returns-in_ok-comparison-clause-refused g c =
     let source = repo_view c.args.source.now in
     let after = repo_view c.begin_comparing.new.source in
     let block = flight.options.block in
-    name_refused {T = Turn} (origin told source block) (origin later after block) (g.D.Shelf.told c.args.depot.now)
-    (g.D.Shelf.told c.begin_comparing.new.depot) (g.D.Shelf.told c.compare.new.depot) (KeepsStanding store) store middle c.compare.new.store
+    let most = flight.options.checkpoint in
+    name_refused {T = Turn} (origin told source block most) (origin later after block most) (g.D.Shelf.told c.args.depot.now)
+    (g.D.Shelf.told c.begin_comparing.new.depot) (g.D.Shelf.told c.compare.new.depot) (KeepsStanding most store) store middle c.compare.new.store
     flight.named.name flight.named.name c.compare.result
-    (origin_kept told later source after block block c.in_ok-comparison.ensures.same c.begin_comparing.ensures.kept refl) refl
-    c.in_ok-comparison.ensures.works.each (most_from store middle (read_rest store middle c.begin_comparing.ensures.read)) c.compare.ensures.refused
+    (origin_kept told later source after block block most most c.in_ok-comparison.ensures.same c.begin_comparing.ensures.kept refl refl) refl
+    (c.in_ok-comparison.ensures.works most).each (most_from store middle (read_rest store middle c.begin_comparing.ensures.read)) c.compare.ensures.refused
+
+pub returns-in_err-comparison-clause-limit : goal.returns-in_err-comparison-clause-limit
+returns-in_err-comparison-clause-limit g c =
+    let b = g.D.Shelf.told c.begin_comparing.new.depot in
+    let store = c.args.store.now in
+    let flight = c.args.self.now in
+    let given = flight.options.timestamp in
+    let source = repo_view c.args.source.now in
+    let fault = c.in_err-comparison.field-0.0 in
+    err_is c.from_residual.result fault (λ (r : Result Turn CarryFault). IfErr r (IsLimited b given source store flight.named)) c.from_residual.ensures.1
+    (pieces_limit b (repo_view store.repo).keys given source store flight.named fault c.in_err-comparison.ensures.stops)
+
+pub returns-in_ok-comparison-clause-limit : goal.returns-in_ok-comparison-clause-limit
+returns-in_ok-comparison-clause-limit g c =
+    let d = g.D.Shelf.told c.compare.new.depot in
+    let store = c.args.store.now in
+    let middle = c.begin_comparing.new.store in
+    let flight = c.args.self.now in
+    let given = flight.options.timestamp in
+    let source = repo_view c.args.source.now in
+    let after = repo_view c.begin_comparing.new.source in
+    IfErr-weaker c.compare.result (IsLimited d given after middle flight.named) (IsLimited d given source store flight.named)
+    (λ fault limited.
+    rest_limit d given source after store middle flight.named fault (read_rest store middle c.begin_comparing.ensures.read) c.begin_comparing.ensures.kept
+    limited) c.compare.ensures.limit
+
+pub returns-in_err-copy-clause-limit : goal.returns-in_err-copy-clause-limit
+returns-in_err-copy-clause-limit g c =
+    let a = g.D.Shelf.told c.args.depot.now in
+    let store = c.args.store.now in
+    let flight = c.args.self.now in
+    let given = flight.options.timestamp in
+    let told = g.S.Shelf.told c.args.shelf.now in
+    let source = repo_view c.args.source.now in
+    let fault = c.in_err-copy.field-0.0 in
+    err_is c.from_residual-in_err-copy.result fault (λ (r : Result Turn CarryFault). IfErr r (IsLimited a given source store flight.named))
+    c.from_residual-in_err-copy.ensures.1
+    (begin_limit told a given source store flight.named flight.named.id fault c.in_err-copy.ensures.refused)
+
+pub returns-in_ok-copy-clause-limit : goal.returns-in_ok-copy-clause-limit
+returns-in_ok-copy-clause-limit g c =
+    let flight = c.args.self.now in
+    subst (λ (r : RepoState). IfErr c.copy.result (IsLimited (g.D.Shelf.told c.copy.new.depot) flight.options.timestamp r c.args.store.now flight.named))
+    c.begin.ensures.kept c.copy.ensures.limit
+
+pub returns-in_ok-comparison-clause-next : goal.returns-in_ok-comparison-clause-next
+returns-in_ok-comparison-clause-next g c is =
+    let flight = c.args.self.now in
+    let store = c.args.store.now in
+    let middle = c.begin_comparing.new.store in
+    next_rest flight.options.timestamp (repo_view c.args.source.now) (repo_view c.begin_comparing.new.source) store middle flight.named
+    (accepted_in c.compare.new.store) (read_rest store middle c.begin_comparing.ensures.read) c.begin_comparing.ensures.kept (c.compare.ensures.next is)
+
+pub returns-in_ok-comparison-clause-still : goal.returns-in_ok-comparison-clause-still
+returns-in_ok-comparison-clause-still g c is =
+    c.compare.ensures.still is ∙ (read_rest c.args.store.now c.begin_comparing.new.store c.begin_comparing.ensures.read).accepted
+
+pub returns-in_ok-copy-clause-next : goal.returns-in_ok-copy-clause-next
+returns-in_ok-copy-clause-next g c is =
+    let flight = c.args.self.now in
+    next_source flight.options.timestamp (repo_view c.args.source.now) (repo_view c.begin.new.source) c.args.store.now flight.named
+    (accepted_in c.copy.new.store) c.begin.ensures.kept (c.copy.ensures.next is)
+
+pub returns-in_err-copy-clause-stands : goal.returns-in_err-copy-clause-stands
+returns-in_err-copy-clause-stands g c =
+    let a = g.D.Shelf.told c.args.depot.now in
+    let store = c.args.store.now in
+    let fault = c.in_err-copy.field-0.0 in
+    let most = c.args.self.now.options.checkpoint in
+    err_is c.from_residual-in_err-copy.result fault (λ (r : Result Turn CarryFault). IfErr r (Stands most store a a))
+    c.from_residual-in_err-copy.ensures.1 (λ _. here_each (KeepsStanding most store) a (λ h. stands_here most store h))
+
+pub returns-in_err-comparison-clause-stands : goal.returns-in_err-comparison-clause-stands
+returns-in_err-comparison-clause-stands g c =
+    let a = g.D.Shelf.told c.args.depot.now in
+    let b = g.D.Shelf.told c.begin_comparing.new.depot in
+    let fault = c.in_err-comparison.field-0.0 in
+    let most = c.args.self.now.options.checkpoint in
+    err_is c.from_residual.result fault (λ (r : Result Turn CarryFault). IfErr r (Stands most c.args.store.now a b)) c.from_residual.ensures.1
+    (λ _. (c.in_err-comparison.ensures.works most).each)
+
+pub returns-in_ok-comparison-clause-stands : goal.returns-in_ok-comparison-clause-stands
+returns-in_ok-comparison-clause-stands g c =
+    let store = c.args.store.now in
+    let middle = c.begin_comparing.new.store in
+    let a = g.D.Shelf.told c.args.depot.now in
+    let b = g.D.Shelf.told c.begin_comparing.new.depot in
+    let d = g.D.Shelf.told c.compare.new.depot in
+    let most = c.args.self.now.options.checkpoint in
+    let rest = read_rest store middle c.begin_comparing.ensures.read in
+    IfErr-weaker c.compare.result (Stands most middle b d) (Stands most store a d)
+    (λ fault stands work. stands_behind {T = Comparison} most store middle [] a b d (g.D.Shelf.faults c.args.depot.now)
+    (g.D.Shelf.faults c.begin_comparing.new.depot) c.in_ok-comparison.comparison rest.keys (c.in_ok-comparison.ensures.works most) (stands work))
+    c.compare.ensures.stands
+
+pub returns-in_ok-comparison-clause-more_stands : goal.returns-in_ok-comparison-clause-more_stands
+returns-in_ok-comparison-clause-more_stands g c is =
+    let store = c.args.store.now in
+    let middle = c.begin_comparing.new.store in
+    let most = c.args.self.now.options.checkpoint in
+    let rest = read_rest store middle c.begin_comparing.ensures.read in
+    stands_behind {T = Comparison} most store middle [] (g.D.Shelf.told c.args.depot.now) (g.D.Shelf.told c.begin_comparing.new.depot)
+    (g.D.Shelf.told c.compare.new.depot) (g.D.Shelf.faults c.args.depot.now) (g.D.Shelf.faults c.begin_comparing.new.depot)
+    c.in_ok-comparison.comparison rest.keys (c.in_ok-comparison.ensures.works most) (c.compare.ensures.more_stands is)

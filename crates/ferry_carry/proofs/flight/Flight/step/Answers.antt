@@ -1,0 +1,63 @@
+use Rattle.std.proofs.Common.{rules, ◌≡◌, [], List, ℕ, IfOk, sym, subst}
+use Rattle.ferry_carry.proofs.flight.Flight.step.Goals as goal
+use Rattle.ferry_carry.specs.Flight.{TurnLists, WorkFits, flown_from}
+use Rattle.ferry_carry.specs.declared.flight.Work.TheVariants.{Waiting, Copying, Comparing}
+use Rattle.ferry_repo.specs.Opening.{repo_view}
+
+pub returns-in-Waiting-clause-works : goal.returns-in-Waiting-clause-works
+returns-in-Waiting-clause-works g c =
+    λ fits.
+    let told = g.S.Shelf.told c.args.shelf.now in
+    let source = repo_view c.args.source.now in
+    let a = g.D.Shelf.told c.args.depot.now in
+    let store = c.args.store.now in
+    let flight = c.args.self.now in
+    let taken = c.take_first.ensures.works in
+    let is : flight.work ≡ Waiting = search rules in
+    let none : fits.added ≡ [] = subst (WorkFits told source a store flight.named flight.options fits.added) is fits.work in (
+      taken.0,
+      (
+        taken.1.0,
+        subst (λ (l : List (List ℕ)). IfOk c.take_first.result (TurnLists (g.S.Shelf.told c.take_first.new.shelf) (repo_view c.take_first.new.source)
+            (g.D.Shelf.told c.take_first.new.depot) c.take_first.new.store c.take_first.new.self a (flown_from told source flight)
+            (repo_view store.repo).keys l taken.0)) (sym none) taken.1.1,
+      ),
+    )
+
+pub copy-requires-clause-copied : goal.copy-requires-clause-copied
+copy-requires-clause-copied g c =
+    let fits = c.requires.flight in
+    let flight = c.args.self.now in
+    let is : flight.work ≡ Copying c.in-Copying.copy = search rules in
+    let work = subst (WorkFits (g.S.Shelf.told c.args.shelf.now) (repo_view c.args.source.now) (g.D.Shelf.told c.args.depot.now) c.args.store.now
+    flight.named flight.options fits.added) is fits.work in
+    (fits.added, work.3)
+
+pub returns-in-Copying-clause-works : goal.returns-in-Copying-clause-works
+returns-in-Copying-clause-works g c =
+    λ fits.
+    let flight = c.args.self.now in
+    let is : flight.work ≡ Copying c.in-Copying.copy = search rules in
+    let work = subst (WorkFits (g.S.Shelf.told c.args.shelf.now) (repo_view c.args.source.now) (g.D.Shelf.told c.args.depot.now) c.args.store.now
+    flight.named flight.options fits.added) is fits.work in
+    c.copy.ensures.works fits.added work.3
+
+pub returns-in-Comparing-clause-works : goal.returns-in-Comparing-clause-works
+returns-in-Comparing-clause-works g c =
+    λ fits.
+    let told = g.S.Shelf.told c.args.shelf.now in
+    let source = repo_view c.args.source.now in
+    let a = g.D.Shelf.told c.args.depot.now in
+    let store = c.args.store.now in
+    let flight = c.args.self.now in
+    let compared = c.compare.ensures.works in
+    let is : flight.work ≡ Comparing c.in-Comparing.comparison = search rules in
+    let work = subst (WorkFits told source a store flight.named flight.options fits.added) is fits.work in (
+      compared.0,
+      (
+        compared.1.0,
+        subst (λ (l : List (List ℕ)). IfOk c.compare.result (TurnLists (g.S.Shelf.told c.compare.new.shelf) (repo_view c.compare.new.source)
+            (g.D.Shelf.told c.compare.new.depot) c.compare.new.store c.compare.new.self a (flown_from told source flight) (repo_view store.repo).keys l
+            compared.0)) (sym work.3) compared.1.1,
+      ),
+    )

@@ -1,0 +1,84 @@
+-- Which contents are put: of those that are added one after another, those whose ids aren't live by what stands.
+use Rattle.std.specs.Prelude.{◌≡◌, ◌⊎◌, ◌<◌, ◌≤◌, ◌++◌, ℕ, suc, if◌then◌else◌, List, [], ◌∷◌, map, IsSome}
+use Rattle.std.specs.List.{AllByRecursion}
+use Rattle.std.specs.Str.{bytes_eq}
+use Rattle.ferry_base.specs.Limits.{zero_id}
+use Rattle.ferry_blob.specs.Blob.{OpensTo, content_id}
+use Rattle.ferry_mac.specs.declared.keys.Keys.{Keys}
+use Rattle.ferry_segment.specs.Entry.{LogEntry, PutEntry, DeleteEntry, CommitEntry}
+use Rattle.ferry_store.specs.Standing.{committed_of, entries_of, live_in}
+use Rattle.ferry_store.specs.State.{Written}
+
+-- ---- what is added
+
+-- what is added to a target: a piece of a content or of an item stream, or the record of an archive
+pub data Addition : Type 0 where
+  Piece : (content : List ℕ) → Addition
+  Record : (content : List ℕ) → Addition
+
+abbrev pub content_in : Addition → List ℕ
+content_in (Piece content) = content
+content_in (Record content) = content
+
+-- their contents
+abbrev pub contents_in : List Addition → List (List ℕ)
+contents_in added = map content_in added
+
+abbrev pub pieces : List (List ℕ) → List Addition
+pieces contents = map Piece contents
+
+-- ---- what is pending
+
+-- A number of pieces after which a transfer commits what it put is in its range.
+pub record IsCheckpoint (most : ℕ) : Type 0 where
+  pub some : 1 ≤ most
+  pub limit : most ≤ 1000000
+
+-- how many chunks are put or deleted behind the last commit of these entries, where so many are in front of them
+unfoldable pub pending_from : ℕ → List LogEntry → ℕ
+pending_from count [] = count
+pending_from count (CommitEntry ∷ rest) = pending_from 0 rest
+pending_from count (DeleteEntry id ∷ rest) = pending_from (suc count) rest
+pending_from count (PutEntry id blob ∷ rest) = pending_from (if bytes_eq id zero_id then count else suc count) rest
+
+abbrev pub pending_in : List LogEntry → ℕ
+pending_in entries = pending_from 0 entries
+
+-- below how many pending chunks it is put: a record may be one more than the pieces, as it ends an archive, which is committed then
+abbrev pub room_for : ℕ → Addition → ℕ
+room_for most (Piece content) = most
+room_for most (Record content) = suc most
+
+-- ---- what is put
+
+-- An id is the manifest's, or is live by these entries.
+abbrev pub IsLiveIn : List LogEntry → List ℕ → Type 0
+IsLiveIn entries id = (id ≡ zero_id) ⊎ IsSome (live_in id entries)
+
+-- A content is put behind these entries: its id isn't live by them, there is room for it, and its blob opens to it.
+pub record IsPutBehind (keys : Keys) (most : ℕ) (front : List LogEntry) (one : Addition) (blob : List ℕ) : Type 0 where
+  pub new : IsLiveIn front (content_id keys (content_in one)) → ⊥
+  pub room : pending_in front < room_for most one
+  pub opens : OpensTo keys (content_id keys (content_in one)) blob (content_in one)
+
+-- A content is added behind these entries: where its id is live nothing is put, and else the content is.
+abbrev pub IsAddedBehind : Keys → ℕ → List LogEntry → Addition → List LogEntry → Type 0
+IsAddedBehind keys most front one after = (IsLiveIn front (content_id keys (content_in one)) × (after ≡ front))
+    ⊎ ((blob : List ℕ) × (IsPutBehind keys most front one blob × (after ≡ front ++ PutEntry (content_id keys (content_in one)) blob ∷ [])))
+
+-- An entry puts no chunk: it is a commit, or puts a manifest.
+abbrev pub PutsNone : LogEntry → Type 0
+PutsNone CommitEntry = Unit {0}
+PutsNone (PutEntry id blob) = id ≡ zero_id
+PutsNone (DeleteEntry id) = ⊥
+
+-- Behind these entries, with commits and manifests between, these were added one after another, and nothing else.
+abbrev pub AddsAll : Keys → ℕ → List LogEntry → List Addition → List LogEntry → Type 0
+AddsAll keys most before [] after = (others : List LogEntry) × (AllByRecursion PutsNone others × (after ≡ before ++ others))
+AddsAll keys most before (one ∷ rest) after = (others : List LogEntry) × (AllByRecursion PutsNone others
+    × ((middle : List LogEntry) × (IsAddedBehind keys most (before ++ others) one middle × AddsAll keys most middle rest after)))
+
+-- Committed is what was, or what goes on from all that was written, with some added.
+abbrev pub GoesOn : Keys → ℕ → Written → List LogEntry → Type 0
+GoesOn keys most written entries = (entries ≡ committed_of written)
+    ⊎ ((added : List Addition) × AddsAll keys most (entries_of written) added entries)
