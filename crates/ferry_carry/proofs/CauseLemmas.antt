@@ -37,6 +37,7 @@ use Rattle.ferry_carry.specs.Gather.{chunks_of}
 use Rattle.ferry_carry.specs.Grow.{KeepsMost, KeepsNames}
 use Rattle.ferry_carry.specs.Naming.{copied_archive}
 use Rattle.ferry_carry.specs.Progress.{IsAllCopied}
+use Rattle.ferry_carry.specs.Puts.{Addition}
 use Rattle.ferry_carry.specs.Refusals.{DiffersThere, HasLargeRecord, LacksName, RefusesBegin, RefusesComparing, RefusesEnd, RefusesName, RefusesRecordText}
 use Rattle.ferry_carry.specs.Refusals.{RefusesNames, RefusesOne, RefusesStep, StopsPieces, StopsTarget, TakenAt, WhereTold, is_of_telling, is_target}
 use Rattle.ferry_carry.specs.Telling.{TellsNames}
@@ -200,7 +201,7 @@ name_refused {T} from other a b c E store middle now name given (Err fault) same
 -- ---- the end of an archive
 
 -- the record of an archive all of whose items were copied isn't put
-pub record_refused : (from : Origin) (heard : Option Told) (named : ArchiveRef) (store : Store) (copy : Copy) (added : List (List ℕ)) (fault : CarryFault)
+pub record_refused : (from : Origin) (heard : Option Told) (named : ArchiveRef) (store : Store) (copy : Copy) (added : List Addition) (fault : CarryFault)
     → IsReady copy → IsAllCopied from named heard store copy added
     → RefusesRecordText (repo_view store.repo).keys (copied_archive (archive_view copy.archive) copy.block (map (λ (chunk : ChunkRef). chunk.id)
     (copy.stream.chunks.items ++ chunks_of (repo_view store.repo).keys (cut copy.stream.cutter.block copy.stream.cutter.piece)))) fault

@@ -1,8 +1,8 @@
 -- Lemmas on specs/Copying.antt: the contents of an item, written one behind another, and the item that is written for it.
-use Rattle.std.proofs.Common.{◌≡◌, ◌≤◌, ◌<◌, ◌+◌, ℕ, Bool, false, List, [], ◌∷◌, ◌++◌, Option, Some, None, Ok, Err, All, IfSome, length, take, get_or}
-use Rattle.std.proofs.Common.{refl, sym, ◌∙◌, ap, subst, arith}
-use Rattle.std.proofs.lemmas.List.{append-nil, append_assoc, take_all, take_more}
-use Rattle.std.proofs.lemmas.List.Elements.{All-head, All-tail}
+use Rattle.std.proofs.Common.{◌≡◌, ◌≤◌, ◌<◌, ◌+◌, ℕ, inl, inr, Bool, false, List, [], ◌∷◌, ◌++◌, Option, Some, None, Ok, Err, All, IfSome}
+use Rattle.std.proofs.Common.{length, take, drop, get_or, refl, sym, ◌∙◌, ap, subst, arith}
+use Rattle.std.proofs.lemmas.List.{append-nil, append_assoc, take_all, take_more, take-append-drop}
+use Rattle.std.proofs.lemmas.List.Elements.{All-append, All-head, All-tail}
 use Rattle.std.proofs.lemmas.List.Folds.{concat-append}
 use Rattle.std.specs.List.{AllByRecursion, concat}
 use Rattle.ferry_base.specs.Limits.{content_limit}
@@ -22,12 +22,12 @@ use Rattle.ferry_repo.proofs.ContentLemmas.{contents_then}
 use Rattle.ferry_repo.specs.Archives.{HoldsContent}
 use Rattle.ferry_repo.specs.Opening.{RepoState}
 use Rattle.ferry_repo.specs.Whole.{ContentsCome, HoldsJoined}
-use Rattle.ferry_carry.proofs.PieceLemmas.{chunks_more}
+use Rattle.ferry_carry.proofs.PieceLemmas.{begins_nothing, begins_written, chunks_more, hand_fed}
 use Rattle.ferry_carry.proofs.WholeLemmas.{joined_concat}
-use Rattle.ferry_carry.specs.Copying.{CopiesContent, WritesContent, WritesContents}
+use Rattle.ferry_carry.specs.Copying.{BeginsChunk, BeginsContent, BeginsContents, CopiesContent, WritesContent, WritesContents}
 use Rattle.ferry_carry.specs.Fault.{target_failed}
 use Rattle.ferry_carry.specs.Gather.{Gathers, KeepsStanding, chunks_of}
-use Rattle.ferry_carry.specs.Piece.{WritesOn}
+use Rattle.ferry_carry.specs.Piece.{BeginsOn, WritesOn}
 use Rattle.ferry_carry.specs.Puts.{Addition}
 use Rattle.ferry_carry.specs.Work.{Works}
 use Rattle.ferry_carry.specs.declared.fault.CarryFault.{CarryFault}
@@ -80,6 +80,21 @@ concat_more : (contents : List (List ℕ)) (content : List ℕ) → concat conte
 concat_more contents content =
     sym (concat-append contents (content ∷ []) ∙ ap (λ (bytes : List ℕ). concat contents ++ bytes) (append-nil content))
 
+-- one content more comes
+come_more : (told later : Option Told) (source after : RepoState) (refs : List ChunkRef) (place : ℕ) (d : ChunkRef) (contents : List (List ℕ))
+    (content : List ℕ) → heard later ≡ heard told → after ≡ source → place < length refs
+    → IfSome told (λ t. ContentsCome (told_files t) source.log source.keys (take place refs) contents None)
+    → IfSome later (λ t. HoldsContent (told_files t) after.log after.keys (get_or refs place d) content)
+    → IfSome told (λ t. ContentsCome (told_files t) source.log source.keys (take (place + 1) refs) (contents ++ content ∷ []) None)
+come_more told later source after refs place d contents content alike kept lt come comes =
+    told_with told told (λ f. ContentsCome f source.log source.keys (take place refs) contents None)
+    (λ f. HoldsContent f source.log source.keys (get_or refs place d) content)
+    (λ f. ContentsCome f source.log source.keys (take (place + 1) refs) (contents ++ content ∷ []) None) refl
+    (λ f first holds.
+    subst (λ (cs : List ChunkRef). ContentsCome f source.log source.keys cs (contents ++ content ∷ []) None) (sym (take_more refs place d lt))
+    (contents_then f source.log source.keys (take place refs) (get_or refs place d ∷ []) contents (content ∷ []) None first (holds, tt))) come
+    (at_first told later source after (λ r f. HoldsContent f r.log r.keys (get_or refs place d) content) alike kept comes)
+
 -- one content more
 pub contents_written : (told later : Option Told) (source after : RepoState) (keys keys_now : Keys) (refs : List ChunkRef) (place : ℕ) (d : ChunkRef)
     (cutter middle now : Cutting) (chunks chunks_middle chunks_now : List ChunkRef) (some more : List (List ℕ)) → heard later ≡ heard told
@@ -90,13 +105,7 @@ pub contents_written : (told later : Option Told) (source after : RepoState) (ke
 contents_written told later source after keys keys_now refs place d cutter middle now chunks chunks_middle chunks_now some more alike kept same lt p
     q = record {
       contents = p.contents ++ q.content ∷ [];
-      come = told_with told told (λ f. ContentsCome f source.log source.keys (take place refs) p.contents None)
-          (λ f. HoldsContent f source.log source.keys (get_or refs place d) q.content)
-          (λ f. ContentsCome f source.log source.keys (take (place + 1) refs) (p.contents ++ q.content ∷ []) None) refl
-          (λ f come holds.
-          subst (λ (cs : List ChunkRef). ContentsCome f source.log source.keys cs (p.contents ++ q.content ∷ []) None) (sym (take_more refs place d lt))
-          (contents_then f source.log source.keys (take place refs) (get_or refs place d ∷ []) p.contents (q.content ∷ []) None come (holds, tt))) p.come
-          (at_first told later source after (λ r f. HoldsContent f r.log r.keys (get_or refs place d) q.content) alike kept q.comes);
+      come = come_more told later source after refs place d p.contents q.content alike kept lt p.come q.comes;
       writes = subst (λ (bytes : List ℕ). WritesOn keys cutter chunks bytes (some ++ more) now chunks_now) (concat_more p.contents q.content)
           (writes_then keys keys_now cutter middle now chunks chunks_middle chunks_now (concat p.contents) q.content some more same p.writes q.writes);
     }
@@ -108,6 +117,79 @@ pub contents_all : (told : Option Told) (source : RepoState) (keys : Keys) (refs
 contents_all told source keys refs place cutter now chunks chunks_now more le p =
     subst (λ (cs : List ChunkRef). WritesContents told source keys cs cutter chunks more now chunks_now) (take_all place refs le) p
 
+-- ---- as far as it came
+
+-- of the first contents all, and of a further one these
+begins_behind : (keys : Keys) (cutter middle : Cutting) (chunks chunks_middle : List ChunkRef) (bytes others : List ℕ) (some more : List (List ℕ))
+    → length cutter.piece < cutter.block → WritesOn keys cutter chunks bytes some middle chunks_middle → BeginsOn middle others more
+    → BeginsOn cutter (bytes ++ others) (some ++ more)
+begins_behind keys cutter middle chunks chunks_middle bytes others some more room writes begins =
+    let first : IsFed cutter.block (cutter.piece ++ bytes) some middle.piece = writes.fed cutter.piece [] (hand_fed cutter (omega (arith, room))) in
+    record {
+      rest = begins.rest;
+      joined = ap (λ (b : List ℕ). b ++ begins.rest) (concat-append some more) ∙ (append_assoc (concat some) (concat more) begins.rest
+          ∙ (ap (λ (b : List ℕ). concat some ++ b) begins.joined ∙ (sym (append_assoc (concat some) middle.piece others)
+          ∙ (ap (λ (b : List ℕ). b ++ others) first.joined ∙ append_assoc cutter.piece bytes others))));
+      whole = All-append (λ (one : List ℕ). length one ≡ cutter.block) some more first.whole
+          (subst (λ (block : ℕ). All (λ (one : List ℕ). length one ≡ block) more) writes.block begins.whole);
+    }
+
+pub contents_begun : (told : Option Told) (source : RepoState) (refs : List ChunkRef) (cutter : Cutting) → BeginsContents told source refs cutter []
+contents_begun told source refs cutter = record {
+  first = [];
+  rest = refs;
+  split = refl;
+  contents = [];
+  come = told_any told (λ f. ContentsCome f source.log source.keys [] [] None) (λ f. tt);
+  full = begins_nothing cutter [];
+}
+
+-- all contents were written, as far as they are
+pub contents_full : (told : Option Told) (source : RepoState) (keys : Keys) (refs : List ChunkRef) (cutter now : Cutting) (chunks chunks_now : List ChunkRef)
+    (more : List (List ℕ)) → length cutter.piece < cutter.block → WritesContents told source keys refs cutter chunks more now chunks_now
+    → BeginsContents told source refs cutter more
+contents_full told source keys refs cutter now chunks chunks_now more room wrote = record {
+  first = refs;
+  rest = [];
+  split = sym (append-nil refs);
+  contents = wrote.contents;
+  come = wrote.come;
+  full = begins_written keys cutter chunks (concat wrote.contents) more now chunks_now room wrote.writes;
+}
+
+-- the first contents were written, and of the next one so much
+pub contents_behind : (told later : Option Told) (source after : RepoState) (keys : Keys) (refs : List ChunkRef) (place : ℕ) (d : ChunkRef)
+    (cutter middle : Cutting) (chunks chunks_middle : List ChunkRef) (some more : List (List ℕ)) → heard later ≡ heard told
+    → after ≡ source → place < length refs → length cutter.piece < cutter.block
+    → WritesContents told source keys (take place refs) cutter chunks some middle chunks_middle
+    → BeginsChunk later after (get_or refs place d) middle more → BeginsContents told source refs cutter (some ++ more)
+contents_behind told later source after keys refs place d cutter middle chunks chunks_middle some more alike kept lt room wrote (inl none) =
+    subst (BeginsContents told source refs cutter) (sym (append-nil some) ∙ ap (λ (ps : List (List ℕ)). some ++ ps) (sym none)) (record {
+      first = take place refs;
+      rest = drop place refs;
+      split = sym (take-append-drop place refs);
+      contents = wrote.contents;
+      come = wrote.come;
+      full = begins_written keys cutter chunks (concat wrote.contents) some middle chunks_middle room wrote.writes;
+    })
+contents_behind told later source after keys refs place d cutter middle chunks chunks_middle some more alike kept lt room wrote (inr begun) = record {
+  first = take (place + 1) refs;
+  rest = drop (place + 1) refs;
+  split = sym (take-append-drop (place + 1) refs);
+  contents = wrote.contents ++ begun.0 ∷ [];
+  come = come_more told later source after refs place d wrote.contents begun.0 alike kept lt wrote.come begun.1.0;
+  full = subst (λ (bytes : List ℕ). BeginsOn cutter bytes (some ++ more)) (concat_more wrote.contents begun.0)
+      (begins_behind keys cutter middle chunks chunks_middle (concat wrote.contents) begun.0 some more room wrote.writes begun.1.1);
+}
+
+-- the same of another word for what is in hand
+pub contents_from : (told : Option Told) (source : RepoState) (refs : List ChunkRef) (block : ℕ) (cutter : Cutting) (more : List (List ℕ))
+    → cutter.block ≡ block → cutter.piece ≡ [] → BeginsContents told source refs cutter more
+    → BeginsContents told source refs (record { block = block; piece = [] }) more
+contents_from told source refs block cutter more is empty begun =
+    subst (λ (piece : List ℕ). BeginsContents told source refs (record { block = block; piece = piece }) more) empty
+    (subst (λ (n : ℕ). BeginsContents told source refs (record { block = n; piece = cutter.piece }) more) is begun)
+
 -- ---- CopiesContent
 
 -- the pieces that became whole and those of what was left are the cut of all
@@ -118,6 +200,26 @@ content_cut keys cutter now chunks chunks_now content some least empty writes =
     subst (λ (piece : List ℕ). IsFed cutter.block [] [] piece) (sym empty) (fed_nothing cutter.block) in
     let ended : IsFed cutter.block content some now.piece = writes.fed [] [] begun in
     fed_cut cutter.block content now.piece some least ended ∙ ap (λ (block : ℕ). some ++ cut block now.piece) (sym writes.block)
+
+-- the content that chunks are
+joined_holds : (told : Option Told) (source : RepoState) (refs : List ChunkRef) (contents : List (List ℕ))
+    → IfSome told (λ t. ContentsCome (told_files t) source.log source.keys refs contents None)
+    → IfSome told (λ t. HoldsJoined (told_files t) source.log source.keys (Some refs) (Some (concat contents)))
+joined_holds told source refs contents come =
+    told_then told (λ f. ContentsCome f source.log source.keys refs contents None)
+    (λ f. HoldsJoined f source.log source.keys (Some refs) (Some (concat contents))) (λ f c. (contents, c, sym (joined_concat contents))) come
+
+-- the contents of chunks were written, and then what was left, as far as that came: these are pieces of the content that they are, and all
+pub content_whole : (told : Option Told) (source : RepoState) (block : ℕ) (keys : Keys) (refs : List ChunkRef) (cutter now : Cutting)
+    (chunks chunks_now : List ChunkRef) (some all : List (List ℕ)) → 1 ≤ block → cutter.block ≡ block → cutter.piece ≡ []
+    → all ≡ some ++ cut now.block now.piece → WritesContents told source keys refs cutter chunks some now chunks_now
+    → BeginsContent told source block (Some refs) all
+content_whole told source block keys refs cutter now chunks chunks_now some all least is empty pieces wrote =
+    let content = concat wrote.contents in
+    let whole : some ++ cut now.block now.piece ≡ cut block content =
+    sym (content_cut keys cutter now chunks chunks_now content some (subst (λ (n : ℕ). 1 ≤ n) (sym is) least) empty wrote.writes)
+    ∙ ap (λ (n : ℕ). cut n content) is in
+    inr (content, (pieces ∙ whole, joined_holds told source refs wrote.contents wrote.come))
 
 -- the contents of chunks were written, and then what was left: that is the content that they are
 pub content_copied : (told : Option Told) (source : RepoState) (block : ℕ) (keys keys_now : Keys) (refs : List ChunkRef) (cutter now : Cutting)
@@ -135,10 +237,7 @@ content_copied told source block keys keys_now refs cutter now chunks chunks_now
     ends ∙ (ap (λ (k : Keys). chunks_now ++ chunks_of k last) same
     ∙ (ap (λ (cs : List ChunkRef). cs ++ chunks_of keys last) wrote.writes.chunks_are
     ∙ (chunks_more keys chunks some last ∙ ap (λ (cs : List ChunkRef). cs ++ chunks_of keys (some ++ last)) none))) in
-    let holds : IfSome told (λ t. HoldsJoined (told_files t) source.log source.keys (Some refs) (Some content)) =
-    told_then told (λ f. ContentsCome f source.log source.keys refs wrote.contents None)
-    (λ f. HoldsJoined f source.log source.keys (Some refs) (Some content)) (λ f come. (wrote.contents, come, sym (joined_concat wrote.contents)))
-    wrote.come in
+    let holds = joined_holds told source refs wrote.contents wrote.come in
     (content, (pieces, (made ∙ ap (chunks_of keys) pieces, (fits, holds))))
 
 -- ---- the item that is written
@@ -184,8 +283,8 @@ copied_packable told source block keys item copied more least most packable copi
 -- ---- a fault behind what was done
 
 pub gathered_fault : {T U : Type 0} (most : ℕ) (store now : Store) (added : List Addition) (a b : Option Told) (n m : ℕ) (x : T) (fault : CarryFault)
-    → target_failed fault ≡ false → Works (KeepsStanding most store) (λ (_ : T). Gathers most store added now) a b n m (Ok x)
-    → Works (KeepsStanding most store) (λ (_ : U). Gathers most store added now) a b n m (Err fault)
+    → target_failed fault ≡ false → Works (KeepsStanding most store added) (λ (_ : T). Gathers most store added now) a b n m (Ok x)
+    → Works (KeepsStanding most store added) (λ (_ : U). Gathers most store added now) a b n m (Err fault)
 gathered_fault most store now added a b n m x fault still p = record {
   each = p.each;
   end = tt;

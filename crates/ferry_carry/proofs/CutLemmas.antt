@@ -17,7 +17,7 @@ use Rattle.ferry_carry.specs.Grow.{IsNamedBy, KeepsNames}
 pub among_none : (name : List ℕ) → IsAmong [] name → ⊥
 among_none name among = let none : slice_get [] among.0 ≡ Some name = among.1 in let no : ⊥ = cc in no
 
-among_one : (x name : List ℕ) → IsAmong (x ∷ []) name → x ≡ name
+pub among_one : (x name : List ℕ) → IsAmong (x ∷ []) name → x ≡ name
 among_one x name (zero, is) = let same : Some x ≡ Some name = is in let e : x ≡ name = cc in e
 among_one x name (suc place, is) = absurd (among_none name (place, is))
 

@@ -140,7 +140,7 @@ read_gathers most store repo h g same reads counts fits =
       fits_now = read_fits counts store repo h same repo_fits fits;
       moved = moved_here (repo_view store.repo).keys fits.written;
       puts = adds_here (repo_view store.repo).keys most (entries_of fits.written);
-      committed = goes_same (repo_view store.repo).keys most fits.written;
+      committed = goes_same (repo_view store.repo).keys most [] fits.written;
       brings = λ scope apart all within. (subst (λ (r : RepoState). HoldsWithin scope (files_now h) r) (sym same) within, tt);
     }) reads.1
 
@@ -157,11 +157,12 @@ fits_read {T} store repo a b result same kept repo_fits fits = by_end b repo_fit
 -- such a call as a body of a flight
 pub works_read : {T U : Type 0} (most : ℕ) (store : Store) (repo : Repo) (a b : Option Told) (n m : ℕ) (x : T) (y : U) → repo_view repo ≡ repo_view store.repo
     → KeepsTold {F = CompareFault} other_failed a b (Ok x) → m ≡ n → IfSome b (λ t. FitsRepo (told_files t) (repo_view repo) (cached_in repo))
-    → Works (KeepsStanding most store) (λ (_ : U). Gathers most store [] (with_repo store repo)) a b n m (Ok y)
+    → Works (KeepsStanding most store []) (λ (_ : U). Gathers most store [] (with_repo store repo)) a b n m (Ok y)
 works_read {T} {U} most store repo a b n m x y same kept caused repo_fits =
     let reads : Between a b (λ h g. g ≡ h) = same_told {T = T} {F = CompareFault} other_failed a b (Ok x) kept in
     record {
-      each = between_map a b (λ h g. g ≡ h) (KeepsStanding most store) (λ h g e. subst (KeepsStanding most store h) (sym e) (stands_here most store h)) reads;
+      each = between_map a b (λ h g. g ≡ h) (KeepsStanding most store [])
+          (λ h g e. subst (KeepsStanding most store [] h) (sym e) (stands_here most store [] h)) reads;
       end = between_map a b (λ h g. (g ≡ h) × FitsRepo (files_now g) (repo_view repo) (cached_in repo))
           (λ h g. AllDone h g × Gathers most store [] (with_repo store repo) h g)
           (λ h g e. (subst (AllDone h) (sym e.0) (done_here h), read_gathers most store repo h g same e))
@@ -172,11 +173,12 @@ works_read {T} {U} most store repo a b n m x y same kept caused repo_fits =
 
 pub works_unread : {U : Type 0} (T : Type 0) (most : ℕ) (store now : Store) (a b : Option Told) (n m : ℕ) (fault : CompareFault)
     → KeepsTold {T = T} other_failed a b (Err fault) → HasCause {T = T} other_failed n m (Err fault)
-    → Works (KeepsStanding most store) (λ (_ : U). Gathers most store [] now) a b n m (Err (compare_fault fault))
+    → Works (KeepsStanding most store []) (λ (_ : U). Gathers most store [] now) a b n m (Err (compare_fault fault))
 works_unread {U} T most store now a b n m fault kept caused =
     let reads : Between a b (λ h g. g ≡ h) = same_told {T = T} {F = CompareFault} other_failed a b (Err fault) kept in
     record {
-      each = between_map a b (λ h g. g ≡ h) (KeepsStanding most store) (λ h g e. subst (KeepsStanding most store h) (sym e) (stands_here most store h)) reads;
+      each = between_map a b (λ h g. g ≡ h) (KeepsStanding most store [])
+          (λ h g e. subst (KeepsStanding most store [] h) (sym e) (stands_here most store [] h)) reads;
       end = tt;
       ends = subst (λ (d : Bool). FailedWhere d a b) (sym (compared_target fault)) (keeps_end {T = T} {F = CompareFault} other_failed a b (Err fault) kept);
       cause = subst (λ (d : Bool). RoseWhere d n m) (sym (compared_target fault)) caused;
@@ -205,10 +207,6 @@ read_rest store now reads = record {
   accepted = ap (λ (s : Store). accepted_in s) reads.rest ∙ ap (λ (r : RepoState). accepted_or r.manifest store.accepted) reads.repo;
 }
 
-pub read_unspent : (store now : Store) → ReadsStore store now → IsUnspent store → IsUnspent now
-read_unspent store now reads unspent = subst IsUnspent (sym reads.rest)
-    (record { session = unspent.session; counter = unspent.counter; itself = unspent.itself })
-
 pub rest_packable : (store now : Store) → KeepsRest store now → IsPackable (accepted_in store) → IsPackable (accepted_in now)
 rest_packable store now rest packable = subst IsPackable (sym rest.accepted) packable
 
@@ -216,14 +214,6 @@ pub rest_accepts : (store now : Store) → KeepsRest store now → AcceptsMore s
 rest_accepts store now rest accepts =
     subst (λ (m : ManifestText). KeepsNames m (accepted_in now)) (sym rest.manifest)
     (subst (KeepsNames (repo_view store.repo).manifest) (sym rest.accepted) accepts)
-
-pub rest_committed : (store now : Store) (name : List ℕ) → KeepsRest store now → IsCommitted store name → IsCommitted now name
-rest_committed store now name rest committed entry is =
-    ap (λ (m : ManifestText). archive_named name m.archives) rest.manifest
-    ∙ committed entry (sym (ap (λ (m : ManifestText). archive_named name m.archives) rest.accepted) ∙ is)
-
-pub rest_settled : (store now : Store) → KeepsRest store now → IsSettled store → IsSettled now
-rest_settled store now rest settled = rest.accepted ∙ (settled ∙ sym rest.manifest)
 
 pub rest_there : (store now : Store) (name : List ℕ) → KeepsRest store now → IsSome (archive_named name (repo_view store.repo).manifest.archives)
     → IsSome (archive_named name (repo_view now.repo).manifest.archives)
@@ -295,11 +285,11 @@ same_grows from name store now h g accepts rest pending there same gathers count
 
 pub same_carried : {T : Type 0} (from : Origin) (name : List ℕ) (store now : Store) (a b : Option Told) (n m : ℕ) (x : T) → AcceptsMore store
     → KeepsRest store now → now.pending ≡ 0 → IsSome (archive_named name (repo_view store.repo).manifest.archives)
-    → IsSame from a (repo_view store.repo) name → Works (KeepsStanding from.most store) (λ (_ : T). Gathers from.most store [] now) a b n m (Ok x)
-    → Works (KeepsGrowing from (name ∷ []) store) (λ (_ : T). Grows from (name ∷ []) [] store now) a b n m (Ok x)
+    → IsSame from a (repo_view store.repo) name → Works (KeepsStanding from.most store []) (λ (_ : T). Gathers from.most store [] now) a b n m (Ok x)
+    → Works (KeepsGrowing from (name ∷ []) store []) (λ (_ : T). Grows from (name ∷ []) [] store now) a b n m (Ok x)
 same_carried {T} from name store now a b n m x accepts rest pending there same p = record {
-  each = between_map a b (KeepsStanding from.most store) (KeepsGrowing from (name ∷ []) store)
-      (λ h g e. growing_by from (name ∷ []) (accepted_in store) store h g accepts e) p.each;
+  each = between_map a b (KeepsStanding from.most store []) (KeepsGrowing from (name ∷ []) store [])
+      (λ h g e. growing_by from (name ∷ []) (accepted_in store) store [] h g accepts e) p.each;
   end = between_map a b
       (λ h g. IfSome from.files (λ there. (whole : WholeArchive)
       × (SaysIn there from.repo name whole × SaysIn (files_now h) (repo_view store.repo) name whole)) × (AllDone h g × Gathers from.most store [] now h g))

@@ -1,25 +1,38 @@
 -- Turns of a flight, one after another.
 use Rattle.std.proofs.Common.{◌≡◌, ◌⊎◌, inl, inr, Bool, true, false, ℕ, List, [], ◌∷◌, ◌++◌}
-use Rattle.std.proofs.Common.{Option, Some, None, Result, Ok, Err, IfOk, IfSome, IsErrAnd, IsSome, OnOk}
+use Rattle.std.proofs.Common.{Option, Some, None, Result, Ok, Err, IfErr, IfOk, IfSome, IsErrAnd, IsSome, OnOk}
 use Rattle.std.proofs.Common.{refl, sym, ◌∙◌, ap, subst}
+use Rattle.std.proofs.lemmas.List.{append-nil, append_assoc}
 use Rattle.ferry_disk.specs.Act.{History, files_now}
-use Rattle.ferry_disk.specs.Device.{Heard, Told, heard, heard_of}
+use Rattle.ferry_disk.specs.Device.{Heard, Told, heard, heard_of, told_files}
+use Rattle.ferry_disk.specs.Files.{Files}
 use Rattle.ferry_disk.specs.Moments.{Between}
 use Rattle.ferry_mac.specs.declared.keys.Keys.{Keys}
+use Rattle.ferry_manifest.specs.Manifest.Text.{ManifestText}
+use Rattle.ferry_manifest.specs.Record.Text.{archive_view}
 use Rattle.ferry_manifest.specs.declared.manifest.ArchiveRef.{ArchiveRef}
 use Rattle.ferry_repo.specs.Archives.{archive_named}
 use Rattle.ferry_repo.specs.Opening.{RepoState, repo_view}
+use Rattle.ferry_repo.specs.Walk.{walk_view}
+use Rattle.ferry_store.specs.Commit.{accepted_in}
 use Rattle.ferry_store.specs.declared.store.Store.{Store}
-use Rattle.ferry_carry.proofs.WorkLemmas.{carried_by_then, carried_from, carried_from_err, err_is, works_as, works_front}
-use Rattle.ferry_carry.specs.Carrying.{Origin, origin}
+use Rattle.ferry_carry.proofs.CarryLemmas.{if_some}
 use Rattle.ferry_carry.proofs.FlightLemmas.{same_carried}
-use Rattle.ferry_carry.specs.Flight.{Flies, IsSame, ListsDone, TurnLists, carried_by}
+use Rattle.ferry_carry.proofs.ReportLemmas.{tells_named}
+use Rattle.ferry_carry.proofs.StandLemmas.{growing_behind, stands_behind}
+use Rattle.ferry_carry.proofs.WorkLemmas.{carried_by_then, carried_from, carried_from_err, carried_none, err_is, works_as, works_front}
+use Rattle.ferry_carry.proofs.GrowLemmas.{growing_here}
+use Rattle.ferry_carry.proofs.PutsLemmas.{front_all}
+use Rattle.ferry_carry.specs.Carrying.{Origin, origin}
+use Rattle.ferry_carry.specs.Counting.{CountsOf, nothing_carried}
+use Rattle.ferry_carry.specs.Flight.{BeginsDone, Flies, FlightFits, IsSame, ListsDone, TakesAll, TakesTurn, TurnLists, TurnStands, WorkFits, carried_by}
+use Rattle.ferry_carry.specs.Flight.{flown_from}
 use Rattle.ferry_carry.specs.Gather.{Gathers, KeepsRest, KeepsStanding}
 use Rattle.ferry_carry.specs.Grow.{AcceptsMore, Grows, KeepsGrowing}
-use Rattle.ferry_carry.specs.Fault.{target_failed}
-use Rattle.ferry_carry.specs.Listing.{ListsOne}
-use Rattle.ferry_carry.specs.Progress.{CopiesOn, IsCopiedSoFar}
-use Rattle.ferry_carry.specs.Puts.{Addition, pieces}
+use Rattle.ferry_carry.specs.Fault.{IsOfWork, target_failed}
+use Rattle.ferry_carry.specs.Listing.{BeginsArchive, BeginsName, BeginsOne, EndsItemsOf, ListsArchive, ListsItems, ListsOne}
+use Rattle.ferry_carry.specs.Progress.{CopiesOn, CopiesSoFar, IsCopiedSoFar}
+use Rattle.ferry_carry.specs.Puts.{Addition, put_bytes, put_count}
 use Rattle.ferry_carry.specs.Work.{Works}
 use Rattle.ferry_carry.specs.declared.copy.Copy.{Copy}
 use Rattle.ferry_carry.specs.declared.fault.CarryFault.TheVariants.{Memory, Taken}
@@ -27,6 +40,9 @@ use Rattle.ferry_carry.specs.declared.fault.CarryFault.{CarryFault}
 use Rattle.ferry_carry.specs.declared.flight.Flight.{Flight}
 use Rattle.ferry_carry.specs.declared.flight.Turn.{Turn}
 use Rattle.ferry_carry.specs.declared.flight.Turn.TheVariants.{More, Named, Present}
+use Rattle.ferry_carry.specs.declared.flight.Work.{Work}
+use Rattle.ferry_carry.specs.declared.flight.Work.TheVariants.{Waiting, Copying, Comparing}
+use Rattle.ferry_store.proofs.StepLemmas.{here_each}
 
 -- ---- a source
 
@@ -49,7 +65,7 @@ origin_kept told later source after block other most others alike kept same limi
 -- a turn behind others
 pub flown_then : (from other : Origin) (name given : List ℕ) (added more : List Addition) (store middle now : Store) (a b c : Option Told) (n m k : ℕ)
     (result : Result Turn CarryFault) → other ≡ from → given ≡ name
-    → Works {T = Unit {0}} (KeepsGrowing from (name ∷ []) store) (λ _. Grows from [] added store middle) a b n m (Ok tt)
+    → Works {T = Unit {0}} (KeepsGrowing from (name ∷ []) store added) (λ _. Grows from [] added store middle) a b n m (Ok tt)
     → Flies other given more middle now b c m k result → Flies from name (added ++ more) store now a c n k result
 flown_then from other name given added more store middle now a b c n m k result is called p q =
     carried_by_then {T = Unit {0}} {U = Turn} from [] (name ∷ []) (λ turn. carried_by turn name) added more store middle now a b c n m k tt result p
@@ -59,44 +75,45 @@ flown_then from other name given added more store middle now a b c n m k result 
 -- what a turn did, in the words of what follows
 pub flown_as : {U : Type 0} (from : Origin) (name : List ℕ) (some : List (List ℕ)) (added : List Addition) (store now : Store) (a b : Option Told) (n m : ℕ)
     (turn : Turn) (y : U) → carried_by turn name ≡ some → Flies from name added store now a b n m (Ok turn)
-    → Works (KeepsGrowing from (name ∷ []) store) (λ (_ : U). Grows from some added store now) a b n m (Ok y)
+    → Works (KeepsGrowing from (name ∷ []) store added) (λ (_ : U). Grows from some added store now) a b n m (Ok y)
 flown_as {U} from name some added store now a b n m turn y is p =
-    works_as (KeepsGrowing from (name ∷ []) store) (λ (t : Turn). Grows from (carried_by t name) added store now) (KeepsGrowing from (name ∷ []) store)
+    works_as (KeepsGrowing from (name ∷ []) store added) (λ (t : Turn). Grows from (carried_by t name) added store now)
+    (KeepsGrowing from (name ∷ []) store added)
     (λ (_ : U). Grows from some added store now) a b n m turn y (λ h g e. e)
     (λ h g e. subst (λ (l : List (List ℕ)). Grows from l added store now h g) is e) p
 
-pub flown_err : {U : Type 0} (from : Origin) (name : List ℕ) (some : List (List ℕ)) (added others : List Addition) (store now other : Store)
+pub flown_err : {U : Type 0} (from : Origin) (name : List ℕ) (some : List (List ℕ)) (added : List Addition) (store now other : Store)
     (a b : Option Told) (n m : ℕ) (fault : CarryFault) → Flies from name added store now a b n m (Err fault)
-    → Works (KeepsGrowing from (name ∷ []) store) (λ (_ : U). Grows from some others store other) a b n m (Err fault)
-flown_err {U} from name some added others store now other a b n m fault p =
-    works_front (KeepsGrowing from (name ∷ []) store) (λ (t : Turn). Grows from (carried_by t name) added store now) (KeepsGrowing from (name ∷ []) store)
-    (λ (_ : U). Grows from some others store other) a b n m fault (λ h g e. e) p
+    → Works (KeepsGrowing from (name ∷ []) store added) (λ (_ : U). Grows from some added store other) a b n m (Err fault)
+flown_err {U} from name some added store now other a b n m fault p =
+    works_front (KeepsGrowing from (name ∷ []) store added) (λ (t : Turn). Grows from (carried_by t name) added store now)
+    (KeepsGrowing from (name ∷ []) store added) (λ (_ : U). Grows from some added store other) a b n m fault (λ h g e. e) p
 
 -- a body that carried the archive of a name, or none, as a turn
 pub flies_as : {T : Type 0} (from : Origin) (name : List ℕ) (some : List (List ℕ)) (added : List Addition) (store now : Store) (a b : Option Told) (n m : ℕ)
     (x : T) (turn : Turn) → some ≡ carried_by turn name
-    → Works (KeepsGrowing from (name ∷ []) store) (λ (_ : T). Grows from some added store now) a b n m (Ok x)
+    → Works (KeepsGrowing from (name ∷ []) store added) (λ (_ : T). Grows from some added store now) a b n m (Ok x)
     → Flies from name added store now a b n m (Ok turn)
 flies_as {T} from name some added store now a b n m x turn is p =
-    works_as (KeepsGrowing from (name ∷ []) store) (λ (_ : T). Grows from some added store now) (KeepsGrowing from (name ∷ []) store)
+    works_as (KeepsGrowing from (name ∷ []) store added) (λ (_ : T). Grows from some added store now) (KeepsGrowing from (name ∷ []) store added)
     (λ (t : Turn). Grows from (carried_by t name) added store now) a b n m x turn (λ h g e. e)
     (λ h g e. subst (λ (l : List (List ℕ)). Grows from l added store now h g) is e) p
 
-pub flies_err : {T : Type 0} (from : Origin) (name : List ℕ) (some : List (List ℕ)) (added others : List Addition) (store now other : Store)
+pub flies_err : {T : Type 0} (from : Origin) (name : List ℕ) (some : List (List ℕ)) (added : List Addition) (store now other : Store)
     (a b : Option Told) (n m : ℕ) (fault : CarryFault)
-    → Works (KeepsGrowing from (name ∷ []) store) (λ (_ : T). Grows from some added store now) a b n m (Err fault)
-    → Flies from name others store other a b n m (Err fault)
-flies_err {T} from name some added others store now other a b n m fault p =
-    works_front (KeepsGrowing from (name ∷ []) store) (λ (_ : T). Grows from some added store now) (KeepsGrowing from (name ∷ []) store)
-    (λ (t : Turn). Grows from (carried_by t name) others store other) a b n m fault (λ h g e. e) p
+    → Works (KeepsGrowing from (name ∷ []) store added) (λ (_ : T). Grows from some added store now) a b n m (Err fault)
+    → Flies from name added store other a b n m (Err fault)
+flies_err {T} from name some added store now other a b n m fault p =
+    works_front (KeepsGrowing from (name ∷ []) store added) (λ (_ : T). Grows from some added store now) (KeepsGrowing from (name ∷ []) store added)
+    (λ (t : Turn). Grows from (carried_by t name) added store other) a b n m fault (λ h g e. e) p
 
 -- an archive that was there, once nothing is pending
 pub present_flies : {T : Type 0} (from : Origin) (name : List ℕ) (store middle now : Store) (a b c : Option Told) (n m k : ℕ) (x : T)
     (result : Result Turn CarryFault) → AcceptsMore store → AcceptsMore middle → KeepsRest store middle → OnOk result (KeepsRest middle now)
     → OnOk result (now.pending ≡ 0) → IfOk result (λ turn. turn ≡ Present)
     → IsSome (archive_named name (repo_view middle.repo).manifest.archives) → IsSame from b (repo_view middle.repo) name
-    → Works (KeepsStanding from.most store) (λ (_ : T). Gathers from.most store [] middle) a b n m (Ok x)
-    → Works (KeepsStanding from.most middle) (λ (_ : Turn). Gathers from.most middle [] now) b c m k result → Flies from name [] store now a c n k result
+    → Works (KeepsStanding from.most store []) (λ (_ : T). Gathers from.most store [] middle) a b n m (Ok x)
+    → Works (KeepsStanding from.most middle []) (λ (_ : Turn). Gathers from.most middle [] now) b c m k result → Flies from name [] store now a c n k result
 present_flies {T} from name store middle now a b c n m k x (Ok turn) accepts accepts_middle rest rest_now pending is there same p q =
     carried_by_then {T = T} {U = Turn} from [] (name ∷ []) (λ t. carried_by t name) [] [] store middle now a b c n m k x (Ok turn)
     (carried_from {T = T} {U = T} from (name ∷ []) store middle [] a b n m x x accepts rest p)
@@ -105,13 +122,13 @@ present_flies {T} from name store middle now a b c n m k x (Ok turn) accepts acc
 present_flies {T} from name store middle now a b c n m k x (Err fault) accepts accepts_middle rest rest_now pending is there same p q =
     carried_by_then {T = T} {U = Turn} from [] (name ∷ []) (λ t. carried_by t name) [] [] store middle now a b c n m k x (Err fault)
     (carried_from {T = T} {U = T} from (name ∷ []) store middle [] a b n m x x accepts rest p)
-    (flies_err {T = Turn} from name [] [] [] middle now now b c m k fault
-    (carried_from_err {T = Turn} {U = Turn} from (name ∷ []) [] middle now now [] [] b c m k fault accepts_middle q))
+    (flies_err {T = Turn} from name [] [] middle now now b c m k fault
+    (carried_from_err {T = Turn} {U = Turn} from (name ∷ []) [] middle now now [] [] b c m k fault accepts_middle (front_all []) q))
 
 -- a turn behind a body that added contents
 pub flown_more : {T : Type 0} (told later : Option Told) (source after : RepoState) (block most : ℕ) (name : List ℕ) (store middle now : Store)
     (added more : List Addition) (a b c : Option Told) (n m k : ℕ) (x : T) (result : Result Turn CarryFault) → heard later ≡ heard told → after ≡ source
-    → AcceptsMore store → KeepsRest store middle → Works (KeepsStanding most store) (λ (_ : T). Gathers most store added middle) a b n m (Ok x)
+    → AcceptsMore store → KeepsRest store middle → Works (KeepsStanding most store added) (λ (_ : T). Gathers most store added middle) a b n m (Ok x)
     → Flies (origin later after block most) name more middle now b c m k result
     → Flies (origin told source block most) name (added ++ more) store now a c n k result
 flown_more {T} told later source after block most name store middle now added more a b c n m k x result alike kept accepts rest p q =
@@ -120,21 +137,13 @@ flown_more {T} told later source after block most name store middle now added mo
     (origin_kept told later source after block block most most alike kept refl refl) refl
     (carried_from {T = T} {U = Unit {0}} from (name ∷ []) store middle added a b n m x tt accepts rest p) q
 
--- a turn of a source that tells what it told
-pub flies_later : (told later : Option Told) (source after : RepoState) (block most : ℕ) (name : List ℕ) (added : List Addition) (store now : Store)
-    (a b : Option Told) (n m : ℕ) (result : Result Turn CarryFault) → heard later ≡ heard told → after ≡ source
-    → Flies (origin later after block most) name added store now a b n m result → Flies (origin told source block most) name added store now a b n m result
-flies_later told later source after block most name added store now a b n m result alike kept p =
-    subst (λ (f : Origin). Flies f name added store now a b n m result)
-    (origin_kept told later source after block block most most alike kept refl refl) p
-
 -- a body that added contents, and a fault behind it or in it
-pub flies_fault : {T : Type 0} (from : Origin) (name : List ℕ) (store now : Store) (added more : List Addition) (a b : Option Told) (n m : ℕ)
-    (fault : CarryFault) → AcceptsMore store → Works (KeepsStanding from.most store) (λ (_ : T). Gathers from.most store added now) a b n m (Err fault)
-    → Flies from name more store now a b n m (Err fault)
-flies_fault {T} from name store now added more a b n m fault accepts p =
-    flies_err {T = Turn} from name [] more more store now now a b n m fault
-    (carried_from_err {T = T} {U = Turn} from (name ∷ []) [] store now now added more a b n m fault accepts p)
+pub flies_fault : {T : Type 0} (from : Origin) (name : List ℕ) (store now : Store) (added : List Addition) (a b : Option Told) (n m : ℕ)
+    (fault : CarryFault) → AcceptsMore store → Works (KeepsStanding from.most store added) (λ (_ : T). Gathers from.most store added now) a b n m (Err fault)
+    → Flies from name added store now a b n m (Err fault)
+flies_fault {T} from name store now added a b n m fault accepts p =
+    flies_err {T = Turn} from name [] added store now now a b n m fault
+    (carried_from_err {T = T} {U = Turn} from (name ∷ []) [] store now now added added a b n m fault accepts (front_all added) p)
 
 -- that a name is taken is no fault of the target
 pub taken_still : (fault : CarryFault) (name : List ℕ) → (fault ≡ Taken name) ⊎ (fault ≡ Memory) → target_failed fault ≡ false
@@ -145,28 +154,33 @@ taken_still fault name (inr e) = ap target_failed e
 
 -- the same of a source by the length of the pieces that an archive on its way has, and by its checkpoint
 pub so_far_as : (told : Option Told) (source : RepoState) (block most : ℕ) (named : ArchiveRef) (heard : Option Told) (store : Store) (copy : Copy)
-    (added : List (List ℕ)) → IsCopiedSoFar (origin told source block most) named heard store copy added
+    (added : List Addition) → IsCopiedSoFar (origin told source block most) named heard store copy added
     → IsCopiedSoFar (origin told source copy.block copy.contents.checkpoint) named heard store copy added
 so_far_as told source block most named heard store copy added p =
     subst (λ (b : ℕ). IsCopiedSoFar (origin told source b copy.contents.checkpoint) named heard store copy added) p.0.block
     (subst (λ (l : ℕ). IsCopiedSoFar (origin told source block l) named heard store copy added) p.0.most p)
 
--- what a step did, in the words of such a source
+-- What a step did of an archive of an origin, which has a name.
+abbrev pub StepsOf : Origin → Option Told → Option Told → Store → Store → ArchiveRef → Copy → List Addition → List Addition → ℕ → ℕ
+    → Result Bool CarryFault → Type 0
+StepsOf from a b store now named copy added more n m result =
+    Works (KeepsStanding from.most store more) (λ (_ : Bool). Gathers from.most store more now) a b n m result
+    × ((archive_named named.name from.repo.manifest.archives ≡ Some named
+    → IfSome a (λ _. BeginsOne from (repo_view store.repo).keys named.name (added ++ more)))
+    × IfOk result (CopiesOn from named b now copy added more))
+
+-- the same, in the words of such a source
 pub stepped_as : (told : Option Told) (source : RepoState) (block most other others : ℕ) (named : ArchiveRef) (a b : Option Told) (store now : Store)
-    (copy : Copy) (added more : List (List ℕ)) (n m : ℕ) (result : Result Bool CarryFault) → other ≡ block → others ≡ most
-    → Works (KeepsStanding others store) (λ (_ : Bool). Gathers others store (pieces more) now) a b n m result
-    × IfOk result (CopiesOn (origin told source other others) named b now copy added more)
-    → Works (KeepsStanding most store) (λ (_ : Bool). Gathers most store (pieces more) now) a b n m result
-    × IfOk result (CopiesOn (origin told source block most) named b now copy added more)
+    (copy : Copy) (added more : List Addition) (n m : ℕ) (result : Result Bool CarryFault) → other ≡ block → others ≡ most
+    → StepsOf (origin told source other others) a b store now named copy added more n m result
+    → StepsOf (origin told source block most) a b store now named copy added more n m result
 stepped_as told source block most other others named a b store now copy added more n m result same limit p =
-    let IsSo : ℕ → ℕ → Type 0 = λ blocks limits.
-    Works (KeepsStanding limits store) (λ (_ : Bool). Gathers limits store (pieces more) now) a b n m result
-    × IfOk result (CopiesOn (origin told source blocks limits) named b now copy added more) in
-    subst (λ (l : ℕ). IsSo block l) limit (subst (λ (d : ℕ). IsSo d others) same p)
+    subst (λ (l : ℕ). StepsOf (origin told source block l) a b store now named copy added more n m result) limit
+    (subst (λ (d : ℕ). StepsOf (origin told source d others) a b store now named copy added more n m result) same p)
 
 -- of a source that tells what it told
 pub so_far_later : (told later : Option Told) (source after : RepoState) (block most : ℕ) (named : ArchiveRef) (heard_now : Option Told) (store : Store)
-    (copy : Copy) (added : List (List ℕ)) → heard later ≡ heard told → after ≡ source
+    (copy : Copy) (added : List Addition) → heard later ≡ heard told → after ≡ source
     → IsCopiedSoFar (origin told source block most) named heard_now store copy added
     → IsCopiedSoFar (origin later after block most) named heard_now store copy added
 so_far_later told later source after block most named heard_now store copy added alike kept p =
@@ -175,13 +189,8 @@ so_far_later told later source after block most named heard_now store copy added
 
 -- ---- what turns added
 
--- a refusal that was handed on, of a body of which more is said where it is `Ok`
-pub err_beside : {T : Type 0} (result : Result T CarryFault) (fault : CarryFault) (F : Result T CarryFault → Type 0) (P : T → Type 0)
-    → IsErrAnd result (λ y. y ≡ fault) → F (Err fault) → F result × IfOk result P
-err_beside {T} result fault F P e p = err_is result fault (λ (r : Result T CarryFault). F r × IfOk r P) e (p, tt)
-
 -- what is known where a target tells its files later is known where it told them before
-known_back : (P : Type 0) (E : History → History → Type 0) (a b : Option Told) → Between a b E → IfSome b (λ _. P) → IfSome a (λ _. P)
+pub known_back : (P : Type 0) (E : History → History → Type 0) (a b : Option Told) → Between a b E → IfSome b (λ _. P) → IfSome a (λ _. P)
 known_back P E None b between known = tt
 known_back P E (Some t) b between known = subst (λ (o : Option Told). IfSome o (λ _. P)) between.1 known
 
@@ -198,16 +207,16 @@ done_before from other keys others name added given false E a b between is same 
 
 -- the same of a turn
 turn_before : (told : Option Told) (source : RepoState) (target : Option Told) (store : Store) (flight : Flight) (from other : Origin) (keys others : Keys)
-    (added : List (List ℕ)) (more : List Addition) (turn : Turn) (E : History → History → Type 0) (a b : Option Told) → Between a b E → other ≡ from
+    (added more : List Addition) (turn : Turn) (E : History → History → Type 0) (a b : Option Told) → Between a b E → other ≡ from
     → others ≡ keys → TurnLists told source target store flight b other others added more turn
     → TurnLists told source target store flight a from keys added more turn
 turn_before told source target store flight from other keys others added more More E a b between is same lists = lists
 turn_before told source target store flight from other keys others added more Named E a b between is same lists =
-    done_before from other keys others flight.named.name (pieces added ++ more) (pieces added ++ more) true E a b between is same refl lists
+    (done_before from other keys others flight.named.name (added ++ more) (added ++ more) true E a b between is same refl lists.0, lists.1)
 turn_before told source target store flight from other keys others added more Present E a b between is same lists = lists
 
-pub turns_before : (told : Option Told) (source : RepoState) (target : Option Told) (store : Store) (flight : Flight) (from other : Origin)
-    (keys others : Keys) (added : List (List ℕ)) (more : List Addition) (result : Result Turn CarryFault) (E : History → History → Type 0)
+turns_before : (told : Option Told) (source : RepoState) (target : Option Told) (store : Store) (flight : Flight) (from other : Origin)
+    (keys others : Keys) (added more : List Addition) (result : Result Turn CarryFault) (E : History → History → Type 0)
     (a b : Option Told) → Between a b E → other ≡ from → others ≡ keys
     → IfOk result (TurnLists told source target store flight b other others added more)
     → IfOk result (TurnLists told source target store flight a from keys added more)
@@ -215,10 +224,318 @@ turns_before told source target store flight from other keys others added more (
     turn_before told source target store flight from other keys others added more turn E a b between is same lists
 turns_before told source target store flight from other keys others added more (Err fault) E a b between is same lists = tt
 
+-- nothing was put of nothing
+counts_none : CountsOf [] nothing_carried
+unfolding put_count put_bytes
+counts_none = record { chunks = refl; bytes = refl; meta = refl }
+
 -- where an archive is there nothing was added
 pub turn_present : (told : Option Told) (source : RepoState) (target : Option Told) (store : Store) (flight : Flight) (before : Option Told)
-    (from : Origin) (keys : Keys) (result : Result Turn CarryFault) → IfOk result (λ turn. turn ≡ Present)
+    (from : Origin) (keys : Keys) (result : Result Turn CarryFault) → flight.put ≡ nothing_carried → IfOk result (λ turn. turn ≡ Present)
     → IfOk result (TurnLists told source target store flight before from keys [] [])
-turn_present told source target store flight before from keys (Ok turn) is =
-    subst (TurnLists told source target store flight before from keys [] []) (sym is) refl
-turn_present told source target store flight before from keys (Err fault) is = tt
+turn_present told source target store flight before from keys (Ok turn) uncounted is =
+    subst (TurnLists told source target store flight before from keys [] []) (sym is) (refl, subst (CountsOf []) (sym uncounted) counts_none)
+turn_present told source target store flight before from keys (Err fault) uncounted is = tt
+
+-- ---- how far it came
+
+always : (P : Type 0) (o : Option Told) → P → IfSome o (λ _. P)
+always P None p = tt
+always P (Some t) p = p
+
+-- nothing is added for an archive that is there
+pub begins_there : (before : Option Told) (from : Origin) (keys : Keys) (accepted : ManifestText) (name : List ℕ)
+    → IsSome (archive_named name accepted.archives) → BeginsDone before from keys accepted name []
+begins_there before from keys accepted name there = always (BeginsName from keys accepted [] name []) before (inl (inl there, refl))
+
+-- and what is added of one that isn't
+pub begins_new : (before : Option Told) (from : Origin) (keys : Keys) (accepted : ManifestText) (name : List ℕ) (begun : List Addition)
+    → archive_named name accepted.archives ≡ None → IfSome before (λ _. BeginsOne from keys name begun) → BeginsDone before from keys accepted name begun
+begins_new None from keys accepted name begun none known = tt
+begins_new (Some t) from keys accepted name begun none known = inr (tells_named accepted name none, known)
+
+-- none of it
+pub begins_none : (before : Option Told) (from : Origin) (keys : Keys) (accepted : ManifestText) (name : List ℕ) → BeginsDone before from keys accepted name []
+begins_none before from keys accepted name = by (archive_named name accepted.archives) refl where
+  by : (o : Option ArchiveRef) → archive_named name accepted.archives ≡ o → BeginsDone before from keys accepted name []
+  by None e = begins_new before from keys accepted name [] e (always (BeginsOne from keys name []) before (inl refl))
+  by (Some entry) e = begins_there before from keys accepted name (subst IsSome (sym e) refl)
+
+-- in the words of a store and a source before
+pub begins_before : (from other : Origin) (keys others : Keys) (accepted manifest : ManifestText) (name called : List ℕ) (added given : List Addition)
+    (E : History → History → Type 0) (a b : Option Told) → Between a b E → other ≡ from → others ≡ keys → manifest ≡ accepted → called ≡ name
+    → given ≡ added → BeginsDone b other others manifest called given → BeginsDone a from keys accepted name added
+begins_before from other keys others accepted manifest name called added given E a b between is same accepts names all begun =
+    let there = known_back (BeginsName other others manifest [] called given) E a b between begun in
+    subst (λ (l : List Addition). BeginsDone a from keys accepted name l) all
+    (subst (λ (n : List ℕ). BeginsDone a from keys accepted n given) names
+    (subst (λ (m : ManifestText). BeginsDone a from keys m called given) accepts
+    (subst (λ (k : Keys). BeginsDone a from k manifest called given) same
+    (subst (λ (f : Origin). BeginsDone a f others manifest called given) is there))))
+
+-- the items that were copied so far
+begun_archive : (there : Files) (from : Origin) (named : ArchiveRef) (files : Files) (repo : RepoState) (copy : Copy) (added : List Addition)
+    → archive_named named.name from.repo.manifest.archives ≡ Some named → from.block ≡ copy.block
+    → CopiesSoFar there from.repo named files repo copy added → BeginsArchive there from repo.keys named.name added
+begun_archive there from named files repo copy added named_is block so = record {
+  named = named;
+  named_is = named_is;
+  archive = archive_view copy.archive;
+  record_is = so.record_is;
+  items = so.items;
+  walk = walk_view copy.walk;
+  leads = so.leads;
+  wholes = so.wholes;
+  come = so.come;
+  listed = added;
+  piece = copy.stream.cutter.piece;
+  lists = subst (λ (b : ℕ). ListsItems repo.keys b [] so.wholes added copy.stream.cutter.piece) (sym block) so.writes.lists;
+  next = [];
+  next_is = inl refl;
+  begun_is = sym (append-nil added);
+}
+
+begun_so_far : (from : Origin) (named : ArchiveRef) (heard : Option Told) (store : Store) (copy : Copy) (added : List Addition)
+    → archive_named named.name from.repo.manifest.archives ≡ Some named → IsCopiedSoFar from named heard store copy added
+    → IfSome heard (λ _. BeginsOne from (repo_view store.repo).keys named.name added)
+begun_so_far from named None store copy added named_is so = tt
+begun_so_far from named (Some t) store copy added named_is so =
+    let keys = (repo_view store.repo).keys in
+    inr (if_some (λ there. CopiesSoFar there from.repo named (told_files t) (repo_view store.repo) copy added)
+    (λ there. BeginsArchive there from keys named.name added
+    ⊎ (EndsItemsOf there from keys named.name added ⊎ ListsArchive there from keys named.name added)) from.files
+    (λ there p. inl (begun_archive there from named (told_files t) (repo_view store.repo) copy added named_is so.0.block p)) so.1)
+
+-- what a flight has added
+pub fits_begins : (told : Option Told) (source : RepoState) (heard : Option Told) (store : Store) (flight : Flight)
+    (fits : FlightFits told source heard store flight) → AcceptsMore store
+    → BeginsDone heard (flown_from told source flight) (repo_view store.repo).keys (accepted_in store) flight.named.name fits.added
+fits_begins told source heard store flight fits accepts = by flight.work fits.work where
+  from : Origin
+  from = flown_from told source flight
+
+  none : fits.added ≡ [] → BeginsDone heard from (repo_view store.repo).keys (accepted_in store) flight.named.name fits.added
+  none is = subst (BeginsDone heard from (repo_view store.repo).keys (accepted_in store) flight.named.name) (sym is)
+      (begins_none heard from (repo_view store.repo).keys (accepted_in store) flight.named.name)
+
+  by : (work : Work) → WorkFits told source heard store flight.named flight.options fits.added work
+      → BeginsDone heard from (repo_view store.repo).keys (accepted_in store) flight.named.name fits.added
+  by Waiting is = none is
+  by (Copying copy) p =
+      begins_new heard from (repo_view store.repo).keys (accepted_in store) flight.named.name fits.added p.1
+      (begun_so_far from flight.named heard store copy fits.added fits.stands.named p.3)
+  by (Comparing comparison) p = none p.3
+
+-- ---- where nothing is named
+
+pub turn_stands : (most : ℕ) (store : Store) (more : List Addition) (a b : Option Told) (result : Result Turn CarryFault)
+    → Between a b (KeepsStanding most store more) → TurnStands most store more a b result
+turn_stands most store more a b (Ok More) standing = standing
+turn_stands most store more a b (Ok Named) standing = tt
+turn_stands most store more a b (Ok Present) standing = tt
+turn_stands most store more a b (Err fault) standing = λ _. standing
+
+-- behind contents that were added
+turn_stands_behind : {T : Type 0} (most : ℕ) (store middle : Store) (added more : List Addition) (a b c : Option Told) (n m : ℕ) (x : T)
+    (result : Result Turn CarryFault) → (repo_view middle.repo).keys ≡ (repo_view store.repo).keys
+    → Works (KeepsStanding most store added) (λ (_ : T). Gathers most store added middle) a b n m (Ok x) → TurnStands most middle more b c result
+    → TurnStands most store (added ++ more) a c result
+turn_stands_behind {T} most store middle added more a b c n m x (Ok More) keys p after =
+    stands_behind {T = T} most store middle added more a b c n m x keys p after
+turn_stands_behind {T} most store middle added more a b c n m x (Ok Named) keys p after = tt
+turn_stands_behind {T} most store middle added more a b c n m x (Ok Present) keys p after = tt
+turn_stands_behind {T} most store middle added more a b c n m x (Err fault) keys p after =
+    λ work. stands_behind {T = T} most store middle added more a b c n m x keys p (after work)
+
+-- a refusal that was handed on, of a turn
+pub turned_err : (told : Option Told) (source : RepoState) (from : Origin) (name : List ℕ) (added more : List Addition) (store now : Store)
+    (flight : Flight) (a b : Option Told) (n m : ℕ) (result : Result Turn CarryFault) (fault : CarryFault) → IsErrAnd result (λ y. y ≡ fault)
+    → TakesTurn told source from name added more store now flight a b n m (Err fault)
+    → TakesTurn told source from name added more store now flight a b n m result
+turned_err told source from name added more store now flight a b n m result fault e p =
+    err_is result fault (TakesTurn told source from name added more store now flight a b n m) e p
+
+-- ---- a turn behind a body that added nothing
+
+pub turned_behind : {T : Type 0} (told later seen : Option Told) (source after given : RepoState) (block most : ℕ) (name : List ℕ)
+    (store middle now : Store) (flight : Flight) (more : List Addition) (a b c : Option Told) (n m k : ℕ) (x : T) (result : Result Turn CarryFault)
+    → heard later ≡ heard told → after ≡ source → AcceptsMore store → KeepsRest store middle
+    → Works (KeepsStanding most store []) (λ (_ : T). Gathers most store [] middle) a b n m (Ok x)
+    → TakesTurn seen given (origin later after block most) name [] more middle now flight b c m k result
+    → TakesTurn seen given (origin told source block most) name [] more store now flight a c n k result
+turned_behind {T} told later seen source after given block most name store middle now flight more a b c n m k x result alike kept accepts rest p q =
+    let from = origin told source block most in
+    let other = origin later after block most in
+    let same : other ≡ from = origin_kept told later source after block block most most alike kept refl refl in
+    let keys = (repo_view store.repo).keys in
+    let others = (repo_view middle.repo).keys in
+    record {
+      flies = flown_more {T = T} told later source after block most name store middle now [] more a b c n m k x result alike kept accepts rest p q.flies;
+      begins = begins_before from other keys others (accepted_in store) (accepted_in middle) name name more more (KeepsStanding most store []) a b p.each same
+          rest.keys rest.accepted refl refl q.begins;
+      stands = turn_stands_behind {T = T} most store middle [] more a b c n m x result rest.keys p q.stands;
+      lists = turns_before seen given c now flight from other keys others [] more result (KeepsStanding most store []) a b p.each same rest.keys q.lists;
+    }
+
+-- the end of an archive behind a step that added nothing
+pub turn_ended : {T : Type 0} (from : Origin) (name : List ℕ) (added more : List Addition) (store middle now : Store) (told : Option Told)
+    (source : RepoState) (flight : Flight) (a b c : Option Told) (n m k : ℕ) (x : T) (result : Result Turn CarryFault) → AcceptsMore store
+    → KeepsRest store middle → archive_named name (accepted_in store).archives ≡ None
+    → Works (KeepsStanding from.most store []) (λ (_ : T). Gathers from.most store [] middle) a b n m (Ok x)
+    → Flies from name more middle now b c m k result → IfSome b (λ _. BeginsOne from (repo_view middle.repo).keys name (added ++ more))
+    → IfErr result (λ fault. IsOfWork fault → Between b c (KeepsStanding from.most middle more))
+    → IfOk result (λ turn. (turn ≡ Named) × TurnLists told source c now flight a from (repo_view store.repo).keys added more Named)
+    → TakesTurn told source from name added more store now flight a c n k result
+turn_ended {T} from name added more store middle now told source flight a b c n m k x result accepts rest unnamed p flies begun stands lists = record {
+  flies = carried_by_then {T = T} {U = Turn} from [] (name ∷ []) (λ turn. carried_by turn name) [] more store middle now a b c n m k x result
+      (carried_from {T = T} {U = T} from (name ∷ []) store middle [] a b n m x x accepts rest p) flies;
+  begins = begins_new a from (repo_view store.repo).keys (accepted_in store) name (added ++ more) unnamed
+      (subst (λ (l : Keys). IfSome a (λ _. BeginsOne from l name (added ++ more))) rest.keys
+      (known_back (BeginsOne from (repo_view middle.repo).keys name (added ++ more)) (KeepsStanding from.most store []) a b p.each begun));
+  stands = standing result stands lists;
+  lists = listed result lists;
+} where
+  standing : (r : Result Turn CarryFault) → IfErr r (λ fault. IsOfWork fault → Between b c (KeepsStanding from.most middle more))
+      → IfOk r (λ turn. (turn ≡ Named) × TurnLists told source c now flight a from (repo_view store.repo).keys added more Named)
+      → TurnStands from.most store more a c r
+  standing (Ok turn) none named = subst (λ (t : Turn). TurnStands from.most store more a c (Ok t)) (sym named.0) tt
+  standing (Err fault) after named = λ work. stands_behind {T = T} from.most store middle [] more a b c n m x rest.keys p (after work)
+
+  listed : (r : Result Turn CarryFault)
+      → IfOk r (λ turn. (turn ≡ Named) × TurnLists told source c now flight a from (repo_view store.repo).keys added more Named)
+      → IfOk r (TurnLists told source c now flight a from (repo_view store.repo).keys added more)
+  listed (Ok turn) named = subst (TurnLists told source c now flight a from (repo_view store.repo).keys added more) (sym named.0) named.1
+  listed (Err fault) named = tt
+
+-- ---- turns, up to the last
+
+-- Turns of a flight, each of which took a further item, added these behind what was added before, and it fits with all.
+pub record TakesOn (told : Option Told) (source : RepoState) (from : Origin) (name : List ℕ) (start : List Addition) (store now : Store) (flight : Flight)
+    (a b : Option Told) (n m : ℕ) : Type 0 where
+  pub more : List Addition
+  pub fits : FlightFits told source b now flight
+  pub added : fits.added ≡ start ++ more
+  pub stands : Between a b (KeepsGrowing from [] store more)
+  pub works : Works {T = Unit {0}} (KeepsGrowing from (name ∷ []) store more) (λ _. Grows from [] more store now) a b n m (Ok tt)
+
+-- none was taken
+pub takes_none : (told : Option Told) (source : RepoState) (from : Origin) (name : List ℕ) (store : Store) (flight : Flight) (a : Option Told) (n : ℕ)
+    (fits : FlightFits told source a store flight) → AcceptsMore store → TakesOn told source from name fits.added store store flight a a n n
+takes_none told source from name store flight a n fits accepts = record {
+  more = [];
+  fits = fits;
+  added = sym (append-nil fits.added);
+  stands = here_each (KeepsGrowing from [] store []) a (λ h. growing_here from [] store [] h accepts);
+  works = carried_none {T = Unit {0}} from (name ∷ []) store a n tt accepts;
+}
+
+-- one more was taken
+pub takes_more : (told later : Option Told) (source after : RepoState) (from other : Origin) (name called : List ℕ) (start more : List Addition)
+    (store middle now : Store) (flight flight_now : Flight) (a b c : Option Told) (n m k : ℕ) → other ≡ from → called ≡ name → AcceptsMore middle
+    → (before : TakesOn told source from name start store middle flight a b n m)
+    → TakesTurn later after other called before.fits.added more middle now flight_now b c m k (Ok More)
+    → TakesOn later after from name start store now flight_now a c n k
+takes_more told later source after from other name called start more store middle now flight flight_now a b c n m k is names accepts before turn = record {
+  more = before.more ++ more;
+  fits = turn.lists.0;
+  added = turn.lists.1 ∙ (ap (λ (l : List Addition). l ++ more) before.added ∙ append_assoc start before.more more);
+  stands = growing_behind from from.most before.more more store middle a b c refl accepts before.stands before.works.end
+      (subst (λ (f : Origin). Between b c (KeepsStanding f.most middle more)) is turn.stands);
+  works = flown_as {U = Unit {0}} from name [] (before.more ++ more) store now a c n k More tt refl
+      (flown_then from other name called before.more more store middle now a b c n m k (Ok More) is names before.works turn.flies);
+}
+
+-- what all of them added, as far as it came
+takes_begun : (told later : Option Told) (source after : RepoState) (from other : Origin) (name called : List ℕ) (start more : List Addition)
+    (store middle now : Store) (flight flight_now : Flight) (a b c : Option Told) (n m k : ℕ) (result : Result Turn CarryFault) → other ≡ from
+    → called ≡ name → accepted_in middle ≡ accepted_in store → (repo_view middle.repo).keys ≡ (repo_view store.repo).keys
+    → (before : TakesOn told source from name start store middle flight a b n m)
+    → TakesTurn later after other called before.fits.added more middle now flight_now b c m k result
+    → BeginsDone a from (repo_view store.repo).keys (accepted_in store) name (start ++ (before.more ++ more))
+takes_begun told later source after from other name called start more store middle now flight flight_now a b c n m k result is names accepted keys before turn =
+    begins_before from other (repo_view store.repo).keys (repo_view middle.repo).keys (accepted_in store) (accepted_in middle) name called
+    (start ++ (before.more ++ more)) (before.fits.added ++ more) (KeepsGrowing from [] store before.more) a b before.stands is keys accepted names
+    (ap (λ (l : List Addition). l ++ more) before.added ∙ append_assoc start before.more more) turn.begins
+
+-- the turn that ends a flight, by whether the archive was copied
+abbrev pub last_turn : Bool → Turn
+last_turn true = Named
+last_turn false = Present
+
+carried_last : (copied : Bool) (name : List ℕ) → carried_by (last_turn copied) name ≡ name ∷ []
+carried_last true name = refl
+carried_last false name = refl
+
+lists_last : (told : Option Told) (source : RepoState) (target : Option Told) (store : Store) (flight : Flight) (before : Option Told) (from : Origin)
+    (keys : Keys) (added more : List Addition) (copied : Bool) → TurnLists told source target store flight before from keys added more (last_turn copied)
+    → ListsDone before from keys flight.named.name (added ++ more) copied × CountsOf (added ++ more) flight.put
+lists_last told source target store flight before from keys added more true lists = lists
+lists_last told source target store flight before from keys added more false lists = lists
+
+-- the last was taken
+pub takes_last : (told later : Option Told) (source after : RepoState) (from other : Origin) (name called : List ℕ) (start more : List Addition)
+    (store middle now : Store) (flight flight_now : Flight) (a b c : Option Told) (n m k : ℕ) (copied : Bool) → other ≡ from → called ≡ name
+    → accepted_in middle ≡ accepted_in store → (repo_view middle.repo).keys ≡ (repo_view store.repo).keys → flight_now.named.name ≡ name
+    → (before : TakesOn told source from name start store middle flight a b n m)
+    → TakesTurn later after other called before.fits.added more middle now flight_now b c m k (Ok (last_turn copied))
+    → TakesAll from name start (before.more ++ more) store now flight_now a c n k (Ok copied)
+takes_last told later source after from other name called start more store middle now flight flight_now a b c n m k copied is names accepted keys named
+    before turn =
+    let all : before.fits.added ++ more ≡ start ++ (before.more ++ more) =
+    ap (λ (l : List Addition). l ++ more) before.added ∙ append_assoc start before.more more in
+    let others = (repo_view middle.repo).keys in
+    let lists = lists_last later after c now flight_now b other others before.fits.added more copied turn.lists in
+    record {
+      carries = flown_as {U = Bool} from name (name ∷ []) (before.more ++ more) store now a c n k (last_turn copied) copied (carried_last copied name)
+          (flown_then from other name called before.more more store middle now a b c n m k (Ok (last_turn copied)) is names before.works turn.flies);
+      begins = takes_begun told later source after from other name called start more store middle now flight flight_now a b c n m k (Ok (last_turn copied)) is
+          names accepted keys before turn;
+      stands = tt;
+      lists = (
+        done_before from other (repo_view store.repo).keys others name (start ++ (before.more ++ more)) (before.fits.added ++ more) copied
+            (KeepsGrowing from [] store before.more) a b before.stands is keys all
+            (subst (λ (l : List ℕ). ListsDone b other others l (before.fits.added ++ more) copied) named lists.0),
+        subst (λ (l : List Addition). CountsOf l flight_now.put) all lists.1,
+      );
+    }
+
+-- one was refused
+pub takes_refused : (told later : Option Told) (source after : RepoState) (from other : Origin) (name called : List ℕ) (start more : List Addition)
+    (store middle now : Store) (flight flight_now : Flight) (a b c : Option Told) (n m k : ℕ) (fault : CarryFault) → other ≡ from → called ≡ name
+    → accepted_in middle ≡ accepted_in store → (repo_view middle.repo).keys ≡ (repo_view store.repo).keys → AcceptsMore middle
+    → (before : TakesOn told source from name start store middle flight a b n m)
+    → TakesTurn later after other called before.fits.added more middle now flight_now b c m k (Err fault)
+    → TakesAll from name start (before.more ++ more) store now flight_now a c n k (Err fault)
+takes_refused told later source after from other name called start more store middle now flight flight_now a b c n m k fault is names accepted keys accepts
+    before turn = record {
+      carries = flown_err {U = Bool} from name (name ∷ []) (before.more ++ more) store now now a c n k fault
+          (flown_then from other name called before.more more store middle now a b c n m k (Err fault) is names before.works turn.flies);
+      begins = takes_begun told later source after from other name called start more store middle now flight flight_now a b c n m k (Err fault) is names
+          accepted keys before turn;
+      stands = λ work.
+          growing_behind from from.most before.more more store middle a b c refl accepts before.stands before.works.end
+          (subst (λ (f : Origin). Between b c (KeepsStanding f.most middle more)) is (turn.stands work));
+      lists = tt;
+    }
+
+-- a refusal that was handed on
+pub taken_err : (from : Origin) (name : List ℕ) (added more : List Addition) (store now : Store) (flight : Flight) (a b : Option Told) (n m : ℕ)
+    (result : Result Bool CarryFault) (fault : CarryFault) → IsErrAnd result (λ y. y ≡ fault)
+    → TakesAll from name added more store now flight a b n m (Err fault) → TakesAll from name added more store now flight a b n m result
+taken_err from name added more store now flight a b n m result fault e p =
+    err_is result fault (TakesAll from name added more store now flight a b n m) e p
+
+-- a further one wasn't taken
+pub takes_end : (told : Option Told) (source : RepoState) (from : Origin) (name : List ℕ) (start : List Addition) (store now : Store) (flight : Flight)
+    (a b : Option Told) (n m : ℕ) → flown_from told source flight ≡ from → flight.named.name ≡ name → accepted_in now ≡ accepted_in store
+    → (repo_view now.repo).keys ≡ (repo_view store.repo).keys → AcceptsMore now
+    → (before : TakesOn told source from name start store now flight a b n m)
+    → TakesAll from name start before.more store now flight a b n m (Err Memory)
+takes_end told source from name start store now flight a b n m is named accepted keys accepts before = record {
+  carries = record { each = before.works.each; end = tt; ends = before.works.ends; cause = before.works.cause };
+  begins = begins_before from (flown_from told source flight) (repo_view store.repo).keys (repo_view now.repo).keys (accepted_in store) (accepted_in now) name
+      flight.named.name (start ++ before.more) before.fits.added (KeepsGrowing from [] store before.more) a b before.stands is keys accepted named before.added
+      (fits_begins told source b now flight before.fits accepts);
+  stands = λ _. before.stands;
+  lists = tt;
+}

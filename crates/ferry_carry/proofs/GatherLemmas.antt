@@ -35,12 +35,12 @@ use Rattle.ferry_store.specs.Store.{IsKnown, StoreFits}
 use Rattle.ferry_store.specs.declared.content.Added.{Added}
 use Rattle.ferry_store.specs.declared.store.Store.{Store}
 use Rattle.ferry_write.specs.Script.{AllDone}
-use Rattle.ferry_carry.proofs.PutsLemmas.{adds_here, adds_one, adds_then, contents_append, contents_pieces, goes_commit, goes_same, goes_then, room_of}
+use Rattle.ferry_carry.proofs.PutsLemmas.{adds_here, adds_one, adds_then, contents_append, front_of, goes_commit, goes_same, goes_then, goes_wider, room_of}
 use Rattle.ferry_carry.proofs.WholeLemmas.{all_both, all_front, each_to}
 use Rattle.ferry_carry.specs.Gather.{Brings, BringsOpening, Gathers, HoldsContents, HoldsWithin, IsAmong, KeepsRest, KeepsStanding, Moved, NoCollision}
-use Rattle.ferry_carry.specs.Gather.{Gathered, StandsFrom}
+use Rattle.ferry_carry.specs.Gather.{StandsFrom}
 use Rattle.ferry_carry.specs.Piece.{HasRoom}
-use Rattle.ferry_carry.specs.Puts.{Addition, AddsAll, GoesOn, IsAddedBehind, IsLiveIn, content_in, contents_in, pieces}
+use Rattle.ferry_carry.specs.Puts.{Addition, AddsAll, GoesOn, IsAddedBehind, IsFront, IsLiveIn, Kind, addition, contents_in}
 
 -- ---- what opens
 
@@ -76,27 +76,39 @@ opening_put keys id blob content entries opens other found apart live = by_id (s
 committed_some : (counts : Bool) (store : Store) (h : History) (fits : StoreFits counts store h) → fits.written.committed ≡ Some (committed_of fits.written)
 committed_some counts store h fits = fits.manifest.is ∙ ap Some (sym (ap (λ (c : Option (List LogEntry)). unwrap_or c []) fits.manifest.is))
 
-pub standing_from : (most : ℕ) (counts : Bool) (store : Store) (h : History) (fits : StoreFits counts store h) (image : Files)
-    → ShowsStanding fits.written image → StandsFrom (repo_view store.repo).keys most fits.written image
-standing_from most counts store h fits image shown = record {
+pub standing_from : (most : ℕ) (within : List Addition) (counts : Bool) (store : Store) (h : History) (fits : StoreFits counts store h) (image : Files)
+    → ShowsStanding fits.written image → StandsFrom (repo_view store.repo).keys most within fits.written image
+standing_from most within counts store h fits image shown = record {
   entries = committed_of fits.written;
   shown = subst (Shows image) (committed_some counts store h fits) shown.0;
   keeps = keeps_same (committed_of fits.written);
   opening = opening_kept (repo_view store.repo).keys (entries_of fits.written) (committed_of fits.written) fits.keeps;
-  puts = goes_same (repo_view store.repo).keys most fits.written;
+  puts = goes_same (repo_view store.repo).keys most within fits.written;
   config = shown.1;
 }
 
+-- what stands with some that may be added stands with more
+pub stands_wider : (keys : Keys) (most : ℕ) (some all : List Addition) (written : Written) (image : Files) → IsFront some all
+    → StandsFrom keys most some written image → StandsFrom keys most all written image
+stands_wider keys most some all written image front stands = record {
+  entries = stands.entries;
+  shown = stands.shown;
+  keeps = stands.keeps;
+  opening = stands.opening;
+  puts = goes_wider keys most some all written stands.entries front stands.puts;
+  config = stands.config;
+}
+
 -- what stands from later on stands from before
-pub stands_then : (keys : Keys) (most : ℕ) (written next : Written) (added : List Addition) (image : Files) → Moved keys written next
-    → AddsAll keys most (entries_of written) added (entries_of next) → GoesOn keys most written (committed_of next) → StandsFrom keys most next image
-    → StandsFrom keys most written image
-stands_then keys most written next added image moved adds goes stands = record {
+pub stands_then : (keys : Keys) (most : ℕ) (written next : Written) (added more : List Addition) (image : Files) → Moved keys written next
+    → AddsAll keys most (entries_of written) added (entries_of next) → GoesOn keys most added written (committed_of next)
+    → StandsFrom keys most more next image → StandsFrom keys most (added ++ more) written image
+stands_then keys most written next added more image moved adds goes stands = record {
   entries = stands.entries;
   shown = stands.shown;
   keeps = keeps_then (committed_of written) (committed_of next) stands.entries moved.committed stands.keeps;
   opening = opening_then keys (entries_of written) (entries_of next) stands.entries moved.opening stands.opening;
-  puts = goes_then keys most written next stands.entries added adds goes stands.puts;
+  puts = goes_then keys most written next stands.entries added more adds goes stands.puts;
   config = stands.config ∙ moved.config;
 }
 
@@ -117,7 +129,12 @@ moved_then keys a b c p q = record {
 }
 
 pub sound_map : (P Q : Files → Type 0) (counts : Bool) (h : History) → ((image : Files) → P image → Q image) → IsSound P counts h → IsSound Q counts h
-sound_map P Q counts h step s = record { shows = λ image left. step image (s.shows image left); traced = s.traced; fresh = s.fresh }
+sound_map P Q counts h step s = record {
+  shows = λ image left. step image (s.shows image left);
+  traced = s.traced;
+  numbers = s.numbers;
+  fresh = s.fresh;
+}
 
 pub sound_moments : (P Q : Files → Type 0) (counts : Bool) (h g : History) → ((image : Files) → P image → Q image) → Moments (IsSound P counts) h g
     → Moments (IsSound Q counts) h g
@@ -149,7 +166,7 @@ gathers_here most store h counts fits = record {
   fits_now = fits;
   moved = moved_here (repo_view store.repo).keys fits.written;
   puts = adds_here (repo_view store.repo).keys most (entries_of fits.written);
-  committed = goes_same (repo_view store.repo).keys most fits.written;
+  committed = goes_same (repo_view store.repo).keys most [] fits.written;
   brings = λ scope apart all within. (within, tt);
 }
 
@@ -165,8 +182,8 @@ gathers_then most store middle now some more rest rest_now h g i p q counts fits
           (subst (λ (k : Keys). Moved k first.fits_now.written second.fits_now.written) rest.keys second.moved);
       puts = adds_then keys most (entries_of fits.written) (entries_of first.fits_now.written) (entries_of second.fits_now.written) some more first.puts
           (subst (λ (k : Keys). AddsAll k most (entries_of first.fits_now.written) more (entries_of second.fits_now.written)) rest.keys second.puts);
-      committed = goes_then keys most fits.written first.fits_now.written (committed_of second.fits_now.written) some first.puts first.committed
-          (subst (λ (k : Keys). GoesOn k most first.fits_now.written (committed_of second.fits_now.written)) rest.keys second.committed);
+      committed = goes_then keys most fits.written first.fits_now.written (committed_of second.fits_now.written) some more first.puts first.committed
+          (subst (λ (k : Keys). GoesOn k most more first.fits_now.written (committed_of second.fits_now.written)) rest.keys second.committed);
       brings = λ scope apart all within.
           let parts = all_front (IsAmong scope) (contents_in some) (contents_in more)
           (subst (AllByRecursion (IsAmong scope)) (contents_append some more) all) in
@@ -186,27 +203,39 @@ gathers_then most store middle now some more rest rest_now h g i p q counts fits
           subst (λ (k : Keys). HoldsChunk (files_now i) (repo_view now.repo).log (repo_view now.repo).keys (content_id k content) content) (sym rest_now.keys)
           (chunk_on counts middle now g i fits fits_now keeps rest_now.keys (content_id (repo_view middle.repo).keys content) content chunk)) all
 
-pub each_then : (most : ℕ) (store middle : Store) (added : List Addition) (h g i : History) → (repo_view middle.repo).keys ≡ (repo_view store.repo).keys
-    → KeepsStanding most store h g → AllDone h g → Gathers most store added middle h g → KeepsStanding most middle g i → KeepsStanding most store h i
-each_then most store middle added h g i same before done gathers after = (
+pub standing_wider : (most : ℕ) (store : Store) (some all : List Addition) (h g : History) → IsFront some all → KeepsStanding most store some h g
+    → KeepsStanding most store all h g
+standing_wider most store some all h g front keeps = (
+  keeps.0,
+  λ counts fits.
+      let keys = (repo_view store.repo).keys in
+      sound_moments (StandsFrom keys most some fits.written) (StandsFrom keys most all fits.written) counts h g
+      (λ image stands. stands_wider keys most some all fits.written image front stands) (keeps.1 counts fits),
+)
+
+pub each_then : (most : ℕ) (store middle : Store) (added more : List Addition) (h g i : History)
+    → (repo_view middle.repo).keys ≡ (repo_view store.repo).keys → KeepsStanding most store added h g → AllDone h g → Gathers most store added middle h g
+    → KeepsStanding most middle more g i → KeepsStanding most store (added ++ more) h i
+each_then most store middle added more h g i same before done gathers after = (
   untold_then h g i before.0 after.0,
   λ counts fits.
       let first = gathers counts fits in
       let keys = (repo_view store.repo).keys in
-      moments_then (IsSound (StandsFrom keys most fits.written) counts) h g i (before.1 counts fits) done
-      (sound_moments (StandsFrom (repo_view middle.repo).keys most first.fits_now.written) (StandsFrom keys most fits.written) counts g i
+      moments_then (IsSound (StandsFrom keys most (added ++ more) fits.written) counts) h g i
+      ((standing_wider most store added (added ++ more) h g (front_of added more) before).1 counts fits) done
+      (sound_moments (StandsFrom (repo_view middle.repo).keys most more first.fits_now.written) (StandsFrom keys most (added ++ more) fits.written) counts g i
       (λ image stands.
-      stands_then keys most fits.written first.fits_now.written added image first.moved first.puts first.committed
-      (subst (λ (k : Keys). StandsFrom k most first.fits_now.written image) same stands)) (after.1 counts first.fits_now)),
+      stands_then keys most fits.written first.fits_now.written added more image first.moved first.puts first.committed
+      (subst (λ (k : Keys). StandsFrom k most more first.fits_now.written image) same stands)) (after.1 counts first.fits_now)),
 )
 
 -- where nothing is done, what stands is what a sound moment shows
-pub stands_here : (most : ℕ) (store : Store) (h : History) → KeepsStanding most store h h
-stands_here most store h = (
+pub stands_here : (most : ℕ) (store : Store) (within : List Addition) (h : History) → KeepsStanding most store within h h
+stands_here most store within h = (
   refl,
   λ counts fits.
-      sound_moments (ShowsStanding fits.written) (StandsFrom (repo_view store.repo).keys most fits.written) counts h h
-      (λ image shown. standing_from most counts store h fits image shown)
+      sound_moments (ShowsStanding fits.written) (StandsFrom (repo_view store.repo).keys most within fits.written) counts h h
+      (λ image shown. standing_from most within counts store h fits image shown)
       (keeps_here store.session store.counter h counts fits.written fits.under_way),
 )
 
@@ -359,14 +388,14 @@ record AddedAs (most : ℕ) (counts : Bool) (store now : Store) (one : Addition)
   moved : Moved (repo_view store.repo).keys written written_now
   puts : IsAddedBehind (repo_view store.repo).keys most (entries_of written) one (entries_of written_now)
   committed : committed_of written_now ≡ committed_of written
-  brings : Brings (repo_view store.repo) (content_in one ∷ []) (repo_view now.repo) h g
+  brings : Brings (repo_view store.repo) (one.content ∷ []) (repo_view now.repo) h g
 
 added_by : (most : ℕ) (counts : Bool) (store now : Store) (one : Addition) (added : Added) (h g : History) (fits : StoreFits counts store h)
-    (fits_now : StoreFits counts now g) (new : Bool) → new ≡ added.new → HasRoom most one store → AddedSo store (content_in one) now added
-    → fits_now.written ≡ with_added new fits.written (entry_of store (content_in one))
+    (fits_now : StoreFits counts now g) (new : Bool) → new ≡ added.new → one.put ≡ added.new → HasRoom most one.kind one.content store
+    → AddedSo store one.content now added → fits_now.written ≡ with_added new fits.written (entry_of store one.content)
     → AddedAs most counts store now one h g fits.written fits_now.written
-added_by most counts store now one added h g fits fits_now true is room so e =
-    let content = content_in one in
+added_by most counts store now one added h g fits fits_now true is put_is room so e =
+    let content = one.content in
     let put : IsTrue added.new = sym is in
     let fresh = so.new.0 put in
     let entries : entries_of fits_now.written ≡ entries_of fits.written ++ entry_of store content ∷ [] =
@@ -384,35 +413,38 @@ added_by most counts store now one added h g fits fits_now true is room so e =
         config = ap (λ (w : Written). w.config) e;
       };
       puts = inr (
-        blob,
+        put_is ∙ sym is,
         (
-          record {
-            new = unlive_new (id_under store content) (entries_of fits.written) fresh.0 unlive;
-            room = room_of counts store h fits most one room.checkpoint (room.room fresh);
-            opens = so.opens put;
-          },
-          entries,
+          blob,
+          (
+            record {
+              new = unlive_new (id_under store content) (entries_of fits.written) fresh.0 unlive;
+              room = room_of counts store h fits most one.kind room.checkpoint (room.room fresh);
+              opens = so.opens put;
+            },
+            entries,
+          ),
         ),
       );
       committed = ap committed_of e;
       brings = brings_new counts store now content h g fits fits_now keys fresh.0 (so.opens put) entries;
     }
-added_by most counts store now one added h g fits fits_now false is room so e =
-    let content = content_in one in
+added_by most counts store now one added h g fits fits_now false is put_is room so e =
+    let content = one.content in
     let live = live_old counts now (id_under store content) g fits_now so.known in
     record {
       moved = subst (Moved (repo_view store.repo).keys fits.written) (sym e) (moved_here (repo_view store.repo).keys fits.written);
-      puts = inl (subst (λ (w : Written). IsLiveIn (entries_of w) (id_under store content)) e live, ap entries_of e);
+      puts = inl (put_is ∙ sym is, (subst (λ (w : Written). IsLiveIn (entries_of w) (id_under store content)) e live, ap entries_of e));
       committed = ap committed_of e;
       brings = brings_old counts store now content h g fits fits_now (added_rest store now content added so).keys so.known (ap entries_of e);
     }
 
-one_gathers : (most : ℕ) (store now : Store) (one : Addition) (added : Added) (h g : History) → HasRoom most one store
-    → AddedSo store (content_in one) now added → Adds store (content_in one) now added h g → Gathers most store (one ∷ []) now h g
-one_gathers most store now one added h g room so adds counts fits =
+one_gathers : (most : ℕ) (store now : Store) (one : Addition) (added : Added) (h g : History) → one.put ≡ added.new → HasRoom most one.kind one.content store
+    → AddedSo store one.content now added → Adds store one.content now added h g → Gathers most store (one ∷ []) now h g
+one_gathers most store now one added h g put_is room so adds counts fits =
     let end = adds counts fits in
     let keys = (repo_view store.repo).keys in
-    let all = added_by most counts store now one added h g fits end.0 added.new refl room so end.1 in
+    let all = added_by most counts store now one added h g fits end.0 added.new refl put_is room so end.1 in
     record {
       fits_now = end.0;
       moved = all.moved;
@@ -422,24 +454,19 @@ one_gathers most store now one added h g room so adds counts fits =
     }
 
 -- a content that was added is there
-pub add_gathers : (most : ℕ) (store now : Store) (one : Addition) (content : List ℕ) (added : Added) (h g : History) → content_in one ≡ content
-    → HasRoom most one store → AddedSo store content now added → Adds store content now added h g → Gathers most store (one ∷ []) now h g
-add_gathers most store now one content added h g is room so adds =
-    one_gathers most store now one added h g room (subst (λ (c : List ℕ). AddedSo store c now added) (sym is) so)
-    (subst (λ (c : List ℕ). Adds store c now added h g) (sym is) adds)
+pub add_gathers : (most : ℕ) (store now : Store) (kind : Kind) (content : List ℕ) (put : Bool) (added : Added) (h g : History) → put ≡ added.new
+    → HasRoom most kind content store → AddedSo store content now added → Adds store content now added h g
+    → Gathers most store (addition kind content put ∷ []) now h g
+add_gathers most store now kind content put added h g put_is room so adds =
+    one_gathers most store now (addition kind content put) added h g put_is room so adds
 
--- pieces that were added are there
-pub pieces_brought : (most : ℕ) (counts : Bool) (store now : Store) (more : List (List ℕ)) (h g : History) (fits : StoreFits counts store h)
-    → Gathered most counts store (pieces more) now h g fits → Brings (repo_view store.repo) more (repo_view now.repo) h g
-pieces_brought most counts store now more h g fits end =
-    subst (λ (contents : List (List ℕ)). Brings (repo_view store.repo) contents (repo_view now.repo) h g) (contents_pieces more) end.brings
-
-pub add_stands : (most : ℕ) (store : Store) (h g : History) → TellsNothing h g → KeepsSound store.session store.counter h g → KeepsStanding most store h g
-add_stands most store h g untold keeps = (
+pub add_stands : (most : ℕ) (store : Store) (within : List Addition) (h g : History) → TellsNothing h g → KeepsSound store.session store.counter h g
+    → KeepsStanding most store within h g
+add_stands most store within h g untold keeps = (
   untold,
   λ counts fits.
-      sound_moments (ShowsStanding fits.written) (StandsFrom (repo_view store.repo).keys most fits.written) counts h g
-      (λ image shown. standing_from most counts store h fits image shown)
+      sound_moments (ShowsStanding fits.written) (StandsFrom (repo_view store.repo).keys most within fits.written) counts h g
+      (λ image shown. standing_from most within counts store h fits image shown)
       (keeps counts fits.written fits.under_way),
 )
 
@@ -468,8 +495,8 @@ checkpoint_gathers most store now h g repo takes counts fits =
         config = ap (λ (x : Written). x.config) end.1;
       };
       puts = (CommitEntry ∷ [], ((tt, tt), ap entries_of end.1 ∙ append-nil (entries_committed w)));
-      committed = subst (λ (x : Written). GoesOn (repo_view store.repo).keys most w (committed_of x)) (sym end.1)
-          (goes_commit (repo_view store.repo).keys most w);
+      committed = subst (λ (x : Written). GoesOn (repo_view store.repo).keys most [] w (committed_of x)) (sym end.1)
+          (goes_commit (repo_view store.repo).keys most [] w);
       brings = λ scope apart all within. (
         λ id found holds. within id found
             (chunk_on counts now store g h end.0 fits (λ other blob there. sym (live other) ∙ there) (sym keys) id found holds),
@@ -477,27 +504,27 @@ checkpoint_gathers most store now h g repo takes counts fits =
       );
     }
 
-either_from : (most : ℕ) (counts : Bool) (store : Store) (h : History) (fits : StoreFits counts store h) (image : Files) → ShowsEither fits.written image
-    → StandsFrom (repo_view store.repo).keys most fits.written image
-either_from most counts store h fits image (inl shown) = standing_from most counts store h fits image shown
-either_from most counts store h fits image (inr shown) =
+either_from : (most : ℕ) (within : List Addition) (counts : Bool) (store : Store) (h : History) (fits : StoreFits counts store h) (image : Files)
+    → ShowsEither fits.written image → StandsFrom (repo_view store.repo).keys most within fits.written image
+either_from most within counts store h fits image (inl shown) = standing_from most within counts store h fits image shown
+either_from most within counts store h fits image (inr shown) =
     let w = fits.written in
     record {
       entries = entries_committed w;
       shown = shown.0;
       keeps = keeps_then (committed_of w) (entries_of w) (entries_committed w) fits.keeps (keeps_commit (entries_of w));
       opening = opening_kept (repo_view store.repo).keys (entries_of w) (entries_committed w) (λ id blob live. sym (live_commit id (entries_of w)) ∙ live);
-      puts = goes_commit (repo_view store.repo).keys most w;
+      puts = goes_commit (repo_view store.repo).keys most within w;
       config = shown.1;
     }
 
-pub checkpoint_stands : (most : ℕ) (store : Store) (h g : History) → TellsNothing h g → CommitsSound store.session store.counter h g
-    → KeepsStanding most store h g
-checkpoint_stands most store h g untold keeps = (
+pub checkpoint_stands : (most : ℕ) (store : Store) (within : List Addition) (h g : History) → TellsNothing h g
+    → CommitsSound store.session store.counter h g → KeepsStanding most store within h g
+checkpoint_stands most store within h g untold keeps = (
   untold,
   λ counts fits.
-      sound_moments (ShowsEither fits.written) (StandsFrom (repo_view store.repo).keys most fits.written) counts h g
-      (λ image shown. either_from most counts store h fits image shown)
+      sound_moments (ShowsEither fits.written) (StandsFrom (repo_view store.repo).keys most within fits.written) counts h g
+      (λ image shown. either_from most within counts store h fits image shown)
       (keeps counts fits.written fits.under_way),
 )
 

@@ -32,14 +32,14 @@ use Rattle.ferry_write.specs.Script.{AllDone}
 use Rattle.ferry_carry.proofs.CarryLemmas.{all_carried, named_carried}
 use Rattle.ferry_carry.proofs.CutLemmas.{cut_none, cut_one, cut_then}
 use Rattle.ferry_carry.proofs.GatherLemmas.{opening_same, opening_then, sound_moments, standing_from, stands_here}
-use Rattle.ferry_carry.proofs.PutsLemmas.{adds_here, adds_others, adds_then, goes_same, goes_then}
+use Rattle.ferry_carry.proofs.PutsLemmas.{adds_here, adds_others, adds_then, front_all, front_none, front_of, goes_same, goes_then, goes_wider}
 use Rattle.ferry_carry.proofs.WholeLemmas.{all_both, among_behind, among_front, each_to}
 use Rattle.ferry_carry.specs.Gather.{BringsOpening, Gathers, IsAmong, KeepsRest, KeepsStanding, StandsFrom}
 use Rattle.ferry_carry.specs.Grow.{AcceptsMore, Grows, GrowsBy, IsNamedBy, KeepsChunks, KeepsGrowing, KeepsGrowingBy, KeepsMost, KeepsNames}
 use Rattle.ferry_carry.specs.Grow.{StandsOn}
 use Rattle.ferry_carry.specs.Carrying.{AreCut, IsCarried, IsReadyToName, Origin}
 use Rattle.ferry_carry.specs.Flight.{AcceptsOne}
-use Rattle.ferry_carry.specs.Puts.{Addition, AddsAll, GoesOn}
+use Rattle.ferry_carry.specs.Puts.{Addition, AddsAll, GoesOn, IsFront}
 
 -- ---- names and chunks
 
@@ -84,10 +84,11 @@ held_by repo other manifest entries keys holds = record {
 -- ---- what stands
 
 -- by entries that keep all that was committed the manifest is the one that was
-pub on_from : (from : Origin) (chosen : List (List ℕ)) (accepted : ManifestText) (counts : Bool) (store : Store) (h : History)
+pub on_from : (from : Origin) (chosen : List (List ℕ)) (within : List Addition) (accepted : ManifestText) (counts : Bool) (store : Store) (h : History)
     (fits : StoreFits counts store h) (image : Files) → KeepsNames (repo_view store.repo).manifest accepted
-    → StandsFrom (repo_view store.repo).keys from.most fits.written image → StandsOn from chosen accepted (repo_view store.repo) fits.written image
-on_from from chosen accepted counts store h fits image accepts stands =
+    → StandsFrom (repo_view store.repo).keys from.most within fits.written image
+    → StandsOn from chosen within accepted (repo_view store.repo) fits.written image
+on_from from chosen within accepted counts store h fits image accepts stands =
     let entries_are : committed_of fits.written ≡ fits.manifest.entries = ap (λ (c : Option (List LogEntry)). unwrap_or c []) fits.manifest.is in
     record {
       entries = stands.entries;
@@ -108,13 +109,14 @@ on_from from chosen accepted counts store h fits image accepts stands =
       only = λ name entry is. inl (accepts name entry is);
     }
 
-pub growing_by : (from : Origin) (chosen : List (List ℕ)) (accepted : ManifestText) (store : Store) (h g : History)
-    → KeepsNames (repo_view store.repo).manifest accepted → KeepsStanding from.most store h g → KeepsGrowingBy accepted from chosen store h g
-growing_by from chosen accepted store h g accepts keeps = (
+pub growing_by : (from : Origin) (chosen : List (List ℕ)) (accepted : ManifestText) (store : Store) (within : List Addition) (h g : History)
+    → KeepsNames (repo_view store.repo).manifest accepted → KeepsStanding from.most store within h g → KeepsGrowingBy accepted from chosen store within h g
+growing_by from chosen accepted store within h g accepts keeps = (
   keeps.0,
   λ counts fits.
-      sound_moments (StandsFrom (repo_view store.repo).keys from.most fits.written) (StandsOn from chosen accepted (repo_view store.repo) fits.written)
-      counts h g (λ image stands. on_from from chosen accepted counts store h fits image accepts stands) (keeps.1 counts fits),
+      sound_moments (StandsFrom (repo_view store.repo).keys from.most within fits.written)
+      (StandsOn from chosen within accepted (repo_view store.repo) fits.written) counts h g
+      (λ image stands. on_from from chosen within accepted counts store h fits image accepts stands) (keeps.1 counts fits),
 )
 
 -- names of both
@@ -132,23 +134,23 @@ named_then accepted middle manifest some more p q name entry is = by (q name ent
   by (inr among) = inr (among_behind some more name among)
 
 -- what stands from later on stands from before
-unfoldable pub on_then : (from : Origin) (some more : List (List ℕ)) (added : List Addition) (accepted middle : ManifestText) (repo next : RepoState)
+unfoldable pub on_then : (from : Origin) (some more : List (List ℕ)) (added others : List Addition) (accepted middle : ManifestText) (repo next : RepoState)
     (written after : Written) (image : Files)
     → next.keys ≡ repo.keys → KeepsNames repo.manifest next.manifest → KeepsChunks (committed_of written) (committed_of after)
     → BringsOpening repo.keys (entries_of written) (entries_of after) → AddsAll repo.keys from.most (entries_of written) added (entries_of after)
-    → GoesOn repo.keys from.most written (committed_of after) → after.config ≡ written.config
+    → GoesOn repo.keys from.most added written (committed_of after) → after.config ≡ written.config
     → AllByRecursion (IsCarried from next.keys (committed_of after) next.manifest.archives) some
-    → AreCut accepted from next.keys next.manifest.archives some → IsNamedBy accepted some middle → StandsOn from more middle next after image
-    → StandsOn from (some ++ more) accepted repo written image
-on_then from some more added accepted middle repo next written after image keys names chunks opening puts goes config carried cut only stands = record {
+    → AreCut accepted from next.keys next.manifest.archives some → IsNamedBy accepted some middle → StandsOn from more others middle next after image
+    → StandsOn from (some ++ more) (added ++ others) accepted repo written image
+on_then from some more added others accepted middle repo next written after image keys names chunks opening puts goes config carried cut only stands = record {
   entries = stands.entries;
   manifest = stands.manifest;
   shown = stands.shown;
   chunks = chunks_then (committed_of written) (committed_of after) stands.entries chunks stands.chunks;
   opening = opening_then repo.keys (entries_of written) (entries_of after) stands.entries opening
       (subst (λ (k : Keys). BringsOpening k (entries_of after) stands.entries) keys stands.opening);
-  puts = goes_then repo.keys from.most written after stands.entries added puts goes
-      (subst (λ (k : Keys). GoesOn k from.most after stands.entries) keys stands.puts);
+  puts = goes_then repo.keys from.most written after stands.entries added others puts goes
+      (subst (λ (k : Keys). GoesOn k from.most others after stands.entries) keys stands.puts);
   holds = held_by repo next stands.manifest stands.entries keys stands.holds;
   names = names_then repo.manifest next.manifest stands.manifest names stands.names;
   config = stands.config ∙ config;
@@ -163,16 +165,17 @@ on_then from some more added accepted middle repo next written after image keys 
   only = named_then accepted middle stands.manifest some stands.done only stands.only;
 }
 
--- of more chosen names a front was carried too
-unfoldable pub on_wider : (from : Origin) (some more : List (List ℕ)) (accepted : ManifestText) (repo : RepoState) (written : Written) (image : Files)
-    → StandsOn from some accepted repo written image → StandsOn from (some ++ more) accepted repo written image
-on_wider from some more accepted repo written image stands = record {
+-- of more chosen names a front was carried too, and of more that may be added the first were
+unfoldable pub on_wider : (from : Origin) (some more : List (List ℕ)) (within all : List Addition) (accepted : ManifestText) (repo : RepoState)
+    (written : Written) (image : Files) → IsFront within all → StandsOn from some within accepted repo written image
+    → StandsOn from (some ++ more) all accepted repo written image
+on_wider from some more within all accepted repo written image first stands = record {
   entries = stands.entries;
   manifest = stands.manifest;
   shown = stands.shown;
   chunks = stands.chunks;
   opening = stands.opening;
-  puts = stands.puts;
+  puts = goes_wider repo.keys from.most within all written stands.entries first stands.puts;
   holds = stands.holds;
   names = stands.names;
   config = stands.config;
@@ -184,15 +187,25 @@ on_wider from some more accepted repo written image stands = record {
   only = stands.only;
 }
 
-pub growing_wider : (from : Origin) (some more : List (List ℕ)) (store : Store) (h g : History) → KeepsGrowing from some store h g
-    → KeepsGrowing from (some ++ more) store h g
-growing_wider from some more store h g growing = (
+growing_more : (from : Origin) (some more : List (List ℕ)) (store : Store) (within all : List Addition) (h g : History) → IsFront within all
+    → KeepsGrowing from some store within h g → KeepsGrowing from (some ++ more) store all h g
+growing_more from some more store within all h g first growing = (
   growing.0,
   λ counts fits.
       let repo = repo_view store.repo in
-      sound_moments (StandsOn from some (accepted_in store) repo fits.written) (StandsOn from (some ++ more) (accepted_in store) repo fits.written) counts h g
-      (λ image stands. on_wider from some more (accepted_in store) repo fits.written image stands) (growing.1 counts fits),
+      sound_moments (StandsOn from some within (accepted_in store) repo fits.written) (StandsOn from (some ++ more) all (accepted_in store) repo fits.written)
+      counts h g (λ image stands. on_wider from some more within all (accepted_in store) repo fits.written image first stands) (growing.1 counts fits),
 )
+
+pub growing_wider : (from : Origin) (some more : List (List ℕ)) (store : Store) (within : List Addition) (h g : History)
+    → KeepsGrowing from some store within h g → KeepsGrowing from (some ++ more) store within h g
+growing_wider from some more store within h g growing = growing_more from some more store within within h g (front_all within) growing
+
+pub growing_longer : (from : Origin) (chosen : List (List ℕ)) (store : Store) (within all : List Addition) (h g : History) → IsFront within all
+    → KeepsGrowing from chosen store within h g → KeepsGrowing from chosen store all h g
+growing_longer from chosen store within all h g first growing =
+    subst (λ (names : List (List ℕ)). KeepsGrowing from names store all h g) (append-nil chosen)
+    (growing_more from chosen [] store within all h g first growing)
 
 -- ---- one after another
 
@@ -237,7 +250,7 @@ grows_here from store h counts fits = record {
   chunks = λ id blob apart live. live;
   opening = opening_same (repo_view store.repo).keys (entries_of fits.written);
   puts = adds_here (repo_view store.repo).keys from.most (entries_of fits.written);
-  committed = goes_same (repo_view store.repo).keys from.most fits.written;
+  committed = goes_same (repo_view store.repo).keys from.most [] fits.written;
   config = refl;
   most = most_here store;
   carried = tt;
@@ -264,8 +277,8 @@ grows_then from some more added others store middle now h g i p q counts fits =
           (entries_of second.fits_now.written) added others first.puts
           (subst (λ (k : Keys). AddsAll k from.most (entries_of first.fits_now.written) others (entries_of second.fits_now.written)) first.most.keys
           second.puts);
-      committed = goes_then (repo_view store.repo).keys from.most fits.written first.fits_now.written committed added first.puts first.committed
-          (subst (λ (k : Keys). GoesOn k from.most first.fits_now.written committed) first.most.keys second.committed);
+      committed = goes_then (repo_view store.repo).keys from.most fits.written first.fits_now.written committed added others first.puts first.committed
+          (subst (λ (k : Keys). GoesOn k from.most others first.fits_now.written committed) first.most.keys second.committed);
       config = second.config ∙ first.config;
       most = most_then store middle now first.most second.most;
       carried = all_both (IsCarried from keys committed archives) some more
@@ -282,25 +295,29 @@ grows_then from some more added others store middle now h g i p q counts fits =
       only = named_then (accepted_in store) (accepted_in middle) (accepted_in now) some more first.only second.only;
     }
 
-pub growing_then : (from : Origin) (some more : List (List ℕ)) (added : List Addition) (store middle : Store) (h g i : History)
-    → KeepsGrowing from (some ++ more) store h g → AllDone h g → Grows from some added store middle h g → KeepsGrowing from more middle g i
-    → KeepsGrowing from (some ++ more) store h i
-growing_then from some more added store middle h g i before done grows after = (
+pub growing_then : (from : Origin) (some more : List (List ℕ)) (added others : List Addition) (store middle : Store) (h g i : History)
+    → KeepsGrowing from (some ++ more) store added h g → AllDone h g → Grows from some added store middle h g → KeepsGrowing from more middle others g i
+    → KeepsGrowing from (some ++ more) store (added ++ others) h i
+growing_then from some more added others store middle h g i before done grows after = (
   untold_then h g i before.0 after.0,
   λ counts fits.
       let first = grows counts fits in
       let repo = repo_view store.repo in
       let next = repo_view middle.repo in
-      moments_then (IsSound (StandsOn from (some ++ more) (accepted_in store) repo fits.written) counts) h g i (before.1 counts fits) done
-      (sound_moments (StandsOn from more (accepted_in middle) next first.fits_now.written)
-      (StandsOn from (some ++ more) (accepted_in store) repo fits.written) counts g i
-      (λ image stands. on_then from some more added (accepted_in store) (accepted_in middle) repo next fits.written first.fits_now.written image
+      let all = added ++ others in
+      moments_then (IsSound (StandsOn from (some ++ more) all (accepted_in store) repo fits.written) counts) h g i
+      ((growing_longer from (some ++ more) store added all h g (front_of added others) before).1 counts fits) done
+      (sound_moments (StandsOn from more others (accepted_in middle) next first.fits_now.written)
+      (StandsOn from (some ++ more) all (accepted_in store) repo fits.written) counts g i
+      (λ image stands. on_then from some more added others (accepted_in store) (accepted_in middle) repo next fits.written first.fits_now.written image
       first.most.keys first.most.names first.chunks first.opening first.puts first.committed first.config first.carried first.cut first.only stands)
       (after.1 counts first.fits_now)),
 )
 
-pub growing_here : (from : Origin) (chosen : List (List ℕ)) (store : Store) (h : History) → AcceptsMore store → KeepsGrowing from chosen store h h
-growing_here from chosen store h accepts = growing_by from chosen (accepted_in store) store h h accepts (stands_here from.most store h)
+pub growing_here : (from : Origin) (chosen : List (List ℕ)) (store : Store) (within : List Addition) (h : History) → AcceptsMore store
+    → KeepsGrowing from chosen store within h h
+growing_here from chosen store within h accepts =
+    growing_by from chosen (accepted_in store) store within h h accepts (stands_here from.most store within h)
 
 -- ---- a manifest is committed
 
@@ -318,9 +335,9 @@ commit_on : (from : Origin) (accepted : ManifestText) (entry : ArchiveRef) (coun
     (fits : StoreFits counts store h) (manifest : ManifestText) (blob : List ℕ) (image : Files) → KeepsNames (repo_view store.repo).manifest manifest
     → manifest.archives ≡ (accepted_in store).archives → AcceptsOne accepted store entry → IsReadyToName from (files_now h) (repo_view store.repo) entry
     → ShowsManifest (with_manifest (repo_view store.repo) manifest) (with_entry fits.written (PutEntry zero_id blob)) image
-    → StandsOn from (entry.name ∷ []) accepted (repo_view store.repo) fits.written image
+    → StandsOn from (entry.name ∷ []) [] accepted (repo_view store.repo) fits.written image
 commit_on from accepted entry counts store h fits manifest blob image names archives one ready (inl shown) =
-    on_from from (entry.name ∷ []) accepted counts store h fits image one.keeps (standing_from from.most counts store h fits image shown)
+    on_from from (entry.name ∷ []) [] accepted counts store h fits image one.keeps (standing_from from.most [] counts store h fits image shown)
 commit_on from accepted entry counts store h fits manifest blob image names archives one ready (inr shown) =
     let named : (name : List ℕ) → archive_named name manifest.archives ≡ archive_named name (accepted_in store).archives =
     λ name. ap (archive_named name) archives in
@@ -330,7 +347,7 @@ commit_on from accepted entry counts store h fits manifest blob image names arch
       shown = shown.0.0;
       chunks = λ id old apart live. live_manifest fits.written blob id apart ∙ fits.keeps id old live;
       opening = λ id old apart live. inl (sym (live_manifest fits.written blob id apart) ∙ live);
-      puts = inr ([], adds_manifest (repo_view store.repo).keys from.most fits.written blob);
+      puts = inr ([], (front_none [], adds_manifest (repo_view store.repo).keys from.most fits.written blob));
       holds = shown.1;
       names = names;
       config = shown.0.1;
@@ -346,12 +363,12 @@ pub commit_growing : (from : Origin) (accepted : ManifestText) (entry : ArchiveR
     (h g : History) → KeepsNames (repo_view store.repo).manifest manifest → manifest.archives ≡ (accepted_in store).archives
     → AcceptsOne accepted store entry → IsReadyToName from (files_now h) (repo_view store.repo) entry → TellsNothing h g
     → CommitsEntry (with_manifest (repo_view store.repo) manifest) store.session store.counter (PutEntry zero_id blob) h g
-    → KeepsGrowingBy accepted from (entry.name ∷ []) store h g
+    → KeepsGrowingBy accepted from (entry.name ∷ []) store [] h g
 commit_growing from accepted entry store manifest blob h g names archives one ready untold commits = (
   untold,
   λ counts fits.
       sound_moments (ShowsManifest (with_manifest (repo_view store.repo) manifest) (with_entry fits.written (PutEntry zero_id blob)))
-      (StandsOn from (entry.name ∷ []) accepted (repo_view store.repo) fits.written) counts h g
+      (StandsOn from (entry.name ∷ []) [] accepted (repo_view store.repo) fits.written) counts h g
       (λ image shown. commit_on from accepted entry counts store h fits manifest blob image names archives one ready shown)
       (commits counts fits.written fits.under_way),
 )
@@ -377,7 +394,7 @@ commit_grows from accepted entry store now manifest blob h g most archives manif
       opening = λ id old apart live.
           inl (sym (live_renewed fits.written blob id apart) ∙ (ap (λ (w : Written). live_in id (entries_of w)) (sym end.1) ∙ live));
       puts = subst (AddsAll keys from.most (entries_of fits.written) []) (sym written_is) adds;
-      committed = subst (GoesOn keys from.most fits.written) (sym committed) (inr ([], adds));
+      committed = subst (GoesOn keys from.most [] fits.written) (sym committed) (inr ([], (front_none [], adds)));
       config = ap (λ (w : Written). w.config) end.1;
       most = most;
       carried = (
@@ -422,26 +439,22 @@ accepted_as counts store accepted h fits = record {
   learnt = fits.learnt;
 }
 
-pub accepted_most : (store now : Store) → now ≡ record store { accepted = now.accepted } → KeepsMost store now
-accepted_most store now same =
-    subst (KeepsMost store) (sym same) (record { keys = refl; config = refl; names = names_here (repo_view store.repo).manifest })
-
 -- what stands from a store with an archive accepted stands from the store before
-pub standing_accepted : (most : ℕ) (store middle : Store) (h g : History) → middle ≡ record store { accepted = middle.accepted }
-    → KeepsStanding most middle h g → KeepsStanding most store h g
-standing_accepted most store middle h g same standing =
-    (subst (λ (s : Store). KeepsStanding most s h g → KeepsStanding most store h g) (sym same)
+pub standing_accepted : (most : ℕ) (store middle : Store) (within : List Addition) (h g : History) → middle ≡ record store { accepted = middle.accepted }
+    → KeepsStanding most middle within h g → KeepsStanding most store within h g
+standing_accepted most store middle within h g same standing =
+    (subst (λ (s : Store). KeepsStanding most s within h g → KeepsStanding most store within h g) (sym same)
     (λ after. (
       after.0,
       λ counts fits.
           after.1 counts (accepted_as counts store middle.accepted h fits),
     ))) standing
 
-pub growing_accepted : (accepted : ManifestText) (from : Origin) (chosen : List (List ℕ)) (store middle : Store) (h g : History)
-    → middle ≡ record store { accepted = middle.accepted } → KeepsGrowingBy accepted from chosen middle h g
-    → KeepsGrowingBy accepted from chosen store h g
-growing_accepted accepted from chosen store middle h g same growing =
-    (subst (λ (s : Store). KeepsGrowingBy accepted from chosen s h g → KeepsGrowingBy accepted from chosen store h g) (sym same)
+pub growing_accepted : (accepted : ManifestText) (from : Origin) (chosen : List (List ℕ)) (store middle : Store) (within : List Addition) (h g : History)
+    → middle ≡ record store { accepted = middle.accepted } → KeepsGrowingBy accepted from chosen middle within h g
+    → KeepsGrowingBy accepted from chosen store within h g
+growing_accepted accepted from chosen store middle within h g same growing =
+    (subst (λ (s : Store). KeepsGrowingBy accepted from chosen s within h g → KeepsGrowingBy accepted from chosen store within h g) (sym same)
     (λ after. (
       after.0,
       λ counts fits.

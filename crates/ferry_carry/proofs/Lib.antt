@@ -8,6 +8,7 @@ pub mod PieceLemmas
 pub mod CopyLemmas
 pub mod GrowLemmas
 pub mod HealedLemmas
+pub mod ListingLemmas
 pub mod ProgressLemmas
 pub mod StepLemmas
 pub mod RefusalLemmas

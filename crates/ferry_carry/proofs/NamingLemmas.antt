@@ -1,8 +1,9 @@
 -- Lemmas on specs/Naming.antt: the record that was put for an archive, what the store lets a next body do, and the commit of a name.
-use Rattle.std.proofs.Common.{◌≡◌, ◌⊎◌, inl, inr, Bool, ℕ, List, [], ◌∷◌, Option, None, Result, Ok, Err, IfOk, IfSome, map}
+use Rattle.std.proofs.Common.{◌≡◌, ◌⊎◌, inl, inr, Bool, ℕ, List, [], ◌∷◌, Option, None, Result, Ok, Err, IfOk, IfSome, OnOk, ◌+◌, ◌-◌, ◌^◌, min}
 use Rattle.std.proofs.Common.{length, ◌<◌, ◌++◌, refl, sym, ◌∙◌, ap, arith, subst, false, true}
-use Rattle.std.proofs.lemmas.List.{append_assoc}
+use Rattle.std.proofs.lemmas.List.{append-nil}
 use Rattle.std.proofs.lemmas.Option.{IfSome_then}
+use Rattle.std.proofs.lemmas.Result.{IfOk-weaker}
 use Rattle.ferry_base.specs.Limits.{content_limit, zero_id}
 use Rattle.ferry_blob.specs.Blob.{content_id}
 use Rattle.ferry_disk.proofs.MomentLemmas.{between_both, between_map}
@@ -33,90 +34,94 @@ use Rattle.ferry_store.specs.declared.store.Store.{Store}
 use Rattle.ferry_write.specs.Script.{AllDone}
 use Rattle.ferry_carry.proofs.FaultLemmas.{failed_target}
 use Rattle.ferry_carry.proofs.GrowLemmas.{commit_growing, commit_grows, growing_accepted, grows_accepted}
+use Rattle.ferry_carry.proofs.ListingLemmas.{bytes_apart, count_apart, counts_then, items_ended}
 use Rattle.ferry_carry.proofs.ProgressLemmas.{any_told, stream_ids}
-use Rattle.ferry_carry.proofs.PutsLemmas.{pieces_append}
+use Rattle.ferry_carry.proofs.PutsLemmas.{bytes_append, count_append}
 use Rattle.ferry_carry.proofs.WorkLemmas.{between_known, carried_nothing, works_as, works_front}
 use Rattle.ferry_carry.specs.Carrying.{IsReadyToName, Origin}
 use Rattle.ferry_carry.specs.Fault.{target_failed, target_fault}
 use Rattle.ferry_carry.specs.Copied.{IsCopyOf}
 use Rattle.ferry_carry.specs.Copying.{IsReady}
 use Rattle.ferry_carry.specs.Flight.{AcceptsOne, ListsDone, NamesArchive}
-use Rattle.ferry_carry.specs.Gather.{Gathers, KeepsRest, KeepsStanding, chunks_of}
+use Rattle.ferry_carry.specs.Counting.{CountsOf}
+use Rattle.ferry_carry.specs.Gather.{KeepsRest, chunks_of}
 use Rattle.ferry_carry.specs.Grow.{AcceptsMore, GrowsBy, KeepsGrowingBy, KeepsMost, KeepsNames}
-use Rattle.ferry_carry.specs.Listing.{ListsArchive, ListsItems}
-use Rattle.ferry_carry.specs.Naming.{IsRecord, copied_archive, entry_for}
-use Rattle.ferry_carry.specs.Progress.{CopiesAll, IsAllCopied, WritesItems}
-use Rattle.ferry_carry.specs.Puts.{Addition, Record, pieces}
+use Rattle.ferry_carry.specs.Listing.{BeginsOne, EndsItemsOf, ListsArchive, ListsItems}
+use Rattle.ferry_carry.specs.Naming.{AddsRecord, AddsUnder, BeginsRecord, copied_in, entry_for}
+use Rattle.ferry_carry.specs.Piece.{CountsOn}
+use Rattle.ferry_carry.specs.Progress.{CopiesAll, IsAllCopied, IsCopyFrom, WritesItems}
+use Rattle.ferry_carry.specs.Puts.{Addition, AreOf, ArePieces, Content, Kind, Record, Stream, addition, put_bytes, put_count}
 use Rattle.ferry_carry.specs.Refusals.{IsLimited, LimitsManifest, RefusesBegin, StopsPieces, named_next}
 use Rattle.ferry_carry.specs.Time.{time_for}
-use Rattle.ferry_carry.specs.Work.{Works}
 use Rattle.ferry_carry.specs.declared.copy.Copy.{Copy}
 use Rattle.ferry_carry.specs.declared.fault.CarryFault.{CarryFault}
 use Rattle.ferry_carry.specs.declared.fault.CarryFault.TheVariants as Carry
+use Rattle.ferry_carry.specs.declared.options.Carried.{Carried}
+use Rattle.ferry_carry.specs.declared.piece.PieceWriter.{PieceWriter}
 
 -- ---- the record
 
--- a text that was read under the store's keys, and put
-pub record_put : (r : Result (List ℕ) CarryFault) (keys other : Keys) (text given : List ℕ) (archive : ArchiveText) → other ≡ keys → text ≡ given
-    → IfOk r (λ id. id ≡ content_id keys text) → archive_of other given ≡ Ok archive
-    → IfOk r (λ id. (id ≡ content_id keys text) × (archive_of keys text ≡ Ok archive))
-record_put (Ok id) keys other text given archive same is id_is reads =
-    (id_is, ap (λ (t : List ℕ). archive_of keys t) is ∙ (ap (λ (k : Keys). archive_of k given) (sym same) ∙ reads))
-record_put (Err fault) keys other text given archive same is id_is reads = tt
+-- What was added of a record, and whose id was answered.
+abbrev pub RecordIs : Keys → ArchiveText → List Addition → Result (List ℕ) CarryFault → Type 0
+RecordIs keys archive more r = BeginsRecord keys archive more × IfOk r (AddsUnder keys archive more)
 
--- the record that was put is that of the archive with other pieces
-pub record_of : (r : Result (List ℕ) CarryFault) (keys : Keys) (archive copied : ArchiveText) (block : ℕ) (pieces : List ChunkRef) (text : List ℕ)
-    → copied ≡ copied_archive archive block (map (λ (chunk : ChunkRef). chunk.id) pieces)
-    → IfOk r (λ id. (id ≡ content_id keys text) × (archive_of keys text ≡ Ok (as_tagged copied)))
-    → IfOk r (λ id. IsRecord keys archive block pieces text id)
-record_of (Ok id) keys archive copied block pieces text is put =
-    record { id_is = put.0; reads = put.1 ∙ ap (λ (a : ArchiveText). Ok (as_tagged a)) is }
-record_of (Err fault) keys archive copied block pieces text is put = tt
+-- a text that was read under the store's keys, and added
+pub record_put : (r : Result (List ℕ) CarryFault) (keys other : Keys) (text given : List ℕ) (put : Bool) (archive : ArchiveText) → other ≡ keys
+    → text ≡ given → archive_of other given ≡ Ok (as_tagged archive) → IfOk r (λ id. id ≡ content_id keys text)
+    → RecordIs keys archive (addition Record text put ∷ []) r
+record_put r keys other text given put archive same is reads id_is =
+    let adds : AddsRecord keys archive (addition Record text put ∷ []) =
+    record {
+      text = text;
+      put = put;
+      more_is = refl;
+      reads = ap (λ (t : List ℕ). archive_of keys t) is ∙ (ap (λ (k : Keys). archive_of k given) (sym same) ∙ reads);
+    } in (
+      inr adds,
+      IfOk-weaker r (λ id. id ≡ content_id keys text) (AddsUnder keys archive (addition Record text put ∷ []))
+          (λ id under. record { adds = adds; id_is = under }) id_is,
+    )
 
 -- the same under the same keys, with the same pieces
-pub record_as : (r : Result (List ℕ) CarryFault) (keys other : Keys) (archive : ArchiveText) (block : ℕ) (pieces given : List ChunkRef) (text : List ℕ)
-    → other ≡ keys → given ≡ pieces → IfOk r (λ id. IsRecord other archive block given text id) → IfOk r (λ id. IsRecord keys archive block pieces text id)
-record_as r keys other archive block pieces given text same is put =
-    subst (λ (k : Keys). IfOk r (λ id. IsRecord k archive block pieces text id)) same
-    (subst (λ (p : List ChunkRef). IfOk r (λ id. IsRecord other archive block p text id)) is put)
+pub record_as : (r : Result (List ℕ) CarryFault) (keys other : Keys) (archive : ArchiveText) (block : ℕ) (pieces given : List ChunkRef)
+    (more : List Addition) → other ≡ keys → given ≡ pieces → RecordIs other (copied_in archive block given) more r
+    → RecordIs keys (copied_in archive block pieces) more r
+record_as r keys other archive block pieces given more same is put =
+    subst (λ (k : Keys). RecordIs k (copied_in archive block pieces) more r) same
+    (subst (λ (p : List ChunkRef). RecordIs other (copied_in archive block p) more r) is put)
+
+-- what holds behind a body holds where it is `Ok`
+pub on_any : {T : Type 0} {P : Type 0} (r : Result T CarryFault) → P → OnOk r P
+on_any (Ok x) p = p
+on_any (Err fault) p = tt
 
 -- ---- what was added of an archive
 
--- a body that added contents, under a checkpoint that is the same
-pub gathered_at : {T : Type 0} (most other : ℕ) (store now : Store) (added : List Addition) (a b : Option Told) (n m : ℕ) (result : Result T CarryFault)
-    → other ≡ most → Works (KeepsStanding other store) (λ (_ : T). Gathers other store added now) a b n m result
-    → Works (KeepsStanding most store) (λ (_ : T). Gathers most store added now) a b n m result
-gathered_at {T} most other store now added a b n m result same p =
-    subst (λ (l : ℕ). Works (KeepsStanding l store) (λ (_ : T). Gathers l store added now) a b n m result) same p
-
--- a record that was put is that of all items that were written
-copied_so : (files : Files) (repo : RepoState) (copy : Copy) (wholes : List WholeItem) (added : List (List ℕ)) (text id : List ℕ) → IsReady copy
+-- a record that was added is that of all items that were written
+copied_so : (files : Files) (repo : RepoState) (copy : Copy) (wholes : List WholeItem) (added more : List Addition) → IsReady copy
     → WritesItems files repo copy wholes added
-    → IsRecord repo.keys (archive_view copy.archive) copy.block (copy.stream.chunks.items
-    ++ chunks_of repo.keys (cut copy.stream.cutter.block copy.stream.cutter.piece)) text id
-    → IsCopyOf repo.keys copy.block wholes (archive_view copy.archive).fields text
-copied_so files repo copy wholes added text id ready writes is =
+    → (adds : AddsRecord repo.keys (copied_in (archive_view copy.archive) copy.block (copy.stream.chunks.items
+    ++ chunks_of repo.keys (cut copy.stream.cutter.block copy.stream.cutter.piece))) more)
+    → IsCopyOf repo.keys copy.block wholes (archive_view copy.archive).fields adds.text
+copied_so files repo copy wholes added more ready writes adds =
     let given = copy.stream.chunks.items ++ chunks_of repo.keys (cut copy.stream.cutter.block copy.stream.cutter.piece) in
     record {
       some = omega (arith, ready.least);
-      copied = as_tagged (copied_archive (archive_view copy.archive) copy.block (map (λ (chunk : ChunkRef). chunk.id) given));
-      reads = is.reads;
+      copied = as_tagged (copied_in (archive_view copy.archive) copy.block given);
+      reads = adds.reads;
       same = refl;
       items = stream_ids files repo copy wholes added ready writes;
       spelled = writes.spelled;
     }
 
 -- behind the pieces of all items what is left of the stream and the record were added: that is all of the archive
-lists_end : (there : Files) (from : Origin) (named : ArchiveRef) (files : Files) (repo : RepoState) (copy : Copy) (added : List (List ℕ)) (text id : List ℕ)
-    → from.block ≡ copy.block → IsReady copy
-    → IsRecord repo.keys (archive_view copy.archive) copy.block (copy.stream.chunks.items
-    ++ chunks_of repo.keys (cut copy.stream.cutter.block copy.stream.cutter.piece)) text id
-    → CopiesAll there from.repo named files repo copy added
-    → ListsArchive there from repo.keys named.name
-    (pieces added ++ (pieces (cut copy.stream.cutter.block copy.stream.cutter.piece) ++ Record text ∷ []))
-lists_end there from named files repo copy added text id same ready is all =
+lists_end : (there : Files) (from : Origin) (named : ArchiveRef) (files : Files) (repo : RepoState) (copy : Copy) (added last more : List Addition)
+    → from.block ≡ copy.block → IsReady copy → ArePieces Stream (cut copy.stream.cutter.block copy.stream.cutter.piece) last
+    → AddsRecord repo.keys (copied_in (archive_view copy.archive) copy.block (copy.stream.chunks.items
+    ++ chunks_of repo.keys (cut copy.stream.cutter.block copy.stream.cutter.piece))) more
+    → CopiesAll there from.repo named files repo copy added → ListsArchive there from repo.keys named.name (added ++ (last ++ more))
+lists_end there from named files repo copy added last more same ready last_is adds all =
     let piece = copy.stream.cutter.piece in
-    let left = cut copy.stream.cutter.block piece in
     let fields = (archive_view copy.archive).fields in
     record {
       whole = record { time = named.time; fields = fields; items = all.wholes };
@@ -124,25 +129,75 @@ lists_end there from named files repo copy added text id same ready is all =
       listed = added;
       piece = piece;
       lists = subst (λ (b : ℕ). ListsItems repo.keys b [] all.wholes added piece) (sym same) all.writes.lists;
-      text = text;
-      copy = subst (λ (b : ℕ). IsCopyOf repo.keys b all.wholes fields text) (sym same)
-          (copied_so files repo copy all.wholes added text id ready all.writes is);
-      added_is = sym (append_assoc (pieces added) (pieces left) (Record text ∷ []))
-          ∙ (ap (λ (l : List Addition). l ++ Record text ∷ []) (sym (pieces_append added left))
-          ∙ ap (λ (b : ℕ). pieces (added ++ cut b piece) ++ Record text ∷ []) ready.stream_block_is);
+      last = last;
+      last_is = subst (λ (b : ℕ). ArePieces Stream (cut b piece) last) ready.stream_block_is last_is;
+      text = adds.text;
+      copy = subst (λ (b : ℕ). IsCopyOf repo.keys b all.wholes fields adds.text) (sym same)
+          (copied_so files repo copy all.wholes added more ready all.writes adds);
+      put = adds.put;
+      added_is = ap (λ (l : List Addition). added ++ (last ++ l)) adds.more_is;
     }
 
+-- as far as that came
+begins_end : (there : Files) (from : Origin) (named : ArchiveRef) (files : Files) (repo : RepoState) (copy : Copy) (added last more : List Addition)
+    → from.block ≡ copy.block → IsReady copy → ArePieces Stream (cut copy.stream.cutter.block copy.stream.cutter.piece) last
+    → BeginsRecord repo.keys (copied_in (archive_view copy.archive) copy.block (copy.stream.chunks.items
+    ++ chunks_of repo.keys (cut copy.stream.cutter.block copy.stream.cutter.piece))) more
+    → CopiesAll there from.repo named files repo copy added
+    → EndsItemsOf there from repo.keys named.name (added ++ (last ++ more)) ⊎ ListsArchive there from repo.keys named.name (added ++ (last ++ more))
+begins_end there from named files repo copy added last more same ready last_is (inl none) all =
+    let is : last ≡ last ++ more = sym (append-nil last) ∙ ap (λ (l : List Addition). last ++ l) (sym none) in
+    inl (subst (λ (l : List Addition). EndsItemsOf there from repo.keys named.name (added ++ l)) is
+    (items_ended there from named files repo copy added last same ready last_is all))
+begins_end there from named files repo copy added last more same ready last_is (inr adds) all =
+    inr (lists_end there from named files repo copy added last more same ready last_is adds all)
+
 -- the same over what the devices tell
-pub lists_done : (from : Origin) (named : ArchiveRef) (heard : Option Told) (store : Store) (copy : Copy) (added : List (List ℕ)) (text id : List ℕ)
-    → IsReady copy
-    → IsRecord (repo_view store.repo).keys (archive_view copy.archive) copy.block (copy.stream.chunks.items
-    ++ chunks_of (repo_view store.repo).keys (cut copy.stream.cutter.block copy.stream.cutter.piece)) text id
+pub begins_done : (from : Origin) (named : ArchiveRef) (heard : Option Told) (store : Store) (copy : Copy) (added last more : List Addition)
+    → IsReady copy → ArePieces Stream (cut copy.stream.cutter.block copy.stream.cutter.piece) last
+    → BeginsRecord (repo_view store.repo).keys (copied_in (archive_view copy.archive) copy.block (copy.stream.chunks.items
+    ++ chunks_of (repo_view store.repo).keys (cut copy.stream.cutter.block copy.stream.cutter.piece))) more
     → IsAllCopied from named heard store copy added
-    → ListsDone heard from (repo_view store.repo).keys named.name
-    (pieces added ++ (pieces (cut copy.stream.cutter.block copy.stream.cutter.piece) ++ Record text ∷ [])) true
-lists_done from named heard store copy added text id ready is all =
+    → IfSome heard (λ _. BeginsOne from (repo_view store.repo).keys named.name (added ++ (last ++ more)))
+begins_done from named heard store copy added last more ready last_is begun all =
+    IfSome_then heard all.1 (λ d known. inr (IfSome_then from.files known
+    (λ there c. inr (begins_end there from named (told_files d) (repo_view store.repo) copy added last more all.0.block ready last_is begun c))))
+
+pub lists_done : (from : Origin) (named : ArchiveRef) (heard : Option Told) (store : Store) (copy : Copy) (added last more : List Addition)
+    → IsReady copy → ArePieces Stream (cut copy.stream.cutter.block copy.stream.cutter.piece) last
+    → AddsRecord (repo_view store.repo).keys (copied_in (archive_view copy.archive) copy.block (copy.stream.chunks.items
+    ++ chunks_of (repo_view store.repo).keys (cut copy.stream.cutter.block copy.stream.cutter.piece))) more
+    → IsAllCopied from named heard store copy added
+    → ListsDone heard from (repo_view store.repo).keys named.name (added ++ (last ++ more)) true
+lists_done from named heard store copy added last more ready last_is adds all =
     IfSome_then heard all.1 (λ d known. IfSome_then from.files known
-    (λ there c. lists_end there from named (told_files d) (repo_view store.repo) copy added text id all.0.block ready is c))
+    (λ there c. lists_end there from named (told_files d) (repo_view store.repo) copy added last more all.0.block ready last_is adds c))
+
+-- the numbers of an archive: those of its pieces, with what was left of the stream, and its record
+pub counts_done : (from : Origin) (copy : Copy) (stream : PieceWriter) (added last more : List Addition) (keys : Keys) (archive : ArchiveText)
+    (carried : Carried) → IsCopyFrom from copy added → AreOf Stream last → CountsOn Stream copy.stream last stream → AddsRecord keys archive more
+    → carried.chunks ≡ copy.contents.put → carried.bytes ≡ copy.contents.bytes → carried.meta ≡ stream.put → CountsOf (added ++ (last ++ more)) carried
+counts_done from copy stream added last more keys archive carried is of counts adds chunks_are bytes_are meta_are =
+    let record_of : AreOf Record more = subst (AreOf Record) (sym adds.more_is) (refl, tt) in
+    let all = added ++ (last ++ more) in
+    let counted : (kind : Kind) → put_count kind all ≡ put_count kind added + (put_count kind last + put_count kind more) =
+    λ kind. count_append kind added (last ++ more) ∙ ap (λ (count : ℕ). put_count kind added + count) (count_append kind last more) in
+    let bytes : put_bytes Content all ≡ put_bytes Content added + (put_bytes Content last + put_bytes Content more) =
+    bytes_append Content added (last ++ more) ∙ ap (λ (count : ℕ). put_bytes Content added + count) (bytes_append Content last more) in
+    let chunks_all : put_count Content all ≡ put_count Content added =
+    omega (arith, counted Content, count_apart Content Stream last refl of, count_apart Content Record more refl record_of) in
+    let bytes_all : put_bytes Content all ≡ put_bytes Content added =
+    omega (arith, bytes, bytes_apart Content Stream last refl of, bytes_apart Content Record more refl record_of) in
+    let meta_all : put_count Stream all ≡ put_count Stream added + put_count Stream last =
+    omega (arith, counted Stream, count_apart Stream Record more refl record_of) in
+    let meta : stream.put ≡ min (put_count Stream all) (2 ^ 64 - 1) =
+    counts_then (2 ^ 64 - 1) copy.stream.put (put_count Stream added) stream.put (put_count Stream last) (put_count Stream all) is.meta counts.put
+    meta_all in
+    record {
+      chunks = omega (arith, chunks_are, is.chunks, chunks_all);
+      bytes = omega (arith, bytes_are, is.bytes, bytes_all);
+      meta = omega (arith, meta_are, meta);
+    }
 
 -- ---- what contents that were added leave
 
@@ -158,12 +213,12 @@ module _ (accepted : ManifestText) (entry : ArchiveRef) (store now : Store) (man
   commit_each : KeepsNames (repo_view store.repo).manifest manifest → manifest.archives ≡ (accepted_in store).archives → AcceptsOne accepted store entry
       → (from : Origin) → IfSome a (λ t. IsReadyToName from (told_files t) (repo_view store.repo) entry) → Between a b TellsNothing
       → Between a b (CommitsEntry (with_manifest (repo_view store.repo) manifest) store.session store.counter (PutEntry zero_id blob))
-      → Between a b (KeepsGrowingBy accepted from (entry.name ∷ []) store)
+      → Between a b (KeepsGrowingBy accepted from (entry.name ∷ []) store [])
   commit_each names archives one from ready untold each =
       let commits = CommitsEntry (with_manifest (repo_view store.repo) manifest) store.session store.counter (PutEntry zero_id blob) in
       between_map a b
       (λ h g. IsReadyToName from (files_now h) (repo_view store.repo) entry × (TellsNothing h g × commits h g))
-      (KeepsGrowingBy accepted from (entry.name ∷ []) store)
+      (KeepsGrowingBy accepted from (entry.name ∷ []) store [])
       (λ h g e. commit_growing from accepted entry store manifest blob h g names archives one e.0 e.1.0 e.1.1)
       (between_known (λ h. IsReadyToName from (files_now h) (repo_view store.repo) entry) (λ h g. TellsNothing h g × commits h g) a b ready
       (between_both a b TellsNothing commits untold each))
@@ -213,16 +268,16 @@ pub named_behind : (accepted : ManifestText) (entry : ArchiveRef) (store middle 
 named_behind accepted entry store middle now a b n m (Ok x) same p from ready =
     let works = p from
     (subst (λ (r : RepoState). IfSome a (λ t. IsReadyToName from (told_files t) r entry)) (sym (ap (λ (s : Store). repo_view s.repo) same)) ready) in
-    works_as (KeepsGrowingBy accepted from (entry.name ∷ []) middle) (λ (_ : Unit {0}). GrowsBy accepted from (entry.name ∷ []) [] middle now)
-    (KeepsGrowingBy accepted from (entry.name ∷ []) store) (λ (_ : Unit {0}). GrowsBy accepted from (entry.name ∷ []) [] store now) a b n m x x
-    (λ h g e. growing_accepted accepted from (entry.name ∷ []) store middle h g same e)
+    works_as (KeepsGrowingBy accepted from (entry.name ∷ []) middle []) (λ (_ : Unit {0}). GrowsBy accepted from (entry.name ∷ []) [] middle now)
+    (KeepsGrowingBy accepted from (entry.name ∷ []) store []) (λ (_ : Unit {0}). GrowsBy accepted from (entry.name ∷ []) [] store now) a b n m x x
+    (λ h g e. growing_accepted accepted from (entry.name ∷ []) store middle [] h g same e)
     (λ h g e. grows_accepted accepted from (entry.name ∷ []) [] store middle now h g same e) works
 named_behind accepted entry store middle now a b n m (Err fault) same p from ready =
     let works = p from
     (subst (λ (r : RepoState). IfSome a (λ t. IsReadyToName from (told_files t) r entry)) (sym (ap (λ (s : Store). repo_view s.repo) same)) ready) in
-    works_front (KeepsGrowingBy accepted from (entry.name ∷ []) middle) (λ (_ : Unit {0}). GrowsBy accepted from (entry.name ∷ []) [] middle now)
-    (KeepsGrowingBy accepted from (entry.name ∷ []) store) (λ (_ : Unit {0}). GrowsBy accepted from (entry.name ∷ []) [] store now) a b n m fault
-    (λ h g e. growing_accepted accepted from (entry.name ∷ []) store middle h g same e) works
+    works_front (KeepsGrowingBy accepted from (entry.name ∷ []) middle []) (λ (_ : Unit {0}). GrowsBy accepted from (entry.name ∷ []) [] middle now)
+    (KeepsGrowingBy accepted from (entry.name ∷ []) store []) (λ (_ : Unit {0}). GrowsBy accepted from (entry.name ∷ []) [] store now) a b n m fault
+    (λ h g e. growing_accepted accepted from (entry.name ∷ []) store middle [] h g same e) works
 
 -- where no call was made
 pub names_nothing : (entry : ArchiveRef) (store now : Store) (a : Option Told) (n : ℕ) (fault : CarryFault) → AcceptsMore store

@@ -1,21 +1,25 @@
 -- Lemmas on specs/Piece.antt: a writer of pieces from round to round, and what its last piece is.
-use Rattle.std.proofs.Common.{◌≡◌, ◌≤◌, ◌<◌, ◌-◌, ℕ, inl, inr, false, List, [], ◌∷◌, ◌++◌, Option, Some, None, IsSome, is_some, Result, Ok, OnOk}
+use Rattle.std.proofs.Common.{◌≡◌, ◌≤◌, ◌<◌, ◌+◌, ◌-◌, ◌^◌, ℕ, inl, inr, Bool, true, false, if◌then◌else◌, List, [], ◌∷◌, ◌++◌}
+use Rattle.std.proofs.Common.{Option, Some, None, IsSome, is_some, Result, Ok, Err, OnOk}
 use Rattle.std.proofs.Common.{length, min, take, drop, refl, sym, ◌∙◌, ap, subst, arith}
 use Rattle.std.proofs.lemmas.Bool.{cases_lt}
 use Rattle.std.proofs.lemmas.List.{append-nil, append_assoc, drop_all, length-append, length-take, map-append}
+use Rattle.std.proofs.lemmas.List.Elements.{All-nil}
+use Rattle.std.specs.List.{concat}
 use Rattle.ferry_item.specs.declared.item.ChunkRef.{ChunkRef}
 use Rattle.ferry_mac.specs.declared.keys.Keys.{Keys}
 use Rattle.ferry_rechunk.proofs.CutLemmas.{cut_nothing}
 use Rattle.ferry_rechunk.proofs.FeedLemmas.{FedSoFar, next_round, none_yet, one_more}
 use Rattle.ferry_rechunk.specs.Cut.{cut}
 use Rattle.ferry_rechunk.specs.Cutting.{Cutting, IsFed}
-use Rattle.ferry_carry.proofs.PutsLemmas.{pieces_append}
+use Rattle.ferry_carry.proofs.PutsLemmas.{bytes_append, count_append}
 use Rattle.ferry_carry.proofs.WorkLemmas.{gathered_then}
 use Rattle.ferry_carry.specs.Gather.{Gathers, KeepsRest, KeepsStanding, chunk_of, chunks_of}
-use Rattle.ferry_carry.specs.Piece.{WritesOn}
-use Rattle.ferry_carry.specs.Puts.{Addition, pieces}
+use Rattle.ferry_carry.specs.Piece.{BeginsOn, CountsOn, WritesOn}
+use Rattle.ferry_carry.specs.Puts.{Addition, Content, Kind, Record, Stream, addition, put_bytes, put_count}
 use Rattle.ferry_carry.specs.Work.{Works}
 use Rattle.ferry_carry.specs.declared.fault.CarryFault.{CarryFault}
+use Rattle.ferry_carry.specs.declared.piece.PieceWriter.{PieceWriter}
 use Rattle.ferry_disk.specs.Device.{Told}
 use Rattle.ferry_store.specs.declared.store.Store.{Store}
 
@@ -107,23 +111,104 @@ all_written keys cutter chunks bytes rest more middle grown chunks_now taken so 
   block = kept ∙ block;
 }
 
+-- ---- where a result is `Ok`
+
+pub ok_to : {T : Type 0} (P Q : Type 0) (r : Result T CarryFault) → (P → Q) → OnOk r P → OnOk r Q
+ok_to P Q (Ok x) step p = step p
+ok_to P Q (Err fault) step p = tt
+
+-- ---- as far as it came
+
+-- what is in hand is all that was fed
+pub hand_fed : (cutter : Cutting) → length cutter.piece ≤ cutter.block → IsFed cutter.block cutter.piece [] cutter.piece
+hand_fed cutter fits = record { joined = refl; whole = All-nil (λ (one : List ℕ). length one ≡ cutter.block); fits = fits }
+
+-- the pieces that became whole so far are the first ones
+pub begins_so_far : (keys : Keys) (cutter : Cutting) (chunks : List ChunkRef) (bytes rest : List ℕ) (more : List (List ℕ)) (now : Cutting)
+    (chunks_now : List ChunkRef) → length cutter.piece < cutter.block → WritesSoFar keys cutter chunks bytes rest more now chunks_now
+    → BeginsOn cutter bytes more
+begins_so_far keys cutter chunks bytes rest more now chunks_now room so =
+    let far = so.fed [] in
+    let is = far.fed cutter.piece (hand_fed cutter (omega (arith, room))) in
+    record {
+      rest = now.piece ++ rest;
+      joined = sym (append_assoc (concat more) now.piece rest) ∙ (ap (λ (b : List ℕ). b ++ rest) is.joined
+          ∙ (append_assoc cutter.piece far.front rest ∙ ap (λ (b : List ℕ). cutter.piece ++ b) far.split));
+      whole = is.whole;
+    }
+
+-- those that became whole of all bytes are the first ones too
+pub begins_written : (keys : Keys) (cutter : Cutting) (chunks : List ChunkRef) (bytes : List ℕ) (more : List (List ℕ)) (now : Cutting)
+    (chunks_now : List ChunkRef) → length cutter.piece < cutter.block → WritesOn keys cutter chunks bytes more now chunks_now → BeginsOn cutter bytes more
+begins_written keys cutter chunks bytes more now chunks_now room writes =
+    let is = writes.fed cutter.piece [] (hand_fed cutter (omega (arith, room))) in
+    record { rest = now.piece; joined = is.joined; whole = is.whole }
+
+pub begins_nothing : (cutter : Cutting) (bytes : List ℕ) → BeginsOn cutter bytes []
+begins_nothing cutter bytes =
+    record { rest = cutter.piece ++ bytes; joined = refl; whole = All-nil (λ (one : List ℕ). length one ≡ cutter.block) }
+
+-- ---- how much was put
+
+pub counts_none : (kind : Kind) (writer : PieceWriter) (put bytes : ℕ) → (put ≡ writer.put) × (bytes ≡ writer.bytes) × (put < 2 ^ 64) × (bytes < 2 ^ 128)
+    → CountsOn kind writer [] writer
+unfolding put_count put_bytes
+counts_none kind writer put bytes read = record { put = omega (arith, read.0, read.2); bytes = omega (arith, read.1, read.3) }
+
+pub counts_then : (kind : Kind) (writer middle now : PieceWriter) (some more : List Addition) → CountsOn kind writer some middle
+    → CountsOn kind middle more now → CountsOn kind writer (some ++ more) now
+counts_then kind writer middle now some more p q = record {
+  put = omega (arith, p.put, q.put, count_append kind some more);
+  bytes = omega (arith, p.bytes, q.bytes, bytes_append kind some more);
+}
+
+-- one that is put counts as one
+count_one : (kind : Kind) (content : List ℕ) (put : Bool) → put_count kind (addition kind content put ∷ []) ≡ (if put then 1 else 0)
+unfolding put_count
+count_one kind content false = refl
+count_one Content content true = refl
+count_one Stream content true = refl
+count_one Record content true = refl
+
+bytes_one : (kind : Kind) (content : List ℕ) (put : Bool) → put_bytes kind (addition kind content put ∷ []) ≡ (if put then length content else 0)
+unfolding put_bytes
+bytes_one kind content false = refl
+bytes_one Content content true = omega arith
+bytes_one Stream content true = omega arith
+bytes_one Record content true = omega arith
+
+pub counts_one : (kind : Kind) (writer now : PieceWriter) (content : List ℕ) (put : Bool) (size : ℕ) → length content ≡ size
+    → now.put ≡ min (writer.put + (if put then 1 else 0)) (2 ^ 64 - 1) → now.bytes ≡ min (writer.bytes + (if put then size else 0)) (2 ^ 128 - 1)
+    → CountsOn kind writer (addition kind content put ∷ []) now
+counts_one kind writer now content put size is counted counted_bytes = record {
+  put = counted ∙ ap (λ (n : ℕ). min (writer.put + n) (2 ^ 64 - 1)) (sym (count_one kind content put));
+  bytes = counted_bytes ∙ (ap (λ (n : ℕ). min (writer.bytes + (if put then n else 0)) (2 ^ 128 - 1)) (sym is)
+      ∙ ap (λ (n : ℕ). min (writer.bytes + n) (2 ^ 128 - 1)) (sym (bytes_one kind content put)));
+}
+
+-- by the numbers alone
+pub counts_by : (kind : Kind) (writer other now last : PieceWriter) (more : List Addition) → other.put ≡ writer.put → other.bytes ≡ writer.bytes
+    → last.put ≡ now.put → last.bytes ≡ now.bytes → CountsOn kind writer more now → CountsOn kind other more last
+counts_by kind writer other now last more put bytes put_now bytes_now p = record {
+  put = put_now ∙ (p.put ∙ ap (λ (n : ℕ). min (n + put_count kind more) (2 ^ 64 - 1)) (sym put));
+  bytes = bytes_now ∙ (p.bytes ∙ ap (λ (n : ℕ). min (n + put_bytes kind more) (2 ^ 128 - 1)) (sym bytes));
+}
+
 -- ---- pieces that were added
 
 -- the same under another word for the checkpoint
-pub pieces_at : {T : Type 0} (most count : ℕ) (store now : Store) (more : List (List ℕ)) (a b : Option Told) (n m : ℕ) (result : Result T CarryFault)
-    → count ≡ most → Works (KeepsStanding count store) (λ (_ : T). Gathers count store (pieces more) now) a b n m result
-    → Works (KeepsStanding most store) (λ (_ : T). Gathers most store (pieces more) now) a b n m result
+pub pieces_at : {T : Type 0} (most count : ℕ) (store now : Store) (more : List Addition) (a b : Option Told) (n m : ℕ) (result : Result T CarryFault)
+    → count ≡ most → Works (KeepsStanding count store more) (λ (_ : T). Gathers count store more now) a b n m result
+    → Works (KeepsStanding most store more) (λ (_ : T). Gathers most store more now) a b n m result
 pieces_at {T} most count store now more a b n m result same p =
-    subst (λ (held : ℕ). Works (KeepsStanding held store) (λ (_ : T). Gathers held store (pieces more) now) a b n m result) same p
+    subst (λ (held : ℕ). Works (KeepsStanding held store more) (λ (_ : T). Gathers held store more now) a b n m result) same p
 
 -- pieces behind pieces
-pub pieces_then : {T U : Type 0} (most first second : ℕ) (store middle now : Store) (some more : List (List ℕ)) (a b c : Option Told) (n m k : ℕ) (x : T)
+pub pieces_then : {T U : Type 0} (most first second : ℕ) (store middle now : Store) (some more : List Addition) (a b c : Option Told) (n m k : ℕ) (x : T)
     (result : Result U CarryFault) → first ≡ most → second ≡ most → KeepsRest store middle → OnOk result (KeepsRest middle now)
-    → Works (KeepsStanding first store) (λ (_ : T). Gathers first store (pieces some) middle) a b n m (Ok x)
-    → Works (KeepsStanding second middle) (λ (_ : U). Gathers second middle (pieces more) now) b c m k result
-    → Works (KeepsStanding most store) (λ (_ : U). Gathers most store (pieces (some ++ more)) now) a c n k result
+    → Works (KeepsStanding first store some) (λ (_ : T). Gathers first store some middle) a b n m (Ok x)
+    → Works (KeepsStanding second middle more) (λ (_ : U). Gathers second middle more now) b c m k result
+    → Works (KeepsStanding most store (some ++ more)) (λ (_ : U). Gathers most store (some ++ more) now) a c n k result
 pieces_then {T} {U} most first second store middle now some more a b c n m k x result is is_now rest rest_now p q =
-    subst (λ (added : List Addition). Works (KeepsStanding most store) (λ (_ : U). Gathers most store added now) a c n k result)
-    (sym (pieces_append some more))
-    (gathered_then {T = T} {U = U} most store middle now (pieces some) (pieces more) a b c n m k x result rest rest_now
-    (pieces_at {T = T} most first store middle some a b n m (Ok x) is p) (pieces_at {T = U} most second middle now more b c m k result is_now q))
+    gathered_then {T = T} {U = U} most store middle now some more a b c n m k x result rest rest_now
+    (pieces_at {T = T} most first store middle some a b n m (Ok x) is p) (pieces_at {T = U} most second middle now more b c m k result is_now q)

@@ -1,8 +1,7 @@
 -- Lemmas on specs/Progress.antt: how far an archive on its way is, from step to step, and what can be named of it at its end.
-use Rattle.std.proofs.Common.{◌≡◌, ◌≤◌, ◌<◌, ℕ, Bool, true, false, List, [], ◌∷◌, ◌++◌, map, length, Option, Some, None, option_map}
+use Rattle.std.proofs.Common.{◌≡◌, ◌-◌, ◌^◌, ℕ, Bool, true, false, List, [], ◌∷◌, ◌++◌, map, min, Option, Some, None, option_map}
 use Rattle.std.proofs.Common.{Result, Ok, Err, IfSome, IsErrAnd, refl, sym, ◌∙◌, ap, subst, arith}
 use Rattle.std.proofs.lemmas.List.{append-nil, append_assoc, map-append}
-use Rattle.std.proofs.lemmas.List.Elements.{All-nil}
 use Rattle.std.proofs.lemmas.Option.{IfSome_then}
 use Rattle.std.specs.List.{AllByRecursion}
 use Rattle.ferry_blob.specs.Blob.{content_id}
@@ -21,84 +20,38 @@ use Rattle.ferry_manifest.specs.declared.record.Archive.{Archive}
 use Rattle.ferry_msgpack.specs.Tree.{Tree}
 use Rattle.ferry_rechunk.proofs.CuttingLemmas.{fed_cut, fed_nothing}
 use Rattle.ferry_rechunk.specs.Cut.{cut}
-use Rattle.ferry_rechunk.specs.Cutting.{Cutting, IsFed}
+use Rattle.ferry_rechunk.specs.Cutting.{IsFed}
 use Rattle.ferry_repo.specs.Archives.{HoldsRecord, archive_named}
 use Rattle.ferry_repo.specs.Cached.{Contents}
 use Rattle.ferry_repo.specs.Objects.{HoldsChunk}
 use Rattle.ferry_repo.specs.Opening.{FitsRepo, RepoState, repo_view}
 use Rattle.ferry_repo.specs.Walk.{LeadsOn, WalkState, begin_walk, walk_view}
-use Rattle.ferry_repo.specs.Whole.{HoldsItem, HoldsJoined, WholeItem}
+use Rattle.ferry_repo.specs.Whole.{WholeItem}
 use Rattle.ferry_store.specs.Standing.{Keeps, entries_of}
 use Rattle.ferry_store.specs.Store.{StoreFits}
 use Rattle.ferry_store.specs.declared.store.Store.{Store}
 use Rattle.ferry_write.proofs.StandLemmas.{all-append}
 use Rattle.ferry_carry.proofs.GatherLemmas.{chunk_on}
 use Rattle.ferry_carry.proofs.HealedLemmas.{taken_whole}
-use Rattle.ferry_carry.proofs.PutsLemmas.{contents_append, contents_pieces}
+use Rattle.ferry_carry.proofs.ListingLemmas.{counts_then, fills_on, item_taken, lists_then}
+use Rattle.ferry_carry.proofs.PutsLemmas.{bytes_append, contents_append, count_append}
 use Rattle.ferry_carry.proofs.SourceLemmas.{leads_end, leads_then, source_whole, wholes_more}
 use Rattle.ferry_carry.proofs.WholeLemmas.{all_both, all_front, each_to}
 use Rattle.ferry_carry.proofs.WorkLemmas.{works_known}
 use Rattle.ferry_carry.specs.Carrying.{CanBeNamed, HoldsApart, IsReadyToName, Origin, SaysIn, origin}
 use Rattle.ferry_carry.specs.Copied.{IsCopyOf, IsRead, adds_of, contents_of, copied_item, copied_stream, pieces_of, stream_block, stream_pieces}
-use Rattle.ferry_carry.specs.Copying.{CopiesContent, IsReady}
+use Rattle.ferry_carry.specs.Copying.{IsReady}
 use Rattle.ferry_carry.specs.Gather.{Brings, Gathered, Gathers, HoldsContents, HoldsWithin, IsAmong, KeepsRest, KeepsStanding, NoCollision, chunk_of, chunks_of}
-use Rattle.ferry_carry.specs.Listing.{FillsOn, ListsItems}
-use Rattle.ferry_carry.specs.Naming.{IsRecord, copied_archive, entry_for}
+use Rattle.ferry_carry.specs.Listing.{ListsItems}
+use Rattle.ferry_carry.specs.Naming.{AddsUnder, copied_in, entry_for}
 use Rattle.ferry_carry.specs.Piece.{WritesOn}
 use Rattle.ferry_carry.specs.Progress.{CopiesAll, CopiesSoFar, IsAllCopied, IsCopiedSoFar, IsCopyFrom, WritesItems}
-use Rattle.ferry_carry.specs.Puts.{Addition, Record, contents_in, pieces}
-use Rattle.ferry_carry.specs.Step.{CopiesItem, EndsItems}
+use Rattle.ferry_carry.specs.Puts.{Addition, AreOf, ArePieces, Content, Kind, Stream, contents_in, put_bytes, put_count}
+use Rattle.ferry_carry.specs.Step.{CopiesItem, CountsStep, EndsItems}
 use Rattle.ferry_carry.specs.Work.{Works}
 use Rattle.ferry_carry.specs.declared.copy.Copy.{Copy}
 use Rattle.ferry_carry.specs.declared.fault.CarryFault.{CarryFault}
 use Rattle.ferry_carry.specs.declared.piece.PieceWriter.{PieceWriter}
-
--- ---- an item that is taken
-
--- An item of a source has this content, whose pieces these are, and is this in a target.
-record IsTaken (there : Files) (source : RepoState) (block : ℕ) (keys : Keys) (item : ItemText) (contents : List (List ℕ)) (copied : ItemText)
-    (whole : WholeItem) : Type 0 where
-  holds : HoldsItem there source.log source.keys item whole
-  pieces : contents ≡ pieces_of block whole.content
-  text : copied ≡ copied_item keys block whole
-
--- items with the same fields and the same chunks are the same
-same_text : (a b : ItemText) → a.fields ≡ b.fields → a.chunks ≡ b.chunks → a ≡ b
-same_text a b fields chunks =
-    ap (λ (f : Tree). record { fields = f; chunks = a.chunks }) fields ∙ ap (λ (c : Option (List ChunkRef)). record { fields = b.fields; chunks = c }) chunks
-
--- the content of an item that was copied, and the item that is written for it
-item_taken : (t : Told) (source : RepoState) (block : ℕ) (keys : Keys) (item : ItemText) (fields : Tree) (chunks copied : Option (List ChunkRef))
-    (contents : List (List ℕ)) → item.chunks ≡ chunks → fields ≡ item.fields → CopiesContent (Some t) source block keys chunks contents copied
-    → (whole : WholeItem) × IsTaken (told_files t) source block keys item contents (record { fields = fields; chunks = copied }) whole
-item_taken t source block keys item fields None None contents is same copies =
-    let whole : WholeItem = record { fields = item.fields; content = None } in
-    let copied : ItemText = record { fields = fields; chunks = None } in (
-      whole,
-      record {
-        holds = record {
-          fields = refl;
-          content = subst (λ (c : Option (List ChunkRef)). HoldsJoined (told_files t) source.log source.keys c None) (sym is) tt;
-        };
-        pieces = copies;
-        text = same_text copied (copied_item keys block whole) same refl;
-      },
-    )
-item_taken t source block keys item fields None (Some copied) contents is same copies = absurd copies
-item_taken t source block keys item fields (Some chunks) None contents is same copies = absurd copies
-item_taken t source block keys item fields (Some chunks) (Some copied) contents is same copies =
-    let whole : WholeItem = record { fields = item.fields; content = Some copies.0 } in
-    let text : ItemText = record { fields = fields; chunks = Some copied } in (
-      whole,
-      record {
-        holds = record {
-          fields = refl;
-          content = subst (λ (c : Option (List ChunkRef)). HoldsJoined (told_files t) source.log source.keys c (Some copies.0)) (sym is) copies.1.1.1.1;
-        };
-        pieces = copies.1.0;
-        text = same_text text (copied_item keys block whole) same (ap (λ (c : List ChunkRef). Some c) copies.1.1.0);
-      },
-    )
 
 -- ---- the stream and the contents of one item more
 
@@ -172,57 +125,27 @@ held_more most counts store now added first last some more h g fits adds end res
     let news = all_front P some more new in
     all_both P (first ++ some) (last ++ more) (all_both P first some olds.0 news.0) (all_both P last more olds.1 news.1)
 
--- ---- what is listed
-
--- an item more is listed behind those that were
-pub lists_then : (keys : Keys) (block : ℕ) (piece : List ℕ) (wholes : List WholeItem) (whole : WholeItem) (listed full : List (List ℕ))
-    (middle piece_now : List ℕ) → ListsItems keys block piece wholes listed middle → FillsOn middle (item_text (copied_item keys block whole)) full piece_now
-    → ListsItems keys block piece (wholes ++ whole ∷ []) (listed ++ (pieces_of block whole.content ++ full)) piece_now
-lists_then keys block piece [] whole listed full middle piece_now lists fills =
-    let text = item_text (copied_item keys block whole) in
-    let parts = pieces_of block whole.content in
-    let same : listed ++ (parts ++ full) ≡ parts ++ (full ++ []) =
-    ap (λ (front : List (List ℕ)). front ++ (parts ++ full)) lists.0 ∙ ap (λ (last : List (List ℕ)). parts ++ last) (sym (append-nil full)) in
-    (full, (piece_now, ([], (subst (λ (held : List ℕ). FillsOn held text full piece_now) lists.1 fills, (same, (refl, refl))))))
-lists_then keys block piece (one ∷ wholes) whole listed full middle piece_now lists fills =
-    let front = pieces_of block one.content in
-    let last = pieces_of block whole.content ++ full in
-    let later = lists_then keys block lists.1.0 wholes whole lists.1.1.0 full middle piece_now lists.1.1.1.1.1 fills in
-    let same : listed ++ last ≡ front ++ (lists.0 ++ (lists.1.1.0 ++ last)) =
-    ap (λ (l : List (List ℕ)). l ++ last) lists.1.1.1.1.0
-    ∙ (append_assoc front (lists.0 ++ lists.1.1.0) last ∙ ap (λ (l : List (List ℕ)). front ++ l) (append_assoc lists.0 lists.1.1.0 last)) in
-    (lists.0, (lists.1.0, (lists.1.1.0 ++ last, (lists.1.1.1.0, (same, later)))))
-
--- what is written into a stream fills it on
-fills_on : (keys : Keys) (cutter cutter_now : Cutting) (chunks chunks_now : List ChunkRef) (text : List ℕ) (full : List (List ℕ))
-    → cutter.block ≡ stream_block → length cutter.piece ≤ cutter.block → WritesOn keys cutter chunks text full cutter_now chunks_now
-    → FillsOn cutter.piece text full cutter_now.piece
-fills_on keys cutter cutter_now chunks chunks_now text full large within wrote = record {
-  fed = subst (λ (block : ℕ). IsFed block (cutter.piece ++ text) full cutter_now.piece) large
-      (wrote.fed cutter.piece [] (record { joined = refl; whole = All-nil (λ one. length one ≡ cutter.block); fits = within }));
-  rest = subst (λ (block : ℕ). length cutter_now.piece < block) (wrote.block ∙ large) wrote.room;
-}
-
 -- ---- WritesItems
 
 -- one item more
 writes_more : (most : ℕ) (counts : Bool) (store now : Store) (h g : History) (fits : StoreFits counts store h) (copy copy_now : Copy)
-    (wholes : List WholeItem) (whole : WholeItem) (added spelled : List (List ℕ))
-    → Gathered most counts store (pieces (pieces_of copy.block whole.content ++ spelled)) now h g fits → KeepsRest store now → IsReady copy
-    → copy_now.block ≡ copy.block
+    (wholes : List WholeItem) (whole : WholeItem) (added own spelled : List Addition)
+    → Gathered most counts store (own ++ spelled) now h g fits → KeepsRest store now → IsReady copy
+    → copy_now.block ≡ copy.block → ArePieces Content (pieces_of copy.block whole.content) own → AreOf Stream spelled
     → WritesOn (repo_view store.repo).keys copy.stream.cutter copy.stream.chunks.items (item_text (copied_item (repo_view store.repo).keys copy.block whole))
-    spelled copy_now.stream.cutter copy_now.stream.chunks.items → IsRead (copied_item (repo_view store.repo).keys copy.block whole)
+    (contents_in spelled) copy_now.stream.cutter copy_now.stream.chunks.items → IsRead (copied_item (repo_view store.repo).keys copy.block whole)
     → WritesItems (files_now h) (repo_view store.repo) copy wholes added
-    → WritesItems (files_now g) (repo_view now.repo) copy_now (wholes ++ whole ∷ []) (added ++ (pieces_of copy.block whole.content ++ spelled))
-writes_more most counts store now h g fits copy copy_now wholes whole added spelled end rest ready same wrote read writes =
+    → WritesItems (files_now g) (repo_view now.repo) copy_now (wholes ++ whole ∷ []) (added ++ (own ++ spelled))
+writes_more most counts store now h g fits copy copy_now wholes whole added own spelled end rest ready same own_is of wrote read writes =
     let large = ready.stream_block_is in
     let keys = (repo_view store.repo).keys in
     let block = copy.block in
     let piece = copy_now.stream.cutter.piece in
     let chunks = copy_now.stream.chunks.items in
     let all = wholes ++ whole ∷ [] in
-    let taken = writes.taken ++ spelled in
-    let more = pieces_of block whole.content ++ spelled in
+    let full = contents_in spelled in
+    let taken = writes.taken ++ full in
+    let more = own ++ spelled in
     let IsSo : Keys → ℕ → Type 0 = λ k b.
     IsFed stream_block (copied_stream k b all) taken piece
     × ((chunks ≡ chunks_of k taken) × (AllByRecursion (λ (w : WholeItem). IsRead (copied_item k b w)) all × ListsItems k b [] all (added ++ more) piece)) in
@@ -233,18 +156,20 @@ writes_more most counts store now h g fits copy copy_now wholes whole added spel
     subst (λ (bytes : List ℕ). IsFed stream_block bytes taken piece) (sym (stream_more keys block wholes whole))
     (subst (λ (n : ℕ). IsFed n (copied_stream keys block wholes ++ item_text (copied_item keys block whole)) taken piece) large after) in
     let chunks_are : chunks ≡ chunks_of keys taken =
-    wrote.chunks_are ∙ (ap (λ (cs : List ChunkRef). cs ++ chunks_of keys spelled) writes.chunks ∙ sym (map-append (chunk_of keys) writes.taken spelled)) in
+    wrote.chunks_are ∙ (ap (λ (cs : List ChunkRef). cs ++ chunks_of keys full) writes.chunks ∙ sym (map-append (chunk_of keys) writes.taken full)) in
     let reads : AllByRecursion (λ (w : WholeItem). IsRead (copied_item keys block w)) all =
     all-append (λ (w : WholeItem). IsRead (copied_item keys block w)) wholes (whole ∷ []) writes.spelled (read, tt) in
     let fills = fills_on keys copy.stream.cutter copy_now.stream.cutter copy.stream.chunks.items chunks (item_text (copied_item keys block whole)) spelled large
-    (omega (arith, ready.stream_room)) wrote in
-    let lists = lists_then keys block [] wholes whole added spelled copy.stream.cutter.piece piece writes.lists fills in
+    (omega (arith, ready.stream_room)) of wrote in
+    let lists = lists_then keys block [] wholes whole added own spelled copy.stream.cutter.piece piece writes.lists own_is fills in
     let so : IsSo (repo_view now.repo).keys copy_now.block =
     subst (λ (k : Keys). IsSo k copy_now.block) (sym rest.keys) (subst (IsSo keys) (sym same) (fed, (chunks_are, (reads, lists)))) in
+    let contents : contents_in more ≡ pieces_of block whole.content ++ full =
+    contents_append own spelled ∙ ap (λ (cs : List (List ℕ)). cs ++ full) own_is.0 in
     let held : HoldsApart (files_now g) (repo_view now.repo) (contents_of block all ++ taken) =
     subst (λ (cs : List (List ℕ)). HoldsApart (files_now g) (repo_view now.repo) (cs ++ taken)) (sym (contents_more block wholes whole))
-    (held_more most counts store now (pieces more) (contents_of block wholes) writes.taken (pieces_of block whole.content) spelled h g fits
-    (contents_pieces more) end rest writes.held) in
+    (held_more most counts store now more (contents_of block wholes) writes.taken (pieces_of block whole.content) full h g fits contents end rest
+    writes.held) in
     record {
       taken = taken;
       fed = so.0;
@@ -256,7 +181,7 @@ writes_more most counts store now h g fits copy copy_now wholes whole added spel
 
 -- the same items, where nothing of the stream has changed
 writes_on : (most : ℕ) (counts : Bool) (store now : Store) (more : List Addition) (h g : History) (fits : StoreFits counts store h) (copy copy_now : Copy)
-    (wholes : List WholeItem) (added : List (List ℕ)) → Gathered most counts store more now h g fits → KeepsRest store now
+    (wholes : List WholeItem) (added : List Addition) → Gathered most counts store more now h g fits → KeepsRest store now
     → copy_now.stream ≡ copy.stream → copy_now.block ≡ copy.block → WritesItems (files_now h) (repo_view store.repo) copy wholes added
     → WritesItems (files_now g) (repo_view now.repo) copy_now wholes added
 writes_on most counts store now more h g fits copy copy_now wholes added end rest stream same writes =
@@ -283,8 +208,8 @@ writes_on most counts store now more h g fits copy copy_now wholes added end res
 
 -- one item more was taken and written
 pub step_copied : (most : ℕ) (counts : Bool) (t : Told) (source : RepoState) (named : ArchiveRef) (store now : Store) (copy copy_now : Copy)
-    (added more : List (List ℕ)) (h g : History) (fits : StoreFits counts store h) → FitsFiles (told_files t) source.log
-    → Gathered most counts store (pieces more) now h g fits
+    (added more : List Addition) (h g : History) (fits : StoreFits counts store h) → FitsFiles (told_files t) source.log
+    → Gathered most counts store more now h g fits
     → KeepsRest store now → IsReady copy → copy_now.archive ≡ copy.archive → copy_now.block ≡ copy.block
     → CopiesItem (Some t) source (repo_view store.repo).keys copy more copy_now
     → CopiesSoFar (told_files t) source named (files_now h) (repo_view store.repo) copy added
@@ -293,7 +218,9 @@ step_copied most counts t source named store now copy copy_now added more h g fi
     let there = told_files t in
     let keys = (repo_view store.repo).keys in
     let items = so.items ++ step.item ∷ [] in
-    let found = item_taken t source copy.block keys step.item step.copied.fields step.item.chunks step.copied.chunks step.contents refl step.fields
+    let own = step.contents in
+    let spelled = step.spelled in
+    let found = item_taken t source copy.block keys step.item step.copied.fields step.item.chunks step.copied.chunks (contents_in own) refl step.fields
     step.content in
     let whole = found.0 in
     let is = found.1 in
@@ -301,9 +228,7 @@ step_copied most counts t source named store now copy copy_now added more h g fi
     ap (λ (f : Tree). is_healed (field_pairs (record { fields = f; chunks = None }))) step.fields
     ∙ taken_whole there source.log source.keys (walk_view copy.walk) (walk_view copy_now.walk) step.item log_fits step.taken in
     let read : IsRead (copied_item keys copy.block whole) = subst IsRead is.text (step.again healed) in
-    let parts : more ≡ pieces_of copy.block whole.content ++ step.spelled =
-    step.pieces ∙ ap (λ (cs : List (List ℕ)). cs ++ step.spelled) is.pieces in
-    let wrote = subst (λ (i : ItemText). WritesOn keys copy.stream.cutter copy.stream.chunks.items (item_text i) step.spelled copy_now.stream.cutter
+    let wrote = subst (λ (i : ItemText). WritesOn keys copy.stream.cutter copy.stream.chunks.items (item_text i) (contents_in spelled) copy_now.stream.cutter
     copy_now.stream.chunks.items) is.text step.written.writes in
     record {
       items = items;
@@ -314,15 +239,16 @@ step_copied most counts t source named store now copy copy_now added more h g fi
           (leads_then there source.log source.keys (begin_walk named.id (archive_view copy.archive).items) (walk_view copy.walk) (walk_view copy_now.walk)
           so.items (step.item ∷ []) so.leads step.taken);
       come = wholes_more there source.log source.keys so.items so.wholes step.item whole so.come is.holds;
-      writes = subst (λ (cs : List (List ℕ)). WritesItems (files_now g) (repo_view now.repo) copy_now (so.wholes ++ whole ∷ []) (added ++ cs)) (sym parts)
-          (writes_more most counts store now h g fits copy copy_now so.wholes whole added step.spelled
-          (subst (λ (cs : List (List ℕ)). Gathered most counts store (pieces cs) now h g fits) parts end) rest ready same wrote read so.writes);
+      writes = subst (λ (l : List Addition). WritesItems (files_now g) (repo_view now.repo) copy_now (so.wholes ++ whole ∷ []) (added ++ l)) (sym step.pieces)
+          (writes_more most counts store now h g fits copy copy_now so.wholes whole added own spelled
+          (subst (λ (l : List Addition). Gathered most counts store l now h g fits) step.pieces end) rest ready same (is.pieces, step.of_content)
+          step.of_stream wrote read so.writes);
     }
 
 -- no item more is to come: all were written
 pub step_ended : (most : ℕ) (counts : Bool) (t : Told) (source : RepoState) (named : ArchiveRef) (store now : Store) (copy copy_now : Copy)
-    (added more : List (List ℕ)) (h g : History) (fits : StoreFits counts store h) → archive_named named.name source.manifest.archives ≡ Some named
-    → Gathered most counts store (pieces more) now h g fits → KeepsRest store now → copy_now.archive ≡ copy.archive → copy_now.block ≡ copy.block
+    (added more : List Addition) (h g : History) (fits : StoreFits counts store h) → archive_named named.name source.manifest.archives ≡ Some named
+    → Gathered most counts store more now h g fits → KeepsRest store now → copy_now.archive ≡ copy.archive → copy_now.block ≡ copy.block
     → EndsItems (Some t) source copy more copy_now → CopiesSoFar (told_files t) source named (files_now h) (repo_view store.repo) copy added
     → CopiesAll (told_files t) source named (files_now g) (repo_view now.repo) copy_now added
 step_ended most counts t source named store now copy copy_now added more h g fits named_is end rest archive same step so =
@@ -335,7 +261,7 @@ step_ended most counts t source named store now copy copy_now added more h g fit
           (record { time = named.time; fields = (archive_view a).fields; items = so.wholes })) (sym archive)
           (source_whole there source.log source.keys source.manifest.archives named.name named record_is so.items so.wholes named_is so.record_is comes
           so.come);
-      writes = writes_on most counts store now (pieces more) h g fits copy copy_now so.wholes added end rest step.stream same so.writes;
+      writes = writes_on most counts store now more h g fits copy copy_now so.wholes added end rest step.stream same so.writes;
     }
 
 -- ---- what is known of a step by what the devices tell
@@ -355,26 +281,49 @@ both_known : {T : Type 0} (o : Option T) (P Q : T → Type 0) → IfSome o P →
 both_known None P Q p q = tt
 both_known (Some x) P Q p q = (p, q)
 
--- an archive is copied from the same origin
-copy_from : (from : Origin) (copy copy_now : Copy) → copy_now.block ≡ copy.block → copy_now.contents.checkpoint ≡ copy.contents.checkpoint
-    → IsCopyFrom from copy → IsCopyFrom from copy_now
-copy_from from copy copy_now same same_most is = record { block = is.block ∙ sym same; most = is.most ∙ sym same_most }
+-- an archive is copied from the same origin, and has counted what was put of these too
+copy_from : (from : Origin) (copy copy_now : Copy) (added more : List Addition) → copy_now.block ≡ copy.block
+    → copy_now.contents.checkpoint ≡ copy.contents.checkpoint → CountsStep copy more copy_now → IsCopyFrom from copy added
+    → IsCopyFrom from copy_now (added ++ more)
+copy_from from copy copy_now added more same same_most counts is = record {
+  block = is.block ∙ sym same;
+  most = is.most ∙ sym same_most;
+  chunks = counts_then (2 ^ 64 - 1) copy.contents.put (put_count Content added) copy_now.contents.put (put_count Content more)
+      (put_count Content (added ++ more)) is.chunks counts.contents.put (count_append Content added more);
+  bytes = counts_then (2 ^ 128 - 1) copy.contents.bytes (put_bytes Content added) copy_now.contents.bytes (put_bytes Content more)
+      (put_bytes Content (added ++ more)) is.bytes counts.contents.bytes (bytes_append Content added more);
+  meta = counts_then (2 ^ 64 - 1) copy.stream.put (put_count Stream added) copy_now.stream.put (put_count Stream more)
+      (put_count Stream (added ++ more)) is.meta counts.stream.put (count_append Stream added more);
+}
+
+-- the same where nothing was counted
+copy_as : (from : Origin) (copy copy_now : Copy) (added : List Addition) → copy_now.block ≡ copy.block → copy_now.contents ≡ copy.contents
+    → copy_now.stream ≡ copy.stream → IsCopyFrom from copy added → IsCopyFrom from copy_now added
+copy_as from copy copy_now added same contents stream is = record {
+  block = is.block ∙ sym same;
+  most = is.most ∙ ap (λ (w : PieceWriter). w.checkpoint) (sym contents);
+  chunks = ap (λ (w : PieceWriter). w.put) contents ∙ is.chunks;
+  bytes = ap (λ (w : PieceWriter). w.bytes) contents ∙ is.bytes;
+  meta = ap (λ (w : PieceWriter). w.put) stream ∙ is.meta;
+}
 
 -- the same over what the shelf and the depot tell
 pub steps_copied : (most : ℕ) (told a b : Option Told) (source : RepoState) (cached : Contents) (named : ArchiveRef) (store now : Store)
-    (copy copy_now : Copy) (added more : List (List ℕ)) (n m : ℕ) → IfSome told (λ t. FitsRepo (told_files t) source cached)
+    (copy copy_now : Copy) (added more : List Addition) (n m : ℕ) → IfSome told (λ t. FitsRepo (told_files t) source cached)
     → IfSome a (λ d. StoreFits false store d.history)
-    → Works {T = Bool} (KeepsStanding most store) (λ _. Gathers most store (pieces more) now) a b n m (Ok true) → KeepsRest store now → IsReady copy
+    → Works {T = Bool} (KeepsStanding most store more) (λ _. Gathers most store more now) a b n m (Ok true) → KeepsRest store now → IsReady copy
     → copy_now.archive ≡ copy.archive → copy_now.block ≡ copy.block → copy_now.contents.checkpoint ≡ copy.contents.checkpoint
-    → CopiesItem told source (repo_view store.repo).keys copy more copy_now → IsCopiedSoFar (origin told source copy.block most) named a store copy added
+    → CopiesItem told source (repo_view store.repo).keys copy more copy_now → CountsStep copy more copy_now
+    → IsCopiedSoFar (origin told source copy.block most) named a store copy added
     → IsCopiedSoFar (origin told source copy.block most) named b now copy_now (added ++ more)
-steps_copied most None a b source cached named store now copy copy_now added more n m log_fits fits works rest ready archive same same_most step so =
-    (copy_from (origin None source copy.block most) copy copy_now same same_most so.0, any_told b (λ d. Unit {0}) (λ d. tt))
-steps_copied most (Some t) a b source cached named store now copy copy_now added more n m log_fits fits works rest ready archive same same_most step so =
+steps_copied most None a b source cached named store now copy copy_now added more n m log_fits fits works rest ready archive same same_most step counts so =
+    (copy_from (origin None source copy.block most) copy copy_now added more same same_most counts so.0, any_told b (λ d. Unit {0}) (λ d. tt))
+steps_copied most (Some t) a b source cached named store now copy copy_now added more n m log_fits fits works rest ready archive same same_most step counts
+    so =
     let P : History → Type 0 = λ h. CopiesSoFar (told_files t) source named (files_now h) (repo_view store.repo) copy added in
     let R : History → Type 0 = λ h. CopiesSoFar (told_files t) source named (files_now h) (repo_view now.repo) copy_now (added ++ more) in (
-      copy_from (origin (Some t) source copy.block most) copy copy_now same same_most so.0,
-      works_known {T = Bool} (λ h. StoreFits false store h × P h) R (KeepsStanding most store) (λ _. Gathers most store (pieces more) now) a b n m true
+      copy_from (origin (Some t) source copy.block most) copy copy_now added more same same_most counts so.0,
+      works_known {T = Bool} (λ h. StoreFits false store h × P h) R (KeepsStanding most store more) (λ _. Gathers most store more now) a b n m true
           (λ h g known gathers.
           step_copied most false t source named store now copy copy_now added more h g known.0 log_fits.log (gathers false known.0) rest ready archive same
           step known.1)
@@ -383,19 +332,19 @@ steps_copied most (Some t) a b source cached named store now copy copy_now added
 
 -- and of the end
 pub steps_ended : (most : ℕ) (told a b : Option Told) (source : RepoState) (named : ArchiveRef) (store now : Store) (copy copy_now : Copy)
-    (added more : List (List ℕ)) (n m : ℕ) → archive_named named.name source.manifest.archives ≡ Some named
+    (added more : List Addition) (n m : ℕ) → archive_named named.name source.manifest.archives ≡ Some named
     → IfSome a (λ d. StoreFits false store d.history)
-    → Works {T = Bool} (KeepsStanding most store) (λ _. Gathers most store (pieces more) now) a b n m (Ok false) → KeepsRest store now
-    → copy_now.archive ≡ copy.archive → copy_now.block ≡ copy.block → copy_now.contents.checkpoint ≡ copy.contents.checkpoint
+    → Works {T = Bool} (KeepsStanding most store more) (λ _. Gathers most store more now) a b n m (Ok false) → KeepsRest store now
+    → copy_now.archive ≡ copy.archive → copy_now.block ≡ copy.block
     → EndsItems told source copy more copy_now → IsCopiedSoFar (origin told source copy.block most) named a store copy added
     → IsAllCopied (origin told source copy.block most) named b now copy_now added
-steps_ended most None a b source named store now copy copy_now added more n m named_is fits works rest archive same same_most step so =
-    (copy_from (origin None source copy.block most) copy copy_now same same_most so.0, any_told b (λ d. Unit {0}) (λ d. tt))
-steps_ended most (Some t) a b source named store now copy copy_now added more n m named_is fits works rest archive same same_most step so =
+steps_ended most None a b source named store now copy copy_now added more n m named_is fits works rest archive same step so =
+    (copy_as (origin None source copy.block most) copy copy_now added same step.contents step.stream so.0, any_told b (λ d. Unit {0}) (λ d. tt))
+steps_ended most (Some t) a b source named store now copy copy_now added more n m named_is fits works rest archive same step so =
     let P : History → Type 0 = λ h. CopiesSoFar (told_files t) source named (files_now h) (repo_view store.repo) copy added in
     let R : History → Type 0 = λ h. CopiesAll (told_files t) source named (files_now h) (repo_view now.repo) copy_now added in (
-      copy_from (origin (Some t) source copy.block most) copy copy_now same same_most so.0,
-      works_known {T = Bool} (λ h. StoreFits false store h × P h) R (KeepsStanding most store) (λ _. Gathers most store (pieces more) now) a b n m false
+      copy_as (origin (Some t) source copy.block most) copy copy_now added same step.contents step.stream so.0,
+      works_known {T = Bool} (λ h. StoreFits false store h × P h) R (KeepsStanding most store more) (λ _. Gathers most store more now) a b n m false
           (λ h g known gathers.
           step_ended most false t source named store now copy copy_now added more h g known.0 named_is (gathers false known.0) rest archive same step known.1)
           (both_known a (λ d. StoreFits false store d.history) (λ d. P d.history) fits so.1) works,
@@ -435,15 +384,34 @@ begun_at : (told : Option Told) (source : RepoState) (named : ArchiveRef) (files
 begun_at None source named files repo copy record_is walk stream = tt
 begun_at (Some t) source named files repo copy record_is walk stream = nothing_taken (told_files t) source named files repo copy record_is walk stream
 
+-- of nothing nothing is put
+none_put : (kind : Kind) → put_count kind [] ≡ 0
+unfolding put_count
+none_put kind = refl
+
+no_bytes_put : (kind : Kind) → put_bytes kind [] ≡ 0
+unfolding put_bytes
+no_bytes_put kind = refl
+
+counts_none : (limit count put : ℕ) → count ≡ 0 → put ≡ 0 → count ≡ min put limit
+counts_none limit count put none nothing = omega (arith, none, nothing)
+
 -- an archive of which nothing was taken is copied so far, in any store
 pub begin_copied : (told later target : Option Told) (source after : RepoState) (block most : ℕ) (named : ArchiveRef) (store : Store) (copy : Copy)
     → heard later ≡ heard told → after ≡ source → block ≡ copy.block → most ≡ copy.contents.checkpoint
     → IfSome told (λ t. HoldsRecord (told_files t) source.log source.keys named.id (archive_view copy.archive))
     → walk_view copy.walk ≡ begin_walk named.id (archive_view copy.archive).items
-    → (copy.stream.cutter.piece ≡ []) × (copy.stream.chunks.items ≡ []) → IsCopiedSoFar (origin later after block most) named target store copy []
-begin_copied told later target source after block most named store copy alike kept same same_most record_is walk stream =
+    → (copy.stream.cutter.piece ≡ []) × (copy.stream.chunks.items ≡ [])
+    → (copy.contents.put ≡ 0) × ((copy.contents.bytes ≡ 0) × (copy.stream.put ≡ 0)) → IsCopiedSoFar (origin later after block most) named target store copy []
+begin_copied told later target source after block most named store copy alike kept same same_most record_is walk stream counted =
     let known = at_last told later source after (λ r f. HoldsRecord f r.log r.keys named.id (archive_view copy.archive)) alike kept record_is in (
-      record { block = same; most = same_most },
+      record {
+        block = same;
+        most = same_most;
+        chunks = counts_none (2 ^ 64 - 1) copy.contents.put (put_count Content []) counted.0 (none_put Content);
+        bytes = counts_none (2 ^ 128 - 1) copy.contents.bytes (put_bytes Content []) counted.1.0 (no_bytes_put Content);
+        meta = counts_none (2 ^ 64 - 1) copy.stream.put (put_count Stream []) counted.1.1 (none_put Stream);
+      },
       any_told target (λ d. IfSome (option_map (λ (t : Told). told_files t) later)
           (λ there. CopiesSoFar there after named (told_files d) (repo_view store.repo) copy []))
           (λ d. begun_at later after named (told_files d) (repo_view store.repo) copy known walk stream),
@@ -452,7 +420,7 @@ begin_copied told later target source after block most named store copy alike ke
 -- ---- the end
 
 -- the pieces of a stream are those that became whole, and those of what is left
-stream_taken : (files : Files) (repo : RepoState) (copy : Copy) (wholes : List WholeItem) (added : List (List ℕ)) → IsReady copy
+stream_taken : (files : Files) (repo : RepoState) (copy : Copy) (wholes : List WholeItem) (added : List Addition) → IsReady copy
     → (writes : WritesItems files repo copy wholes added)
     → stream_pieces repo.keys copy.block wholes ≡ writes.taken ++ cut copy.stream.cutter.block copy.stream.cutter.piece
 stream_taken files repo copy wholes added ready writes =
@@ -461,7 +429,7 @@ stream_taken files repo copy wholes added ready writes =
     ∙ ap (λ (n : ℕ). writes.taken ++ cut n piece) (sym ready.stream_block_is)
 
 -- the ids that the record of an archive on its way has are theirs
-pub stream_ids : (files : Files) (repo : RepoState) (copy : Copy) (wholes : List WholeItem) (added : List (List ℕ)) → IsReady copy
+pub stream_ids : (files : Files) (repo : RepoState) (copy : Copy) (wholes : List WholeItem) (added : List Addition) → IsReady copy
     → WritesItems files repo copy wholes added
     → map (λ (chunk : ChunkRef). chunk.id) (copy.stream.chunks.items ++ chunks_of repo.keys (cut copy.stream.cutter.block copy.stream.cutter.piece))
     ≡ map (content_id repo.keys) (stream_pieces repo.keys copy.block wholes)
@@ -475,14 +443,14 @@ stream_ids files repo copy wholes added ready writes =
 
 -- all that an archive is in a target is there, once what was left of its stream and its record were added
 pub ready_then : (most : ℕ) (counts : Bool) (there : Files) (from : Origin) (named : ArchiveRef) (store middle : Store) (copy : Copy)
-    (added : List (List ℕ)) (text id : List ℕ) (h g : History) (fits : StoreFits counts store h) → from.block ≡ copy.block → IsReady copy
-    → Gathered most counts store (pieces (cut copy.stream.cutter.block copy.stream.cutter.piece) ++ Record text ∷ []) middle h g fits
-    → KeepsRest store middle
-    → IsRecord (repo_view store.repo).keys (archive_view copy.archive) copy.block (copy.stream.chunks.items
-    ++ chunks_of (repo_view store.repo).keys (cut copy.stream.cutter.block copy.stream.cutter.piece)) text id
+    (added last more : List Addition) (id : List ℕ) (h g : History) (fits : StoreFits counts store h) → from.block ≡ copy.block → IsReady copy
+    → Gathered most counts store (last ++ more) middle h g fits → KeepsRest store middle
+    → ArePieces Stream (cut copy.stream.cutter.block copy.stream.cutter.piece) last
+    → AddsUnder (repo_view store.repo).keys (copied_in (archive_view copy.archive) copy.block (copy.stream.chunks.items
+    ++ chunks_of (repo_view store.repo).keys (cut copy.stream.cutter.block copy.stream.cutter.piece))) more id
     → CopiesAll there from.repo named (files_now h) (repo_view store.repo) copy added
     → CanBeNamed there from (files_now g) (repo_view middle.repo) (entry_for named id)
-ready_then most counts there from named store middle copy added text id h g fits same ready end rest is all =
+ready_then most counts there from named store middle copy added last more id h g fits same ready end rest last_is is all =
     let keys = (repo_view store.repo).keys in
     let block = copy.block in
     let wholes = all.wholes in
@@ -491,6 +459,7 @@ ready_then most counts there from named store middle copy added text id h g fits
     let left = cut copy.stream.cutter.block piece in
     let archive = archive_view copy.archive in
     let given = copy.stream.chunks.items ++ chunks_of keys left in
+    let text = is.adds.text in
     let parts : stream_pieces keys block wholes ≡ writes.taken ++ left =
     stream_taken (files_now h) (repo_view store.repo) copy wholes added ready writes in
     let ids : map (λ (chunk : ChunkRef). chunk.id) given ≡ map (content_id keys) (stream_pieces keys block wholes) =
@@ -498,23 +467,24 @@ ready_then most counts there from named store middle copy added text id h g fits
     let copied : IsCopyOf keys block wholes archive.fields text =
     record {
       some = omega (arith, ready.least);
-      copied = as_tagged (copied_archive archive block (map (λ (chunk : ChunkRef). chunk.id) given));
-      reads = is.reads;
+      copied = as_tagged (copied_in archive block given);
+      reads = is.adds.reads;
       same = refl;
       items = ids;
       spelled = writes.spelled;
     } in
-    let last : stream_pieces keys block wholes ++ text ∷ [] ≡ writes.taken ++ (left ++ text ∷ []) =
+    let behind : stream_pieces keys block wholes ++ text ∷ [] ≡ writes.taken ++ (left ++ text ∷ []) =
     ap (λ (ps : List (List ℕ)). ps ++ text ∷ []) parts ∙ append_assoc writes.taken left (text ∷ []) in
     let adds : (contents_of block wholes ++ []) ++ (writes.taken ++ (left ++ text ∷ [])) ≡ adds_of keys block wholes text =
     ap (λ (cs : List (List ℕ)). cs ++ (writes.taken ++ (left ++ text ∷ []))) (append-nil (contents_of block wholes))
-    ∙ ap (λ (cs : List (List ℕ)). contents_of block wholes ++ cs) (sym last) in
-    let contents : contents_in (pieces left ++ Record text ∷ []) ≡ left ++ text ∷ [] =
-    contents_append (pieces left) (Record text ∷ []) ∙ ap (λ (cs : List (List ℕ)). cs ++ text ∷ []) (contents_pieces left) in
+    ∙ ap (λ (cs : List (List ℕ)). contents_of block wholes ++ cs) (sym behind) in
+    let contents : contents_in (last ++ more) ≡ left ++ text ∷ [] =
+    contents_append last more ∙ (ap (λ (cs : List (List ℕ)). cs ++ contents_in more) last_is.0
+    ∙ ap (λ (l : List Addition). left ++ contents_in l) is.adds.more_is) in
     let held : HoldsApart (files_now g) (repo_view middle.repo) (adds_of keys block wholes text) =
     subst (HoldsApart (files_now g) (repo_view middle.repo)) adds
-    (held_more most counts store middle (pieces left ++ Record text ∷ []) (contents_of block wholes) writes.taken [] (left ++ text ∷ []) h g fits contents end
-    rest writes.held) in
+    (held_more most counts store middle (last ++ more) (contents_of block wholes) writes.taken [] (left ++ text ∷ []) h g fits contents end rest
+    writes.held) in
     let IsSo : Keys → ℕ → Type 0 = λ k b.
     IsCopyOf k b wholes archive.fields text × HoldsApart (files_now g) (repo_view middle.repo) (adds_of k b wholes text) in
     let so : IsSo (repo_view middle.repo).keys from.block =
@@ -530,21 +500,20 @@ ready_then most counts there from named store middle copy added text id h g fits
     }
 
 -- the same over what the depot tells
-pub readies : {T : Type 0} (from : Origin) (a b : Option Told) (named : ArchiveRef) (store middle : Store) (copy : Copy) (added : List (List ℕ))
-    (text id : List ℕ) (n m : ℕ) (x : T) → IfSome a (λ d. StoreFits false store d.history) → IsReady copy
-    → Works (KeepsStanding from.most store)
-    (λ (_ : T). Gathers from.most store (pieces (cut copy.stream.cutter.block copy.stream.cutter.piece) ++ Record text ∷ []) middle) a b n m (Ok x)
-    → KeepsRest store middle
-    → IsRecord (repo_view store.repo).keys (archive_view copy.archive) copy.block (copy.stream.chunks.items
-    ++ chunks_of (repo_view store.repo).keys (cut copy.stream.cutter.block copy.stream.cutter.piece)) text id
+pub readies : {T : Type 0} (from : Origin) (a b : Option Told) (named : ArchiveRef) (store middle : Store) (copy : Copy) (added last more : List Addition)
+    (id : List ℕ) (n m : ℕ) (x : T) → IfSome a (λ d. StoreFits false store d.history) → IsReady copy
+    → Works (KeepsStanding from.most store (last ++ more)) (λ (_ : T). Gathers from.most store (last ++ more) middle) a b n m (Ok x)
+    → KeepsRest store middle → ArePieces Stream (cut copy.stream.cutter.block copy.stream.cutter.piece) last
+    → AddsUnder (repo_view store.repo).keys (copied_in (archive_view copy.archive) copy.block (copy.stream.chunks.items
+    ++ chunks_of (repo_view store.repo).keys (cut copy.stream.cutter.block copy.stream.cutter.piece))) more id
     → IsAllCopied from named a store copy added → IfSome b (λ d. IsReadyToName from (told_files d) (repo_view middle.repo) (entry_for named id))
-readies {T} from a b named store middle copy added text id n m x fits ready works rest is all =
-    let more = pieces (cut copy.stream.cutter.block copy.stream.cutter.piece) ++ Record text ∷ [] in
+readies {T} from a b named store middle copy added last more id n m x fits ready works rest last_is is all =
+    let adds = last ++ more in
     let P : History → Type 0 = λ h. IfSome from.files (λ there. CopiesAll there from.repo named (files_now h) (repo_view store.repo) copy added) in
     let R : History → Type 0 = λ h. IsReadyToName from (files_now h) (repo_view middle.repo) (entry_for named id) in
-    works_known {T = T} (λ h. StoreFits false store h × P h) R (KeepsStanding from.most store) (λ (_ : T). Gathers from.most store more middle) a b n m x
+    works_known {T = T} (λ h. StoreFits false store h × P h) R (KeepsStanding from.most store adds) (λ (_ : T). Gathers from.most store adds middle) a b n m x
     (λ h g known gathers.
     IfSome_then from.files known.1
     (λ there c.
-    ready_then from.most false there from named store middle copy added text id h g known.0 all.0.block ready (gathers false known.0) rest is c))
+    ready_then from.most false there from named store middle copy added last more id h g known.0 all.0.block ready (gathers false known.0) rest last_is is c))
     (both_known a (λ d. StoreFits false store d.history) (λ d. P d.history) fits all.1) works

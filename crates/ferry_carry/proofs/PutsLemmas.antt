@@ -20,22 +20,67 @@ use Rattle.ferry_store.specs.Store.{StoreFits}
 use Rattle.ferry_store.specs.declared.store.Store.{Store}
 use Rattle.ferry_write.proofs.StandLemmas.{all-append}
 use Rattle.ferry_write.specs.Room.{behind}
-use Rattle.ferry_carry.specs.Puts.{Addition, Piece, Record, AddsAll, GoesOn, IsAddedBehind, IsCheckpoint, PutsNone, content_in, contents_in, pending_from}
-use Rattle.ferry_carry.specs.Puts.{pending_in, pieces, room_for}
+use Rattle.ferry_carry.specs.Puts.{Addition, AddsAll, AreOf, ArePieces, Content, GoesOn, IsAddedBehind, IsCheckpoint, IsFront, Kind, PutsNone, Record}
+use Rattle.ferry_carry.specs.Puts.{Stream, addition, contents_in, pending_from, pending_in, put_bytes, put_count, room_for, same_kind}
 
 -- ---- contents
 
-pub contents_pieces : (contents : List (List ℕ)) → contents_in (pieces contents) ≡ contents
-contents_pieces [] = refl
-contents_pieces (content ∷ contents) = ap (λ (rest : List (List ℕ)). content ∷ rest) (contents_pieces contents)
-
-pub pieces_append : (some more : List (List ℕ)) → pieces (some ++ more) ≡ pieces some ++ pieces more
-pieces_append [] more = refl
-pieces_append (content ∷ some) more = ap (λ (rest : List Addition). Piece content ∷ rest) (pieces_append some more)
-
 pub contents_append : (some more : List Addition) → contents_in (some ++ more) ≡ contents_in some ++ contents_in more
 contents_append [] more = refl
-contents_append (one ∷ some) more = ap (λ (rest : List (List ℕ)). content_in one ∷ rest) (contents_append some more)
+contents_append (one ∷ some) more = ap (λ (rest : List (List ℕ)). one.content ∷ rest) (contents_append some more)
+
+-- ---- fronts
+
+pub front_all : (added : List Addition) → IsFront added added
+front_all added = ([], sym (append-nil added))
+
+pub front_none : (added : List Addition) → IsFront [] added
+front_none added = (added, refl)
+
+pub front_of : (some more : List Addition) → IsFront some (some ++ more)
+front_of some more = (more, refl)
+
+pub front_then : (a b c : List Addition) → IsFront a b → IsFront b c → IsFront a c
+front_then a b c p q = (p.0 ++ q.0, q.1 ∙ (ap (λ (front : List Addition). front ++ q.0) p.1 ∙ append_assoc a p.0 q.0))
+
+-- behind the same ones
+pub front_behind : (some a b : List Addition) → IsFront a b → IsFront (some ++ a) (some ++ b)
+front_behind some a b p = (p.0, ap (λ (rest : List Addition). some ++ rest) p.1 ∙ sym (append_assoc some a p.0))
+
+-- ---- kinds
+
+pub same_kind-self : (kind : Kind) → same_kind kind kind ≡ true
+same_kind-self Content = refl
+same_kind-self Stream = refl
+same_kind-self Record = refl
+
+pub pieces_none : (kind : Kind) → ArePieces kind [] []
+pieces_none kind = (refl, tt)
+
+pub pieces_one : (kind : Kind) (content : List ℕ) (put : Bool) → ArePieces kind (content ∷ []) (addition kind content put ∷ [])
+pieces_one kind content put = (refl, (refl, tt))
+
+pub of_append : (kind : Kind) (some more : List Addition) → AreOf kind some → AreOf kind more → AreOf kind (some ++ more)
+of_append kind some more p q = all-append (λ (one : Addition). one.kind ≡ kind) some more p q
+
+pub pieces_append : (kind : Kind) (contents others : List (List ℕ)) (some more : List Addition) → ArePieces kind contents some → ArePieces kind others more
+    → ArePieces kind (contents ++ others) (some ++ more)
+pieces_append kind contents others some more p q = (
+  contents_append some more ∙ (ap (λ (cs : List (List ℕ)). cs ++ contents_in more) p.0 ∙ ap (λ (cs : List (List ℕ)). contents ++ cs) q.0),
+  of_append kind some more p.1 q.1,
+)
+
+-- ---- how much is put
+
+pub count_append : (kind : Kind) (some more : List Addition) → put_count kind (some ++ more) ≡ put_count kind some + put_count kind more
+unfolding put_count
+count_append kind [] more = omega arith
+count_append kind (one ∷ some) more = omega (arith, count_append kind some more)
+
+pub bytes_append : (kind : Kind) (some more : List Addition) → put_bytes kind (some ++ more) ≡ put_bytes kind some + put_bytes kind more
+unfolding put_bytes
+bytes_append kind [] more = omega arith
+bytes_append kind (one ∷ some) more = omega (arith, bytes_append kind some more)
 
 -- ---- AddsAll
 
@@ -88,8 +133,8 @@ adds_one keys most front one after added = (
 
 one_longer : (keys : Keys) (most : ℕ) (front : List LogEntry) (one : Addition) (after : List LogEntry) → IsAddedBehind keys most front one after
     → (more : List LogEntry) × (after ≡ front ++ more)
-one_longer keys most front one after (inl old) = ([], old.1 ∙ sym (append-nil front))
-one_longer keys most front one after (inr new) = (PutEntry (content_id keys (content_in one)) new.0 ∷ [], new.1.1)
+one_longer keys most front one after (inl old) = ([], old.1.1 ∙ sym (append-nil front))
+one_longer keys most front one after (inr new) = (PutEntry (content_id keys one.content) new.1.0 ∷ [], new.1.1.1)
 
 -- what was there is a front of what is there behind it
 pub adds_longer : (keys : Keys) (most : ℕ) (a : List LogEntry) (added : List Addition) (b : List LogEntry) → AddsAll keys most a added b
@@ -105,20 +150,34 @@ adds_longer keys most a (one ∷ rest) b p =
 
 -- ---- GoesOn
 
-pub goes_same : (keys : Keys) (most : ℕ) (written : Written) → GoesOn keys most written (committed_of written)
-goes_same keys most written = inl refl
+pub goes_same : (keys : Keys) (most : ℕ) (within : List Addition) (written : Written) → GoesOn keys most within written (committed_of written)
+goes_same keys most within written = inl refl
 
 -- what was put is committed
-pub goes_commit : (keys : Keys) (most : ℕ) (written : Written) → GoesOn keys most written (entries_committed written)
-goes_commit keys most written = inr ([], adds_others keys most (entries_of written) (CommitEntry ∷ []) (tt, tt))
+pub goes_commit : (keys : Keys) (most : ℕ) (within : List Addition) (written : Written) → GoesOn keys most within written (entries_committed written)
+goes_commit keys most within written =
+    inr ([], (front_none within, adds_others keys most (entries_of written) (CommitEntry ∷ []) (tt, tt)))
+
+-- with more that may be added
+pub goes_wider : (keys : Keys) (most : ℕ) (some all : List Addition) (written : Written) (entries : List LogEntry) → IsFront some all
+    → GoesOn keys most some written entries → GoesOn keys most all written entries
+goes_wider keys most some all written entries front (inl same) = inl same
+goes_wider keys most some all written entries front (inr goes) = inr (goes.0, (front_then goes.0 some all goes.1.0 front, goes.1.1))
 
 -- what goes on from what was written later goes on from what was written before
-pub goes_then : (keys : Keys) (most : ℕ) (written next : Written) (entries : List LogEntry) (added : List Addition)
-    → AddsAll keys most (entries_of written) added (entries_of next) → GoesOn keys most written (committed_of next) → GoesOn keys most next entries
-    → GoesOn keys most written entries
-goes_then keys most written next entries added adds goes (inl same) = subst (GoesOn keys most written) (sym same) goes
-goes_then keys most written next entries added adds goes (inr more) =
-    inr (added ++ more.0, adds_then keys most (entries_of written) (entries_of next) entries added more.0 adds more.1)
+pub goes_then : (keys : Keys) (most : ℕ) (written next : Written) (entries : List LogEntry) (added more : List Addition)
+    → AddsAll keys most (entries_of written) added (entries_of next) → GoesOn keys most added written (committed_of next)
+    → GoesOn keys most more next entries → GoesOn keys most (added ++ more) written entries
+goes_then keys most written next entries added more adds goes (inl same) =
+    goes_wider keys most added (added ++ more) written entries (front_of added more) (subst (GoesOn keys most added written) (sym same) goes)
+goes_then keys most written next entries added more adds goes (inr some) =
+    inr (
+      added ++ some.0,
+      (
+        front_behind added some.0 more some.1.0,
+        adds_then keys most (entries_of written) (entries_of next) entries added some.0 adds some.1.1,
+      ),
+    )
 
 -- ---- what is pending
 
@@ -191,12 +250,19 @@ pending_of counts store h fits =
       pending_most 0 written.pending,
     )
 
-room_most : (most : ℕ) (one : Addition) → IsCheckpoint most → room_for most one ≤ 1000001
-room_most most (Piece content) checkpoint = omega (arith, checkpoint.limit)
-room_most most (Record content) checkpoint = omega (arith, checkpoint.limit)
+room_most : (most : ℕ) (kind : Kind) → IsCheckpoint most → room_for most kind ≤ 1000001
+room_most most Content checkpoint = omega (arith, checkpoint.limit)
+room_most most Stream checkpoint = omega (arith, checkpoint.limit)
+room_most most Record checkpoint = omega (arith, checkpoint.limit)
+
+-- there is room for each kind where there is for a piece
+pub room_any : (most count : ℕ) (kind : Kind) → count < most → count < room_for most kind
+room_any most count Content fewer = fewer
+room_any most count Stream fewer = fewer
+room_any most count Record fewer = omega (arith, fewer)
 
 -- where a store counts fewer than there is room for, so few are pending
-pub room_of : (counts : Bool) (store : Store) (h : History) (fits : StoreFits counts store h) (most : ℕ) (one : Addition) → IsCheckpoint most
-    → store.pending < room_for most one → pending_in (entries_of fits.written) < room_for most one
-room_of counts store h fits most one checkpoint room =
-    omega (arith, pending_of counts store h fits, fits.pending, room, room_most most one checkpoint)
+pub room_of : (counts : Bool) (store : Store) (h : History) (fits : StoreFits counts store h) (most : ℕ) (kind : Kind) → IsCheckpoint most
+    → store.pending < room_for most kind → pending_in (entries_of fits.written) < room_for most kind
+room_of counts store h fits most kind checkpoint room =
+    omega (arith, pending_of counts store h fits, fits.pending, room, room_most most kind checkpoint)

@@ -24,6 +24,7 @@ use Rattle.ferry_carry.proofs.SourceLemmas.{leads_come, leads_then, refuses_cont
 use Rattle.ferry_carry.specs.Carrying.{Origin, origin}
 use Rattle.ferry_carry.specs.Copying.{TakesItem}
 use Rattle.ferry_carry.specs.Progress.{CopiesSoFar, IsCopiedSoFar}
+use Rattle.ferry_carry.specs.Puts.{Addition}
 use Rattle.ferry_carry.specs.Refusals.{HasLongItem, IsTooLong, RefusesContents, RefusesCopying, RefusesNext, RefusesStep, RefusesWriting, WhereTold}
 use Rattle.ferry_carry.specs.declared.copy.Copy.{Copy}
 use Rattle.ferry_carry.specs.declared.fault.CarryFault.{CarryFault}
@@ -65,7 +66,7 @@ where_then (Some t) heard_of source block most P R Q first known step = IfSome_t
 
 -- no further item is taken: the stream is refused there
 pub next_refused : (told heard_of : Option Told) (source : RepoState) (block most : ℕ) (named : ArchiveRef) (store : Store) (copy : Copy)
-    (added : List (List ℕ)) (fault : CarryFault)
+    (added : List Addition) (fault : CarryFault)
     → archive_named named.name source.manifest.archives ≡ Some named → IsCopiedSoFar (origin told source block most) named heard_of store copy added
     → RefusesNext told source (walk_view copy.walk) fault → RefusesStep (origin told source block most) heard_of named.name fault
 next_refused told heard_of source block most named store copy added (Source fault) named_is so refuses = λ of_files.
@@ -84,7 +85,7 @@ next_refused told heard_of source block most named store copy added Record named
 
 -- an item behind those that were taken, where something is to come from behind it
 long_item : (there : Files) (source : RepoState) (from : Origin) (named : ArchiveRef) (files : Files) (repo : RepoState) (copy : Copy)
-    (added : List (List ℕ)) (item : ItemText) (after : WalkState) → from.repo ≡ source → archive_named named.name source.manifest.archives ≡ Some named
+    (added : List Addition) (item : ItemText) (after : WalkState) → from.repo ≡ source → archive_named named.name source.manifest.archives ≡ Some named
     → FitsFiles there source.log
     → CopiesSoFar there source named files repo copy added → TakesItem there source (walk_view copy.walk) item after → IsTooLong from.block item.chunks
     → HasLongItem there from named.name
@@ -127,7 +128,7 @@ item_at (Some t) source cached before after item fits taken = record { fits = fi
 
 -- the content of an item that was taken isn't copied
 pub item_refused : (told later heard_of : Option Told) (source now : RepoState) (cached : Contents) (block block_now most : ℕ) (named : ArchiveRef)
-    (store : Store) (copy : Copy) (added : List (List ℕ)) (item : ItemText) (after : WalkState) (fault : CarryFault) → heard later ≡ heard told → now ≡ source
+    (store : Store) (copy : Copy) (added : List Addition) (item : ItemText) (after : WalkState) (fault : CarryFault) → heard later ≡ heard told → now ≡ source
     → block_now ≡ block
     → IfSome told (λ t. FitsRepo (told_files t) source cached)
     → IfSome told (λ t. TakesItem (told_files t) source (walk_view copy.walk) item after)

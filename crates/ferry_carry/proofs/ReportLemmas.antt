@@ -1,16 +1,21 @@
 -- Lemmas on specs/Telling.antt: what was told at each moment, and what is told by bodies one after another.
-use Rattle.std.proofs.Common.{◌≡◌, ◌⊎◌, inl, inr, ℕ, Bool, true, false, List, [], ◌∷◌, ◌++◌, Option, Some, None, Result, Ok, Err, refl, sym, ◌∙◌, ap, subst}
-use Rattle.std.proofs.Common.{append_assoc, ◌↔◌, ◌≤◌, ◌<◌, ◌+◌, length, take, drop, get_or, IfSome, IsSome}
+use Rattle.std.proofs.Common.{◌≡◌, ◌⊎◌, inl, inr, ℕ, zero, suc, Bool, true, false, if◌then◌else◌, cond, List, [], ◌∷◌, ◌++◌, Option, Some, None, Ok, Err}
+use Rattle.std.proofs.Common.{Result, refl, sym, ◌∙◌, ap, subst, arith, min, ◌^◌, ◌-◌}
+use Rattle.std.proofs.Common.{append_assoc, ◌↔◌, ◌≤◌, ◌<◌, ◌+◌, length, take, drop, get_or, IfSome, IsSome, OnOk}
 use Rattle.std.proofs.lemmas.List.{append-nil, append_cancel_left, take-append-drop, take_all, take_more}
+use Rattle.std.proofs.lemmas.Slice.Eq.{bytes_eq-Decides}
 use Rattle.std.specs.List.{AllByRecursion}
+use Rattle.std.specs.Str.{bytes_eq}
 use Rattle.ferry_disk.proofs.MomentLemmas.{all_moments, moments_all, steps_end, steps_end_undone}
 use Rattle.ferry_disk.specs.Act.{Step, TellOf, Act, History, with_act}
 use Rattle.ferry_disk.specs.Device.{Told}
 use Rattle.ferry_disk.specs.Files.{Files}
-use Rattle.ferry_disk.specs.Moments.{IsMoment, Moments, last_undone, with_steps}
+use Rattle.ferry_disk.specs.Moments.{Between, IsMoment, Moments, last_undone, with_steps}
 use Rattle.ferry_mac.specs.declared.keys.Keys.{Keys}
 use Rattle.ferry_manifest.specs.Manifest.Text.{ManifestText}
 use Rattle.ferry_manifest.specs.declared.manifest.ArchiveRef.{ArchiveRef}
+use Rattle.ferry_next.proofs.PlaceLemmas.{with_named}
+use Rattle.ferry_blob.specs.Blob.{content_id}
 use Rattle.ferry_repo.specs.Archives.{archive_named}
 use Rattle.ferry_repo.specs.Opening.{repo_view}
 use Rattle.ferry_stops.proofs.TellLemmas.{line_told, lines-append}
@@ -24,23 +29,27 @@ use Rattle.ferry_store.specs.declared.store.Store.{Store}
 use Rattle.ferry_write.specs.Script.{AllDone}
 use Rattle.ferry_carry.proofs.GatherLemmas.{rest_here, sound_map, standing_from}
 use Rattle.ferry_carry.proofs.CauseLemmas.{not_there}
-use Rattle.ferry_carry.proofs.CutLemmas.{among_either, among_none}
-use Rattle.ferry_carry.proofs.ProgressLemmas.{any_told}
-use Rattle.ferry_carry.proofs.GrowLemmas.{growing_here, grows_from, grows_here, grows_then, has_kept, on_from, on_then, on_wider}
+use Rattle.ferry_carry.proofs.CutLemmas.{among_either, among_none, among_one}
+use Rattle.ferry_carry.proofs.FlightLemmas.{named_so}
+use Rattle.ferry_carry.proofs.GrowLemmas.{growing_here, growing_longer, grows_from, grows_here, grows_then, has_kept, on_from, on_then, on_wider}
+use Rattle.ferry_carry.proofs.PutsLemmas.{bytes_append, count_append, front_all, front_of}
 use Rattle.ferry_carry.proofs.TellLemmas.{told_gathers, told_stands}
 use Rattle.ferry_carry.proofs.WholeLemmas.{among_all, among_behind, among_front}
 use Rattle.ferry_carry.proofs.WorkLemmas.{works_as, works_both, works_from, works_front, works_none, works_nothing, works_then}
+use Rattle.ferry_carry.specs.Accepting.{AreNextOf, IsNextOf}
 use Rattle.ferry_carry.specs.Carrying.{Origin}
 use Rattle.ferry_carry.specs.Chosen.{TellsLine}
+use Rattle.ferry_carry.specs.Counting.{CountsMore, CountsNames, CountsOf, IsTotalOf, TellsNew, nothing_carried}
 use Rattle.ferry_carry.specs.Fault.{target_failed}
-use Rattle.ferry_carry.specs.Flight.{Carries, IsSettled, ListsDone}
+use Rattle.ferry_carry.specs.Flight.{BeginsDone, Carries, IsSettled, ListsDone}
 use Rattle.ferry_carry.specs.Gather.{IsAmong, StandsFrom}
 use Rattle.ferry_carry.specs.Grow.{AcceptsMore, Grows, IsNamedBy, KeepsGrowing, KeepsMost, StandsOn}
 use Rattle.ferry_carry.specs.Lines.{name_line, told_of, total_line}
-use Rattle.ferry_carry.specs.Listing.{IsThere, ListsName, ListsNames, ListsOne}
-use Rattle.ferry_carry.specs.Puts.{Addition}
-use Rattle.ferry_carry.specs.Telling.{AreLines, CarriesNames, IsReport, IsReported, KeepsReported, Reports, ReportsWhole, ShowsReport, TellsNames}
-use Rattle.ferry_carry.specs.Telling.{TellsNew, TellsWhole}
+use Rattle.ferry_carry.specs.Listing.{BeginsName, BeginsNames, IsThere, ListsName, ListsNames, ListsOne}
+use Rattle.ferry_carry.specs.Naming.{entry_for}
+use Rattle.ferry_carry.specs.Puts.{Addition, Content, IsFront, Stream, put_bytes, put_count}
+use Rattle.ferry_carry.specs.Telling.{AreLines, BeginsAll, CarriesNames, IsReport, IsReported, KeepsReported, Reports, ReportsWhole, ShowsReport, TellsNames}
+use Rattle.ferry_carry.specs.Telling.{TellsWhole}
 use Rattle.ferry_carry.specs.Work.{Works}
 use Rattle.ferry_carry.specs.declared.fault.CarryFault.{CarryFault}
 use Rattle.ferry_carry.specs.declared.options.Carried.{Carried}
@@ -48,7 +57,7 @@ use Rattle.ferry_carry.specs.declared.options.Carried.{Carried}
 -- ---- names that are there
 
 -- A later manifest has the names that an accepted one has, and these.
-abbrev Extends : ManifestText → List (List ℕ) → ManifestText → Type 0
+abbrev pub Extends : ManifestText → List (List ℕ) → ManifestText → Type 0
 Extends accepted some middle = (name : List ℕ) → IsSome (archive_named name middle.archives) ↔ IsThere accepted some name
 
 -- what is accepted once archives came
@@ -93,6 +102,60 @@ there_behind accepted middle some before name extends = (to, back) where
   back : IsThere accepted (some ++ before) name → IsThere middle before name
   back (inl has) = inl ((extends name).1 (inl has))
   back (inr among) = either (among_either some before name among)
+
+-- what a manifest has behind that of the archive of a name
+extends_one : (given : Option (List ℕ)) (source : ManifestText) (keys : Keys) (manifest now : ManifestText) (name : List ℕ)
+    → IsNextOf given source keys manifest name now → Extends manifest (name ∷ []) now
+extends_one given source keys manifest now name (inl same) other = (to, back) where
+  to : IsSome (archive_named other now.archives) → IsThere manifest (name ∷ []) other
+  to has = inl (subst (λ (m : ManifestText). IsSome (archive_named other m.archives)) same.1 has)
+
+  back : IsThere manifest (name ∷ []) other → IsSome (archive_named other now.archives)
+  back (inl has) = subst (λ (m : ManifestText). IsSome (archive_named other m.archives)) (sym same.1) has
+  back (inr among) =
+      subst (λ (m : ManifestText). IsSome (archive_named other m.archives)) (sym same.1)
+      (subst (λ (n : List ℕ). IsSome (archive_named n manifest.archives)) (among_one name other among) same.0)
+extends_one given source keys manifest now name (inr next) other = (λ has. to (bytes_eq named.name other) refl has, back) where
+  named : ArchiveRef
+  named = next.0.named
+
+  called : named.name ≡ name
+  called = named_so name source.archives named next.0.named_is
+
+  is : archive_named other now.archives ≡ cond (bytes_eq named.name other) (Some (entry_for named (content_id keys next.1.0)))
+      (archive_named other manifest.archives)
+  is = ap (λ (m : ManifestText). archive_named other m.archives) next.1.1 ∙ with_named other manifest.archives (entry_for named (content_id keys next.1.0))
+
+  at : (b : Bool) → bytes_eq named.name other ≡ b
+      → archive_named other now.archives ≡ cond b (Some (entry_for named (content_id keys next.1.0))) (archive_named other manifest.archives)
+  at b e = is ∙ ap (λ (c : Bool). cond c (Some (entry_for named (content_id keys next.1.0))) (archive_named other manifest.archives)) e
+
+  to : (b : Bool) → bytes_eq named.name other ≡ b → IsSome (archive_named other now.archives) → IsThere manifest (name ∷ []) other
+  to true e has = inr (zero, ap Some (sym called ∙ (bytes_eq-Decides named.name other).0 e))
+  to false e has = inl (subst IsSome (at false e) has)
+
+  kept : (b : Bool) → bytes_eq named.name other ≡ b → IsSome (archive_named other manifest.archives) → IsSome (archive_named other now.archives)
+  kept true e has = subst IsSome (sym (at true e)) refl
+  kept false e has = subst IsSome (sym (at false e)) has
+
+  back : IsThere manifest (name ∷ []) other → IsSome (archive_named other now.archives)
+  back (inl has) = kept (bytes_eq named.name other) refl has
+  back (inr among) = subst IsSome (sym (at true ((bytes_eq-Decides named.name other).1 (called ∙ among_one name other among)))) refl
+
+-- and behind those of names, one after another
+pub extends_next : (given : Option (List ℕ)) (source : ManifestText) (keys : Keys) (manifest now : ManifestText) (names : List (List ℕ))
+    → AreNextOf given source keys manifest names now → Extends manifest names now
+extends_next given source keys manifest now [] same other = (to, back) where
+  to : IsSome (archive_named other now.archives) → IsThere manifest [] other
+  to has = inl (subst (λ (m : ManifestText). IsSome (archive_named other m.archives)) same has)
+
+  back : IsThere manifest [] other → IsSome (archive_named other now.archives)
+  back (inl has) = subst (λ (m : ManifestText). IsSome (archive_named other m.archives)) (sym same) has
+  back (inr among) = absurd (among_none other among)
+extends_next given source keys manifest now (name ∷ names) next other =
+    let one : Extends manifest (name ∷ []) next.0 = extends_one given source keys manifest next.0 name next.1.0 in
+    let behind = there_behind manifest next.0 (name ∷ []) names other one in
+    let rest = extends_next given source keys next.0 now names next.1.1 other in (λ has. behind.0 (rest.0 has), λ there. rest.1 (behind.1 there))
 
 tells_behind : (accepted middle : ManifestText) (some before : List (List ℕ)) (name : List ℕ) (copied : Bool) → Extends accepted some middle
     → TellsNew middle before name copied → TellsNew accepted (some ++ before) name copied
@@ -198,6 +261,270 @@ lists_then from keys accepted middle some others added more extends lists behind
     (subst (λ (b : List (List ℕ)). ListsNames from keys accepted b others more) (append-nil some)
     (lists_behind from keys accepted middle some [] others more extends behind))
 
+-- ---- as far as it came
+
+among_or_not : (before : List (List ℕ)) (name : List ℕ) → IsAmong before name ⊎ (IsAmong before name → ⊥)
+among_or_not [] name = inr (among_none name)
+among_or_not (first ∷ before) name = by (bytes_eq first name) refl (among_or_not before name) where
+  apart : bytes_eq first name ≡ false → (IsAmong before name → ⊥) → IsAmong (first ∷ before) name → ⊥
+  apart e none (zero, is) =
+      let same : Some first ≡ Some name = is in
+      let one : first ≡ name = cc in
+      let both : bytes_eq first name ≡ true = (bytes_eq-Decides first name).1 one in let never : ⊥ = cc in never
+  apart e none (suc place, is) = none (place, is)
+
+  by : (b : Bool) → bytes_eq first name ≡ b → IsAmong before name ⊎ (IsAmong before name → ⊥)
+      → IsAmong (first ∷ before) name ⊎ (IsAmong (first ∷ before) name → ⊥)
+  by true e rest = inl (zero, ap Some ((bytes_eq-Decides first name).0 e))
+  by false e (inl among) = inl (suc among.0, among.1)
+  by false e (inr none) = inr (apart e none)
+
+there_or_not : (accepted : ManifestText) (before : List (List ℕ)) (name : List ℕ) → IsThere accepted before name ⊎ (IsThere accepted before name → ⊥)
+there_or_not accepted before name = by (archive_named name accepted.archives) refl (among_or_not before name) where
+  apart : archive_named name accepted.archives ≡ None → (IsAmong before name → ⊥) → IsThere accepted before name → ⊥
+  apart e none (inl has) = not_there e has
+  apart e none (inr among) = none among
+
+  by : (o : Option ArchiveRef) → archive_named name accepted.archives ≡ o → IsAmong before name ⊎ (IsAmong before name → ⊥)
+      → IsThere accepted before name ⊎ (IsThere accepted before name → ⊥)
+  by (Some entry) e other = inl (inl (subst IsSome (sym e) refl))
+  by None e (inl among) = inl (inr among)
+  by None e (inr none) = inr (apart e none)
+
+-- nothing of what is added for names
+begins_nothing : (from : Origin) (keys : Keys) (accepted : ManifestText) (before names : List (List ℕ)) → BeginsNames from keys accepted before names []
+begins_nothing from keys accepted before [] = refl
+begins_nothing from keys accepted before (name ∷ names) = inl (by (there_or_not accepted before name)) where
+  by : IsThere accepted before name ⊎ (IsThere accepted before name → ⊥) → BeginsName from keys accepted before name []
+  by (inl there) = inl (there, refl)
+  by (inr new) = inr (new, inl refl)
+
+-- of more names
+begins_wider : (from : Origin) (keys : Keys) (accepted : ManifestText) (before names more : List (List ℕ)) (begun : List Addition)
+    → BeginsNames from keys accepted before names begun → BeginsNames from keys accepted before (names ++ more) begun
+begins_wider from keys accepted before [] more begun none =
+    subst (BeginsNames from keys accepted before more) (sym none) (begins_nothing from keys accepted before more)
+begins_wider from keys accepted before (name ∷ names) more begun (inl one) = inl one
+begins_wider from keys accepted before (name ∷ names) more begun (inr some) =
+    inr (
+      some.0,
+      (
+        some.1.0,
+        (
+          some.1.1.0,
+          (
+            some.1.1.1.0,
+            begins_wider from keys accepted (before ++ name ∷ []) names more some.1.0 some.1.1.1.1,
+          ),
+        ),
+      ),
+    )
+
+-- all of what is added for some names, and a part of what is for others
+begins_both : (from : Origin) (keys : Keys) (accepted : ManifestText) (before names others : List (List ℕ)) (added begun : List Addition)
+    → ListsNames from keys accepted before names added → BeginsNames from keys accepted (before ++ names) others begun
+    → BeginsNames from keys accepted before (names ++ others) (added ++ begun)
+begins_both from keys accepted before [] others added begun none q =
+    subst (λ (l : List Addition). BeginsNames from keys accepted before others (l ++ begun)) (sym none)
+    (subst (λ (b : List (List ℕ)). BeginsNames from keys accepted b others begun) (append-nil before) q)
+begins_both from keys accepted before (name ∷ names) others added begun p q =
+    let one = p.0 in
+    let rest = p.1.0 in
+    inr (
+      one,
+      (
+        rest ++ begun,
+        (
+          ap (λ (l : List Addition). l ++ begun) p.1.1.0 ∙ append_assoc one rest begun,
+          (
+            p.1.1.1.0,
+            begins_both from keys accepted (before ++ name ∷ []) names others rest begun p.1.1.1.1
+                (subst (λ (b : List (List ℕ)). BeginsNames from keys accepted b others begun) (sym (append_assoc before (name ∷ []) names)) q),
+          ),
+        ),
+      ),
+    )
+
+-- behind names that came
+begun_behind : (from : Origin) (keys : Keys) (accepted middle : ManifestText) (some before : List (List ℕ)) (name : List ℕ) (begun : List Addition)
+    → Extends accepted some middle → BeginsName from keys middle before name begun → BeginsName from keys accepted (some ++ before) name begun
+begun_behind from keys accepted middle some before name begun extends (inl is) =
+    inl ((there_behind accepted middle some before name extends).0 is.0, is.1)
+begun_behind from keys accepted middle some before name begun extends (inr is) =
+    inr (λ has. is.0 ((there_behind accepted middle some before name extends).1 has), is.1)
+
+begins_behind : (from : Origin) (keys : Keys) (accepted middle : ManifestText) (some before names : List (List ℕ)) (begun : List Addition)
+    → Extends accepted some middle → BeginsNames from keys middle before names begun → BeginsNames from keys accepted (some ++ before) names begun
+begins_behind from keys accepted middle some before [] begun extends none = none
+begins_behind from keys accepted middle some before (name ∷ names) begun extends (inl one) =
+    inl (begun_behind from keys accepted middle some before name begun extends one)
+begins_behind from keys accepted middle some before (name ∷ names) begun extends (inr p) =
+    inr (
+      p.0,
+      (
+        p.1.0,
+        (
+          p.1.1.0,
+          (
+            name_behind from keys accepted middle some before name p.0 extends p.1.1.1.0,
+            subst (λ (b : List (List ℕ)). BeginsNames from keys accepted b names p.1.0) (sym (append_assoc some before (name ∷ [])))
+                (begins_behind from keys accepted middle some (before ++ name ∷ []) names p.1.0 extends p.1.1.1.1),
+          ),
+        ),
+      ),
+    )
+
+begins_then : (from : Origin) (keys : Keys) (accepted middle : ManifestText) (some others : List (List ℕ)) (added begun : List Addition)
+    → Extends accepted some middle → ListsNames from keys accepted [] some added → BeginsNames from keys middle [] others begun
+    → BeginsNames from keys accepted [] (some ++ others) (added ++ begun)
+begins_then from keys accepted middle some others added begun extends lists behind =
+    begins_both from keys accepted [] some others added begun lists
+    (subst (λ (b : List (List ℕ)). BeginsNames from keys accepted b others begun) (append-nil some)
+    (begins_behind from keys accepted middle some [] others begun extends behind))
+
+-- the same where a target tells its files
+pub all_nothing : (before : Option Told) (from : Origin) (store : Store) (names : List (List ℕ)) → BeginsAll before from store names []
+all_nothing None from store names = tt
+all_nothing (Some t) from store names = begins_nothing from (repo_view store.repo).keys (accepted_in store) [] names
+
+pub all_one : (before : Option Told) (from : Origin) (store : Store) (name : List ℕ) (begun : List Addition)
+    → BeginsDone before from (repo_view store.repo).keys (accepted_in store) name begun → BeginsAll before from store (name ∷ []) begun
+all_one None from store name begun one = tt
+all_one (Some t) from store name begun one = inl one
+
+pub all_wider : (before : Option Told) (from : Origin) (store : Store) (names more : List (List ℕ)) (begun : List Addition)
+    → BeginsAll before from store names begun → BeginsAll before from store (names ++ more) begun
+all_wider None from store names more begun begins = tt
+all_wider (Some t) from store names more begun begins =
+    begins_wider from (repo_view store.repo).keys (accepted_in store) [] names more begun begins
+
+pub all_then : (from : Origin) (store middle : Store) (some others : List (List ℕ)) (added begun : List Addition) (a b : Option Told)
+    → Extends (accepted_in store) some (accepted_in middle) → (repo_view middle.repo).keys ≡ (repo_view store.repo).keys
+    → Between a b (λ h g. AllDone h g × (CarriesNames from some added store middle h g × TellsNames (accepted_in store) some h g))
+    → BeginsAll b from middle others begun → BeginsAll a from store (some ++ others) (added ++ begun)
+all_then from store middle some others added begun None b extends keys end behind = tt
+all_then from store middle some others added begun (Some t) b extends keys end behind =
+    let at : BeginsAll (Some end.0) from middle others begun = subst (λ (o : Option Told). BeginsAll o from middle others begun) end.1 behind in
+    begins_then from (repo_view store.repo).keys (accepted_in store) (accepted_in middle) some others added begun extends end.2.1.0.1
+    (subst (λ (k : Keys). BeginsNames from k (accepted_in middle) [] others begun) keys at)
+
+-- ---- numbers
+
+counts_up : (new : Bool) (copied more others : ℕ) → copied ≡ (if new then suc more else more)
+    → copied + others ≡ (if new then suc (more + others) else more + others)
+counts_up true copied more others is = omega (arith, is)
+counts_up false copied more others is = omega (arith, is)
+
+counts_down : (new : Bool) (present more others : ℕ) → present ≡ (if new then more else suc more)
+    → present + others ≡ (if new then more + others else suc (more + others))
+counts_down true present more others is = omega (arith, is)
+counts_down false present more others is = omega (arith, is)
+
+counts_both : (accepted : ManifestText) (before names others : List (List ℕ)) (copied present more rest : ℕ)
+    → CountsNames accepted before names copied present → CountsNames accepted (before ++ names) others more rest
+    → CountsNames accepted before (names ++ others) (copied + more) (present + rest)
+counts_both accepted before [] others copied present more rest none q =
+    let up : more ≡ copied + more = omega (arith, none.0) in
+    let down : rest ≡ present + rest = omega (arith, none.1) in
+    subst (λ (n : ℕ). CountsNames accepted before others n (present + rest)) up
+    (subst (λ (n : ℕ). CountsNames accepted before others more n) down
+    (subst (λ (b : List (List ℕ)). CountsNames accepted b others more rest) (append-nil before) q))
+counts_both accepted before (name ∷ names) others copied present more rest p q = (
+  p.0,
+  (
+    p.1.0,
+    (
+      p.1.1.0 + more,
+      (
+        p.1.1.1.0 + rest,
+        (
+          counts_both accepted (before ++ name ∷ []) names others p.1.1.0 p.1.1.1.0 more rest p.1.1.1.1.0
+              (subst (λ (b : List (List ℕ)). CountsNames accepted b others more rest) (sym (append_assoc before (name ∷ []) names)) q),
+          (
+            counts_up p.0 copied p.1.1.0 more p.1.1.1.1.1.0,
+            counts_down p.0 present p.1.1.1.0 rest p.1.1.1.1.1.1,
+          ),
+        ),
+      ),
+    ),
+  ),
+)
+
+counts_behind : (accepted middle : ManifestText) (some before names : List (List ℕ)) (copied present : ℕ) → Extends accepted some middle
+    → CountsNames middle before names copied present → CountsNames accepted (some ++ before) names copied present
+counts_behind accepted middle some before [] copied present extends counts = counts
+counts_behind accepted middle some before (name ∷ names) copied present extends p = (
+  p.0,
+  (
+    tells_behind accepted middle some before name p.0 extends p.1.0,
+    (
+      p.1.1.0,
+      (
+        p.1.1.1.0,
+        (
+          subst (λ (b : List (List ℕ)). CountsNames accepted b names p.1.1.0 p.1.1.1.0) (sym (append_assoc some before (name ∷ [])))
+              (counts_behind accepted middle some (before ++ name ∷ []) names p.1.1.0 p.1.1.1.0 extends p.1.1.1.1.0),
+          p.1.1.1.1.1,
+        ),
+      ),
+    ),
+  ),
+)
+
+-- the numbers of some names, and behind them those of others
+counts_then : (accepted middle : ManifestText) (some others : List (List ℕ)) (added more : List Addition) (carried between after : Carried)
+    → Extends accepted some middle → CountsMore accepted some added carried between → CountsMore middle others more between after
+    → CountsMore accepted (some ++ others) (added ++ more) carried after
+counts_then accepted middle some others added more carried between after extends p q = record {
+  copied = p.copied + q.copied;
+  present = p.present + q.present;
+  names = counts_both accepted [] some others p.copied p.present q.copied q.present p.names
+      (subst (λ (b : List (List ℕ)). CountsNames accepted b others q.copied q.present) (append-nil some)
+      (counts_behind accepted middle some [] others q.copied q.present extends q.names));
+  transferred_is = omega (arith, p.transferred_is, q.transferred_is);
+  present_is = omega (arith, p.present_is, q.present_is);
+  put = record {
+    chunks = omega (arith, p.put.chunks, q.put.chunks, count_append Content added more);
+    bytes = omega (arith, p.put.bytes, q.put.bytes, bytes_append Content added more);
+    meta = omega (arith, p.put.meta, q.put.meta, count_append Stream added more);
+  };
+}
+
+-- those of no name
+counts_none : (accepted : ManifestText) (carried : Carried) → carried.transferred < 2 ^ 64 → carried.present < 2 ^ 64 → carried.chunks < 2 ^ 64
+    → carried.bytes < 2 ^ 128 → carried.meta < 2 ^ 64 → CountsMore accepted [] [] carried carried
+unfolding put_count put_bytes
+counts_none accepted carried transferred present chunks bytes meta = record {
+  copied = 0;
+  present = 0;
+  names = (refl, refl);
+  transferred_is = omega (arith, transferred);
+  present_is = omega (arith, present);
+  put = record { chunks = omega (arith, chunks); bytes = omega (arith, bytes); meta = omega (arith, meta) };
+}
+
+-- those of one
+pub counts_one : (accepted : ManifestText) (name : List ℕ) (added : List Addition) (copied : Bool) (put carried after : Carried)
+    → TellsNew accepted [] name copied → CountsOf added put
+    → after.transferred ≡ min (carried.transferred + (if copied then 1 else 0)) (2 ^ 64 - 1)
+    → after.present ≡ min (carried.present + (if copied then 0 else 1)) (2 ^ 64 - 1) → after.chunks ≡ min (carried.chunks + put.chunks) (2 ^ 64 - 1)
+    → after.bytes ≡ min (carried.bytes + put.bytes) (2 ^ 128 - 1) → after.meta ≡ min (carried.meta + put.meta) (2 ^ 64 - 1)
+    → CountsMore accepted (name ∷ []) added carried after
+counts_one accepted name added copied put carried after new counts transferred present chunks bytes meta = record {
+  copied = if copied then 1 else 0;
+  present = if copied then 0 else 1;
+  names = (copied, (new, (0, (0, ((refl, refl), (refl, refl))))));
+  transferred_is = transferred;
+  present_is = present;
+  put = record {
+    chunks = omega (arith, chunks, counts.chunks);
+    bytes = omega (arith, bytes, counts.bytes);
+    meta = omega (arith, meta, counts.meta);
+  };
+}
+
+-- ---- one archive
+
 -- What was added for an archive once it is done, of a target that tells its files.
 abbrev ListedAs : Origin → Keys → List ℕ → List Addition → Bool → Type 0
 ListedAs from keys name added true = ListsOne from keys name added
@@ -206,7 +533,8 @@ ListedAs from keys name added false = added ≡ []
 listed_as : (before : Option Told) (from : Origin) (keys : Keys) (name : List ℕ) (added : List Addition) (copied : Bool)
     → ListsDone before from keys name added copied → IfSome before (λ _. ListedAs from keys name added copied)
 listed_as before from keys name added true done = done
-listed_as before from keys name added false done = any_told before (λ _. added ≡ []) (λ _. done)
+listed_as None from keys name added false done = tt
+listed_as (Some t) from keys name added false done = done
 
 -- all that is added for one name, by what is told of it
 lists_name : (from : Origin) (keys : Keys) (accepted : ManifestText) (name : List ℕ) (added : List Addition) (copied : Bool)
@@ -272,17 +600,17 @@ report_whole accepted carried lines done (inr one) =
     })
 
 -- all lines of a run that told all names and the whole
-pub whole_report : (accepted : ManifestText) (names : List (List ℕ)) (h g : History) → lines_of h.acts ≡ [] → TellsWhole accepted names h g
-    → IsReport accepted (lines_of g.acts) names
-whole_report accepted names h g none t = record {
+pub whole_report : (accepted : ManifestText) (names : List (List ℕ)) (added : List Addition) (carried : Carried) (h g : History)
+    → lines_of h.acts ≡ [] → TellsWhole accepted names added carried h g → IsReport accepted (lines_of g.acts) names
+whole_report accepted names added carried h g none t = record {
   told = names;
   more = [];
-  reported = t.0;
-  last = total_line t.1.0 ∷ [];
-  split = t.1.1.0 ∙ ap (λ (l : List (List ℕ)). l ++ (t.0 ++ total_line t.1.0 ∷ [])) none;
+  reported = t.1.0;
+  last = total_line carried ∷ [];
+  split = t.1.1.0 ∙ ap (λ (l : List (List ℕ)). l ++ (t.1.0 ++ total_line carried ∷ [])) none;
   are = t.1.1.1;
   front = sym (append-nil names);
-  total = (t.1.0, refl);
+  total = (carried, refl);
 }
 
 -- ---- what was told at a moment
@@ -360,66 +688,69 @@ reported_map P Q counts h g i step m =
 
 -- a line is told, or isn't: what stands is what stood
 told_moments : (most : ℕ) (store : Store) (line : List ℕ) (h g : History) (counts : Bool) (fits : StoreFits counts store h) → IsStep (TellOf line) h g
-    → Moments (IsReported (λ lines image. ((lines ≡ []) ⊎ (lines ≡ line ∷ [])) × StandsFrom (repo_view store.repo).keys most fits.written image) counts h)
-    h g
+    → Moments (IsReported (λ lines image. ((lines ≡ []) ⊎ (lines ≡ line ∷ [])) × StandsFrom (repo_view store.repo).keys most [] fits.written image)
+    counts h) h g
 told_moments most store line h g counts fits is =
     step_moments (IsReported Show counts h) (TellOf line) h g (record {
       lines = [];
       told = sym (append-nil (lines_of h.acts));
-      sound = sound_map (ShowsStanding fits.written) (Show []) counts h (λ image shown. (inl refl, standing_from most counts store h fits image shown))
+      sound = sound_map (ShowsStanding fits.written) (Show []) counts h (λ image shown. (inl refl, standing_from most [] counts store h fits image shown))
           (stands_now counts store.session store.counter fits.written h fits.under_way);
     }) (λ done. record {
       lines = line ∷ [];
       told = line_told h line done;
       sound = sound_map (ShowsStanding fits.written) (Show (line ∷ [])) counts (with_act (TellOf line) done h)
-          (λ image shown. (inr refl, standing_from most counts store h fits image shown))
+          (λ image shown. (inr refl, standing_from most [] counts store h fits image shown))
           (stands_now counts store.session store.counter fits.written (with_act (TellOf line) done h)
           (told_stands counts store fits.written line done h fits.under_way));
     }) is where
       Show : List (List ℕ) → Files → Type 0
-      Show lines image = ((lines ≡ []) ⊎ (lines ≡ line ∷ [])) × StandsFrom (repo_view store.repo).keys most fits.written image
+      Show lines image = ((lines ≡ []) ⊎ (lines ≡ line ∷ [])) × StandsFrom (repo_view store.repo).keys most [] fits.written image
 
 -- ---- bodies that told nothing
 
-pub reported_growing : (from : Origin) (chosen : List (List ℕ)) (store : Store) (h g : History) → KeepsGrowing from chosen store h g
-    → KeepsReported from chosen store h g
-reported_growing from chosen store h g growing counts fits =
+pub reported_growing : (from : Origin) (chosen : List (List ℕ)) (store : Store) (within : List Addition) (h g : History)
+    → KeepsGrowing from chosen store within h g → KeepsReported from chosen store within h g
+reported_growing from chosen store within h g growing counts fits =
     let accepted = accepted_in store in
     let repo = repo_view store.repo in
-    reported_none (StandsOn from chosen accepted repo fits.written) (ShowsReport from chosen accepted repo fits.written) counts h g
+    reported_none (StandsOn from chosen within accepted repo fits.written) (ShowsReport from chosen within accepted repo fits.written) counts h g
     (λ image stands. (stands, report_none accepted stands.done)) growing.0 (growing.1 counts fits)
 
-pub reported_here : (from : Origin) (chosen : List (List ℕ)) (store : Store) (h : History) → AcceptsMore store → KeepsReported from chosen store h h
-reported_here from chosen store h accepts = reported_growing from chosen store h h (growing_here from chosen store h accepts)
+pub reported_here : (from : Origin) (chosen : List (List ℕ)) (store : Store) (within : List Addition) (h : History) → AcceptsMore store
+    → KeepsReported from chosen store within h h
+reported_here from chosen store within h accepts = reported_growing from chosen store within h h (growing_here from chosen store within h accepts)
 
 pub names_here : (accepted : ManifestText) (h : History) → TellsNames accepted [] h h
 names_here accepted h = ([], (sym (append-nil (lines_of h.acts)), tt))
 
 -- ---- one behind another
 
-pub reported_wider : (from : Origin) (some more : List (List ℕ)) (store : Store) (h g : History) → KeepsReported from some store h g
-    → KeepsReported from (some ++ more) store h g
+pub reported_wider : (from : Origin) (some more : List (List ℕ)) (store : Store) (within all : List Addition) (h g : History) → IsFront within all
+    → KeepsReported from some store within h g → KeepsReported from (some ++ more) store all h g
 unfolding on_wider
-reported_wider from some more store h g reported counts fits =
+reported_wider from some more store within all h g first reported counts fits =
     let accepted = accepted_in store in
     let repo = repo_view store.repo in
-    reported_map (ShowsReport from some accepted repo fits.written) (ShowsReport from (some ++ more) accepted repo fits.written) counts h h g
-    (λ lines image s. (on_wider from some more accepted repo fits.written image s.0, s.1)) (reported counts fits)
+    reported_map (ShowsReport from some within accepted repo fits.written) (ShowsReport from (some ++ more) all accepted repo fits.written) counts h h g
+    (λ lines image s. (on_wider from some more within all accepted repo fits.written image first s.0, s.1)) (reported counts fits)
 
-pub reported_then : (from : Origin) (some more : List (List ℕ)) (added : List Addition) (store middle : Store) (h g i : History) → IsSettled store
-    → AcceptsMore middle → KeepsReported from (some ++ more) store h g → AllDone h g → Grows from some added store middle h g
-    → TellsNames (accepted_in store) some h g → KeepsReported from more middle g i → KeepsReported from (some ++ more) store h i
+pub reported_then : (from : Origin) (some more : List (List ℕ)) (added others : List Addition) (store middle : Store) (h g i : History)
+    → IsSettled store → AcceptsMore middle → KeepsReported from some store added h g → AllDone h g → Grows from some added store middle h g
+    → TellsNames (accepted_in store) some h g → KeepsReported from more middle others g i → KeepsReported from (some ++ more) store (added ++ others) h i
 unfolding on_then
-reported_then from some more added store middle h g i settled accepts before done grows told after counts fits =
+reported_then from some more added others store middle h g i settled accepts before done grows told after counts fits =
     let first = grows counts fits in
     let accepted = accepted_in store in
     let between = accepted_in middle in
     let repo = repo_view store.repo in
     let next = repo_view middle.repo in
-    moments_then (IsReported (ShowsReport from (some ++ more) accepted repo fits.written) counts h) h g i (before counts fits) done
-    (reported_behind (ShowsReport from more between next first.fits_now.written) (ShowsReport from (some ++ more) accepted repo fits.written) counts h g i
-    told.0 told.1.0 (λ lines image s. (
-      on_then from some more added accepted between repo next fits.written first.fits_now.written image first.most.keys first.most.names first.chunks
+    let all = added ++ others in
+    moments_then (IsReported (ShowsReport from (some ++ more) all accepted repo fits.written) counts h) h g i
+    (reported_wider from some more store added all h g (front_of added others) before counts fits) done
+    (reported_behind (ShowsReport from more others between next first.fits_now.written) (ShowsReport from (some ++ more) all accepted repo fits.written) counts
+    h g i told.0 told.1.0 (λ lines image s. (
+      on_then from some more added others accepted between repo next fits.written first.fits_now.written image first.most.keys first.most.names first.chunks
           first.opening first.puts first.committed first.config first.carried first.cut first.only s.0,
       report_then accepted between told.0 lines some s.0.done (extends_by store middle some settled accepts first.most first.named first.only) told.1.1
           s.1,
@@ -438,27 +769,31 @@ names_then accepted middle some more h g i extends p q = (
 -- ---- a name is told behind the body that carried its archive
 
 reported_name : (from : Origin) (copied : Bool) (name : List ℕ) (added : List Addition) (store middle : Store) (h g i : History)
-    → KeepsGrowing from (name ∷ []) store h g → AllDone h g → Grows from (name ∷ []) added store middle h g → AcceptsMore middle
-    → TellsNew (accepted_in store) [] name copied → IsStep (TellOf (name_line (told_of copied) name)) g i → KeepsReported from (name ∷ []) store h i
+    → KeepsGrowing from (name ∷ []) store added h g → AllDone h g → Grows from (name ∷ []) added store middle h g → AcceptsMore middle
+    → TellsNew (accepted_in store) [] name copied → IsStep (TellOf (name_line (told_of copied) name)) g i → KeepsReported from (name ∷ []) store added h i
 unfolding on_then
-reported_name from copied name added store middle h g i growing done grows accepts new is counts fits =
-    let line = name_line (told_of copied) name in
-    let first = grows counts fits in
-    let accepted = accepted_in store in
-    let between = accepted_in middle in
-    let repo = repo_view store.repo in
-    let next = repo_view middle.repo in
-    let now = first.fits_now.written in
-    let none : lines_of g.acts ≡ lines_of h.acts ++ [] = growing.0 ∙ sym (append-nil (lines_of h.acts)) in
-    moments_then (IsReported (ShowsReport from (name ∷ []) accepted repo fits.written) counts h) h g i
-    (reported_growing from (name ∷ []) store h g growing counts fits) done
-    (reported_behind (λ lines image. ((lines ≡ []) ⊎ (lines ≡ line ∷ [])) × StandsFrom next.keys from.most now image)
-    (ShowsReport from (name ∷ []) accepted repo fits.written) counts h g i [] none (λ lines image s.
-    let stands : StandsOn from [] between next now image = on_from from [] between counts middle g first.fits_now image accepts s.1 in (
-      on_then from (name ∷ []) [] added accepted between repo next fits.written now image first.most.keys first.most.names first.chunks first.opening
-          first.puts first.committed first.config first.carried first.cut first.only stands,
-      report_one accepted copied name lines stands.done new s.0,
-    )) (told_moments from.most middle line g i counts first.fits_now is))
+reported_name from copied name added store middle h g i growing done grows accepts new is =
+    subst (λ (l : List Addition). KeepsReported from (name ∷ []) store l h i) (append-nil added) all where
+      all : KeepsReported from (name ∷ []) store (added ++ []) h i
+      all counts fits =
+          let line = name_line (told_of copied) name in
+          let first = grows counts fits in
+          let accepted = accepted_in store in
+          let between = accepted_in middle in
+          let repo = repo_view store.repo in
+          let next = repo_view middle.repo in
+          let now = first.fits_now.written in
+          let none : lines_of g.acts ≡ lines_of h.acts ++ [] = growing.0 ∙ sym (append-nil (lines_of h.acts)) in
+          moments_then (IsReported (ShowsReport from (name ∷ []) (added ++ []) accepted repo fits.written) counts h) h g i
+          (reported_growing from (name ∷ []) store (added ++ []) h g
+          (growing_longer from (name ∷ []) store added (added ++ []) h g (front_of added []) growing) counts fits) done
+          (reported_behind (λ lines image. ((lines ≡ []) ⊎ (lines ≡ line ∷ [])) × StandsFrom next.keys from.most [] now image)
+          (ShowsReport from (name ∷ []) (added ++ []) accepted repo fits.written) counts h g i [] none (λ lines image s.
+          let stands : StandsOn from [] [] between next now image = on_from from [] [] between counts middle g first.fits_now image accepts s.1 in (
+            on_then from (name ∷ []) [] added [] accepted between repo next fits.written now image first.most.keys first.most.names first.chunks
+                first.opening first.puts first.committed first.config first.carried first.cut first.only stands,
+            report_one accepted copied name lines stands.done new s.0,
+          )) (told_moments from.most middle line g i counts first.fits_now is))
 
 told_name : (accepted : ManifestText) (copied : Bool) (name : List ℕ) (h g i : History) → TellsNew accepted [] name copied → TellsNothing h g
     → TellsLine (name_line (told_of copied) name) g i → TellsNames accepted (name ∷ []) h i
@@ -481,36 +816,37 @@ grows_told from some added store middle line h g i grows tells =
     (grows_then from some [] added [] store middle middle h g i grows
     (grows_from from middle middle [] g i (rest_here middle) (told_gathers from.most middle line g i tells))))
 
-carries_told : (from : Origin) (some : List (List ℕ)) (store middle : Store) (line : List ℕ) (h g i : History)
-    → CarriesNames from some store middle h g → TellsLine line g i → CarriesNames from some store middle h i
-carries_told from some store middle line h g i carries tells =
-    (carries.0, (grows_told from some carries.0 store middle line h g i carries.1.0 tells, carries.1.1))
+carries_told : (from : Origin) (some : List (List ℕ)) (added : List Addition) (store middle : Store) (line : List ℕ) (h g i : History)
+    → CarriesNames from some added store middle h g → TellsLine line g i → CarriesNames from some added store middle h i
+carries_told from some added store middle line h g i carries tells = (grows_told from some added store middle line h g i carries.0 tells, carries.1)
 
 -- ---- the whole is told behind all
 
 reported_whole : (from : Origin) (carried : Carried) (names : List (List ℕ)) (added : List Addition) (store middle : Store) (h g i : History)
-    → IsSettled store → AcceptsMore middle → KeepsReported from names store h g → AllDone h g → Grows from names added store middle h g
-    → TellsNames (accepted_in store) names h g → IsStep (TellOf (total_line carried)) g i → KeepsReported from names store h i
+    → IsSettled store → AcceptsMore middle → KeepsReported from names store added h g → AllDone h g → Grows from names added store middle h g
+    → TellsNames (accepted_in store) names h g → IsStep (TellOf (total_line carried)) g i → KeepsReported from names store added h i
 reported_whole from carried names added store middle h g i settled accepts before done grows told is =
-    subst (λ (l : List (List ℕ)). KeepsReported from l store h i) (append-nil names)
-    (reported_then from names [] added store middle h g i settled accepts (reported_wider from names [] store h g before) done grows told last) where
+    subst (λ (l : List Addition). KeepsReported from names store l h i) (append-nil added)
+    (subst (λ (l : List (List ℕ)). KeepsReported from l store (added ++ []) h i) (append-nil names)
+    (reported_then from names [] added [] store middle h g i settled accepts before done grows told last)) where
       line : List ℕ
       line = total_line carried
 
-      last : KeepsReported from [] middle g i
+      last : KeepsReported from [] middle [] g i
       last counts fits =
-          reported_map (λ lines image. ((lines ≡ []) ⊎ (lines ≡ line ∷ [])) × StandsFrom (repo_view middle.repo).keys from.most fits.written image)
-          (ShowsReport from [] (accepted_in middle) (repo_view middle.repo) fits.written) counts g g i (λ lines image s.
-          let stands : StandsOn from [] (accepted_in middle) (repo_view middle.repo) fits.written image =
-          on_from from [] (accepted_in middle) counts middle g fits image accepts s.1 in
+          reported_map (λ lines image. ((lines ≡ []) ⊎ (lines ≡ line ∷ [])) × StandsFrom (repo_view middle.repo).keys from.most [] fits.written image)
+          (ShowsReport from [] [] (accepted_in middle) (repo_view middle.repo) fits.written) counts g g i (λ lines image s.
+          let stands : StandsOn from [] [] (accepted_in middle) (repo_view middle.repo) fits.written image =
+          on_from from [] [] (accepted_in middle) counts middle g fits image accepts s.1 in
           (stands, report_whole (accepted_in middle) carried lines stands.done s.0)) (told_moments from.most middle line g i counts fits is)
 
-told_whole : (accepted : ManifestText) (carried : Carried) (names : List (List ℕ)) (h g i : History) → TellsNames accepted names h g
-    → TellsLine (total_line carried) g i → TellsWhole accepted names h i
-told_whole accepted carried names h g i told tells = (
-  told.0,
+told_whole : (accepted : ManifestText) (names : List (List ℕ)) (added : List Addition) (carried : Carried) (h g i : History)
+    → IsTotalOf accepted names added carried → TellsNames accepted names h g → TellsLine (total_line carried) g i
+    → TellsWhole accepted names added carried h i
+told_whole accepted names added carried h g i counted told tells = (
+  counted,
   (
-    carried,
+    told.0,
     (
       ap (λ (k : History). lines_of k.acts) tells
           ∙ (line_told g (total_line carried) true
@@ -523,172 +859,238 @@ told_whole accepted carried names h g i told tells = (
 
 -- ---- what bodies did
 
+-- What bodies that tell names say of the end.
+abbrev EndsNames : {T : Type 0} → Origin → List (List ℕ) → List Addition → Store → Store → T → History → History → Type 0
+EndsNames from names added store now _ h g = CarriesNames from names added store now h g × TellsNames (accepted_in store) names h g
+
+-- and of a body that tells the whole
+abbrev EndsWhole : Origin → List (List ℕ) → List Addition → Store → Store → Carried → History → History → Type 0
+EndsWhole from names added store now carried h g = CarriesNames from names added store now h g × TellsWhole (accepted_in store) names added carried h g
+
 -- where no call of the target was made
-pub reports_none : {T : Type 0} (from : Origin) (store : Store) (a : Option Told) (n : ℕ) (x : T) → AcceptsMore store
-    → Reports from [] store store a a n n (Ok x)
-reports_none {T} from store a n x accepts =
-    works_none (KeepsReported from [] store) (λ (_ : T) h g. CarriesNames from [] store store h g × TellsNames (accepted_in store) [] h g) a n x
-    (λ h. reported_here from [] store h accepts) (λ h. (([], (grows_here from store h, refl)), names_here (accepted_in store) h))
+pub reports_none : (from : Origin) (store : Store) (carried : Carried) (a : Option Told) (n : ℕ) → AcceptsMore store → carried.transferred < 2 ^ 64
+    → carried.present < 2 ^ 64 → carried.chunks < 2 ^ 64 → carried.bytes < 2 ^ 128 → carried.meta < 2 ^ 64
+    → Reports from [] store store carried carried a a n n (Ok tt)
+reports_none from store carried a n accepts transferred present chunks bytes meta = record {
+  added = [];
+  begins = all_nothing a from store [];
+  works = works_none (KeepsReported from [] store []) (EndsNames {T = Unit {0}} from [] [] store store) a n tt
+      (λ h. reported_here from [] store [] h accepts) (λ h. ((grows_here from store h, refl), names_here (accepted_in store) h));
+  counted = counts_none (accepted_in store) carried transferred present chunks bytes meta;
+}
 
-pub reports_nothing : {T : Type 0} (from : Origin) (names : List (List ℕ)) (store now : Store) (a : Option Told) (n : ℕ) (fault : CarryFault)
-    → AcceptsMore store → target_failed fault ≡ false → Reports {T = T} from names store now a a n n (Err fault)
-reports_nothing {T} from names store now a n fault accepts still =
-    works_nothing (KeepsReported from names store) (λ (_ : T) h g. CarriesNames from names store now h g × TellsNames (accepted_in store) names h g)
-    a n fault still (λ h. reported_here from names store h accepts)
+pub reports_nothing : (from : Origin) (names : List (List ℕ)) (store now : Store) (carried after : Carried) (a : Option Told) (n : ℕ) (fault : CarryFault)
+    → AcceptsMore store → target_failed fault ≡ false → Reports from names store now carried after a a n n (Err fault)
+reports_nothing from names store now carried after a n fault accepts still = record {
+  added = [];
+  begins = all_nothing a from store names;
+  works = works_nothing (KeepsReported from names store []) (EndsNames {T = Unit {0}} from names [] store now) a n fault still
+      (λ h. reported_here from names store [] h accepts);
+  counted = tt;
+}
 
-pub whole_nothing : {T : Type 0} (from : Origin) (names : List (List ℕ)) (store now : Store) (a : Option Told) (n : ℕ) (fault : CarryFault)
-    → AcceptsMore store → target_failed fault ≡ false → ReportsWhole {T = T} from names store now a a n n (Err fault)
-whole_nothing {T} from names store now a n fault accepts still =
-    works_nothing (KeepsReported from names store) (λ (_ : T) h g. CarriesNames from names store now h g × TellsWhole (accepted_in store) names h g)
-    a n fault still (λ h. reported_here from names store h accepts)
+pub whole_nothing : (from : Origin) (names : List (List ℕ)) (store now : Store) (a : Option Told) (n : ℕ) (fault : CarryFault)
+    → AcceptsMore store → target_failed fault ≡ false → ReportsWhole from names store now a a n n (Err fault)
+whole_nothing from names store now a n fault accepts still = record {
+  added = [];
+  begins = all_nothing a from store names;
+  works = works_nothing (KeepsReported from names store []) (EndsWhole from names [] store now) a n fault still
+      (λ h. reported_here from names store [] h accepts);
+}
 
 -- a fault of a body that told nothing, and of one that told
-pub reports_silent : {T U : Type 0} (from : Origin) (names : List (List ℕ)) (added : List Addition) (store now : Store) (a b : Option Told)
-    (n m : ℕ) (fault : CarryFault) → Carries {T = T} from names added store now a b n m (Err fault) → Reports {T = U} from names store now a b n m (Err fault)
-reports_silent {T} {U} from names added store now a b n m fault p =
-    works_front (KeepsGrowing from names store) (λ (_ : T). Grows from names added store now) (KeepsReported from names store)
-    (λ (_ : U) h g. CarriesNames from names store now h g × TellsNames (accepted_in store) names h g) a b n m fault
-    (λ h g e. reported_growing from names store h g e) p
+pub reports_silent : {T : Type 0} (from : Origin) (name : List ℕ) (added : List Addition) (store now : Store) (carried after : Carried)
+    (a b : Option Told) (n m : ℕ) (fault : CarryFault) → BeginsDone a from (repo_view store.repo).keys (accepted_in store) name added
+    → Carries {T = T} from (name ∷ []) added store now a b n m (Err fault) → Reports from (name ∷ []) store now carried after a b n m (Err fault)
+reports_silent {T} from name added store now carried after a b n m fault begins p = record {
+  added = added;
+  begins = all_one a from store name added begins;
+  works = works_front (KeepsGrowing from (name ∷ []) store added) (λ (_ : T). Grows from (name ∷ []) added store now)
+      (KeepsReported from (name ∷ []) store added) (EndsNames {T = Unit {0}} from (name ∷ []) added store now) a b n m fault
+      (λ h g e. reported_growing from (name ∷ []) store added h g e) p;
+  counted = tt;
+}
 
-pub whole_err : {T U : Type 0} (from : Origin) (names : List (List ℕ)) (store now : Store) (a b : Option Told) (n m : ℕ) (fault : CarryFault)
-    → Reports {T = T} from names store now a b n m (Err fault) → ReportsWhole {T = U} from names store now a b n m (Err fault)
-whole_err {T} {U} from names store now a b n m fault p =
-    works_front (KeepsReported from names store) (λ (_ : T) h g. CarriesNames from names store now h g × TellsNames (accepted_in store) names h g)
-    (KeepsReported from names store) (λ (_ : U) h g. CarriesNames from names store now h g × TellsWhole (accepted_in store) names h g) a b n m fault
-    (λ h g e. e) p
+pub whole_err : (from : Origin) (names : List (List ℕ)) (store now : Store) (carried after : Carried) (a b : Option Told) (n m : ℕ) (fault : CarryFault)
+    → Reports from names store now carried after a b n m (Err fault) → ReportsWhole from names store now a b n m (Err fault)
+whole_err from names store now carried after a b n m fault p = record {
+  added = p.added;
+  begins = p.begins;
+  works = works_front (KeepsReported from names store p.added) (EndsNames {T = Unit {0}} from names p.added store now)
+      (KeepsReported from names store p.added) (EndsWhole from names p.added store now) a b n m fault (λ h g e. e) p.works;
+}
 
 -- a name that is told behind the body that carried its archive
-pub reports_name : {T U : Type 0} (from : Origin) (copied : Bool) (name given : List ℕ) (added : List Addition) (store middle : Store)
+named_works : {T U : Type 0} (from : Origin) (copied : Bool) (name given : List ℕ) (added : List Addition) (store middle : Store)
     (a b c : Option Told) (n m k : ℕ) (x : T) (result : Result U CarryFault) → given ≡ name → AcceptsMore middle
     → TellsNew (accepted_in store) [] name copied → ListsDone a from (repo_view store.repo).keys name added copied
     → Carries {T = T} from (name ∷ []) added store middle a b n m (Ok x)
     → Works (IsStep (TellOf (name_line (told_of copied) given))) (λ (_ : U). TellsLine (name_line (told_of copied) given)) b c m k result
-    → Reports {T = U} from (name ∷ []) store middle a c n k result
-reports_name {T} {U} from copied name given added store middle a b c n m k x result is accepts new done p q =
+    → Works (KeepsReported from (name ∷ []) store added) (EndsNames {T = U} from (name ∷ []) added store middle) a c n k result
+named_works {T} {U} from copied name given added store middle a b c n m k x result is accepts new done p q =
     let line = name_line (told_of copied) name in
     let keys = (repo_view store.repo).keys in
     let accepted = accepted_in store in
-    works_then (KeepsGrowing from (name ∷ []) store)
-    (λ (_ : T) h g. ListedAs from keys name added copied × (KeepsGrowing from (name ∷ []) store h g × Grows from (name ∷ []) added store middle h g))
-    (IsStep (TellOf line)) (λ (_ : U). TellsLine line) (KeepsReported from (name ∷ []) store)
-    (λ (_ : U) h g. CarriesNames from (name ∷ []) store middle h g × TellsNames accepted (name ∷ []) h g)
-    a b c n m k x result
+    works_then (KeepsGrowing from (name ∷ []) store added)
+    (λ (_ : T) h g. ListedAs from keys name added copied × (KeepsGrowing from (name ∷ []) store added h g × Grows from (name ∷ []) added store middle h g))
+    (IsStep (TellOf line)) (λ (_ : U). TellsLine line) (KeepsReported from (name ∷ []) store added)
+    (EndsNames {T = U} from (name ∷ []) added store middle) a b c n m k x result
     (λ h g i e d f r. reported_name from copied name added store middle h g i e d f.1.1 accepts new r)
     (λ _ h g i f r. (
-      (added, (grows_told from (name ∷ []) added store middle line h g i f.1.1 r, lists_one from keys accepted name added copied new f.0)),
+      (grows_told from (name ∷ []) added store middle line h g i f.1.1 r, lists_one from keys accepted name added copied new f.0),
       told_name accepted copied name h g i new f.1.0.0 r,
     ))
-    (works_from (λ _. ListedAs from keys name added copied) (KeepsGrowing from (name ∷ []) store)
-    (λ (_ : T) h g. KeepsGrowing from (name ∷ []) store h g × Grows from (name ∷ []) added store middle h g) a b n m x
+    (works_from (λ _. ListedAs from keys name added copied) (KeepsGrowing from (name ∷ []) store added)
+    (λ (_ : T) h g. KeepsGrowing from (name ∷ []) store added h g × Grows from (name ∷ []) added store middle h g) a b n m x
     (listed_as a from keys name added copied done)
-    (works_both (KeepsGrowing from (name ∷ []) store) (λ (_ : T). Grows from (name ∷ []) added store middle) a b n m (Ok x) p))
+    (works_both (KeepsGrowing from (name ∷ []) store added) (λ (_ : T). Grows from (name ∷ []) added store middle) a b n m (Ok x) p))
     (subst (λ (l : List ℕ). Works (IsStep (TellOf (name_line (told_of copied) l))) (λ (_ : U). TellsLine (name_line (told_of copied) l)) b c m k result)
     is q)
 
--- the whole, behind all names
-pub reports_whole : {T U V : Type 0} (from : Origin) (carried : Carried) (names : List (List ℕ)) (line : List ℕ) (store middle : Store)
-    (a b c : Option Told) (n m k : ℕ) (x : T) (y : U) (z : V) → line ≡ total_line carried → IsSettled store → AcceptsMore middle
-    → Reports {T = T} from names store middle a b n m (Ok x) → Works (IsStep (TellOf line)) (λ (_ : U). TellsLine line) b c m k (Ok y)
-    → ReportsWhole {T = V} from names store middle a c n k (Ok z)
-reports_whole {T} {U} {V} from carried names line store middle a b c n m k x y z is settled accepts p q =
-    let total = total_line carried in
-    let behind = subst (λ (l : List ℕ). Works (IsStep (TellOf l)) (λ (_ : U). TellsLine l) b c m k (Ok y)) is q in
-    works_then (KeepsReported from names store) (λ (_ : T) h g. CarriesNames from names store middle h g × TellsNames (accepted_in store) names h g)
-    (IsStep (TellOf total)) (λ (_ : V). TellsLine total) (KeepsReported from names store)
-    (λ (_ : V) h g. CarriesNames from names store middle h g × TellsWhole (accepted_in store) names h g)
-    a b c n m k x (Ok z)
-    (λ h g i e d f r. reported_whole from carried names f.0.0 store middle h g i settled accepts e d f.0.1.0 f.1 r)
-    (λ _ h g i f r. (carries_told from names store middle total h g i f.0 r, told_whole (accepted_in store) carried names h g i f.1 r)) p
-    (works_as (IsStep (TellOf total)) (λ (_ : U). TellsLine total) (IsStep (TellOf total)) (λ (_ : V). TellsLine total) b c m k y z (λ h g e. e)
-    (λ h g e. e) behind)
+pub reports_name : {T : Type 0} (from : Origin) (copied : Bool) (name given : List ℕ) (added : List Addition) (store middle : Store) (carried after : Carried)
+    (a b c : Option Told) (n m k : ℕ) (x : T) (result : Result (Unit {0}) CarryFault) → given ≡ name → AcceptsMore middle
+    → TellsNew (accepted_in store) [] name copied → ListsDone a from (repo_view store.repo).keys name added copied
+    → BeginsDone a from (repo_view store.repo).keys (accepted_in store) name added
+    → OnOk result (CountsMore (accepted_in store) (name ∷ []) added carried after)
+    → Carries {T = T} from (name ∷ []) added store middle a b n m (Ok x)
+    → Works (IsStep (TellOf (name_line (told_of copied) given))) (λ (_ : Unit {0}). TellsLine (name_line (told_of copied) given)) b c m k result
+    → Reports from (name ∷ []) store middle carried after a c n k result
+reports_name {T} from copied name given added store middle carried after a b c n m k x result is accepts new done begins counted p q = record {
+  added = added;
+  begins = all_one a from store name added begins;
+  works = named_works {T = T} {U = Unit {0}} from copied name given added store middle a b c n m k x result is accepts new done p q;
+  counted = counted;
+}
 
-pub whole_untold : {T U V : Type 0} (from : Origin) (carried : Carried) (names : List (List ℕ)) (line : List ℕ) (store middle : Store)
-    (a b c : Option Told) (n m k : ℕ) (x : T) (fault : CarryFault) → line ≡ total_line carried → IsSettled store → AcceptsMore middle
-    → Reports {T = T} from names store middle a b n m (Ok x) → Works (IsStep (TellOf line)) (λ (_ : U). TellsLine line) b c m k (Err fault)
-    → ReportsWhole {T = V} from names store middle a c n k (Err fault)
-whole_untold {T} {U} {V} from carried names line store middle a b c n m k x fault is settled accepts p q =
+-- the whole, behind all names
+pub reports_whole : (from : Origin) (carried : Carried) (names : List (List ℕ)) (line : List ℕ) (store middle : Store)
+    (a b c : Option Told) (n m k : ℕ) → line ≡ total_line carried → IsSettled store → AcceptsMore middle
+    → Reports from names store middle nothing_carried carried a b n m (Ok tt)
+    → Works (IsStep (TellOf line)) (λ (_ : Unit {0}). TellsLine line) b c m k (Ok tt)
+    → ReportsWhole from names store middle a c n k (Ok carried)
+reports_whole from carried names line store middle a b c n m k is settled accepts p q =
     let total = total_line carried in
-    let behind = subst (λ (l : List ℕ). Works (IsStep (TellOf l)) (λ (_ : U). TellsLine l) b c m k (Err fault)) is q in
-    works_then (KeepsReported from names store) (λ (_ : T) h g. CarriesNames from names store middle h g × TellsNames (accepted_in store) names h g)
-    (IsStep (TellOf total)) (λ (_ : V). TellsLine total) (KeepsReported from names store)
-    (λ (_ : V) h g. CarriesNames from names store middle h g × TellsWhole (accepted_in store) names h g)
-    a b c n m k x (Err fault)
-    (λ h g i e d f r. reported_whole from carried names f.0.0 store middle h g i settled accepts e d f.0.1.0 f.1 r)
-    (λ _ h g i f r. (carries_told from names store middle total h g i f.0 r, told_whole (accepted_in store) carried names h g i f.1 r)) p
-    (works_front (IsStep (TellOf total)) (λ (_ : U). TellsLine total) (IsStep (TellOf total)) (λ (_ : V). TellsLine total) b c m k fault (λ h g e. e)
-    behind)
+    let added = p.added in
+    let behind = subst (λ (l : List ℕ). Works (IsStep (TellOf l)) (λ (_ : Unit {0}). TellsLine l) b c m k (Ok tt)) is q in
+    let Total : Carried → History → History → Type 0 = λ told h g. (told ≡ carried) × TellsLine total h g in
+    record {
+      added = added;
+      begins = p.begins;
+      works = works_then (KeepsReported from names store added) (EndsNames {T = Unit {0}} from names added store middle) (IsStep (TellOf total)) Total
+          (KeepsReported from names store added) (EndsWhole from names added store middle) a b c n m k tt (Ok carried)
+          (λ h g i e d f r. reported_whole from carried names added store middle h g i settled accepts e d f.0.0 f.1 r)
+          (λ told h g i f r. (
+            carries_told from names added store middle total h g i f.0 r.1,
+            subst (λ (t : Carried). TellsWhole (accepted_in store) names added t h i) (sym r.0)
+                (told_whole (accepted_in store) names added carried h g i p.counted f.1 r.1),
+          )) p.works
+          (works_as (IsStep (TellOf total)) (λ (_ : Unit {0}). TellsLine total) (IsStep (TellOf total)) Total b c m k tt carried (λ h g e. e)
+          (λ h g e. (refl, e)) behind);
+    }
+
+pub whole_untold : (from : Origin) (before carried : Carried) (names : List (List ℕ)) (line : List ℕ) (store middle : Store)
+    (a b c : Option Told) (n m k : ℕ) (fault : CarryFault) → line ≡ total_line carried → IsSettled store → AcceptsMore middle
+    → Reports from names store middle before carried a b n m (Ok tt)
+    → Works (IsStep (TellOf line)) (λ (_ : Unit {0}). TellsLine line) b c m k (Err fault)
+    → ReportsWhole from names store middle a c n k (Err fault)
+whole_untold from before carried names line store middle a b c n m k fault is settled accepts p q =
+    let total = total_line carried in
+    let added = p.added in
+    let behind = subst (λ (l : List ℕ). Works (IsStep (TellOf l)) (λ (_ : Unit {0}). TellsLine l) b c m k (Err fault)) is q in
+    let first = works_then (KeepsReported from names store added) (EndsNames {T = Unit {0}} from names added store middle) (IsStep (TellOf total))
+    (λ (_ : Unit {0}). TellsLine total) (KeepsReported from names store added) (λ (_ : Unit {0}) (h : History) (g : History). Unit {0}) a b c n m k tt
+    (Err fault) (λ h g i e d f r. reported_whole from carried names added store middle h g i settled accepts e d f.0.0 f.1 r) (λ _ h g i f r. tt) p.works
+    behind in
+    record {
+      added = added;
+      begins = p.begins;
+      works = record { each = first.each; end = tt; ends = first.ends; cause = first.cause };
+    }
 
 -- what was reported of one source was reported of another that is the same, under a name that is the same
-pub reports_as : {T : Type 0} (from other : Origin) (some others : List (List ℕ)) (store now : Store) (a b : Option Told) (n m : ℕ)
-    (result : Result T CarryFault) → other ≡ from → others ≡ some → Reports other others store now a b n m result
-    → Reports from some store now a b n m result
-reports_as {T} from other some others store now a b n m result is names p =
-    subst (λ (f : Origin). Reports f some store now a b n m result) is
-    (subst (λ (l : List (List ℕ)). Reports other l store now a b n m result) names p)
+pub reports_as : (from other : Origin) (some others : List (List ℕ)) (store now : Store) (carried after : Carried) (a b : Option Told) (n m : ℕ)
+    (result : Result (Unit {0}) CarryFault) → other ≡ from → others ≡ some → Reports other others store now carried after a b n m result
+    → Reports from some store now carried after a b n m result
+reports_as from other some others store now carried after a b n m result is names p =
+    subst (λ (f : Origin). Reports f some store now carried after a b n m result) is
+    (subst (λ (l : List (List ℕ)). Reports other l store now carried after a b n m result) names p)
+
+-- the numbers of more names behind some
+counted_then : (accepted middle : ManifestText) (some others : List (List ℕ)) (added more : List Addition) (carried between after : Carried)
+    (result : Result (Unit {0}) CarryFault) → Extends accepted some middle → CountsMore accepted some added carried between
+    → OnOk result (CountsMore middle others more between after) → OnOk result (CountsMore accepted (some ++ others) (added ++ more) carried after)
+counted_then accepted middle some others added more carried between after (Ok x) extends p q =
+    counts_then accepted middle some others added more carried between after extends p q
+counted_then accepted middle some others added more carried between after (Err fault) extends p q = tt
 
 -- more names behind some
-reports_then : {T U : Type 0} (from : Origin) (some more : List (List ℕ)) (store middle now : Store) (a b c : Option Told) (n m k : ℕ) (x : T)
-    (result : Result U CarryFault) → IsSettled store → AcceptsMore middle → IfSome a (λ t. StoreFits false store t.history)
-    → Reports {T = T} from some store middle a b n m (Ok x) → Reports {T = U} from more middle now b c m k result
-    → Reports {T = U} from (some ++ more) store now a c n k result
-reports_then {T} {U} from some more store middle now a b c n m k x result settled accepts fits p q =
+pub reports_then : (from : Origin) (some more : List (List ℕ)) (store middle now : Store) (carried between after : Carried) (a b c : Option Told)
+    (n m k : ℕ) (result : Result (Unit {0}) CarryFault) → IsSettled store → AcceptsMore middle → IfSome a (λ t. StoreFits false store t.history)
+    → Extends (accepted_in store) some (accepted_in middle) → (repo_view middle.repo).keys ≡ (repo_view store.repo).keys
+    → Reports from some store middle carried between a b n m (Ok tt) → Reports from more middle now between after b c m k result
+    → Reports from (some ++ more) store now carried after a c n k result
+reports_then from some more store middle now carried between after a b c n m k result settled accepts fits extends same p q =
     let keys = (repo_view store.repo).keys in
     let accepted = accepted_in store in
-    let between = accepted_in middle in
-    works_then (KeepsReported from some store)
-    (λ (_ : T) h g. StoreFits false store h × (CarriesNames from some store middle h g × TellsNames accepted some h g)) (KeepsReported from more middle)
-    (λ (_ : U) h g. CarriesNames from more middle now h g × TellsNames between more h g) (KeepsReported from (some ++ more) store)
-    (λ (_ : U) h g. CarriesNames from (some ++ more) store now h g × TellsNames accepted (some ++ more) h g) a b c n m k x result
-    (λ h g i e d f r.
-    reported_then from some more f.1.0.0 store middle h g i settled accepts (reported_wider from some more store h g e) d f.1.0.1.0 f.1.1 r)
-    (λ _ h g i e f.
-    let added = e.1.0.0 in
-    let others = f.0.0 in
-    let first = e.1.0.1.0 false e.0 in
-    let extends = extends_by store middle some settled accepts first.most first.named first.only in (
-      (
-        added ++ others,
-        (
-          grows_then from some more added others store middle now h g i e.1.0.1.0 f.0.1.0,
-          lists_then from keys accepted between some more added others extends e.1.0.1.1
-              (subst (λ (k : Keys). ListsNames from k between [] more others) first.most.keys f.0.1.1),
-        ),
-      ),
-      names_then accepted between some more h g i extends e.1.1 f.1,
-    ))
-    (works_from (StoreFits false store) (KeepsReported from some store)
-    (λ (_ : T) h g. CarriesNames from some store middle h g × TellsNames accepted some h g) a b n m x fits p) q
+    let first = accepted_in middle in
+    let added = p.added in
+    let others = q.added in
+    let all = added ++ others in
+    record {
+      added = all;
+      begins = all_then from store middle some more added others a b extends same p.works.end q.begins;
+      works = works_then (KeepsReported from some store added) (λ (_ : Unit {0}) h g. EndsNames {T = Unit {0}} from some added store middle tt h g)
+          (KeepsReported from more middle others) (EndsNames {T = Unit {0}} from more others middle now) (KeepsReported from (some ++ more) store all)
+          (EndsNames {T = Unit {0}} from (some ++ more) all store now) a b c n m k tt result
+          (λ h g i e d f r. reported_then from some more added others store middle h g i settled accepts e d f.0.0 f.1 r)
+          (λ _ h g i e f. (
+            (
+              grows_then from some more added others store middle now h g i e.0.0 f.0.0,
+              lists_then from keys accepted first some more added others extends e.0.1
+                  (subst (λ (k : Keys). ListsNames from k first [] more others) same f.0.1),
+            ),
+            names_then accepted first some more h g i extends e.1 f.1,
+          )) p.works q.works;
+      counted = counted_then accepted first some more added others carried between after result extends p.counted q.counted;
+    }
 
 -- one archive more of those that were chosen
-pub reports_more : (from other : Origin) (names : List (List ℕ)) (place : ℕ) (name d : List ℕ) (store middle now : Store) (a b c : Option Told)
-    (n m k : ℕ) (result : Result (Unit {0}) CarryFault) → other ≡ from → place < length names → name ≡ get_or names place d
-    → IsSettled store → AcceptsMore middle → IfSome a (λ t. StoreFits false store t.history)
-    → Reports {T = Unit {0}} from (take place names) store middle a b n m (Ok tt) → Reports other (name ∷ []) middle now b c m k result
-    → Reports from (take (place + 1) names) store now a c n k result
-reports_more from other names place name d store middle now a b c n m k result is lt named settled accepts fits p q =
+pub reports_more : (from other : Origin) (names : List (List ℕ)) (place : ℕ) (name d : List ℕ) (given : Option (List ℕ)) (source : ManifestText)
+    (store middle now : Store) (carried between after : Carried) (a b c : Option Told) (n m k : ℕ) (result : Result (Unit {0}) CarryFault) → other ≡ from
+    → place < length names → name ≡ get_or names place d → IsSettled store → AcceptsMore middle → IfSome a (λ t. StoreFits false store t.history)
+    → AreNextOf given source (repo_view store.repo).keys (accepted_in store) (take place names) (accepted_in middle)
+    → (repo_view middle.repo).keys ≡ (repo_view store.repo).keys
+    → Reports from (take place names) store middle carried between a b n m (Ok tt) → Reports other (name ∷ []) middle now between after b c m k result
+    → Reports from (take (place + 1) names) store now carried after a c n k result
+reports_more from other names place name d given source store middle now carried between after a b c n m k result is lt named settled accepts fits next same
+    p q =
     let some = take place names in
     let more : some ++ name ∷ [] ≡ take (place + 1) names =
     ap (λ (x : List ℕ). some ++ x ∷ []) named ∙ sym (take_more names place d lt) in
-    reports_as {T = Unit {0}} from from (take (place + 1) names) (some ++ name ∷ []) store now a c n k result refl more
-    (reports_then {T = Unit {0}} {U = Unit {0}} from some (name ∷ []) store middle now a b c n m k tt result settled accepts fits p
-    (subst (λ (f : Origin). Reports f (name ∷ []) middle now b c m k result) is q))
+    reports_as from from (take (place + 1) names) (some ++ name ∷ []) store now carried after a c n k result refl more
+    (reports_then from some (name ∷ []) store middle now carried between after a b c n m k result settled accepts fits
+    (extends_next given source (repo_view store.repo).keys (accepted_in store) (accepted_in middle) some next) same p
+    (subst (λ (f : Origin). Reports f (name ∷ []) middle now between after b c m k result) is q))
 
 -- those that were told before a fault are a front of all
-pub reports_front : {T U : Type 0} (from : Origin) (names : List (List ℕ)) (place : ℕ) (store now : Store) (a b : Option Told) (n m : ℕ)
-    (fault : CarryFault) → Reports {T = T} from (take place names) store now a b n m (Err fault) → Reports {T = U} from names store now a b n m (Err fault)
-reports_front {T} {U} from names place store now a b n m fault p =
+pub reports_front : (from : Origin) (names : List (List ℕ)) (place : ℕ) (store now : Store) (carried after : Carried) (a b : Option Told) (n m : ℕ)
+    (fault : CarryFault) → Reports from (take place names) store now carried after a b n m (Err fault)
+    → Reports from names store now carried after a b n m (Err fault)
+reports_front from names place store now carried after a b n m fault p =
     let some = take place names in
-    let last = λ (l : List (List ℕ)) (_ : U) (h : History) (g : History). CarriesNames from l store now h g × TellsNames (accepted_in store) l h g in
-    subst (λ (l : List (List ℕ)). Works {T = U} (KeepsReported from l store) (last l) a b n m (Err fault)) (take-append-drop place names)
-    (works_front (KeepsReported from some store) (λ (_ : T) h g. CarriesNames from some store now h g × TellsNames (accepted_in store) some h g)
-    (KeepsReported from (some ++ drop place names) store) (last (some ++ drop place names)) a b n m fault
-    (λ h g e. reported_wider from some (drop place names) store h g e) p)
+    let rest = drop place names in
+    reports_as from from names (some ++ rest) store now carried after a b n m (Err fault) refl (take-append-drop place names) (record {
+      added = p.added;
+      begins = all_wider a from store some rest p.added p.begins;
+      works = works_front (KeepsReported from some store p.added) (EndsNames {T = Unit {0}} from some p.added store now)
+          (KeepsReported from (some ++ rest) store p.added) (EndsNames {T = Unit {0}} from (some ++ rest) p.added store now) a b n m fault
+          (λ h g e. reported_wider from some rest store p.added p.added h g (front_all p.added) e) p.works;
+      counted = tt;
+    })
 
 -- all were told
-pub reports_all : {T U : Type 0} (from : Origin) (names : List (List ℕ)) (place : ℕ) (store now : Store) (a b : Option Told) (n m : ℕ) (x : T) (y : U)
-    → length names ≤ place → Reports {T = T} from (take place names) store now a b n m (Ok x) → Reports {T = U} from names store now a b n m (Ok y)
-reports_all {T} {U} from names place store now a b n m x y le p =
-    works_as (KeepsReported from names store) (λ (_ : T) h g. CarriesNames from names store now h g × TellsNames (accepted_in store) names h g)
-    (KeepsReported from names store) (λ (_ : U) h g. CarriesNames from names store now h g × TellsNames (accepted_in store) names h g) a b n m x y
-    (λ h g e. e) (λ h g e. e)
-    (subst (λ (l : List (List ℕ)). Reports {T = T} from l store now a b n m (Ok x)) (take_all place names le) p)
+pub reports_all : (from : Origin) (names : List (List ℕ)) (place : ℕ) (store now : Store) (carried after : Carried) (a b : Option Told) (n m : ℕ)
+    → length names ≤ place → Reports from (take place names) store now carried after a b n m (Ok tt)
+    → Reports from names store now carried after a b n m (Ok tt)
+reports_all from names place store now carried after a b n m le p =
+    reports_as from from names (take place names) store now carried after a b n m (Ok tt) refl (take_all place names le) p

@@ -14,7 +14,7 @@ use Rattle.ferry_disk.specs.declared.shelf.StoreFault.{StoreFault}
 use Rattle.ferry_disk.specs.declared.shelf.StoreFault.TheVariants as Shelf
 use Rattle.ferry_repo.specs.Opening.{FitsRepo, cached_in, repo_view}
 use Rattle.ferry_stops.specs.Blobs.{BlobOf}
-use Rattle.ferry_store.proofs.SoundLemmas.{counter_kept}
+use Rattle.ferry_store.proofs.SoundLemmas.{counter_kept, since_beside}
 use Rattle.ferry_store.proofs.StepLemmas.{acts_done, acts_step, step_done, step_moments}
 use Rattle.ferry_store.specs.Content.{IsThere}
 use Rattle.ferry_store.specs.Fault.{store_refusal}
@@ -67,6 +67,7 @@ told_stands counts store written line done h u =
       counter_fits = counter_kept store.counter h (with_act step done h) (told_plain line done h) u.counter_fits;
       config = plain_next h step done ConfigFile ∙ u.config;
       readme = plain_next h step done Readme ∙ u.readme;
+      numbers = since_beside store.counter.free step done h tt tt u.counter_fits.free u.numbers;
       taken = λ e. told_taken store.counter.free line done h (u.taken e);
     }
 
@@ -96,7 +97,7 @@ told_gathers most store line h g is counts fits =
       fits_now = told_fits counts store line h fits;
       moved = moved_here (repo_view store.repo).keys fits.written;
       puts = adds_here (repo_view store.repo).keys most (entries_of fits.written);
-      committed = goes_same (repo_view store.repo).keys most fits.written;
+      committed = goes_same (repo_view store.repo).keys most [] fits.written;
       brings = λ scope apart all within. (
         subst (λ (f : Files). HoldsWithin scope f (repo_view store.repo)) (sym (files_told line h)) within,
         tt,

@@ -1,5 +1,5 @@
 -- An archive on its way: an item that is taken, its content as it is cut, and its spelling in the stream.
-use Rattle.std.specs.Prelude.{◌≡◌, ◌≤◌, ◌<◌, ℕ, List, [], ◌∷◌, length, Option, Some, None, IfSome}
+use Rattle.std.specs.Prelude.{◌≡◌, ◌≤◌, ◌<◌, ◌++◌, ◌⊎◌, ℕ, List, [], ◌∷◌, length, Option, Some, None, IfSome}
 use Rattle.ferry_disk.specs.Device.{Told, told_files}
 use Rattle.ferry_disk.specs.Files.{Files}
 use Rattle.ferry_item.specs.Item.{ItemText}
@@ -17,7 +17,7 @@ use Rattle.ferry_repo.specs.Whole.{ContentsCome, HoldsJoined}
 use Rattle.std.specs.List.{concat}
 use Rattle.ferry_carry.specs.Copied.{stream_block}
 use Rattle.ferry_carry.specs.Gather.{chunks_of}
-use Rattle.ferry_carry.specs.Piece.{WritesOn}
+use Rattle.ferry_carry.specs.Piece.{BeginsOn, WritesOn}
 use Rattle.ferry_carry.specs.Puts.{IsCheckpoint}
 use Rattle.ferry_carry.specs.declared.copy.Copy.{Copy}
 
@@ -65,3 +65,26 @@ pub record WritesContent (told : Option Told) (source : RepoState) (keys : Keys)
   pub content : List ℕ
   pub comes : IfSome told (λ t. HoldsContent (told_files t) source.log source.keys ref content)
   pub writes : WritesOn keys cutter chunks content more cutter_now chunks_now
+
+-- ---- as far as it came
+
+-- Of the content of a chunk of the source, behind what is in hand, these are first pieces, all of a whole block; or there are none.
+abbrev pub BeginsChunk : Option Told → RepoState → ChunkRef → Cutting → List (List ℕ) → Type 0
+BeginsChunk told source ref cutter more = (more ≡ [])
+    ⊎ ((content : List ℕ) × (IfSome told (λ t. HoldsContent (told_files t) source.log source.keys ref content) × BeginsOn cutter content more))
+
+-- Of the contents of the first of these chunks, one behind another, behind what is in hand, these are first pieces, all of a whole block.
+pub record BeginsContents (told : Option Told) (source : RepoState) (refs : List ChunkRef) (cutter : Cutting) (more : List (List ℕ)) : Type 0 where
+  pub first : List ChunkRef
+  pub rest : List ChunkRef
+  pub split : refs ≡ first ++ rest
+  pub contents : List (List ℕ)
+  pub come : IfSome told (λ t. ContentsCome (told_files t) source.log source.keys first contents None)
+  pub full : BeginsOn cutter (concat contents) more
+
+-- Of the content of an item with these chunks, these are first pieces, or all.
+abbrev pub BeginsContent : Option Told → RepoState → ℕ → Option (List ChunkRef) → List (List ℕ) → Type 0
+BeginsContent told source block None more = more ≡ []
+BeginsContent told source block (Some refs) more = BeginsContents told source refs (record { block = block; piece = [] }) more
+    ⊎ ((content : List ℕ) × ((more ≡ cut block content)
+    × IfSome told (λ t. HoldsJoined (told_files t) source.log source.keys (Some refs) (Some content))))

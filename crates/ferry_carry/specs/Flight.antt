@@ -1,7 +1,8 @@
 -- An archive on its way, by what was begun of it.
-use Rattle.std.specs.Prelude.{◌≡◌, ◌≤◌, ℕ, Bool, true, false, List, [], ◌∷◌, ◌++◌, Option, Some, None, Result, IfSome, IsSome}
+use Rattle.std.specs.Prelude.{◌≡◌, ◌≤◌, ℕ, Bool, true, false, List, [], ◌∷◌, ◌++◌, Option, Some, None, Result, Ok, Err, IfErr, IfOk, IfSome, IsSome}
 use Rattle.ferry_compare.specs.Compare.{FitsTold, comparison_view}
 use Rattle.ferry_disk.specs.Device.{Told, told_files}
+use Rattle.ferry_disk.specs.Moments.{Between}
 use Rattle.ferry_mac.specs.declared.keys.Keys.{Keys}
 use Rattle.ferry_manifest.specs.Manifest.Text.{ManifestText}
 use Rattle.ferry_manifest.specs.declared.manifest.ArchiveRef.{ArchiveRef}
@@ -13,10 +14,13 @@ use Rattle.ferry_store.specs.Commit.{accepted_in}
 use Rattle.ferry_store.specs.declared.store.Store.{Store}
 use Rattle.ferry_carry.specs.Carrying.{IsReadyToName, Origin, SaysIn, origin}
 use Rattle.ferry_carry.specs.Copying.{IsReady}
+use Rattle.ferry_carry.specs.Counting.{CountsOf, nothing_carried}
+use Rattle.ferry_carry.specs.Fault.{IsOfWork}
+use Rattle.ferry_carry.specs.Gather.{KeepsStanding}
 use Rattle.ferry_carry.specs.Grow.{Grows, GrowsBy, IsNamedBy, KeepsGrowing, KeepsGrowingBy, KeepsNames}
-use Rattle.ferry_carry.specs.Listing.{ListsOne}
+use Rattle.ferry_carry.specs.Listing.{BeginsName, BeginsOne, ListsOne}
 use Rattle.ferry_carry.specs.Progress.{IsCopiedSoFar}
-use Rattle.ferry_carry.specs.Puts.{Addition, IsCheckpoint, pieces}
+use Rattle.ferry_carry.specs.Puts.{Addition, IsCheckpoint}
 use Rattle.ferry_carry.specs.Work.{Works}
 use Rattle.ferry_carry.specs.declared.fault.CarryFault.{CarryFault}
 use Rattle.ferry_carry.specs.declared.flight.Flight.{Flight}
@@ -24,6 +28,7 @@ use Rattle.ferry_carry.specs.declared.flight.Turn.{Turn}
 use Rattle.ferry_carry.specs.declared.flight.Turn.TheVariants.{More, Named, Present}
 use Rattle.ferry_carry.specs.declared.flight.Work.{Work}
 use Rattle.ferry_carry.specs.declared.flight.Work.TheVariants.{Waiting, Copying, Comparing}
+use Rattle.ferry_carry.specs.declared.options.Carried.{Carried}
 use Rattle.ferry_carry.specs.declared.options.Options.{Options}
 
 -- The block size and the checkpoint are in their ranges.
@@ -37,8 +42,8 @@ pub record FlightStands (source : RepoState) (flight : Flight) : Type 0 where
   pub options : AreRight flight.options
   pub named : archive_named flight.named.name source.manifest.archives ≡ Some flight.named
 
--- What is under way fits the source and the store, with these pieces added of it.
-abbrev pub WorkFits : Option Told → RepoState → Option Told → Store → ArchiveRef → Options → List (List ℕ) → Work → Type 0
+-- What is under way fits the source and the store, with these added of it.
+abbrev pub WorkFits : Option Told → RepoState → Option Told → Store → ArchiveRef → Options → List Addition → Work → Type 0
 WorkFits told source heard store named options added Waiting = added ≡ []
 WorkFits told source heard store named options added (Copying copy) = IsReady copy × (archive_named named.name (accepted_in store).archives ≡ None)
     × IfSome told (λ t. FitsWalk (told_files t) source.log source.keys (walk_view copy.walk))
@@ -49,8 +54,9 @@ WorkFits told source heard store named options added (Comparing comparison) =
 
 pub record FlightFits (told : Option Told) (source : RepoState) (heard : Option Told) (store : Store) (flight : Flight) : Type 0 where
   pub stands : FlightStands source flight
-  pub added : List (List ℕ)
+  pub added : List Addition
   pub work : WorkFits told source heard store flight.named flight.options added flight.work
+  pub uncounted : flight.put ≡ nothing_carried
 
 -- the source of a flight
 abbrev pub flown_from : Option Told → RepoState → Flight → Origin
@@ -65,27 +71,62 @@ carried_by Present name = name ∷ []
 -- What a turn of a flight did of the archive of a name, and what it added.
 abbrev pub Flies : Origin → List ℕ → List Addition → Store → Store → Option Told → Option Told → ℕ → ℕ → Result Turn CarryFault → Type 0
 Flies from name more store store_now before now count after result =
-    Works (KeepsGrowing from (name ∷ []) store) (λ turn. Grows from (carried_by turn name) more store store_now) before now count after result
+    Works (KeepsGrowing from (name ∷ []) store more) (λ turn. Grows from (carried_by turn name) more store store_now) before now count after result
 
 -- What was done of the archives of names, one after another, and what was added for them.
 abbrev pub Carries : {T : Type 0} → Origin → List (List ℕ) → List Addition → Store → Store → Option Told → Option Told → ℕ → ℕ
     → Result T CarryFault → Type 0
 Carries from chosen added store store_now before now count after result =
-    Works (KeepsGrowing from chosen store) (λ _. Grows from chosen added store store_now) before now count after result
+    Works (KeepsGrowing from chosen store added) (λ _. Grows from chosen added store store_now) before now count after result
 
 -- What was added for an archive once it is done: all of it where it was copied and the target told its files, and nothing where it was there.
 abbrev pub ListsDone : Option Told → Origin → Keys → List ℕ → List Addition → Bool → Type 0
 ListsDone before from keys name added true = IfSome before (λ _. ListsOne from keys name added)
 ListsDone before from keys name added false = added ≡ []
 
--- What a turn added behind what was added before: pieces of the archive under way, the last of them and its record, or nothing.
-abbrev pub TurnLists : Option Told → RepoState → Option Told → Store → Flight → Option Told → Origin → Keys → List (List ℕ) → List Addition → Turn → Type 0
+-- What was added for an archive, as far as it came, where the target tells its files.
+abbrev pub BeginsDone : Option Told → Origin → Keys → ManifestText → List ℕ → List Addition → Type 0
+BeginsDone before from keys accepted name begun = IfSome before (λ _. BeginsName from keys accepted [] name begun)
+
+-- What a turn added behind what was added before: pieces of the archive under way, the last of them and its record, or nothing. At the end the flight has
+-- counted them.
+abbrev pub TurnLists : Option Told → RepoState → Option Told → Store → Flight → Option Told → Origin → Keys → List Addition → List Addition → Turn → Type 0
 TurnLists told source heard store flight before from keys added more More =
-    (fits : FlightFits told source heard store flight) × (pieces fits.added ≡ pieces added ++ more)
+    (fits : FlightFits told source heard store flight) × (fits.added ≡ added ++ more)
 TurnLists told source heard store flight before from keys added more Named =
-    ListsDone before from keys flight.named.name (pieces added ++ more) true
+    ListsDone before from keys flight.named.name (added ++ more) true × CountsOf (added ++ more) flight.put
 TurnLists told source heard store flight before from keys added more Present =
-    ListsDone before from keys flight.named.name (pieces added ++ more) false
+    ListsDone before from keys flight.named.name (added ++ more) false × CountsOf (added ++ more) flight.put
+
+-- Where a turn takes a further item, or is refused but for a device that failed and want of memory, nothing is named.
+abbrev pub TurnStands : ℕ → Store → List Addition → Option Told → Option Told → Result Turn CarryFault → Type 0
+TurnStands most store more before now (Ok More) = Between before now (KeepsStanding most store more)
+TurnStands most store more before now (Ok turn) = Unit {0}
+TurnStands most store more before now (Err fault) = IsOfWork fault → Between before now (KeepsStanding most store more)
+
+-- What a turn did of the archive of a name and added behind what was added before; the source and the flight are those behind it.
+pub record TakesTurn (told : Option Told) (source : RepoState) (from : Origin) (name : List ℕ) (added more : List Addition) (store store_now : Store)
+    (flight : Flight) (before now : Option Told) (count after : ℕ) (result : Result Turn CarryFault) : Type 0 where
+  pub flies : Flies from name more store store_now before now count after result
+  pub begins : BeginsDone before from (repo_view store.repo).keys (accepted_in store) name (added ++ more)
+  pub stands : TurnStands from.most store more before now result
+  pub lists : IfOk result (TurnLists told source now store_now flight before from (repo_view store.repo).keys added more)
+
+-- What a flight did up to its end: it answers whether the archive was copied.
+pub record TakesAll (from : Origin) (name : List ℕ) (added more : List Addition) (store store_now : Store) (flight : Flight) (before now : Option Told)
+    (count after : ℕ) (result : Result Bool CarryFault) : Type 0 where
+  pub carries : Carries from (name ∷ []) more store store_now before now count after result
+  pub begins : BeginsDone before from (repo_view store.repo).keys (accepted_in store) name (added ++ more)
+  pub stands : IfErr result (λ fault. IsOfWork fault → Between before now (KeepsGrowing from [] store more))
+  pub lists : IfOk result (λ copied. ListsDone before from (repo_view store.repo).keys name (added ++ more) copied × CountsOf (added ++ more) flight.put)
+
+-- What the end of an archive did, all of whose items were copied, and what it added behind what was added before.
+pub record EndsCopy (from : Origin) (name : List ℕ) (added more : List Addition) (store store_now : Store) (before now : Option Told) (count after : ℕ)
+    (result : Result Carried CarryFault) : Type 0 where
+  pub carries : Carries from (name ∷ []) more store store_now before now count after result
+  pub begins : IfSome before (λ _. BeginsOne from (repo_view store.repo).keys name (added ++ more))
+  pub stands : IfErr result (λ fault. IsOfWork fault → Between before now (KeepsStanding from.most store more))
+  pub lists : IfOk result (λ put. ListsDone before from (repo_view store.repo).keys name (added ++ more) true × CountsOf (added ++ more) put)
 
 -- The archive of a name is whole in the source and in the target, and says the same in both, where they tell their files.
 abbrev pub IsSame : Origin → Option Told → RepoState → List ℕ → Type 0
@@ -102,7 +143,7 @@ pub record AcceptsOne (accepted : ManifestText) (store : Store) (entry : Archive
 abbrev pub NamesArchive : ManifestText → ArchiveRef → Store → Store → Option Told → Option Told → ℕ → ℕ → Result (Unit {0}) CarryFault → Type 0
 NamesArchive accepted entry store store_now before now count after result = (from : Origin)
     → IfSome before (λ t. IsReadyToName from (told_files t) (repo_view store.repo) entry)
-    → Works (KeepsGrowingBy accepted from (entry.name ∷ []) store) (λ _. GrowsBy accepted from (entry.name ∷ []) [] store store_now)
+    → Works (KeepsGrowingBy accepted from (entry.name ∷ []) store []) (λ _. GrowsBy accepted from (entry.name ∷ []) [] store store_now)
     before now count after result
 
 -- Where a store accepted an archive of this name, it has committed it.

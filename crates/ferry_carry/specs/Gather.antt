@@ -68,23 +68,23 @@ pub record Moved (keys : Keys) (written written_now : Written) : Type 0 where
   pub config : written_now.config ≡ written.config
 
 -- Committed are entries by which all is live that was, and what is new opens, with the settings as they were: the manifest too is the one that was.
--- They are those that were, or go on from what was written.
-pub record StandsFrom (keys : Keys) (most : ℕ) (written : Written) (image : Files) : Type 0 where
+-- They are those that were, or go on from what was written, with the first of these added.
+pub record StandsFrom (keys : Keys) (most : ℕ) (within : List Addition) (written : Written) (image : Files) : Type 0 where
   pub entries : List LogEntry
   pub shown : Shows image (Some entries)
   pub keeps : Keeps (committed_of written) entries
   pub opening : BringsOpening keys (entries_of written) entries
-  pub puts : GoesOn keys most written entries
+  pub puts : GoesOn keys most within written entries
   pub config : image.config ≡ written.config
 
 -- At each moment each stop shows so, and no counter block serves two blobs.
-abbrev pub EachStands : ℕ → Store → History → History → Type 0
-EachStands most store before now = (counts : Bool) (fits : StoreFits counts store before)
-    → Moments (IsSound (StandsFrom (repo_view store.repo).keys most fits.written) counts) before now
+abbrev pub EachStands : ℕ → Store → List Addition → History → History → Type 0
+EachStands most store within before now = (counts : Bool) (fits : StoreFits counts store before)
+    → Moments (IsSound (StandsFrom (repo_view store.repo).keys most within fits.written) counts) before now
 
 -- The same where no line was told.
-abbrev pub KeepsStanding : ℕ → Store → History → History → Type 0
-KeepsStanding most store before now = TellsNothing before now × EachStands most store before now
+abbrev pub KeepsStanding : ℕ → Store → List Addition → History → History → Type 0
+KeepsStanding most store within before now = TellsNothing before now × EachStands most store within before now
 
 -- ---- what was added
 
@@ -94,7 +94,7 @@ pub record Gathered (most : ℕ) (counts : Bool) (store : Store) (added : List A
   pub fits_now : StoreFits counts store_now now
   pub moved : Moved (repo_view store.repo).keys fits.written fits_now.written
   pub puts : AddsAll (repo_view store.repo).keys most (entries_of fits.written) added (entries_of fits_now.written)
-  pub committed : GoesOn (repo_view store.repo).keys most fits.written (committed_of fits_now.written)
+  pub committed : GoesOn (repo_view store.repo).keys most added fits.written (committed_of fits_now.written)
   pub brings : Brings (repo_view store.repo) (contents_in added) (repo_view store_now.repo) before now
 
 abbrev pub Gathers : ℕ → Store → List Addition → Store → History → History → Type 0

@@ -43,14 +43,15 @@ IsNamedBy accepted done manifest = (name : List ℕ) (entry : ArchiveRef) → ar
 
 -- Committed are entries that keep each chunk and bring only such as open, and a manifest that keeps each archive, with the settings as they were. Of
 -- the chosen names those of a front were carried, those that were not accepted are cut so, and beside what was accepted no other is named. The entries are
--- those that were, or go on from what was written.
-pub record StandsOn (from : Origin) (chosen : List (List ℕ)) (accepted : ManifestText) (repo : RepoState) (written : Written) (image : Files) : Type 0 where
+-- those that were, or go on from what was written, with the first of these added.
+pub record StandsOn (from : Origin) (chosen : List (List ℕ)) (within : List Addition) (accepted : ManifestText) (repo : RepoState) (written : Written)
+    (image : Files) : Type 0 where
   pub entries : List LogEntry
   pub manifest : ManifestText
   pub shown : Shows image (Some entries)
   pub chunks : KeepsChunks (committed_of written) entries
   pub opening : BringsOpening repo.keys (entries_of written) entries
-  pub puts : GoesOn repo.keys from.most written entries
+  pub puts : GoesOn repo.keys from.most within written entries
   pub holds : HoldsManifest (with_manifest repo manifest) entries
   pub names : KeepsNames repo.manifest manifest
   pub config : image.config ≡ written.config
@@ -62,15 +63,15 @@ pub record StandsOn (from : Origin) (chosen : List (List ℕ)) (accepted : Manif
   pub only : IsNamedBy accepted done manifest
 
 -- At each moment each stop shows so, and no counter block serves two blobs.
-abbrev pub EachGrowsBy : ManifestText → Origin → List (List ℕ) → Store → History → History → Type 0
-EachGrowsBy accepted from chosen store before now = (counts : Bool) (fits : StoreFits counts store before)
-    → Moments (IsSound (StandsOn from chosen accepted (repo_view store.repo) fits.written) counts) before now
+abbrev pub EachGrowsBy : ManifestText → Origin → List (List ℕ) → Store → List Addition → History → History → Type 0
+EachGrowsBy accepted from chosen store within before now = (counts : Bool) (fits : StoreFits counts store before)
+    → Moments (IsSound (StandsOn from chosen within accepted (repo_view store.repo) fits.written) counts) before now
 
 -- The same where no line was told.
-abbrev pub KeepsGrowingBy : ManifestText → Origin → List (List ℕ) → Store → History → History → Type 0
-KeepsGrowingBy accepted from chosen store before now = TellsNothing before now × EachGrowsBy accepted from chosen store before now
+abbrev pub KeepsGrowingBy : ManifestText → Origin → List (List ℕ) → Store → List Addition → History → History → Type 0
+KeepsGrowingBy accepted from chosen store within before now = TellsNothing before now × EachGrowsBy accepted from chosen store within before now
 
-abbrev pub KeepsGrowing : Origin → List (List ℕ) → Store → History → History → Type 0
+abbrev pub KeepsGrowing : Origin → List (List ℕ) → Store → List Addition → History → History → Type 0
 KeepsGrowing from chosen store = KeepsGrowingBy (accepted_in store) from chosen store
 
 -- A store fits in which each chunk and each archive is kept, with these added. All chosen names were carried, and beside what was accepted no other is.
@@ -80,7 +81,7 @@ pub record Grown (accepted : ManifestText) (from : Origin) (chosen : List (List 
   pub chunks : KeepsChunks (committed_of fits.written) (committed_of fits_now.written)
   pub opening : BringsOpening (repo_view store.repo).keys (entries_of fits.written) (entries_of fits_now.written)
   pub puts : AddsAll (repo_view store.repo).keys from.most (entries_of fits.written) added (entries_of fits_now.written)
-  pub committed : GoesOn (repo_view store.repo).keys from.most fits.written (committed_of fits_now.written)
+  pub committed : GoesOn (repo_view store.repo).keys from.most added fits.written (committed_of fits_now.written)
   pub config : fits_now.written.config ≡ fits.written.config
   pub most : KeepsMost store store_now
   pub carried : AllByRecursion (IsCarried from (repo_view store_now.repo).keys (committed_of fits_now.written)

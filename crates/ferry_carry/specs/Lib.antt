@@ -16,5 +16,6 @@ pub mod Carrying
 pub mod Progress
 pub mod Telling
 pub mod Listing
+pub mod Counting
 pub mod Accepting
 pub mod Refusals

@@ -1,18 +1,27 @@
 -- What is added of archives, in the order in which it is: the pieces of each item's content, behind them those of the stream that the item completes, at the
--- end what is left of the stream, and the record.
-use Rattle.std.specs.Prelude.{◌≡◌, ◌⊎◌, ◌<◌, ◌++◌, ℕ, List, [], ◌∷◌, length, IfSome, IsSome}
+-- end what is left of the stream, and the record; and how far that came.
+use Rattle.std.specs.Prelude.{◌≡◌, ◌⊎◌, ◌<◌, ◌++◌, ℕ, Bool, List, [], ◌∷◌, length, Some, None, IfSome, IsSome}
+use Rattle.std.specs.List.{concat}
 use Rattle.ferry_disk.specs.Files.{Files}
+use Rattle.ferry_item.specs.Item.{ItemText}
 use Rattle.ferry_item.specs.Writing.{item_text}
+use Rattle.ferry_item.specs.declared.item.ChunkRef.{ChunkRef}
 use Rattle.ferry_mac.specs.declared.keys.Keys.{Keys}
 use Rattle.ferry_manifest.specs.Manifest.Text.{ManifestText}
+use Rattle.ferry_manifest.specs.Record.Text.{ArchiveText}
+use Rattle.ferry_manifest.specs.declared.manifest.ArchiveRef.{ArchiveRef}
 use Rattle.ferry_rechunk.specs.Cut.{cut}
 use Rattle.ferry_rechunk.specs.Cutting.{IsFed}
-use Rattle.ferry_repo.specs.Archives.{archive_named}
-use Rattle.ferry_repo.specs.Whole.{WholeArchive, WholeItem}
+use Rattle.ferry_repo.specs.Archives.{HoldsRecord, archive_named}
+use Rattle.ferry_repo.specs.Opening.{RepoState}
+use Rattle.ferry_repo.specs.Walk.{LeadsOn, WalkState, begin_walk}
+use Rattle.ferry_repo.specs.Whole.{ContentsCome, HoldsItem, WholeArchive, WholeItem, WholesCome}
 use Rattle.ferry_carry.specs.Carrying.{Origin, SaysIn}
 use Rattle.ferry_carry.specs.Copied.{IsCopyOf, copied_item, pieces_of, stream_block}
+use Rattle.ferry_carry.specs.Copying.{TakesItem}
 use Rattle.ferry_carry.specs.Gather.{IsAmong}
-use Rattle.ferry_carry.specs.Puts.{Addition, Record, pieces}
+use Rattle.ferry_carry.specs.Piece.{AreFullOf}
+use Rattle.ferry_carry.specs.Puts.{Addition, AreOf, ArePieces, Content, Record, Stream, addition, contents_in}
 
 -- ---- names
 
@@ -23,16 +32,18 @@ IsThere accepted before name = IsSome (archive_named name accepted.archives) ⊎
 -- ---- items
 
 -- A text is written behind what is in hand of a stream: these pieces become whole, and that is in hand then.
-pub record FillsOn (piece text : List ℕ) (full : List (List ℕ)) (piece_now : List ℕ) : Type 0 where
-  pub fed : IsFed stream_block (piece ++ text) full piece_now
+pub record FillsOn (piece text : List ℕ) (full : List Addition) (piece_now : List ℕ) : Type 0 where
+  pub fed : IsFed stream_block (piece ++ text) (contents_in full) piece_now
+  pub of_stream : AreOf Stream full
   pub rest : length piece_now < stream_block
 
--- The pieces of these items, where this is in hand of the stream, and what is in hand behind them.
-abbrev pub ListsItems : Keys → ℕ → List ℕ → List WholeItem → List (List ℕ) → List ℕ → Type 0
+-- What is added of these items, where this is in hand of the stream, and what is in hand behind them.
+abbrev pub ListsItems : Keys → ℕ → List ℕ → List WholeItem → List Addition → List ℕ → Type 0
 ListsItems keys block piece [] listed piece_now = (listed ≡ []) × (piece_now ≡ piece)
-ListsItems keys block piece (whole ∷ wholes) listed piece_now = (full : List (List ℕ)) × ((middle : List ℕ) × ((rest : List (List ℕ))
+ListsItems keys block piece (whole ∷ wholes) listed piece_now = (own : List Addition) × ((full : List Addition) × ((middle : List ℕ)
+    × ((rest : List Addition) × (ArePieces Content (pieces_of block whole.content) own
     × (FillsOn piece (item_text (copied_item keys block whole)) full middle
-    × ((listed ≡ pieces_of block whole.content ++ (full ++ rest)) × ListsItems keys block middle wholes rest piece_now))))
+    × ((listed ≡ own ++ (full ++ rest)) × ListsItems keys block middle wholes rest piece_now))))))
 
 -- ---- archives
 
@@ -40,12 +51,15 @@ ListsItems keys block piece (whole ∷ wholes) listed piece_now = (full : List (
 pub record ListsArchive (there : Files) (from : Origin) (keys : Keys) (name : List ℕ) (added : List Addition) : Type 0 where
   pub whole : WholeArchive
   pub source : SaysIn there from.repo name whole
-  pub listed : List (List ℕ)
+  pub listed : List Addition
   pub piece : List ℕ
   pub lists : ListsItems keys from.block [] whole.items listed piece
+  pub last : List Addition
+  pub last_is : ArePieces Stream (cut stream_block piece) last
   pub text : List ℕ
   pub copy : IsCopyOf keys from.block whole.items whole.fields text
-  pub added_is : added ≡ pieces (listed ++ cut stream_block piece) ++ Record text ∷ []
+  pub put : Bool
+  pub added_is : added ≡ listed ++ (last ++ addition Record text put ∷ [])
 
 -- The same of a source that tells its files.
 abbrev pub ListsOne : Origin → Keys → List ℕ → List Addition → Type 0
@@ -61,3 +75,87 @@ abbrev pub ListsNames : Origin → Keys → ManifestText → List (List ℕ) →
 ListsNames from keys accepted before [] added = added ≡ []
 ListsNames from keys accepted before (name ∷ names) added = (one : List Addition) × ((rest : List Addition) × ((added ≡ one ++ rest)
     × (ListsName from keys accepted before name one × ListsNames from keys accepted (before ++ name ∷ []) names rest)))
+
+-- ---- as far as it came
+
+-- An item is next in the source's stream.
+pub record IsNextItem (there : Files) (source : RepoState) (walk : WalkState) (item : ItemText) : Type 0 where
+  pub after : WalkState
+  pub taken : TakesItem there source walk item after
+
+-- Of the next item these are first pieces of the content, all of a whole block, as far as the contents of its chunks come.
+pub record BeginsItem (there : Files) (source : RepoState) (block : ℕ) (walk : WalkState) (begun : List Addition) : Type 0 where
+  pub item : ItemText
+  pub next : IsNextItem there source walk item
+  pub refs : List ChunkRef
+  pub rest : List ChunkRef
+  pub chunks : item.chunks ≡ Some (refs ++ rest)
+  pub contents : List (List ℕ)
+  pub come : ContentsCome there source.log source.keys refs contents None
+  pub full : AreFullOf block (concat contents) (contents_in begun)
+  pub of_content : AreOf Content begun
+
+-- Of the next item these are all pieces of the content, and first pieces of the stream with it, all of a whole block.
+pub record BeginsSpelling (there : Files) (source : RepoState) (keys : Keys) (block : ℕ) (walk : WalkState) (piece : List ℕ) (begun : List Addition)
+    : Type 0 where
+  pub item : ItemText
+  pub next : IsNextItem there source walk item
+  pub whole : WholeItem
+  pub holds : HoldsItem there source.log source.keys item whole
+  pub own : List Addition
+  pub own_is : ArePieces Content (pieces_of block whole.content) own
+  pub full : List Addition
+  pub full_is : AreFullOf stream_block (piece ++ item_text (copied_item keys block whole)) (contents_in full)
+  pub of_stream : AreOf Stream full
+  pub begun_is : begun ≡ own ++ full
+
+-- What is added behind items that were taken, of a further one that isn't written: nothing, or that.
+abbrev pub BeginsNext : Files → RepoState → Keys → ℕ → WalkState → List ℕ → List Addition → Type 0
+BeginsNext there source keys block walk piece next =
+    (next ≡ []) ⊎ (BeginsItem there source block walk next ⊎ BeginsSpelling there source keys block walk piece next)
+
+-- What is added of the archive of a name, as far as items of the source came: of the first of them all, and a part of the next.
+pub record BeginsArchive (there : Files) (from : Origin) (keys : Keys) (name : List ℕ) (begun : List Addition) : Type 0 where
+  pub named : ArchiveRef
+  pub named_is : archive_named name from.repo.manifest.archives ≡ Some named
+  pub archive : ArchiveText
+  pub record_is : HoldsRecord there from.repo.log from.repo.keys named.id archive
+  pub items : List ItemText
+  pub walk : WalkState
+  pub leads : LeadsOn there from.repo.log from.repo.keys (begin_walk named.id archive.items) items walk
+  pub wholes : List WholeItem
+  pub come : WholesCome there from.repo.log from.repo.keys items None wholes None
+  pub listed : List Addition
+  pub piece : List ℕ
+  pub lists : ListsItems keys from.block [] wholes listed piece
+  pub next : List Addition
+  pub next_is : BeginsNext there from.repo keys from.block walk piece next
+  pub begun_is : begun ≡ listed ++ next
+
+-- What is added of the archive of a name that is whole, but for its record.
+pub record EndsItemsOf (there : Files) (from : Origin) (keys : Keys) (name : List ℕ) (begun : List Addition) : Type 0 where
+  pub whole : WholeArchive
+  pub source : SaysIn there from.repo name whole
+  pub listed : List Addition
+  pub piece : List ℕ
+  pub lists : ListsItems keys from.block [] whole.items listed piece
+  pub last : List Addition
+  pub last_is : ArePieces Stream (cut stream_block piece) last
+  pub begun_is : begun ≡ listed ++ last
+
+-- What is added of an archive, as far as it came: nothing, a part, or all. The source may not tell its files.
+abbrev pub BeginsOne : Origin → Keys → List ℕ → List Addition → Type 0
+BeginsOne from keys name begun = (begun ≡ []) ⊎ IfSome from.files (λ there.
+    BeginsArchive there from keys name begun ⊎ (EndsItemsOf there from keys name begun ⊎ ListsArchive there from keys name begun))
+
+-- What is added for a name behind others, as far as it came: nothing where its archive is there.
+abbrev pub BeginsName : Origin → Keys → ManifestText → List (List ℕ) → List ℕ → List Addition → Type 0
+BeginsName from keys accepted before name begun =
+    (IsThere accepted before name × (begun ≡ [])) ⊎ ((IsThere accepted before name → ⊥) × BeginsOne from keys name begun)
+
+-- What is added for these names behind others, as far as it came: all that is added for the first of them, and a part of what is for the next.
+abbrev pub BeginsNames : Origin → Keys → ManifestText → List (List ℕ) → List (List ℕ) → List Addition → Type 0
+BeginsNames from keys accepted before [] begun = begun ≡ []
+BeginsNames from keys accepted before (name ∷ names) begun = BeginsName from keys accepted before name begun
+    ⊎ ((one : List Addition) × ((rest : List Addition) × ((begun ≡ one ++ rest)
+    × (ListsName from keys accepted before name one × BeginsNames from keys accepted (before ++ name ∷ []) names rest))))

@@ -1,11 +1,12 @@
 -- The record and the entry that an archive has in a target.
-use Rattle.std.specs.Prelude.{◌≡◌, ℕ, true, List, codes, map, pos, Some, Ok}
+use Rattle.std.specs.Prelude.{◌≡◌, ◌⊎◌, ℕ, Bool, true, List, [], ◌∷◌, codes, map, pos, Some, Ok}
 use Rattle.ferry_blob.specs.Blob.{content_id}
 use Rattle.ferry_item.specs.declared.item.ChunkRef.{ChunkRef}
 use Rattle.ferry_mac.specs.declared.keys.Keys.{Keys}
 use Rattle.ferry_manifest.specs.Record.Text.{ArchiveText, archive_of, as_tagged}
 use Rattle.ferry_manifest.specs.declared.manifest.ArchiveRef.{ArchiveRef}
 use Rattle.ferry_msgpack.specs.Tree.{Tree, array, item, no_items, number, raw}
+use Rattle.ferry_carry.specs.Puts.{Addition, Record, addition}
 
 -- the parameters of a chunker that cuts pieces of this length: its name, the length, and that of a header
 abbrev pub fixed_params : ℕ → Tree
@@ -20,7 +21,22 @@ copied_archive archive block ids =
 abbrev pub entry_for : ArchiveRef → List ℕ → ArchiveRef
 entry_for named id = record { name = named.name; id = id; time = named.time }
 
--- A text is that of the record of an archive whose stream has these pieces, and this is its id.
-pub record IsRecord (keys : Keys) (archive : ArchiveText) (block : ℕ) (pieces : List ChunkRef) (text id : List ℕ) : Type 0 where
-  pub id_is : id ≡ content_id keys text
-  pub reads : archive_of keys text ≡ Ok (as_tagged (copied_archive archive block (map (λ (chunk : ChunkRef). chunk.id) pieces)))
+-- A record was added: a text that is read as it, with its tag.
+pub record AddsRecord (keys : Keys) (archive : ArchiveText) (more : List Addition) : Type 0 where
+  pub text : List ℕ
+  pub put : Bool
+  pub more_is : more ≡ addition Record text put ∷ []
+  pub reads : archive_of keys text ≡ Ok (as_tagged archive)
+
+-- What was added of a record, as far as it came: nothing, or that.
+abbrev pub BeginsRecord : Keys → ArchiveText → List Addition → Type 0
+BeginsRecord keys archive more = (more ≡ []) ⊎ AddsRecord keys archive more
+
+-- A record was added, and this is its id.
+pub record AddsUnder (keys : Keys) (archive : ArchiveText) (more : List Addition) (id : List ℕ) : Type 0 where
+  pub adds : AddsRecord keys archive more
+  pub id_is : id ≡ content_id keys adds.text
+
+-- the record of an archive whose stream is in these pieces
+abbrev pub copied_in : ArchiveText → ℕ → List ChunkRef → ArchiveText
+copied_in archive block pieces = copied_archive archive block (map (λ (chunk : ChunkRef). chunk.id) pieces)

@@ -1,5 +1,5 @@
 -- What a transfer tells while archives come: a name is told only once each stop shows it carried.
-use Rattle.std.specs.Prelude.{◌≡◌, ◌++◌, ℕ, Bool, true, false, List, [], ◌∷◌, Option, Result}
+use Rattle.std.specs.Prelude.{◌≡◌, ◌++◌, ℕ, Bool, List, [], ◌∷◌, Option, Result, IfSome, OnOk}
 use Rattle.ferry_disk.specs.Act.{History}
 use Rattle.ferry_disk.specs.Device.{Told}
 use Rattle.ferry_disk.specs.Files.{Files}
@@ -12,8 +12,9 @@ use Rattle.ferry_store.specs.State.{IsSound, Written}
 use Rattle.ferry_store.specs.Store.{StoreFits}
 use Rattle.ferry_store.specs.declared.store.Store.{Store}
 use Rattle.ferry_carry.specs.Carrying.{Origin}
-use Rattle.ferry_carry.specs.Grow.{Grows, StandsOn}
-use Rattle.ferry_carry.specs.Listing.{IsThere, ListsNames}
+use Rattle.ferry_carry.specs.Counting.{CountsMore, IsTotalOf, TellsNew}
+use Rattle.ferry_carry.specs.Grow.{Grows, KeepsGrowing, StandsOn}
+use Rattle.ferry_carry.specs.Listing.{BeginsNames, ListsNames}
 use Rattle.ferry_carry.specs.Puts.{Addition}
 use Rattle.ferry_carry.specs.Lines.{name_line, told_of, total_line}
 use Rattle.ferry_carry.specs.Work.{Works}
@@ -21,11 +22,6 @@ use Rattle.ferry_carry.specs.declared.fault.CarryFault.{CarryFault}
 use Rattle.ferry_carry.specs.declared.options.Carried.{Carried}
 
 -- ---- lines
-
--- What is told of a name behind these: that its archive was copied where neither the accepted manifest nor these have it, and else that it was there.
-abbrev pub TellsNew : ManifestText → List (List ℕ) → List ℕ → Bool → Type 0
-TellsNew accepted before name true = IsThere accepted before name → ⊥
-TellsNew accepted before name false = IsThere accepted before name
 
 -- A line tells a name behind these.
 abbrev pub IsLineOf : ManifestText → List (List ℕ) → List ℕ → List ℕ → Type 0
@@ -64,14 +60,14 @@ pub record IsReported (Show : List (List ℕ) → Files → Type 0) (counts : Bo
   pub sound : IsSound (Show lines) counts moment
 
 -- Of the chosen names those of a front were carried, and of these a front was told.
-abbrev pub ShowsReport : Origin → List (List ℕ) → ManifestText → RepoState → Written → List (List ℕ) → Files → Type 0
-ShowsReport from chosen accepted repo written lines image =
-    (stands : StandsOn from chosen accepted repo written image) × IsReport accepted lines stands.done
+abbrev pub ShowsReport : Origin → List (List ℕ) → List Addition → ManifestText → RepoState → Written → List (List ℕ) → Files → Type 0
+ShowsReport from chosen within accepted repo written lines image =
+    (stands : StandsOn from chosen within accepted repo written image) × IsReport accepted lines stands.done
 
 -- At each moment each stop shows so.
-abbrev pub KeepsReported : Origin → List (List ℕ) → Store → History → History → Type 0
-KeepsReported from chosen store before now = (counts : Bool) (fits : StoreFits counts store before)
-    → Moments (IsReported (ShowsReport from chosen (accepted_in store) (repo_view store.repo) fits.written) counts before) before now
+abbrev pub KeepsReported : Origin → List (List ℕ) → Store → List Addition → History → History → Type 0
+KeepsReported from chosen store within before now = (counts : Bool) (fits : StoreFits counts store before)
+    → Moments (IsReported (ShowsReport from chosen within (accepted_in store) (repo_view store.repo) fits.written) counts before) before now
 
 -- ---- at the end
 
@@ -80,27 +76,37 @@ abbrev pub TellsNames : ManifestText → List (List ℕ) → History → History
 TellsNames accepted names before now =
     (lines : List (List ℕ)) × ((lines_of now.acts ≡ lines_of before.acts ++ lines) × AreLines accepted [] lines names)
 
--- These names were told, and the whole behind them.
-abbrev pub TellsWhole : ManifestText → List (List ℕ) → History → History → Type 0
-TellsWhole accepted names before now = (lines : List (List ℕ)) × ((carried : Carried)
-    × ((lines_of now.acts ≡ lines_of before.acts ++ (lines ++ total_line carried ∷ [])) × AreLines accepted [] lines names))
+-- These names were told, and behind them the whole, with their numbers and those of what was put of these.
+abbrev pub TellsWhole : ManifestText → List (List ℕ) → List Addition → Carried → History → History → Type 0
+TellsWhole accepted names added carried before now = IsTotalOf accepted names added carried
+    × ((lines : List (List ℕ)) × ((lines_of now.acts ≡ lines_of before.acts ++ (lines ++ total_line carried ∷ [])) × AreLines accepted [] lines names))
 
 -- These names were carried, and what was added is all that is added for them.
-abbrev pub CarriesNames : Origin → List (List ℕ) → Store → Store → History → History → Type 0
-CarriesNames from chosen store store_now before now = (added : List Addition) × (Grows from chosen added store store_now before now
-    × ListsNames from (repo_view store.repo).keys (accepted_in store) [] chosen added)
+abbrev pub CarriesNames : Origin → List (List ℕ) → List Addition → Store → Store → History → History → Type 0
+CarriesNames from chosen added store store_now before now = Grows from chosen added store store_now before now
+    × ListsNames from (repo_view store.repo).keys (accepted_in store) [] chosen added
 
--- What was done of the archives of names, one after another, each of which was told behind it.
-abbrev pub Reports : {T : Type 0} → Origin → List (List ℕ) → Store → Store → Option Told → Option Told → ℕ → ℕ → Result T CarryFault → Type 0
-Reports from chosen store store_now before now count after result =
-    Works (KeepsReported from chosen store) (λ _ h g. CarriesNames from chosen store store_now h g × TellsNames (accepted_in store) chosen h g)
-    before now count after result
+-- What was added for these names, as far as it came, where the target tells its files.
+abbrev pub BeginsAll : Option Told → Origin → Store → List (List ℕ) → List Addition → Type 0
+BeginsAll before from store chosen begun = IfSome before (λ _. BeginsNames from (repo_view store.repo).keys (accepted_in store) [] chosen begun)
 
--- The same, and behind them the whole was told.
-abbrev pub ReportsWhole : {T : Type 0} → Origin → List (List ℕ) → Store → Store → Option Told → Option Told → ℕ → ℕ → Result T CarryFault → Type 0
-ReportsWhole from chosen store store_now before now count after result =
-    Works (KeepsReported from chosen store) (λ _ h g. CarriesNames from chosen store store_now h g × TellsWhole (accepted_in store) chosen h g)
-    before now count after result
+-- What was done of the archives of names, one after another, each of which was told behind it, and counted.
+pub record Reports (from : Origin) (chosen : List (List ℕ)) (store store_now : Store) (carried carried_now : Carried) (before now : Option Told)
+    (count after : ℕ) (result : Result (Unit {0}) CarryFault) : Type 0 where
+  pub added : List Addition
+  pub begins : BeginsAll before from store chosen added
+  pub works : Works (KeepsReported from chosen store added)
+      (λ _ h g. CarriesNames from chosen added store store_now h g × TellsNames (accepted_in store) chosen h g) before now count after result
+  pub counted : OnOk result (CountsMore (accepted_in store) chosen added carried carried_now)
+
+-- The same from the begin on, and behind them the whole was told.
+pub record ReportsWhole (from : Origin) (chosen : List (List ℕ)) (store store_now : Store) (before now : Option Told) (count after : ℕ)
+    (result : Result Carried CarryFault) : Type 0 where
+  pub added : List Addition
+  pub begins : BeginsAll before from store chosen added
+  pub works : Works (KeepsReported from chosen store added)
+      (λ carried h g. CarriesNames from chosen added store store_now h g × TellsWhole (accepted_in store) chosen added carried h g)
+      before now count after result
 
 -- ---- where it is refused
 
@@ -109,4 +115,12 @@ pub record StopsBehind (from : Origin) (names : List (List ℕ)) (store : Store)
   pub done : List (List ℕ)
   pub rest : List (List ℕ)
   pub split : names ≡ done ++ rest
-  pub each : Between before now (λ h g. KeepsReported from done store h g × TellsNames (accepted_in store) done h g)
+  pub added : List Addition
+  pub begins : BeginsAll before from store names added
+  pub each : Between before now (λ h g. KeepsReported from done store added h g × TellsNames (accepted_in store) done h g)
+
+-- Of the archive of a name something was added, as far as it came, and nothing was named.
+pub record StopsUnnamed (from : Origin) (name : List ℕ) (store : Store) (before now : Option Told) : Type 0 where
+  pub added : List Addition
+  pub begins : BeginsAll before from store (name ∷ []) added
+  pub each : Between before now (KeepsGrowing from [] store added)

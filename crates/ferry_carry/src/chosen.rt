@@ -1,15 +1,16 @@
 //! The chosen archives, one after another.
-ghost use Rattle.std.specs.Prelude.{◌≡◌, ◌≤◌, ◌⊎◌, ◌++◌, ℕ, List, [], ◌∷◌, None, Some, Err, true, false, slice_get, IfErr, IfOk, IfSome, IsSome, OnOk};
+ghost use Rattle.std.specs.Prelude.{◌≡◌, ◌≤◌, ◌⊎◌, ℕ, List, [], ◌∷◌, None, Some, Err, true, false, slice_get, IfErr, IfOk, IfSome, IsSome, OnOk};
 ghost use Rattle.ferry_carry.specs.Accepting.{AreNextOf, HasLargeNext, IsNextOf, LimitsNames};
 ghost use Rattle.ferry_carry.specs.Chosen.{IsMissingName, TellsLine};
 ghost use Rattle.ferry_carry.specs.Fault.{IsOfWork, random_failed, shelf_failed};
 ghost use Rattle.ferry_carry.specs.Carrying.{origin};
-ghost use Rattle.ferry_carry.specs.Flight.{AreRight, Carries, FlightFits, IsSettled, ListsDone, flown_from};
-ghost use Rattle.ferry_carry.specs.Grow.{KeepsGrowing, KeepsMost};
+ghost use Rattle.ferry_carry.specs.Counting.{TellsNew};
+ghost use Rattle.ferry_carry.specs.Flight.{AreRight, FlightFits, IsSettled, TakesAll, flown_from};
+ghost use Rattle.ferry_carry.specs.Grow.{KeepsMost};
 ghost use Rattle.ferry_carry.specs.Lines.{name_line, told_of};
-ghost use Rattle.ferry_carry.specs.Puts.{Addition, pieces};
+ghost use Rattle.ferry_carry.specs.Puts.{Addition};
 ghost use Rattle.ferry_carry.specs.Refusals.{RefusesName, RefusesNames, RefusesOne, StopsTarget, is_target, is_of_telling};
-ghost use Rattle.ferry_carry.specs.Telling.{Reports, ReportsWhole, StopsBehind, TellsNew, TellsNames};
+ghost use Rattle.ferry_carry.specs.Telling.{Reports, ReportsWhole, StopsBehind, StopsUnnamed, TellsNames};
 ghost use Rattle.ferry_carry.specs.Work.{Works};
 ghost use Rattle.ferry_disk.specs.Act.{TellOf};
 ghost use Rattle.ferry_disk.specs.Device.{HasCause, KeepsTold, told_files};
@@ -141,7 +142,7 @@ fn carry_all<S: Shelf, D: Depot, E: Entropy>(
     ensures packable { OnOk result (IsPackable (accepted_in store.new)) }
     ensures unspent { OnOk result (IsUnspent store.new) }
     ensures works { Reports (origin (S.told shelf.old) (repo_view source.old) options.now.block options.now.checkpoint) names.now store.old store.new
-        (D.told depot.old) (D.told depot.new) (D.faults depot.old) (D.faults depot.new) result }
+        carried.old carried.new (D.told depot.old) (D.told depot.new) (D.faults depot.old) (D.faults depot.new) result }
     ensures refused { IfErr result (RefusesOne (origin (S.told shelf.old) (repo_view source.old) options.now.block options.now.checkpoint)
         (D.told depot.old) store.old (D.told depot.new) store.new names.now) }
     ensures next { OnOk result (AreNextOf options.now.timestamp (repo_view source.old).manifest (repo_view store.old.repo).keys
@@ -161,6 +162,8 @@ fn carry_all<S: Shelf, D: Depot, E: Entropy>(
     ensures cause { HasCause shelf_failed (S.faults shelf.old) (S.faults shelf.new) result }
     ensures entropy { HasCause random_failed (E.faults entropy.old) (E.faults entropy.new) result }
 {
+    // A number that was read is known to be in its range.
+    let _meta = carried.meta;
     for place in 0..names.len() {
         let name = names[place].as_slice();
         carry_one(
@@ -194,7 +197,7 @@ fn carry_one<S: Shelf, D: Depot, E: Entropy>(
     ensures packable { OnOk result (IsPackable (accepted_in store.new)) }
     ensures unspent { OnOk result (IsUnspent store.new) }
     ensures works { Reports (origin (S.told shelf.old) (repo_view source.old) options.now.block options.now.checkpoint) (name.now ∷ []) store.old store.new
-        (D.told depot.old) (D.told depot.new) (D.faults depot.old) (D.faults depot.new) result }
+        carried.old carried.new (D.told depot.old) (D.told depot.new) (D.faults depot.old) (D.faults depot.new) result }
     ensures refused { IfErr result (RefusesName (origin (S.told shelf.old) (repo_view source.old) options.now.block options.now.checkpoint)
         (D.told depot.old) store.old (D.told depot.new) store.new name.now) }
     // What refuses it, but for a line that isn't told and want of memory, does so before it is told.
@@ -203,8 +206,9 @@ fn carry_one<S: Shelf, D: Depot, E: Entropy>(
         name.now (accepted_in store.new)) }
     ensures limit { IfErr result (λ fault. fault ≡ CarryFault.Target StoreRefusal.TooLarge → IfSome (D.told depot.new) (λ _.
         HasLargeNext options.now.timestamp (repo_view source.old).manifest (repo_view store.old.repo).keys (accepted_in store.old) name.now)) }
-    ensures stands { IfErr result (λ fault. IsOfWork fault → Between (D.told depot.old) (D.told depot.new)
-        (KeepsGrowing (origin (S.told shelf.old) (repo_view source.old) options.now.block options.now.checkpoint) [] store.old)) }
+    ensures stands { IfErr result (λ fault. IsOfWork fault
+        → StopsUnnamed (origin (S.told shelf.old) (repo_view source.old) options.now.block options.now.checkpoint) name.now store.old
+        (D.told depot.old) (D.told depot.new)) }
     ensures most { OnOk result (KeepsMost store.old store.new) }
     ensures fits { OnOk result (IfSome (D.told depot.new) (λ t. StoreFits false store.new t.history)) }
     ensures source_fits { IfSome (S.told shelf.new) (λ t. FitsRepo (told_files t) (repo_view source.new) (cached_in source.new)) }
@@ -252,7 +256,7 @@ fn carry_flight<S: Shelf, D: Depot, E: Entropy>(
     ensures packable { OnOk result (IsPackable (accepted_in store.new)) }
     ensures unspent { OnOk result (IsUnspent store.new) }
     ensures works { Reports (flown_from (S.told shelf.old) (repo_view source.old) flight.old) (flight.old.named.name ∷ []) store.old store.new
-        (D.told depot.old) (D.told depot.new) (D.faults depot.old) (D.faults depot.new) result }
+        carried.old carried.new (D.told depot.old) (D.told depot.new) (D.faults depot.old) (D.faults depot.new) result }
     ensures refused { IfErr result (RefusesName (flown_from (S.told shelf.old) (repo_view source.old) flight.old) (D.told depot.old) store.old
         (D.told depot.new) store.new flight.old.named.name) }
     ensures untold { IfErr result (λ fault. is_of_telling fault ≡ false → Between (D.told depot.old) (D.told depot.new) TellsNothing) }
@@ -261,8 +265,9 @@ fn carry_flight<S: Shelf, D: Depot, E: Entropy>(
     ensures limit { IfErr result (λ fault. fault ≡ CarryFault.Target StoreRefusal.TooLarge → IfSome (D.told depot.new) (λ _.
         HasLargeNext flight.old.options.timestamp (repo_view source.old).manifest (repo_view store.old.repo).keys (accepted_in store.old)
         flight.old.named.name)) }
-    ensures stands { IfErr result (λ fault. IsOfWork fault → Between (D.told depot.old) (D.told depot.new)
-        (KeepsGrowing (flown_from (S.told shelf.old) (repo_view source.old) flight.old) [] store.old)) }
+    ensures stands { IfErr result (λ fault. IsOfWork fault
+        → StopsUnnamed (flown_from (S.told shelf.old) (repo_view source.old) flight.old) flight.old.named.name store.old
+        (D.told depot.old) (D.told depot.new)) }
     ensures most { OnOk result (KeepsMost store.old store.new) }
     ensures fits { OnOk result (IfSome (D.told depot.new) (λ t. StoreFits false store.new t.history)) }
     ensures source_fits { IfSome (S.told shelf.new) (λ t. FitsRepo (told_files t) (repo_view source.new) (cached_in source.new)) }
@@ -298,10 +303,8 @@ fn fly<S: Shelf, D: Depot, E: Entropy>(
     ensures packable { OnOk result (IsPackable (accepted_in store.new)) }
     ensures unspent { OnOk result (IsUnspent store.new) }
     ensures works { (fits : FlightFits (S.told shelf.old) (repo_view source.old) (D.told depot.old) store.old flight.old) → (more : List Addition)
-        × (Carries (flown_from (S.told shelf.old) (repo_view source.old) flight.old) (flight.old.named.name ∷ []) more store.old store.new
-        (D.told depot.old) (D.told depot.new) (D.faults depot.old) (D.faults depot.new) result
-        × IfOk result (ListsDone (D.told depot.old) (flown_from (S.told shelf.old) (repo_view source.old) flight.old) (repo_view store.old.repo).keys
-        flight.old.named.name (pieces fits.added ++ more))) }
+        × TakesAll (flown_from (S.told shelf.old) (repo_view source.old) flight.old) flight.old.named.name fits.added more store.old store.new flight.new
+        (D.told depot.old) (D.told depot.new) (D.faults depot.old) (D.faults depot.new) result }
     ensures word { IfOk result (λ copied. TellsNew (accepted_in store.old) [] flight.old.named.name copied) }
     ensures refused { IfErr result (RefusesName (flown_from (S.told shelf.old) (repo_view source.old) flight.old) (D.told depot.old) store.old
         (D.told depot.new) store.new flight.old.named.name) }
@@ -310,8 +313,6 @@ fn fly<S: Shelf, D: Depot, E: Entropy>(
     ensures limit { IfErr result (λ fault. fault ≡ CarryFault.Target StoreRefusal.TooLarge → IfSome (D.told depot.new) (λ _.
         HasLargeNext flight.old.options.timestamp (repo_view source.old).manifest (repo_view store.old.repo).keys (accepted_in store.old)
         flight.old.named.name)) }
-    ensures stands { IfErr result (λ fault. IsOfWork fault → Between (D.told depot.old) (D.told depot.new)
-        (KeepsGrowing (flown_from (S.told shelf.old) (repo_view source.old) flight.old) [] store.old)) }
     ensures most { OnOk result (KeepsMost store.old store.new) }
     ensures fits { OnOk result (IfSome (D.told depot.new) (λ t. StoreFits false store.new t.history)) }
     ensures source_fits { IfSome (S.told shelf.new) (λ t. FitsRepo (told_files t) (repo_view source.new) (cached_in source.new)) }

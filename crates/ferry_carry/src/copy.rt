@@ -1,19 +1,22 @@
 //! An archive that the target lacks.
-ghost use Rattle.std.specs.Prelude.{◌≡◌, ◌≤◌, ◌<◌, ◌^◌, ◌-◌, [], ℕ, List, Some, None, Ok, true, false, length, min, IfErr, IfOk, IfSome, OnOk};
+ghost use Rattle.std.specs.Prelude.{◌≡◌, ◌≤◌, ◌<◌, ◌^◌, ◌-◌, ◌++◌, [], List, Some, None, Ok, true, false, length, min, IfErr, IfOk, IfSome, OnOk};
 ghost use Rattle.ferry_disk.specs.Device.{HasCause, KeepsTold, told_files};
 ghost use Rattle.ferry_carry.specs.Carrying.{origin};
 ghost use Rattle.ferry_carry.specs.Copied.{IsRead};
-ghost use Rattle.ferry_carry.specs.Copying.{CopiesContent, IsReady, TakesItem, WritesContent, WritesContents, WritesItem};
+ghost use Rattle.ferry_carry.specs.Copying.{BeginsChunk, BeginsContent, BeginsContents, CopiesContent, IsReady, TakesItem};
+ghost use Rattle.ferry_carry.specs.Copying.{WritesContent, WritesContents, WritesItem};
 ghost use Rattle.ferry_carry.specs.Fault.{random_failed, shelf_failed, target_failed};
 ghost use Rattle.ferry_carry.specs.Gather.{Gathers, KeepsRest, KeepsStanding};
+ghost use Rattle.ferry_carry.specs.Listing.{BeginsOne};
 ghost use Rattle.ferry_carry.specs.Progress.{CopiesOn, IsCopiedSoFar};
-ghost use Rattle.ferry_carry.specs.Puts.{IsCheckpoint, pieces};
+ghost use Rattle.ferry_carry.specs.Piece.{BeginsOn, CountsOn};
+ghost use Rattle.ferry_carry.specs.Puts.{Addition, AreOf, Content, IsCheckpoint, Stream, contents_in};
 ghost use Rattle.ferry_carry.specs.Refusals.{RefusesBegin, RefusesContents, RefusesCopying, RefusesNext, RefusesStep, RefusesText, RefusesWriting, StopsPieces};
 ghost use Rattle.ferry_carry.specs.Refusals.{is_target, total_size};
-ghost use Rattle.ferry_carry.specs.Step.{StepsOn};
+ghost use Rattle.ferry_carry.specs.Step.{BeginsMore, StepsOn};
 ghost use Rattle.ferry_carry.specs.Work.{Works};
 ghost use Rattle.ferry_item.specs.Item.{is_healed, item_view};
-ghost use Rattle.ferry_item.specs.Writing.{IsPackable as IsPackableItem, field_pairs};
+ghost use Rattle.ferry_item.specs.Writing.{IsPackable as IsPackableItem, field_pairs, item_text};
 ghost use Rattle.ferry_manifest.specs.Record.Text.{archive_of, archive_view};
 ghost use Rattle.ferry_manifest.specs.Record.Writing.{IsPackableArchive};
 ghost use Rattle.ferry_manifest.specs.declared.manifest.ArchiveRef.{ArchiveRef};
@@ -72,6 +75,7 @@ impl Copy {
         ensures block { IfOk result (λ copy. copy.block ≡ options.now.block) }
         ensures checkpoint { IfOk result (λ copy. copy.contents.checkpoint ≡ options.now.checkpoint) }
         ensures stream { IfOk result (λ copy. (copy.stream.cutter.piece ≡ []) × (copy.stream.chunks.items ≡ [])) }
+        ensures counted { IfOk result (λ copy. (copy.contents.put ≡ 0) × ((copy.contents.bytes ≡ 0) × (copy.stream.put ≡ 0))) }
         ensures walk_fits { IfOk result (λ copy. IfSome (S.told shelf.new) (λ t.
             FitsWalk (told_files t) (repo_view source.new).log (repo_view source.new).keys (walk_view copy.walk))) }
         ensures refused { IfErr result (RefusesBegin (S.told shelf.old) (repo_view source.old) id.now) }
@@ -109,22 +113,23 @@ impl Copy {
         requires pending { store.old.pending ≤ self.old.contents.checkpoint }
         requires unspent { IsUnspent store.old }
         requires fits { IfSome (D.told depot.old) (λ t. StoreFits false store.old t.history) }
-        ensures works { (more : List (List ℕ)) × Works (KeepsStanding self.old.contents.checkpoint store.old)
-            (λ _. Gathers self.old.contents.checkpoint store.old (pieces more) store.new)
-            (D.told depot.old) (D.told depot.new) (D.faults depot.old) (D.faults depot.new) result }
-        ensures steps { (more : List (List ℕ)) × (Works (KeepsStanding self.old.contents.checkpoint store.old)
-            (λ _. Gathers self.old.contents.checkpoint store.old (pieces more) store.new)
+        ensures steps { (more : List Addition) × (Works (KeepsStanding self.old.contents.checkpoint store.old more)
+            (λ _. Gathers self.old.contents.checkpoint store.old more store.new)
             (D.told depot.old) (D.told depot.new) (D.faults depot.old) (D.faults depot.new) result
-            × IfOk result (StepsOn (S.told shelf.old) (repo_view source.old) (repo_view store.old.repo).keys self.old more self.new)) }
-        ensures copied { (named : ArchiveRef) (added : List (List ℕ))
+            × (IfErr result (λ _. BeginsMore (S.told shelf.old) (repo_view source.old) (repo_view store.old.repo).keys self.old more)
+            × IfOk result (StepsOn (S.told shelf.old) (repo_view source.old) (repo_view store.old.repo).keys self.old more self.new))) }
+        ensures copied { (named : ArchiveRef) (added : List Addition)
             → IsCopiedSoFar (origin (S.told shelf.old) (repo_view source.old) self.old.block self.old.contents.checkpoint) named
             (D.told depot.old) store.old self.old added
-            → (more : List (List ℕ)) × (Works (KeepsStanding self.old.contents.checkpoint store.old)
-            (λ _. Gathers self.old.contents.checkpoint store.old (pieces more) store.new)
+            → (more : List Addition) × (Works (KeepsStanding self.old.contents.checkpoint store.old more)
+            (λ _. Gathers self.old.contents.checkpoint store.old more store.new)
             (D.told depot.old) (D.told depot.new) (D.faults depot.old) (D.faults depot.new) result
+            × ((archive_named named.name (repo_view source.old).manifest.archives ≡ Some named → IfSome (D.told depot.old) (λ _.
+            BeginsOne (origin (S.told shelf.old) (repo_view source.old) self.old.block self.old.contents.checkpoint) (repo_view store.old.repo).keys
+            named.name (added ++ more)))
             × IfOk result (CopiesOn (origin (S.told shelf.old) (repo_view source.old) self.old.block self.old.contents.checkpoint) named
-            (D.told depot.new) store.new self.new added more)) }
-        ensures refused { (named : ArchiveRef) (added : List (List ℕ)) → archive_named named.name (repo_view source.old).manifest.archives ≡ Some named
+            (D.told depot.new) store.new self.new added more))) }
+        ensures refused { (named : ArchiveRef) (added : List Addition) → archive_named named.name (repo_view source.old).manifest.archives ≡ Some named
             → IsCopiedSoFar (origin (S.told shelf.old) (repo_view source.old) self.old.block self.old.contents.checkpoint) named
             (D.told depot.old) store.old self.old added
             → IfErr result (RefusesStep (origin (S.told shelf.old) (repo_view source.old) self.old.block self.old.contents.checkpoint)
@@ -199,11 +204,12 @@ impl Copy {
         requires pending { store.old.pending ≤ self.old.stream.checkpoint }
         requires unspent { IsUnspent store.old }
         requires fits { IfSome (D.told depot.old) (λ t. StoreFits false store.old t.history) }
-        ensures written { (more : List (List ℕ)) × (Works (KeepsStanding self.old.stream.checkpoint store.old)
-            (λ _. Gathers self.old.stream.checkpoint store.old (pieces more) store.new)
+        ensures written { (more : List Addition) × (Works (KeepsStanding self.old.stream.checkpoint store.old more)
+            (λ _. Gathers self.old.stream.checkpoint store.old more store.new)
             (D.told depot.old) (D.told depot.new) (D.faults depot.old) (D.faults depot.new) result
-            × OnOk result (WritesItem (repo_view store.old.repo).keys self.old.stream.cutter self.old.stream.chunks.items (item_view item.now) more
-            self.new.stream.cutter self.new.stream.chunks.items)) }
+            × (AreOf Stream more × (BeginsOn self.old.stream.cutter (item_text (item_view item.now)) (contents_in more)
+            × OnOk result (WritesItem (repo_view store.old.repo).keys self.old.stream.cutter self.old.stream.chunks.items (item_view item.now)
+            (contents_in more) self.new.stream.cutter self.new.stream.chunks.items × CountsOn Stream self.old.stream more self.new.stream)))) }
         ensures again { OnOk result (is_healed (field_pairs (item_view item.now)) ≡ false → IsRead (item_view item.now)) }
         ensures others { OnOk result (self.new ≡ record self.old { stream = self.new.stream }) }
         ensures checkpoint { OnOk result (self.new.stream.checkpoint ≡ self.old.stream.checkpoint) }
@@ -235,10 +241,12 @@ impl Copy {
         requires pending { store.old.pending ≤ self.old.contents.checkpoint }
         requires unspent { IsUnspent store.old }
         requires fits { IfSome (D.told depot.old) (λ t. StoreFits false store.old t.history) }
-        ensures copied { (more : List (List ℕ)) × (Works (KeepsStanding self.old.contents.checkpoint store.old)
-            (λ _. Gathers self.old.contents.checkpoint store.old (pieces more) store.new)
+        ensures copied { (more : List Addition) × (Works (KeepsStanding self.old.contents.checkpoint store.old more)
+            (λ _. Gathers self.old.contents.checkpoint store.old more store.new)
             (D.told depot.old) (D.told depot.new) (D.faults depot.old) (D.faults depot.new) result
-            × IfOk result (CopiesContent (S.told shelf.old) (repo_view source.old) self.old.block (repo_view store.old.repo).keys chunks.now more)) }
+            × (AreOf Content more × (BeginsContent (S.told shelf.old) (repo_view source.old) self.old.block chunks.now (contents_in more)
+            × (IfOk result (CopiesContent (S.told shelf.old) (repo_view source.old) self.old.block (repo_view store.old.repo).keys chunks.now
+            (contents_in more)) × OnOk result (CountsOn Content self.old.contents more self.new.contents))))) }
         ensures refused { IfErr result (RefusesCopying (S.told shelf.old) (repo_view source.old) self.old.block chunks.now) }
         ensures ready { OnOk result (IsReady self.new) }
         ensures others { OnOk result (self.new ≡ record self.old { contents = self.new.contents }) }
@@ -254,6 +262,8 @@ impl Copy {
         ensures cause { HasCause shelf_failed (S.faults shelf.old) (S.faults shelf.new) result }
         ensures drawn { IfErr result (λ fault. random_failed fault ≡ false) }
     {
+        // A number that was read is known to be in its range.
+        let _counted = self.contents.put();
         match chunks {
             Some(chunks) => {
                 let copied = self.copy_content(source, shelf, store, depot, chunks.as_slice())?;
@@ -277,11 +287,12 @@ impl Copy {
         requires pending { store.old.pending ≤ self.old.contents.checkpoint }
         requires unspent { IsUnspent store.old }
         requires fits { IfSome (D.told depot.old) (λ t. StoreFits false store.old t.history) }
-        ensures copied { (more : List (List ℕ)) × (Works (KeepsStanding self.old.contents.checkpoint store.old)
-            (λ _. Gathers self.old.contents.checkpoint store.old (pieces more) store.new)
+        ensures copied { (more : List Addition) × (Works (KeepsStanding self.old.contents.checkpoint store.old more)
+            (λ _. Gathers self.old.contents.checkpoint store.old more store.new)
             (D.told depot.old) (D.told depot.new) (D.faults depot.old) (D.faults depot.new) result
-            × IfOk result (λ copied. CopiesContent (S.told shelf.old) (repo_view source.old) self.old.block (repo_view store.old.repo).keys
-            (Some chunks.now) more (Some copied))) }
+            × (AreOf Content more × (BeginsContent (S.told shelf.old) (repo_view source.old) self.old.block (Some chunks.now) (contents_in more)
+            × (IfOk result (λ copied. CopiesContent (S.told shelf.old) (repo_view source.old) self.old.block (repo_view store.old.repo).keys
+            (Some chunks.now) (contents_in more) (Some copied)) × OnOk result (CountsOn Content self.old.contents more self.new.contents))))) }
         ensures refused { IfErr result (RefusesCopying (S.told shelf.old) (repo_view source.old) self.old.block (Some chunks.now)) }
         ensures ready { OnOk result (IsReady self.new) }
         ensures others { OnOk result (self.new ≡ record self.old { contents = self.new.contents }) }
@@ -325,11 +336,12 @@ fn write_contents<S: Shelf, D: Depot>(
     requires pending { store.old.pending ≤ writer.old.checkpoint }
     requires unspent { IsUnspent store.old }
     requires fits { IfSome (D.told depot.old) (λ t. StoreFits false store.old t.history) }
-    ensures written { (more : List (List ℕ)) × (Works (KeepsStanding writer.old.checkpoint store.old)
-        (λ _. Gathers writer.old.checkpoint store.old (pieces more) store.new)
+    ensures written { (more : List Addition) × (Works (KeepsStanding writer.old.checkpoint store.old more)
+        (λ _. Gathers writer.old.checkpoint store.old more store.new)
         (D.told depot.old) (D.told depot.new) (D.faults depot.old) (D.faults depot.new) result
+        × (AreOf Content more × (BeginsContents (S.told shelf.old) (repo_view source.old) chunks.now writer.old.cutter (contents_in more)
         × OnOk result (WritesContents (S.told shelf.old) (repo_view source.old) (repo_view store.old.repo).keys chunks.now writer.old.cutter
-        writer.old.chunks.items more writer.new.cutter writer.new.chunks.items)) }
+        writer.old.chunks.items (contents_in more) writer.new.cutter writer.new.chunks.items × CountsOn Content writer.old more writer.new)))) }
     ensures refused { IfErr result (RefusesContents (S.told shelf.old) (repo_view source.old) chunks.now) }
     ensures checkpoint { OnOk result (writer.new.checkpoint ≡ writer.old.checkpoint) }
     ensures pending { OnOk result (store.new.pending ≤ writer.old.checkpoint) }
@@ -343,6 +355,8 @@ fn write_contents<S: Shelf, D: Depot>(
     ensures cause { HasCause shelf_failed (S.faults shelf.old) (S.faults shelf.new) result }
     ensures drawn { IfErr result (λ fault. random_failed fault ≡ false) }
 {
+    // A number that was read is known to be in its range.
+    let _counted = writer.put();
     for place in 0..chunks.len() {
         write_content(writer, source, shelf, store, depot, &chunks[place])?;
     }
@@ -366,11 +380,12 @@ fn write_content<S: Shelf, D: Depot>(
     requires pending { store.old.pending ≤ writer.old.checkpoint }
     requires unspent { IsUnspent store.old }
     requires fits { IfSome (D.told depot.old) (λ t. StoreFits false store.old t.history) }
-    ensures written { (more : List (List ℕ)) × (Works (KeepsStanding writer.old.checkpoint store.old)
-        (λ _. Gathers writer.old.checkpoint store.old (pieces more) store.new)
+    ensures written { (more : List Addition) × (Works (KeepsStanding writer.old.checkpoint store.old more)
+        (λ _. Gathers writer.old.checkpoint store.old more store.new)
         (D.told depot.old) (D.told depot.new) (D.faults depot.old) (D.faults depot.new) result
+        × (AreOf Content more × (BeginsChunk (S.told shelf.old) (repo_view source.old) chunk.now writer.old.cutter (contents_in more)
         × OnOk result (WritesContent (S.told shelf.old) (repo_view source.old) (repo_view store.old.repo).keys chunk.now writer.old.cutter
-        writer.old.chunks.items more writer.new.cutter writer.new.chunks.items)) }
+        writer.old.chunks.items (contents_in more) writer.new.cutter writer.new.chunks.items × CountsOn Content writer.old more writer.new)))) }
     ensures refused { IfErr result (RefusesWriting (S.told shelf.old) (repo_view source.old) chunk.now) }
     ensures checkpoint { OnOk result (writer.new.checkpoint ≡ writer.old.checkpoint) }
     ensures pending { OnOk result (store.new.pending ≤ writer.old.checkpoint) }

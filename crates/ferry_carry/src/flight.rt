@@ -1,8 +1,9 @@
 //! One archive, item by item.
-ghost use Rattle.std.specs.Prelude.{◌≡◌, ◌≢◌, ◌≤◌, ◌⊎◌, ◌∷◌, ℕ, List, Option, None, Ok, [], true, false, IfErr, IfOk, IfSome, IsSome, OnOk};
+ghost use Rattle.std.specs.Prelude.{◌≡◌, ◌≢◌, ◌≤◌, ◌⊎◌, ℕ, List, Option, None, Ok, [], true, false, IfErr, IfOk, IfSome, IsSome, OnOk};
 ghost use Rattle.ferry_blob.specs.Blob.{content_id};
-ghost use Rattle.ferry_carry.specs.Fault.{IsOfWork, random_failed, shelf_failed, target_failed};
-ghost use Rattle.ferry_carry.specs.Flight.{AreRight, Flies, FlightFits, FlightStands, IsCommitted, IsSame, IsSettled, ReadsStore, TurnLists, flown_from};
+ghost use Rattle.ferry_carry.specs.Fault.{random_failed, shelf_failed};
+ghost use Rattle.ferry_carry.specs.Counting.{nothing_carried};
+ghost use Rattle.ferry_carry.specs.Flight.{AreRight, FlightFits, FlightStands, IsCommitted, IsSame, IsSettled, ReadsStore, TakesTurn, flown_from};
 ghost use Rattle.ferry_carry.specs.Carrying.{origin};
 ghost use Rattle.ferry_carry.specs.Copying.{IsReady};
 ghost use Rattle.ferry_carry.specs.Gather.{Gathers, KeepsRest, KeepsStanding};
@@ -13,7 +14,6 @@ ghost use Rattle.ferry_carry.specs.Refusals.{DiffersThere, IsLimited, RefusesCom
 ghost use Rattle.ferry_carry.specs.Work.{Works};
 ghost use Rattle.ferry_compare.specs.Compare.{Differ, FitsTold, comparison_view};
 ghost use Rattle.ferry_disk.specs.Device.{HasCause, KeepsTold, Told, told_files};
-ghost use Rattle.ferry_disk.specs.Moments.{Between};
 ghost use Rattle.ferry_manifest.specs.Manifest.Writing.{IsPackable};
 ghost use Rattle.ferry_repo.specs.Archives.{archive_named};
 ghost use Rattle.ferry_repo.specs.Opening.{FitsRepo, cached_in, repo_view};
@@ -101,7 +101,9 @@ impl Flight {
     }
 
     /// The pieces that were put for the archive, once it is named.
-    pub(crate) fn put(&self) -> Carried {
+    pub(crate) fn put(&self) -> Carried
+        ensures { result ≡ self.now.put }
+    {
         self.put
     }
 }
@@ -127,19 +129,11 @@ impl Flight {
         requires committed { IsCommitted store.old self.old.named.name }
         requires flight { FlightFits (S.told shelf.old) (repo_view source.old) (D.told depot.old) store.old self.old }
         ensures works { (fits : FlightFits (S.told shelf.old) (repo_view source.old) (D.told depot.old) store.old self.old) → (more : List Addition)
-            × (Flies (flown_from (S.told shelf.old) (repo_view source.old) self.old) self.old.named.name more store.old store.new
-            (D.told depot.old) (D.told depot.new) (D.faults depot.old) (D.faults depot.new) result
-            × IfOk result (TurnLists (S.told shelf.new) (repo_view source.new) (D.told depot.new) store.new self.new
-            (D.told depot.old) (flown_from (S.told shelf.old) (repo_view source.old) self.old) (repo_view store.old.repo).keys fits.added more)) }
+            × TakesTurn (S.told shelf.new) (repo_view source.new) (flown_from (S.told shelf.old) (repo_view source.old) self.old) self.old.named.name
+            fits.added more store.old store.new self.new (D.told depot.old) (D.told depot.new) (D.faults depot.old) (D.faults depot.new) result }
         ensures refused { IfErr result (RefusesName (flown_from (S.told shelf.old) (repo_view source.old) self.old) (D.told depot.old) store.old
             (D.told depot.new) store.new self.old.named.name) }
         ensures limit { IfErr result (IsLimited (D.told depot.new) self.old.options.timestamp (repo_view source.old) store.old self.old.named) }
-        // Where it is refused, but for a device that failed and want of memory, nothing is named.
-        ensures stands { IfErr result (λ fault. IsOfWork fault
-            → Between (D.told depot.old) (D.told depot.new) (KeepsStanding self.old.options.checkpoint store.old)) }
-        // And nothing is named by a turn that takes a further item.
-        ensures more_stands { result ≡ Ok Turn.More
-            → Between (D.told depot.old) (D.told depot.new) (KeepsStanding self.old.options.checkpoint store.old) }
         ensures most { OnOk result (KeepsMost store.old store.new) }
         ensures packable { OnOk result (IsPackable (accepted_in store.new)) }
         ensures accepts { OnOk result (AcceptsMore store.new) }
@@ -188,18 +182,13 @@ impl Flight {
         requires accepts { AcceptsMore store.old }
         requires committed { IsCommitted store.old self.old.named.name }
         requires flight { FlightStands (repo_view source.old) self.old }
+        requires uncounted { self.old.put ≡ nothing_carried }
         ensures works { (more : List Addition)
-            × (Flies (flown_from (S.told shelf.old) (repo_view source.old) self.old) self.old.named.name more store.old store.new
-            (D.told depot.old) (D.told depot.new) (D.faults depot.old) (D.faults depot.new) result
-            × IfOk result (TurnLists (S.told shelf.new) (repo_view source.new) (D.told depot.new) store.new self.new
-            (D.told depot.old) (flown_from (S.told shelf.old) (repo_view source.old) self.old) (repo_view store.old.repo).keys [] more)) }
+            × TakesTurn (S.told shelf.new) (repo_view source.new) (flown_from (S.told shelf.old) (repo_view source.old) self.old) self.old.named.name
+            [] more store.old store.new self.new (D.told depot.old) (D.told depot.new) (D.faults depot.old) (D.faults depot.new) result }
         ensures refused { IfErr result (RefusesName (flown_from (S.told shelf.old) (repo_view source.old) self.old) (D.told depot.old) store.old
             (D.told depot.new) store.new self.old.named.name) }
         ensures limit { IfErr result (IsLimited (D.told depot.new) self.old.options.timestamp (repo_view source.old) store.old self.old.named) }
-        ensures stands { IfErr result (λ fault. IsOfWork fault
-            → Between (D.told depot.old) (D.told depot.new) (KeepsStanding self.old.options.checkpoint store.old)) }
-        ensures more_stands { result ≡ Ok Turn.More
-            → Between (D.told depot.old) (D.told depot.new) (KeepsStanding self.old.options.checkpoint store.old) }
         ensures most { OnOk result (KeepsMost store.old store.new) }
         ensures packable { OnOk result (IsPackable (accepted_in store.new)) }
         ensures accepts { OnOk result (AcceptsMore store.new) }
@@ -250,26 +239,21 @@ impl Flight {
         requires accepts { AcceptsMore store.old }
         requires committed { IsCommitted store.old self.old.named.name }
         requires flight { FlightStands (repo_view source.old) self.old }
+        requires uncounted { self.old.put ≡ nothing_carried }
         requires ready { IsReady copy }
         requires unnamed { archive_named self.old.named.name (accepted_in store.old).archives ≡ None }
         requires walk_fits { IfSome (S.told shelf.old) (λ t.
             FitsWalk (told_files t) (repo_view source.old).log (repo_view source.old).keys (walk_view copy.walk)) }
-        requires copied { (added : List (List ℕ))
+        requires copied { (added : List Addition)
             × IsCopiedSoFar (flown_from (S.told shelf.old) (repo_view source.old) self.old) self.old.named (D.told depot.old) store.old copy added }
-        ensures works { (added : List (List ℕ))
+        ensures works { (added : List Addition)
             → IsCopiedSoFar (flown_from (S.told shelf.old) (repo_view source.old) self.old) self.old.named (D.told depot.old) store.old copy added
             → (more : List Addition)
-            × (Flies (flown_from (S.told shelf.old) (repo_view source.old) self.old) self.old.named.name more store.old store.new
-            (D.told depot.old) (D.told depot.new) (D.faults depot.old) (D.faults depot.new) result
-            × IfOk result (TurnLists (S.told shelf.new) (repo_view source.new) (D.told depot.new) store.new self.new
-            (D.told depot.old) (flown_from (S.told shelf.old) (repo_view source.old) self.old) (repo_view store.old.repo).keys added more)) }
+            × TakesTurn (S.told shelf.new) (repo_view source.new) (flown_from (S.told shelf.old) (repo_view source.old) self.old) self.old.named.name
+            added more store.old store.new self.new (D.told depot.old) (D.told depot.new) (D.faults depot.old) (D.faults depot.new) result }
         ensures refused { IfErr result (RefusesName (flown_from (S.told shelf.old) (repo_view source.old) self.old) (D.told depot.old) store.old
             (D.told depot.new) store.new self.old.named.name) }
         ensures limit { IfErr result (IsLimited (D.told depot.new) self.old.options.timestamp (repo_view source.old) store.old self.old.named) }
-        ensures stands { IfErr result (λ fault. IsOfWork fault
-            → Between (D.told depot.old) (D.told depot.new) (KeepsStanding self.old.options.checkpoint store.old)) }
-        ensures more_stands { result ≡ Ok Turn.More
-            → Between (D.told depot.old) (D.told depot.new) (KeepsStanding self.old.options.checkpoint store.old) }
         ensures most { OnOk result (KeepsMost store.old store.new) }
         ensures packable { OnOk result (IsPackable (accepted_in store.new)) }
         ensures accepts { OnOk result (AcceptsMore store.new) }
@@ -328,21 +312,16 @@ impl Flight {
         requires accepts { AcceptsMore store.old }
         requires committed { IsCommitted store.old self.old.named.name }
         requires flight { FlightStands (repo_view source.old) self.old }
+        requires uncounted { self.old.put ≡ nothing_carried }
         requires comparison { FitsTold (S.told shelf.old) (repo_view source.old) (D.told depot.old) (repo_view store.old.repo) (comparison_view comparison) }
         requires same_name { (comparison_view comparison).name ≡ self.old.named.name }
         requires there { IsSome (archive_named self.old.named.name (repo_view store.old.repo).manifest.archives) }
         ensures works { (more : List Addition)
-            × (Flies (flown_from (S.told shelf.old) (repo_view source.old) self.old) self.old.named.name more store.old store.new
-            (D.told depot.old) (D.told depot.new) (D.faults depot.old) (D.faults depot.new) result
-            × IfOk result (TurnLists (S.told shelf.new) (repo_view source.new) (D.told depot.new) store.new self.new
-            (D.told depot.old) (flown_from (S.told shelf.old) (repo_view source.old) self.old) (repo_view store.old.repo).keys [] more)) }
+            × TakesTurn (S.told shelf.new) (repo_view source.new) (flown_from (S.told shelf.old) (repo_view source.old) self.old) self.old.named.name
+            [] more store.old store.new self.new (D.told depot.old) (D.told depot.new) (D.faults depot.old) (D.faults depot.new) result }
         ensures refused { IfErr result (RefusesName (flown_from (S.told shelf.old) (repo_view source.old) self.old) (D.told depot.old) store.old
             (D.told depot.new) store.new self.old.named.name) }
         ensures limit { IfErr result (IsLimited (D.told depot.new) self.old.options.timestamp (repo_view source.old) store.old self.old.named) }
-        ensures stands { IfErr result (λ fault. IsOfWork fault
-            → Between (D.told depot.old) (D.told depot.new) (KeepsStanding self.old.options.checkpoint store.old)) }
-        ensures more_stands { result ≡ Ok Turn.More
-            → Between (D.told depot.old) (D.told depot.new) (KeepsStanding self.old.options.checkpoint store.old) }
         ensures most { OnOk result (KeepsMost store.old store.new) }
         ensures packable { OnOk result (IsPackable (accepted_in store.new)) }
         ensures accepts { OnOk result (AcceptsMore store.new) }
@@ -390,7 +369,7 @@ impl Flight {
         requires fits { IfSome (D.told depot.old) (λ t. StoreFits false store.old t.history) }
         requires flight { FlightStands (repo_view source.old) self.now }
         requires there { IsSome (archive_named self.now.named.name (repo_view store.old.repo).manifest.archives) }
-        ensures works { (most : ℕ) → Works (KeepsStanding most store.old) (λ _. Gathers most store.old [] store.new)
+        ensures works { (most : ℕ) → Works (KeepsStanding most store.old []) (λ _. Gathers most store.old [] store.new)
             (D.told depot.old) (D.told depot.new) (D.faults depot.old) (D.faults depot.new) result }
         ensures read { ReadsStore store.old store.new }
         ensures comparison { IfOk result (λ comparison. FitsTold (S.told shelf.new) (repo_view source.new) (D.told depot.new) (repo_view store.new.repo)
@@ -423,7 +402,7 @@ fn compare_item<S: Shelf, D: Depot>(
     requires source_fits { IfSome (S.told shelf.old) (λ t. FitsRepo (told_files t) (repo_view source.old) (cached_in source.old)) }
     requires fits { IfSome (D.told depot.old) (λ t. StoreFits false store.old t.history) }
     requires comparison { FitsTold (S.told shelf.old) (repo_view source.old) (D.told depot.old) (repo_view store.old.repo) (comparison_view comparison.old) }
-    ensures works { (most : ℕ) → Works (KeepsStanding most store.old) (λ _. Gathers most store.old [] store.new)
+    ensures works { (most : ℕ) → Works (KeepsStanding most store.old []) (λ _. Gathers most store.old [] store.new)
         (D.told depot.old) (D.told depot.new) (D.faults depot.old) (D.faults depot.new) result }
     ensures read { ReadsStore store.old store.new }
     ensures comparison { result ≡ Ok Compared.More → FitsTold (S.told shelf.new) (repo_view source.new) (D.told depot.new) (repo_view store.new.repo)
@@ -452,7 +431,7 @@ fn compare_item<S: Shelf, D: Depot>(
 fn present<D: Depot>(store: &mut Store, depot: &mut D) -> Result<Turn, CarryFault>
     requires unspent { IsUnspent store.old }
     requires fits { IfSome (D.told depot.old) (λ t. StoreFits false store.old t.history) }
-    ensures works { (most : ℕ) → Works (KeepsStanding most store.old) (λ _. Gathers most store.old [] store.new)
+    ensures works { (most : ℕ) → Works (KeepsStanding most store.old []) (λ _. Gathers most store.old [] store.new)
         (D.told depot.old) (D.told depot.new) (D.faults depot.old) (D.faults depot.new) result }
     ensures present { IfOk result (λ turn. turn ≡ Turn.Present) }
     ensures pending { OnOk result (store.new.pending ≡ 0) }

@@ -1,16 +1,17 @@
 //! The end of an archive: its record, its name in the manifest, and the commit of both.
-ghost use Rattle.std.specs.Prelude.{◌≡◌, ◌≤◌, ◌∷◌, ◌++◌, [], ℕ, List, Option, None, Ok, true, false, length, map, option_map, IfErr, IfOk, IfSome, OnOk};
+ghost use Rattle.std.specs.Prelude.{◌≡◌, ◌≤◌, ◌∷◌, ◌++◌, [], ℕ, Bool, List, Option, None, Ok, true, false, length, map, IfErr, IfOk, IfSome, OnOk};
 ghost use Rattle.ferry_base.specs.Limits.{content_limit};
 ghost use Rattle.ferry_blob.specs.Blob.{content_id};
 ghost use Rattle.ferry_carry.specs.Copying.{IsReady};
 ghost use Rattle.ferry_carry.specs.Fault.{IsOfWork, random_failed, shelf_failed, target_failed};
 ghost use Rattle.ferry_carry.specs.Gather.{Gathers, KeepsRest, KeepsStanding, chunks_of};
 ghost use Rattle.ferry_carry.specs.Carrying.{Origin};
-ghost use Rattle.ferry_carry.specs.Flight.{AcceptsOne, Carries, ListsDone, NamesArchive};
+ghost use Rattle.ferry_carry.specs.Flight.{AcceptsOne, EndsCopy, NamesArchive};
 ghost use Rattle.ferry_carry.specs.Grow.{AcceptsMore, KeepsMost};
 ghost use Rattle.ferry_carry.specs.Progress.{IsAllCopied};
-ghost use Rattle.ferry_carry.specs.Puts.{Addition, IsCheckpoint, Record, pieces};
-ghost use Rattle.ferry_carry.specs.Naming.{IsRecord, copied_archive, entry_for, fixed_params};
+ghost use Rattle.ferry_carry.specs.Piece.{CountsOn};
+ghost use Rattle.ferry_carry.specs.Puts.{Addition, ArePieces, IsCheckpoint, Record, Stream, addition};
+ghost use Rattle.ferry_carry.specs.Naming.{AddsUnder, BeginsRecord, copied_archive, copied_in, entry_for, fixed_params};
 ghost use Rattle.ferry_carry.specs.Refusals.{IsLimited, LimitsManifest, RefusesEnd, RefusesRecordText, StopsPieces, StopsTarget, is_target, named_next};
 ghost use Rattle.ferry_msgpack.specs.View.{value_view};
 ghost use Rattle.ferry_carry.specs.Work.{Works};
@@ -139,9 +140,10 @@ fn add_record<D: Depot>(store: &mut Store, depot: &mut D, text: &[u8]) -> Result
     requires size { length text.now ≤ content_limit }
     requires unspent { IsUnspent store.old }
     requires fits { IfSome (D.told depot.old) (λ t. StoreFits false store.old t.history) }
-    ensures works { (most : ℕ) → IsCheckpoint most → store.old.pending ≤ most
-        → Works (KeepsStanding most store.old) (λ _. Gathers most store.old (Record text.now ∷ []) store.new)
-        (D.told depot.old) (D.told depot.new) (D.faults depot.old) (D.faults depot.new) result }
+    ensures works { (put : Bool) × ((most : ℕ) → IsCheckpoint most → store.old.pending ≤ most
+        → Works (KeepsStanding most store.old (addition Record text.now put ∷ []))
+        (λ _. Gathers most store.old (addition Record text.now put ∷ []) store.new)
+        (D.told depot.old) (D.told depot.new) (D.faults depot.old) (D.faults depot.new) result) }
     ensures id { IfOk result (λ id. id ≡ content_id (repo_view store.old.repo).keys text.now) }
     ensures rest { OnOk result (KeepsRest store.old store.new) }
     ensures fits { OnOk result (IfSome (D.told depot.new) (λ t. StoreFits false store.new t.history)) }
@@ -176,11 +178,11 @@ fn put_record<D: Depot, E: Entropy>(
     requires packable { IsPackableArchive (archive_view archive.now) }
     requires unspent { IsUnspent store.old }
     requires fits { IfSome (D.told depot.old) (λ t. StoreFits false store.old t.history) }
-    ensures put { (text : List ℕ) × (((most : ℕ) → IsCheckpoint most → store.old.pending ≤ most
-        → Works (KeepsStanding most store.old) (λ _. Gathers most store.old (Record text ∷ []) store.new)
+    ensures put { (more : List Addition) × (((most : ℕ) → IsCheckpoint most → store.old.pending ≤ most
+        → Works (KeepsStanding most store.old more) (λ _. Gathers most store.old more store.new)
         (D.told depot.old) (D.told depot.new) (D.faults depot.old) (D.faults depot.new) result)
-        × IfOk result (λ id. (id ≡ content_id (repo_view store.old.repo).keys text)
-        × (archive_of (repo_view store.old.repo).keys text ≡ Ok (as_tagged (archive_view archive.now))))) }
+        × (BeginsRecord (repo_view store.old.repo).keys (archive_view archive.now) more
+        × IfOk result (AddsUnder (repo_view store.old.repo).keys (archive_view archive.now) more))) }
     ensures rest { OnOk result (KeepsRest store.old store.new) }
     ensures fits { OnOk result (IfSome (D.told depot.new) (λ t. StoreFits false store.new t.history)) }
     ensures stops { IfErr result (StopsPieces (D.told depot.new) (repo_view store.old.repo).keys) }
@@ -206,10 +208,11 @@ fn put_copied<D: Depot, E: Entropy>(
     requires packable { IsPackableArchive (archive_view archive) }
     requires unspent { IsUnspent store.old }
     requires fits { IfSome (D.told depot.old) (λ t. StoreFits false store.old t.history) }
-    ensures put { (text : List ℕ) × (((most : ℕ) → IsCheckpoint most → store.old.pending ≤ most
-        → Works (KeepsStanding most store.old) (λ _. Gathers most store.old (Record text ∷ []) store.new)
+    ensures put { (more : List Addition) × (((most : ℕ) → IsCheckpoint most → store.old.pending ≤ most
+        → Works (KeepsStanding most store.old more) (λ _. Gathers most store.old more store.new)
         (D.told depot.old) (D.told depot.new) (D.faults depot.old) (D.faults depot.new) result)
-        × IfOk result (λ id. IsRecord (repo_view store.old.repo).keys (archive_view archive) block pieces.now text id)) }
+        × (BeginsRecord (repo_view store.old.repo).keys (copied_in (archive_view archive) block pieces.now) more
+        × IfOk result (AddsUnder (repo_view store.old.repo).keys (copied_in (archive_view archive) block pieces.now) more))) }
     ensures rest { OnOk result (KeepsRest store.old store.new) }
     ensures fits { OnOk result (IfSome (D.told depot.new) (λ t. StoreFits false store.new t.history)) }
     ensures stops { IfErr result (StopsPieces (D.told depot.new) (repo_view store.old.repo).keys) }
@@ -241,11 +244,15 @@ fn end_stream<D: Depot, E: Entropy>(
     requires pending { store.old.pending ≤ stream.old.checkpoint }
     requires unspent { IsUnspent store.old }
     requires fits { IfSome (D.told depot.old) (λ t. StoreFits false store.old t.history) }
-    ensures ended { (text : List ℕ) × (Works (KeepsStanding stream.old.checkpoint store.old)
-        (λ _. Gathers stream.old.checkpoint store.old (pieces (cut stream.old.cutter.block stream.old.cutter.piece) ++ Record text ∷ []) store.new)
+    ensures ended { (last : List Addition) × ((more : List Addition) × (Works (KeepsStanding stream.old.checkpoint store.old (last ++ more))
+        (λ _. Gathers stream.old.checkpoint store.old (last ++ more) store.new)
         (D.told depot.old) (D.told depot.new) (D.faults depot.old) (D.faults depot.new) result
-        × IfOk result (λ id. IsRecord (repo_view store.old.repo).keys (archive_view archive) block (stream.old.chunks.items
-        ++ chunks_of (repo_view store.old.repo).keys (cut stream.old.cutter.block stream.old.cutter.piece)) text id)) }
+        × (ArePieces Stream (cut stream.old.cutter.block stream.old.cutter.piece) last
+        × (BeginsRecord (repo_view store.old.repo).keys (copied_in (archive_view archive) block (stream.old.chunks.items
+        ++ chunks_of (repo_view store.old.repo).keys (cut stream.old.cutter.block stream.old.cutter.piece))) more
+        × (IfOk result (AddsUnder (repo_view store.old.repo).keys (copied_in (archive_view archive) block (stream.old.chunks.items
+        ++ chunks_of (repo_view store.old.repo).keys (cut stream.old.cutter.block stream.old.cutter.piece))) more)
+        × OnOk result (CountsOn Stream stream.old last stream.new)))))) }
     ensures rest { OnOk result (KeepsRest store.old store.new) }
     ensures fits { OnOk result (IfSome (D.told depot.new) (λ t. StoreFits false store.new t.history)) }
     ensures stops { IfErr result (StopsPieces (D.told depot.new) (repo_view store.old.repo).keys) }
@@ -280,7 +287,7 @@ fn name_record<D: Depot, E: Entropy>(
         (D.told depot.old) (D.told depot.new) (D.faults depot.old) (D.faults depot.new) result }
     // Where it is refused, but for a device that failed and want of memory, nothing is named.
     ensures stands { IfErr result (λ fault. IsOfWork fault
-        → (most : ℕ) → Between (D.told depot.old) (D.told depot.new) (KeepsStanding most store.old)) }
+        → (most : ℕ) → Between (D.told depot.old) (D.told depot.new) (KeepsStanding most store.old [])) }
     ensures most { OnOk result (KeepsMost store.old store.new) }
     ensures named { OnOk result (repo_view store.new.repo ≡ with_manifest (repo_view store.old.repo)
         (named_next timestamp.now (repo_view source.now) store.old named.now id)) }
@@ -324,12 +331,9 @@ pub(crate) fn end_copy<D: Depot, E: Entropy>(
     requires packable { IsPackable (accepted_in store.old) }
     requires accepts { AcceptsMore store.old }
     requires unnamed { archive_named named.now.name (accepted_in store.old).archives ≡ None }
-    ensures works { (from : Origin) (added : List (List ℕ)) → IsAllCopied from named.now (D.told depot.old) store.old copy added
-        → (more : List Addition) × (Carries from (named.now.name ∷ []) more store.old store.new
-        (D.told depot.old) (D.told depot.new) (D.faults depot.old) (D.faults depot.new) result
-        × IfOk result (λ _. ListsDone (D.told depot.old) from (repo_view store.old.repo).keys named.now.name (pieces added ++ more) true)) }
-    ensures stands { IfErr result (λ fault. IsOfWork fault
-        → Between (D.told depot.old) (D.told depot.new) (KeepsStanding copy.contents.checkpoint store.old)) }
+    ensures works { (from : Origin) (added : List Addition) → IsAllCopied from named.now (D.told depot.old) store.old copy added
+        → (more : List Addition) × EndsCopy from named.now.name added more store.old store.new
+        (D.told depot.old) (D.told depot.new) (D.faults depot.old) (D.faults depot.new) result }
     ensures most { OnOk result (KeepsMost store.old store.new) }
     ensures named { OnOk result ((text : List ℕ) × (accepted_in store.new
         ≡ named_next timestamp.now (repo_view source.now) store.old named.now (content_id (repo_view store.old.repo).keys text))) }
@@ -341,7 +345,7 @@ pub(crate) fn end_copy<D: Depot, E: Entropy>(
     ensures limit { IfErr result (IsLimited (D.told depot.new) timestamp.now (repo_view source.now) store.old named.now) }
     ensures unspent { OnOk result (IsUnspent store.new) }
     ensures entropy { HasCause random_failed (E.faults entropy.old) (E.faults entropy.new) result }
-    ensures refused { (from : Origin) (added : List (List ℕ)) → IsAllCopied from named.now (D.told depot.old) store.old copy added
+    ensures refused { (from : Origin) (added : List Addition) → IsAllCopied from named.now (D.told depot.old) store.old copy added
         → IfErr result (RefusesEnd from (D.told depot.old) (repo_view store.old.repo).keys named.now.name) }
     ensures shelf { IfErr result (λ fault. shelf_failed fault ≡ false) }
 {
@@ -377,7 +381,7 @@ fn commit_named<D: Depot, E: Entropy>(
         (D.told depot.old) (D.told depot.new) (D.faults depot.old) (D.faults depot.new) result }
     // Where it is refused, but for a device that failed and want of memory, nothing is named.
     ensures stands { IfErr result (λ fault. IsOfWork fault
-        → (most : ℕ) → Between (D.told depot.old) (D.told depot.new) (KeepsStanding most store.old)) }
+        → (most : ℕ) → Between (D.told depot.old) (D.told depot.new) (KeepsStanding most store.old [])) }
     ensures most { OnOk result (KeepsMost store.old store.new) }
     ensures named { OnOk result (repo_view store.new.repo ≡ with_manifest (repo_view store.old.repo)
         (written_at (next_manifest (accepted_in store.old) entry (repo_view source.now).manifest.item_keys) timestamp.now)) }
@@ -413,7 +417,7 @@ fn commit<D: Depot, E: Entropy>(
         (D.told depot.old) (D.told depot.new) (D.faults depot.old) (D.faults depot.new) result }
     // Where it is refused, but for a device that failed and want of memory, nothing is named.
     ensures stands { IfErr result (λ fault. IsOfWork fault
-        → (most : ℕ) → Between (D.told depot.old) (D.told depot.new) (KeepsStanding most store.old)) }
+        → (most : ℕ) → Between (D.told depot.old) (D.told depot.new) (KeepsStanding most store.old [])) }
     ensures most { OnOk result (KeepsMost store.old store.new) }
     ensures committed { OnOk result (repo_view store.new.repo ≡ with_manifest (repo_view store.old.repo) (written_at (accepted_in store.old) timestamp.now)) }
     ensures accepted { OnOk result (accepted_in store.new ≡ (repo_view store.new.repo).manifest) }

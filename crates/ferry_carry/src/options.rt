@@ -1,5 +1,8 @@
 //! How archives are copied, and what was.
 
+ghost use Rattle.std.specs.Prelude.{◌≡◌, ◌+◌, ◌-◌, ◌^◌, if◌then◌else◌, min};
+ghost use Rattle.ferry_carry.specs.Counting.{nothing_carried};
+
 use ferry_base::Bytes;
 
 /// How archives are copied.
@@ -30,7 +33,9 @@ pub struct Carried {
 
 impl Carried {
     /// Nothing.
-    pub(crate) fn nothing() -> Carried {
+    pub(crate) fn nothing() -> Carried
+        ensures { result ≡ nothing_carried }
+    {
         Carried {
             transferred: 0,
             present: 0,
@@ -41,7 +46,9 @@ impl Carried {
     }
 
     /// The pieces of one archive: how many of its contents and how many bytes they have, and how many of its stream.
-    pub(crate) fn of_pieces(contents: (u64, u128), meta: u64) -> Carried {
+    pub(crate) fn of_pieces(contents: (u64, u128), meta: u64) -> Carried
+        ensures { result ≡ record nothing_carried { chunks = contents.0; bytes = contents.1; meta = meta } }
+    {
         let (chunks, bytes) = contents;
         Carried {
             transferred: 0,
@@ -53,12 +60,15 @@ impl Carried {
     }
 
     /// Counts an archive, which was copied or was there, and its pieces.
-    pub(crate) fn count(&mut self, copied: bool, put: &Carried) {
-        if copied {
-            self.transferred = self.transferred.saturating_add(1);
-        } else {
-            self.present = self.present.saturating_add(1);
-        }
+    pub(crate) fn count(&mut self, copied: bool, put: &Carried)
+        ensures transferred { self.new.transferred ≡ min (self.old.transferred + (if copied then 1 else 0)) (2 ^ 64 - 1) }
+        ensures present { self.new.present ≡ min (self.old.present + (if copied then 0 else 1)) (2 ^ 64 - 1) }
+        ensures chunks { self.new.chunks ≡ min (self.old.chunks + put.now.chunks) (2 ^ 64 - 1) }
+        ensures bytes { self.new.bytes ≡ min (self.old.bytes + put.now.bytes) (2 ^ 128 - 1) }
+        ensures meta { self.new.meta ≡ min (self.old.meta + put.now.meta) (2 ^ 64 - 1) }
+    {
+        self.transferred = self.transferred.saturating_add(u64::from(copied));
+        self.present = self.present.saturating_add(u64::from(!copied));
         self.chunks = self.chunks.saturating_add(put.chunks);
         self.bytes = self.bytes.saturating_add(put.bytes);
         self.meta = self.meta.saturating_add(put.meta);

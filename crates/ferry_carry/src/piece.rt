@@ -1,11 +1,12 @@
 //! Bytes that are cut into pieces, each of which is added to a store.
-ghost use Rattle.std.specs.Prelude.{◌≡◌, ◌≤◌, ◌<◌, ◌↔◌, ◌+◌, ◌++◌, ◌∷◌, [], ℕ, List, false, true, length, IfErr, IfOk, IfSome, IsTrue, OnOk};
+ghost use Rattle.std.specs.Prelude.{◌≡◌, ◌≤◌, ◌<◌, ◌↔◌, ◌+◌, ◌-◌, ◌^◌, ◌++◌, ◌∷◌, [], ℕ, Bool, List, false, true, if◌then◌else◌, length, min};
+ghost use Rattle.std.specs.Prelude.{IfErr, IfOk, IfSome, IsTrue, OnOk};
 ghost use Rattle.ferry_base.specs.Limits.{content_limit};
 ghost use Rattle.ferry_blob.specs.Blob.{content_id};
 ghost use Rattle.ferry_carry.specs.Fault.{random_failed, shelf_failed};
 ghost use Rattle.ferry_carry.specs.Gather.{Gathers, KeepsRest, KeepsStanding, chunk_of, chunks_of};
-ghost use Rattle.ferry_carry.specs.Piece.{HasRoom, WritesOn};
-ghost use Rattle.ferry_carry.specs.Puts.{Addition, IsCheckpoint, Piece, content_in, pieces};
+ghost use Rattle.ferry_carry.specs.Piece.{BeginsOn, CountsOn, HasRoom, WritesOn};
+ghost use Rattle.ferry_carry.specs.Puts.{Addition, AreOf, ArePieces, IsCheckpoint, Kind, addition, contents_in};
 ghost use Rattle.ferry_carry.specs.Refusals.{StopsPieces, is_target};
 ghost use Rattle.ferry_carry.specs.Work.{Works};
 ghost use Rattle.ferry_rechunk.specs.Cut.{cut};
@@ -37,7 +38,9 @@ fn add_piece<D: Depot>(
     requires pending { store.old.pending ≤ checkpoint }
     requires unspent { IsUnspent store.old }
     requires fits { IfSome (D.told depot.old) (λ t. StoreFits false store.old t.history) }
-    ensures works { Works (KeepsStanding checkpoint store.old) (λ _. Gathers checkpoint store.old (Piece piece.now ∷ []) store.new)
+    ensures works { (kind : Kind) (put : Bool) → IfOk result (λ added. put ≡ added.new)
+        → Works (KeepsStanding checkpoint store.old (addition kind piece.now put ∷ []))
+        (λ _. Gathers checkpoint store.old (addition kind piece.now put ∷ []) store.new)
         (D.told depot.old) (D.told depot.new) (D.faults depot.old) (D.faults depot.new) result }
     ensures id { IfOk result (λ added. added.id ≡ content_id (repo_view store.old.repo).keys piece.now) }
     ensures pending { OnOk result (store.new.pending ≤ checkpoint) }
@@ -64,7 +67,7 @@ fn make_room<D: Depot>(
     requires pending { store.old.pending ≤ checkpoint }
     requires unspent { IsUnspent store.old }
     requires fits { IfSome (D.told depot.old) (λ t. StoreFits false store.old t.history) }
-    ensures works { Works (KeepsStanding checkpoint store.old) (λ _. Gathers checkpoint store.old [] store.new)
+    ensures works { Works (KeepsStanding checkpoint store.old []) (λ _. Gathers checkpoint store.old [] store.new)
         (D.told depot.old) (D.told depot.new) (D.faults depot.old) (D.faults depot.new) result }
     ensures pending { OnOk result (store.new.pending ≤ checkpoint) }
     ensures room { OnOk result (IsNew (repo_view store.new.repo) (id_under store.new piece.now) → store.new.pending < checkpoint) }
@@ -87,7 +90,7 @@ fn make_room<D: Depot>(
 pub(crate) fn commit_pieces<D: Depot>(store: &mut Store, depot: &mut D) -> Result<(), CarryFault>
     requires unspent { IsUnspent store.old }
     requires fits { IfSome (D.told depot.old) (λ t. StoreFits false store.old t.history) }
-    ensures works { (most : ℕ) → Works (KeepsStanding most store.old) (λ _. Gathers most store.old [] store.new)
+    ensures works { (most : ℕ) → Works (KeepsStanding most store.old []) (λ _. Gathers most store.old [] store.new)
         (D.told depot.old) (D.told depot.new) (D.faults depot.old) (D.faults depot.new) result }
     ensures rest { OnOk result (KeepsRest store.old store.new) }
     ensures pending { OnOk result (store.new.pending ≡ 0) }
@@ -112,8 +115,9 @@ pub(crate) fn add<D: Depot>(
     requires size { length content.now ≤ content_limit }
     requires unspent { IsUnspent store.old }
     requires fits { IfSome (D.told depot.old) (λ t. StoreFits false store.old t.history) }
-    ensures works { (most : ℕ) (one : Addition) → content_in one ≡ content.now → HasRoom most one store.old
-        → Works (KeepsStanding most store.old) (λ _. Gathers most store.old (one ∷ []) store.new)
+    ensures works { (most : ℕ) (kind : Kind) (put : Bool) → IfOk result (λ added. put ≡ added.new) → HasRoom most kind content.now store.old
+        → Works (KeepsStanding most store.old (addition kind content.now put ∷ []))
+        (λ _. Gathers most store.old (addition kind content.now put ∷ []) store.new)
         (D.told depot.old) (D.told depot.new) (D.faults depot.old) (D.faults depot.new) result }
     ensures pending { IfOk result (λ added. store.new.pending ≡ pending_after store.old.pending added.new) }
     ensures new { IfOk result (λ added. IsTrue added.new ↔ IsNew (repo_view store.old.repo) (id_under store.old content.now)) }
@@ -154,6 +158,7 @@ impl PieceWriter {
         ensures block { IfOk result (λ writer. writer.cutter.block ≡ block) }
         ensures piece { IfOk result (λ writer. writer.cutter.piece ≡ []) }
         ensures chunks { IfOk result (λ writer. writer.chunks.items ≡ []) }
+        ensures counted { IfOk result (λ writer. (writer.put ≡ 0) × (writer.bytes ≡ 0)) }
     {
         Ok(PieceWriter {
             alloc,
@@ -166,8 +171,11 @@ impl PieceWriter {
     }
 
     /// How many pieces were put, and how many bytes they have.
-    pub(crate) fn put(&self) -> (u64, u128) {
-        (self.put, self.bytes)
+    pub(crate) fn put(&self) -> (u64, u128)
+        ensures { (result.0 ≡ self.now.put) × (result.1 ≡ self.now.bytes) × (result.0 < 2 ^ 64) × (result.1 < 2 ^ 128) }
+    {
+        let (put, bytes) = (self.put, self.bytes);
+        (put, bytes)
     }
 
     /// Takes bytes, and adds each piece that becomes whole.
@@ -183,11 +191,12 @@ impl PieceWriter {
         requires pending { store.old.pending ≤ self.old.checkpoint }
         requires unspent { IsUnspent store.old }
         requires fits { IfSome (D.told depot.old) (λ t. StoreFits false store.old t.history) }
-        ensures written { (more : List (List ℕ)) × (Works (KeepsStanding self.old.checkpoint store.old)
-            (λ _. Gathers self.old.checkpoint store.old (pieces more) store.new)
+        ensures written { (kind : Kind) → (more : List Addition) × (Works (KeepsStanding self.old.checkpoint store.old more)
+            (λ _. Gathers self.old.checkpoint store.old more store.new)
             (D.told depot.old) (D.told depot.new) (D.faults depot.old) (D.faults depot.new) result
-            × OnOk result (WritesOn (repo_view store.old.repo).keys self.old.cutter self.old.chunks.items bytes.now more
-            self.new.cutter self.new.chunks.items)) }
+            × (AreOf kind more × (BeginsOn self.old.cutter bytes.now (contents_in more)
+            × OnOk result (WritesOn (repo_view store.old.repo).keys self.old.cutter self.old.chunks.items bytes.now (contents_in more)
+            self.new.cutter self.new.chunks.items × CountsOn kind self.old more self.new)))) }
         ensures checkpoint { OnOk result (self.new.checkpoint ≡ self.old.checkpoint) }
         ensures pending { OnOk result (store.new.pending ≤ self.old.checkpoint) }
         ensures rest { OnOk result (KeepsRest store.old store.new) }
@@ -198,6 +207,8 @@ impl PieceWriter {
         ensures target { IfErr result (λ fault. is_target fault ≡ true) }
         ensures drawn { IfErr result (λ fault. random_failed fault ≡ false) }
     {
+        // A number that was read is known to be in its range.
+        let _counted = self.put();
         let mut rest = bytes;
         loop {
             let taken = self.cutter.feed(rest);
@@ -222,9 +233,10 @@ impl PieceWriter {
         requires pending { store.old.pending ≤ self.old.checkpoint }
         requires unspent { IsUnspent store.old }
         requires fits { IfSome (D.told depot.old) (λ t. StoreFits false store.old t.history) }
-        ensures works { Works (KeepsStanding self.old.checkpoint store.old)
-            (λ _. Gathers self.old.checkpoint store.old (pieces (cut self.old.cutter.block self.old.cutter.piece)) store.new)
-            (D.told depot.old) (D.told depot.new) (D.faults depot.old) (D.faults depot.new) result }
+        ensures works { (kind : Kind) → (more : List Addition) × (Works (KeepsStanding self.old.checkpoint store.old more)
+            (λ _. Gathers self.old.checkpoint store.old more store.new)
+            (D.told depot.old) (D.told depot.new) (D.faults depot.old) (D.faults depot.new) result
+            × (ArePieces kind (cut self.old.cutter.block self.old.cutter.piece) more × OnOk result (CountsOn kind self.old more self.new))) }
         ensures chunks { IfOk result (λ chunks. chunks.items
             ≡ self.old.chunks.items ++ chunks_of (repo_view store.old.repo).keys (cut self.old.cutter.block self.old.cutter.piece)) }
         ensures begun { OnOk result ((self.new.cutter.piece ≡ []) × (self.new.chunks.items ≡ [])) }
@@ -252,9 +264,10 @@ impl PieceWriter {
         requires pending { store.old.pending ≤ self.old.checkpoint }
         requires unspent { IsUnspent store.old }
         requires fits { IfSome (D.told depot.old) (λ t. StoreFits false store.old t.history) }
-        ensures works { Works (KeepsStanding self.old.checkpoint store.old)
-            (λ _. Gathers self.old.checkpoint store.old (pieces (cut self.old.cutter.block self.old.cutter.piece)) store.new)
-            (D.told depot.old) (D.told depot.new) (D.faults depot.old) (D.faults depot.new) result }
+        ensures works { (kind : Kind) → (more : List Addition) × (Works (KeepsStanding self.old.checkpoint store.old more)
+            (λ _. Gathers self.old.checkpoint store.old more store.new)
+            (D.told depot.old) (D.told depot.new) (D.faults depot.old) (D.faults depot.new) result
+            × (ArePieces kind (cut self.old.cutter.block self.old.cutter.piece) more × OnOk result (CountsOn kind self.old more self.new))) }
         ensures chunks { OnOk result (self.new.chunks.items
             ≡ self.old.chunks.items ++ chunks_of (repo_view store.old.repo).keys (cut self.old.cutter.block self.old.cutter.piece)) }
         ensures cleared { OnOk result (self.new.cutter.piece ≡ []) }
@@ -269,6 +282,8 @@ impl PieceWriter {
         ensures target { IfErr result (λ fault. is_target fault ≡ true) }
         ensures drawn { IfErr result (λ fault. random_failed fault ≡ false) }
     {
+        // A number that was read is known to be in its range.
+        let _counted = self.put();
         if self.cutter.last().is_none() {
             return Ok(());
         }
@@ -284,9 +299,10 @@ impl PieceWriter {
         requires pending { store.old.pending ≤ self.old.checkpoint }
         requires unspent { IsUnspent store.old }
         requires fits { IfSome (D.told depot.old) (λ t. StoreFits false store.old t.history) }
-        ensures works { Works (KeepsStanding self.old.checkpoint store.old)
-            (λ _. Gathers self.old.checkpoint store.old (Piece self.old.cutter.piece ∷ []) store.new)
-            (D.told depot.old) (D.told depot.new) (D.faults depot.old) (D.faults depot.new) result }
+        ensures works { (put : Bool) × ((kind : Kind) → Works (KeepsStanding self.old.checkpoint store.old (addition kind self.old.cutter.piece put ∷ []))
+            (λ _. Gathers self.old.checkpoint store.old (addition kind self.old.cutter.piece put ∷ []) store.new)
+            (D.told depot.old) (D.told depot.new) (D.faults depot.old) (D.faults depot.new) result
+            × OnOk result (CountsOn kind self.old (addition kind self.old.cutter.piece put ∷ []) self.new)) }
         ensures chunks { OnOk result (self.new.chunks.items ≡ self.old.chunks.items
             ++ chunk_of (repo_view store.old.repo).keys self.old.cutter.piece ∷ []) }
         ensures cleared { OnOk result (self.new.cutter.piece ≡ []) }
@@ -318,6 +334,8 @@ impl PieceWriter {
             ++ record { id = added.id; size = size; csize = 43 + size } ∷ []) }
         ensures checkpoint { OnOk result (self.new.checkpoint ≡ self.old.checkpoint) }
         ensures cutter { self.new.cutter ≡ self.old.cutter }
+        ensures counted { (kind : Kind) (content : List ℕ) → length content ≡ size
+            → OnOk result (CountsOn kind self.old (addition kind content added.new ∷ []) self.new) }
     {
         let id = added.id;
         self.chunks.push(ChunkRef {
@@ -334,10 +352,13 @@ impl PieceWriter {
         ensures chunks { self.new.chunks ≡ self.old.chunks }
         ensures checkpoint { self.new.checkpoint ≡ self.old.checkpoint }
         ensures cutter { self.new.cutter ≡ self.old.cutter }
+        ensures put { self.new.put ≡ min (self.old.put + (if new then 1 else 0)) (2 ^ 64 - 1) }
+        ensures bytes { self.new.bytes ≡ min (self.old.bytes + (if new then size else 0)) (2 ^ 128 - 1) }
     {
+        let (put, bytes) = (self.put, self.bytes);
         if new {
-            self.put = self.put.saturating_add(1);
-            self.bytes = self.bytes.saturating_add(u128::from(size));
+            self.put = put.saturating_add(1);
+            self.bytes = bytes.saturating_add(u128::from(size));
         }
     }
 }

@@ -1,12 +1,12 @@
 -- Lemmas on specs/Counter.antt: what a replaced file `nonce` leaves of a counter and of the blobs that were put, whatever a stop leaves.
 use Rattle.std.proofs.Common.{◌≡◌, ◌⊎◌, inl, inr, ℕ, ◌^◌, ◌<◌, ◌≤◌, Bool, true}
 use Rattle.std.proofs.Common.{false, ◌&&◌, ◌||◌, List, [], ◌∷◌, ◌++◌, Option, Some, None, option_map}
-use Rattle.std.proofs.Common.{IfSome, Result, Ok, Err, refl, sym, ◌∙◌, ap, subst, append_assoc, arith}
+use Rattle.std.proofs.Common.{IfSome, IsSome, Result, Ok, Err, refl, sym, ◌∙◌, ap, subst, append_assoc, arith}
 use Rattle.std.specs.FinMap.{get}
 use Rattle.ferry_disk.specs.Act.{Step, AppendTo, SyncOf, RemoveOf, ReplaceBy, SettleAll, TellOf, Act, History, with_act}
 use Rattle.ferry_disk.specs.Device.{Told, called, acted, Acts}
 use Rattle.ferry_disk.specs.Files.{Files, file_at}
-use Rattle.ferry_disk.specs.Image.{PlainFate, MayStand, plain_of, plain_in, plain_after, plain_stepped, settled, is_settle}
+use Rattle.ferry_disk.specs.Image.{ImageOf, PlainFate, MayStand, plain_of, plain_in, plain_after, plain_stepped, settled, is_settle}
 use Rattle.ferry_disk.specs.Moments.{Between}
 use Rattle.ferry_disk.specs.declared.name.Name.TheVariants.{Config, Nonce, Readme, Segment}
 use Rattle.ferry_disk.specs.declared.shelf.StoreFault.{StoreFault}
@@ -16,7 +16,8 @@ use Rattle.ferry_disk.proofs.ImageStepLemmas.{stands_only}
 use Rattle.ferry_disk.proofs.MomentLemmas.{between_map}
 use Rattle.ferry_stops.specs.Blobs.{FileHasBlob, HasBlob, IsRow, BlobOf, row_after}
 use Rattle.ferry_stops.specs.Counters.{IsNonce, IsAbove, Counts, TakenBelow}
-use Rattle.ferry_nonce.specs.Counter.{CounterFits, IsSafeBelow, KeepsAbove, LeavesNonce, reserves}
+use Rattle.ferry_nonce.specs.Counter.{CounterFits, HasAtLeast, IsDrawnSince, IsFrom, IsSafeBelow, KeepsAbove, KeepsNumbers, LeavesNonce, begin_of}
+use Rattle.ferry_nonce.specs.Counter.{reserves}
 use Rattle.ferry_nonce.specs.declared.counter.Counter.{Counter}
 use Rattle.ferry_nonce.specs.Text.{number_text}
 use Rattle.ferry_nonce.proofs.TextLemmas.{text_spells}
@@ -50,13 +51,48 @@ blob_by history number done blob segment (inr r) = (
 taken_more : (history : History) (number : ℕ) (done : Bool) (free : ℕ) → TakenBelow free history → TakenBelow free (with_act (reserves number) done history)
 taken_more history number done free taken blob block is = taken blob block (blob_by history number done blob is.0 is.1)
 
--- ---- the file
+-- ---- the number that a run began with
 
--- the file has a number that isn't below this one
-pub record HasAtLeast (free : ℕ) (file : Option (List ℕ)) : Type 0 where
-  pub value : ℕ
-  pub nonce : IsNonce file value
-  pub within : free ≤ value
+-- of a later moment of the run, whose blobs are those of before and such with blocks from the counter's next free number on
+pub since_more : (first behind : ℕ) (h g : History) → begin_of g ≡ begin_of h → first ≤ behind
+    → ((blob : List ℕ) → BlobOf g blob → BlobOf h blob ⊎ IsFrom first blob) → (IsSome (plain_in h Nonce).read → IsSome (plain_in g Nonce).read)
+    → IsDrawnSince first h → IsDrawnSince behind g
+since_more first behind h g begins order back stays since = record {
+  least = λ number is. let lower = since.least number (start_of number is) in omega (arith, lower, order);
+  blobs = λ number is blob known. by_back number is blob (back blob known);
+  stays = λ some. stays (since.stays (subst (λ (k : History). IsSome k.start.nonce) begins some));
+} where
+  start_of : (number : ℕ) → IsNonce g.start.nonce number → IsNonce h.start.nonce number
+  start_of number is = subst (λ (k : History). IsNonce k.start.nonce number) begins is
+
+  by_since : (number : ℕ) (blob : List ℕ) → BlobOf (begin_of h) blob ⊎ IsFrom number blob → BlobOf (begin_of g) blob ⊎ IsFrom number blob
+  by_since number blob (inl old) = inl (subst (λ (k : History). BlobOf k blob) (sym begins) old)
+  by_since number blob (inr from) = inr from
+
+  by_back : (number : ℕ) → IsNonce g.start.nonce number → (blob : List ℕ) → BlobOf h blob ⊎ IsFrom first blob
+      → BlobOf (begin_of g) blob ⊎ IsFrom number blob
+  by_back number is blob (inl known) = by_since number blob (since.blobs number (start_of number is) blob known)
+  by_back number is blob (inr from) =
+      inr (λ block of. let lower = since.least number (start_of number is) in let upper = from block of in omega (arith, lower, upper))
+
+-- where a read gives a file, each stop leaves one
+stands_some : (fate : PlainFate) (left : Option (List ℕ)) → MayStand fate left → IsSome fate.read → IsSome left
+stands_some fate left (inl e) some = subst IsSome (sym e) some
+stands_some fate left (inr p) some = subst IsSome (sym p.2) refl
+
+at_least : (less more : ℕ) (file : Option (List ℕ)) → less ≤ more → HasAtLeast more file → HasAtLeast less file
+at_least less more file order has = record { value = has.value; nonce = has.nonce; within = (let above = has.within in omega (arith, order, above)) }
+
+-- of the images of a history whose file may stand so
+numbers_by : (free : ℕ) (history : History) → settled history.acts ≡ true → IsDrawnSince free history
+    → ((left : Option (List ℕ)) → MayStand (plain_in history Nonce) left → HasAtLeast free left) → KeepsNumbers history
+numbers_by free history is_settled since file number is = record {
+  blobs = since.blobs number is;
+  nonce = λ image left. at_least number free image.nonce (since.least number is) (file image.nonce (left.after is_settled).nonce);
+  stays = λ image left some. stands_some (plain_in history Nonce) image.nonce (left.after is_settled).nonce (since.stays some);
+}
+
+-- ---- the file
 
 above_by : (free : ℕ) (history : History) (image : Files) → HasAtLeast free image.nonce → TakenBelow free history → IsAbove history image
 above_by free history image has taken = record {
@@ -100,6 +136,19 @@ undone_file free number read left fits within old (inr p) =
     let same : number_text number ≡ p.0 = (let e = p.1 in cc) in
     subst (HasAtLeast free) (ap (λ (b : List ℕ). Some b) same ∙ sym p.2) (written number fits free within)
 
+-- and a draw leaves its run so
+some_drawn : (number : ℕ) (done : Bool) (fate : PlainFate) → IsSome fate.read
+    → IsSome (plain_after Nonce fate (record { step = reserves number; done = done })).read
+some_drawn number true fate some = refl
+some_drawn number false fate some = some
+
+pub since_drawn : (free number : ℕ) (done : Bool) (history : History) → IsDrawnSince free history
+    → IsDrawnSince free (with_act (reserves number) done history)
+since_drawn free number done history since =
+    since_more free free history (with_act (reserves number) done history) refl (omega arith)
+    (λ blob is. inl (blob_by history number done blob is.0 is.1))
+    (λ some. subst (λ (f : PlainFate). IsSome f.read) (sym (plain_more history number done)) (some_drawn number done (plain_in history Nonce) some)) since
+
 counts_done : (number : ℕ) (history : History) → number < 2 ^ 64 → Counts number (with_act (reserves number) true history)
 counts_done number history fits = record {
   file = Some (number_text number);
@@ -109,45 +158,76 @@ counts_done number history fits = record {
   within = omega arith;
 }
 
+-- what stands at a moment at which nothing of the file is in doubt
+pub numbers_now : (free : ℕ) (history : History) → settled history.acts ≡ true → Counts free history → IsDrawnSince free history → KeepsNumbers history
+numbers_now free history is_settled counts since = numbers_by free history is_settled since (counted_file free history counts)
+
 module _ (free number : ℕ) (history : History) (fits : number < 2 ^ 64) (within : free ≤ number) (is_settled : settled history.acts ≡ true) where
-  pub safe_now : Counts free history → TakenBelow free history → IsSafeBelow free history
-  safe_now counts taken = safe_by free history is_settled taken (counted_file free history counts)
+  abbrev after : Bool → History
+  after done = with_act (reserves number) done history
 
-  safe_undone : Counts free history → TakenBelow free history → IsSafeBelow free (with_act (reserves number) false history)
-  safe_undone counts taken =
-      safe_by free (with_act (reserves number) false history) (settled_more history.acts _ is_settled) (taken_more history number false free taken)
-      (λ left may. undone_file free number (plain_in history Nonce).read left fits within
-      (counted_file free history counts (plain_in history Nonce).read (inl refl))
-      (subst (λ (f : PlainFate). MayStand f left) (plain_more history number false) may))
-
-  safe_done : Counts free history → TakenBelow free history → IsSafeBelow free (with_act (reserves number) true history)
-  safe_done counts taken =
-      safe_by free (with_act (reserves number) true history) (settled_more history.acts _ is_settled) (taken_more history number true free taken)
-      (λ left may.
+  -- the file behind a Replace, done or not
+  file_after : (done : Bool) → Counts free history → (left : Option (List ℕ)) → MayStand (plain_in (after done) Nonce) left → HasAtLeast free left
+  file_after false counts left may =
+      undone_file free number (plain_in history Nonce).read left fits within (counted_file free history counts (plain_in history Nonce).read (inl refl))
+      (subst (λ (f : PlainFate). MayStand f left) (plain_more history number false) may)
+  file_after true counts left may =
       let e : left ≡ Some (number_text number) = stands_only (Some (number_text number)) left
       (subst (λ (f : PlainFate). MayStand f left) (plain_more history number true) may) in
-      subst (HasAtLeast free) (sym e) (written number fits free within))
+      subst (HasAtLeast free) (sym e) (written number fits free within)
+
+  safe_now : Counts free history → TakenBelow free history → IsSafeBelow free history
+  safe_now counts taken = safe_by free history is_settled taken (counted_file free history counts)
+
+  safe_after : (done : Bool) → Counts free history → TakenBelow free history → IsSafeBelow free (after done)
+  safe_after done counts taken =
+      safe_by free (after done) (settled_more history.acts _ is_settled) (taken_more history number done free taken) (file_after done counts)
+
+  numbers_after : (done : Bool) → Counts free history → IsDrawnSince free history → KeepsNumbers (after done)
+  numbers_after done counts since =
+      numbers_by free (after done) (settled_more history.acts _ is_settled) (since_drawn free number done history since) (file_after done counts)
 
   pub done_keeps : KeepsAbove free history (with_act (reserves number) true history)
-  done_keeps counts taken = record {
-    steps = reserves number ∷ [];
-    each = (safe_now counts taken, safe_undone counts taken, safe_done counts taken);
-    now_is = inl refl;
-    last = safe_done counts taken;
-  }
+  done_keeps counts = (
+    λ taken. record {
+      steps = reserves number ∷ [];
+      each = (safe_now counts taken, safe_after false counts taken, safe_after true counts taken);
+      now_is = inl refl;
+      last = safe_after true counts taken;
+    },
+    λ since. record {
+      steps = reserves number ∷ [];
+      each = (numbers_now free history is_settled counts since, numbers_after false counts since, numbers_after true counts since);
+      now_is = inl refl;
+      last = numbers_after true counts since;
+    },
+  )
 
   pub undone_keeps : KeepsAbove free history (with_act (reserves number) false history)
-  undone_keeps counts taken = record {
-    steps = [];
-    each = safe_now counts taken;
-    now_is = inr (reserves number, refl);
-    last = safe_undone counts taken;
-  }
+  undone_keeps counts = (
+    λ taken. record {
+      steps = [];
+      each = safe_now counts taken;
+      now_is = inr (reserves number, refl);
+      last = safe_after false counts taken;
+    },
+    λ since. record {
+      steps = [];
+      each = numbers_now free history is_settled counts since;
+      now_is = inr (reserves number, refl);
+      last = numbers_after false counts since;
+    },
+  )
 
 pub same_keeps : (free : ℕ) (history : History) → settled history.acts ≡ true → KeepsAbove free history history
-same_keeps free history is_settled counts taken =
-    let safe = safe_by free history is_settled taken (counted_file free history counts) in
-    record { steps = []; each = safe; now_is = inl refl; last = safe }
+same_keeps free history is_settled counts = (
+  λ taken.
+      let safe = safe_by free history is_settled taken (counted_file free history counts) in
+      record { steps = []; each = safe; now_is = inl refl; last = safe },
+  λ since.
+      let numbers = numbers_now free history is_settled counts since in
+      record { steps = []; each = numbers; now_is = inl refl; last = numbers },
+)
 
 pub counts_less : (more less : ℕ) (history : History) → less ≤ more → Counts more history → Counts less history
 counts_less more less history below counts = record {
@@ -197,6 +277,23 @@ fits_left counter history step done leaves fits = record {
 pub begins_at_rest : (start : Files) (past : List Act) → (plain_in (record { start = start; past = past; acts = [] }) Nonce).perhaps ≡ None
 unfolding plain_of
 begins_at_rest start past = refl
+
+-- a run that has made no act keeps the number that it begins with
+pub numbers_begun : (history : History) → history.acts ≡ [] → KeepsNumbers history
+numbers_begun history e number is = record {
+  blobs = λ blob known. inl (subst (λ (h : History). BlobOf h blob) begins known);
+  nonce = λ image left. record {
+    value = number;
+    nonce = subst (λ (f : Files). IsNonce f.nonce number) (sym (image_is image left)) is;
+    within = omega arith;
+  };
+  stays = λ image left some. subst (λ (f : Files). IsSome f.nonce) (sym (image_is image left)) some;
+} where
+  begins : history ≡ begin_of history
+  begins = ap (λ (acts : List Act). record history { acts = acts }) e
+
+  image_is : (image : Files) → ImageOf history image → image ≡ history.start
+  image_is image left = left.before (ap settled e)
 
 pub settles_at_rest : (history : History) → (plain_in (with_act SettleAll true history) Nonce).perhaps ≡ None
 settles_at_rest history =

@@ -1,16 +1,18 @@
 -- A counter of blocks and its file: what a draw makes of both, whatever a stop leaves.
 use Rattle.std.specs.Prelude.{◌≡◌, ◌↔◌, ◌+◌, ◌-◌, ◌^◌, ◌<◌, ◌≤◌, ℕ, nat_le, Bool, true, false}
-use Rattle.std.specs.Prelude.{if◌then◌else◌, List, length, Option, Some, None, Result, Ok, Err, option_map, IsErrOf, refl}
+use Rattle.std.specs.Prelude.{if◌then◌else◌, ◌⊎◌, List, [], length, Option, Some, None, IsSome, Result, Ok, Err, option_map, IsErrOf, refl}
+use Rattle.ferry_blob.specs.Blob.{IsBlockOf}
 use Rattle.ferry_disk.specs.Act.{Step, ReplaceBy, History}
 use Rattle.ferry_disk.specs.Device.{Told, called, acted}
 use Rattle.ferry_disk.specs.Files.{Files}
-use Rattle.ferry_disk.specs.Image.{ImageOf}
+use Rattle.ferry_disk.specs.Image.{ImageOf, plain_in}
 use Rattle.ferry_disk.specs.Moments.{Moments}
 use Rattle.ferry_disk.specs.declared.name.Name.TheVariants.{Nonce}
 use Rattle.ferry_nonce.specs.declared.counter.Counter.{Counter}
 use Rattle.ferry_nonce.specs.declared.fault.NonceFault.{NonceFault}
 use Rattle.ferry_nonce.specs.declared.fault.NonceFault.TheVariants.{Missing, Text, Exhausted, Device, Memory}
 use Rattle.ferry_nonce.specs.Text.{number_in, number_text}
+use Rattle.ferry_stops.specs.Blobs.{BlobOf}
 use Rattle.ferry_stops.specs.Counters.{IsNonce, Counts, TakenBelow, IsAbove}
 
 -- ---- answers
@@ -118,6 +120,41 @@ next_draw = refl
 pub next_run : reserved_for (record { free = 268435457; reserved = 268435457; spent = false }) 5 ≡ 536870918
 next_run = refl
 
+-- ---- the number that a run began with
+
+-- a run before its first act
+abbrev pub begin_of : History → History
+begin_of history = record history { acts = [] }
+
+-- Each counter block of a blob is at or above a number.
+abbrev pub IsFrom : ℕ → List ℕ → Type 0
+IsFrom least blob = (block : ℕ) → IsBlockOf blob block → least ≤ block
+
+-- A file `nonce` has a number that isn't below this one.
+pub record HasAtLeast (least : ℕ) (file : Option (List ℕ)) : Type 0 where
+  pub value : ℕ
+  pub nonce : IsNonce file value
+  pub within : least ≤ value
+
+-- Each blob that a run put has its blocks at or above a number, and what a stop leaves, chance or none, has no lower number in the file `nonce`;
+-- a file that was there at the start is there still.
+pub record IsNumberedFrom (least : ℕ) (history : History) : Type 0 where
+  pub blobs : (blob : List ℕ) → BlobOf history blob → BlobOf (begin_of history) blob ⊎ IsFrom least blob
+  pub nonce : (image : Files) → ImageOf history image → HasAtLeast least image.nonce
+  pub stays : (image : Files) → ImageOf history image → IsSome history.start.nonce → IsSome image.nonce
+
+-- That holds of the number that the run began with.
+abbrev pub KeepsNumbers : History → Type 0
+KeepsNumbers history = (number : ℕ) → IsNonce history.start.nonce number → IsNumberedFrom number history
+
+-- While a run writes: its counter's next free number isn't below the number that the run began with, each blob that it put has its blocks at or
+-- above that number, and a file `nonce` that was there at the start is there still.
+pub record IsDrawnSince (free : ℕ) (history : History) : Type 0 where
+  pub least : (number : ℕ) → IsNonce history.start.nonce number → number ≤ free
+  pub blobs : (number : ℕ) → IsNonce history.start.nonce number → (blob : List ℕ) → BlobOf history blob
+      → BlobOf (begin_of history) blob ⊎ IsFrom number blob
+  pub stays : IsSome history.start.nonce → IsSome (plain_in history Nonce).read
+
 -- ---- moments
 
 -- Each block that was taken is below this number, and whatever a stop leaves of the file is above each.
@@ -125,6 +162,8 @@ pub record IsSafeBelow (free : ℕ) (history : History) : Type 0 where
   pub taken : TakenBelow free history
   pub above : (image : Files) → ImageOf history image → IsAbove history image
 
--- That holds at each moment of a draw.
+-- That holds at each moment of a draw, where it held of the blocks before; and whatever blocks were taken before, so does what is said of the
+-- number that the run began with.
 abbrev pub KeepsAbove : ℕ → History → History → Type 0
-KeepsAbove free before now = Counts free before → TakenBelow free before → Moments (IsSafeBelow free) before now
+KeepsAbove free before now = Counts free before
+    → ((TakenBelow free before → Moments (IsSafeBelow free) before now) × (IsDrawnSince free before → Moments KeepsNumbers before now))

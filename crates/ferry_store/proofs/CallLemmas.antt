@@ -22,6 +22,7 @@ use Rattle.ferry_log.specs.State.{LogState, IsStateOf}
 use Rattle.ferry_log.specs.declared.place.Place.{Place}
 use Rattle.std.specs.FinMap.{get}
 use Rattle.ferry_store.specs.declared.fault.StoreRefusal.TheVariants.{Committed}
+use Rattle.ferry_nonce.proofs.MomentLemmas.{numbers_begun}
 use Rattle.ferry_nonce.specs.Counter.{CounterFits, FitIn, KeepsAbove, Reserves, drawn, reserves, reserved_for}
 use Rattle.ferry_nonce.specs.Fault.{nonce_failed}
 use Rattle.ferry_nonce.specs.declared.counter.Counter.{Counter}
@@ -229,6 +230,7 @@ pub begins_here : (after : Option ℕ) (h : History) → BeginsSound after h h
 begins_here after h counts committed begun = moments_here (IsSound (ShowsStanding (found committed (files_now h))) counts) h (record {
   shows = stands_begun committed h begun.no_acts (behind after, begun.shown);
   traced = traced_begun h begun.no_acts;
+  numbers = numbers_begun h begun.no_acts;
   fresh = λ e. (begun.kept e).fresh;
 })
 
@@ -563,7 +565,7 @@ none_new_shown : (secret : Secret) (counts : Bool) (h g : History) → Moments (
     → Moments (IsSound (ShowsNew secret) counts) h g
 none_new_shown secret counts h g m =
     moments_map (IsSound (λ image. Shows image None) counts) (IsSound (ShowsNew secret) counts) h g
-    (λ k s. record { shows = λ image left. inl (s.shows image left); traced = s.traced; fresh = s.fresh }) m
+    (λ k s. record { shows = λ image left. inl (s.shows image left); traced = s.traced; numbers = s.numbers; fresh = s.fresh }) m
 
 settings_first : (secret : Secret) (session : Session) (counter : Counter) (h g : History) → SettingsSound h g → FirstSound secret session counter h g
 settings_first secret session counter h g e counts config readme u =
@@ -610,7 +612,12 @@ committed_shown : (secret : Secret) (text blob : List ℕ) (readme : Option (Lis
 committed_shown secret text blob readme counts h g opens m =
     moments_map (IsSound (ShowsEither (record { committed = None; pending = PutEntry zero_id blob ∷ []; config = Some text; readme = readme })) counts)
     (IsSound (ShowsNew secret) counts) h g
-    (λ k s. record { shows = λ image left. new_shown secret text blob image opens (s.shows image left); traced = s.traced; fresh = s.fresh }) m
+    (λ k s. record {
+      shows = λ image left. new_shown secret text blob image opens (s.shows image left);
+      traced = s.traced;
+      numbers = s.numbers;
+      fresh = s.fresh;
+    }) m
 
 pub first_commit : (secret : Secret) (settings : Config) (blob : List ℕ) (session now done : Session) (counter drawn : Counter) (a b c : Option Told)
     (n m k : ℕ) (result : Result (Unit {0}) StoreRefusal) → IsOpenable secret (config_text settings) blob

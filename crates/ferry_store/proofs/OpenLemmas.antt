@@ -14,6 +14,7 @@ use Rattle.ferry_log.proofs.FitsLemmas.{fits_removed}
 use Rattle.ferry_log.specs.Log.{Located}
 use Rattle.ferry_log.specs.State.{LogState, FitsFiles}
 use Rattle.ferry_log.specs.declared.place.Place.{Place}
+use Rattle.ferry_nonce.specs.Counter.{KeepsNumbers}
 use Rattle.ferry_nonce.specs.declared.counter.Counter.{Counter}
 use Rattle.ferry_nonce.specs.declared.fault.NonceFault.TheVariants as Nonces
 use Rattle.ferry_repo.proofs.LawLemmas.{opens_fits}
@@ -36,10 +37,10 @@ use Rattle.ferry_store.proofs.LiveLemmas.{keeps_nil}
 use Rattle.ferry_store.proofs.SoundLemmas.{stands_begun}
 use Rattle.ferry_store.proofs.StandingLemmas.{fits_state, holds_opened, opened_manifest}
 use Rattle.ferry_store.proofs.StepLemmas.{Reads, did_also, did_as, did_front, did_known, did_then, moments_here, moments_map, read_did}
-use Rattle.ferry_store.proofs.StoreLemmas.{keeps_here, repo_is}
+use Rattle.ferry_store.proofs.StoreLemmas.{keeps_here, numbers_here, repo_is}
 use Rattle.ferry_store.specs.Fault.{repo_refusal}
 use Rattle.ferry_store.specs.State.{Begins, BeginsSound, Did, IsBegun, IsSound, RefusesBegin, ShowsStanding, found}
-use Rattle.ferry_store.specs.Store.{InitKeeps, OpenEach, OpenFits, OpenShows, RefusesOpen}
+use Rattle.ferry_store.specs.Store.{InitKeeps, NumbersOn, OpenEach, OpenFits, OpenShows, RefusesOpen}
 use Rattle.ferry_store.specs.declared.fault.StoreRefusal.{StoreRefusal}
 use Rattle.ferry_store.specs.declared.fault.StoreRefusal.TheVariants.{Repo as RepoRefusal, Write, Nonce, Committed, TooLarge, Entropy, Memory}
 use Rattle.ferry_store.specs.declared.store.Store.{Store}
@@ -85,12 +86,20 @@ keeps_of secret repo h g opens sound e kept =
     (λ k s. (record { fresh = s.fresh refl; shows = λ image left. (Some entries, (s.shows image left).0) }, s.traced))
     (sound true (Some entries) (begun_of true h secret repo opens e (λ c. kept)))
 
+-- no number is below the one that the run began with
+numbers_of : (secret : Secret) (repo : RepoState) (h g : History) → OpensFilesTo (files_now h) secret repo → BeginsSound (Some repo.log.transaction) h g
+    → NumbersOn h g
+numbers_of secret repo h g opens sound e =
+    let entries = entries_shown (files_now h) secret repo opens in
+    moments_map (IsSound (ShowsStanding (found (Some entries) (files_now h))) false) KeepsNumbers h g (λ k s. s.numbers)
+    (sound false (Some entries) (begun_of false h secret repo opens e (λ c. absurd (let no : ⊥ = cc in no))))
+
 opens_here : (h : History) → OpenShows h h
 opens_here h committed e shown =
     moments_here (EachStop (ShowsStanding (found (Some committed) (files_now h)))) h (stands_begun (Some committed) h e shown)
 
 pub each_here : (h : History) → OpenEach h h
-each_here h = (opens_here h, (keeps_here h, first_here h))
+each_here h = (opens_here h, (keeps_here h, (numbers_here h, first_here h)))
 
 -- ---- the repository fits once segments behind its commit are removed
 
@@ -180,7 +189,7 @@ open_step : (secret : Secret) (repo : RepoState) (h g i : History) → OpensFile
 open_step secret repo h g i q f =
     let sound = subst (λ (x : History). BeginsSound (Some repo.log.transaction) x i) q.1 f.0 in
     let first = subst (λ (x : History). SettlesFirst x i) q.1 f.1 in
-    (shows_of secret repo h i q.0 sound, (keeps_of secret repo h i q.0 sound, first))
+    (shows_of secret repo h i q.0 sound, (keeps_of secret repo h i q.0 sound, (numbers_of secret repo h i q.0 sound, first)))
 
 opened_read : (secret : Secret) (repo : Repo) (a b : Option Told) (n m : ℕ) → KeepsTold {F = RepoFault} repo_failed a b (Ok repo) → m ≡ n
     → IfSome a (λ t. OpensFilesTo (told_files t) secret (repo_view repo))

@@ -62,7 +62,7 @@ keeps_entry : (next : RepoState) (session : Session) (counter : Counter) (entry 
     → CommitsEntry next session counter entry h g
 keeps_entry next session counter entry h g keeps counts written u =
     moments_map (IsSound (ShowsStanding written) counts) (IsSound (ShowsManifest next (with_entry written entry)) counts) h g
-    (λ k s. record { shows = λ image left. inl (s.shows image left); traced = s.traced; fresh = s.fresh }) (keeps counts written u)
+    (λ k s. record { shows = λ image left. inl (s.shows image left); traced = s.traced; numbers = s.numbers; fresh = s.fresh }) (keeps counts written u)
 
 entry_sound : (next : RepoState) (session put : Session) (counter drawn : Counter) (entry : LogEntry) (h g i : History)
     → HoldsEntry next entry → KeepsSound session counter h g → AllDone h g
@@ -73,6 +73,7 @@ entry_sound next session put counter drawn entry h g i held keeps done takes com
     (λ k s. record {
       shows = λ image left. with_held next (with_entry written entry) image (held written) (s.shows image left);
       traced = s.traced;
+      numbers = s.numbers;
       fresh = s.fresh;
     })
     (commits counts (with_entry written entry) (takes counts written u)))

@@ -1,5 +1,5 @@
 -- Each moment of a repository that is written is sound.
-use Rattle.std.proofs.Common.{◌≡◌, ◌⊎◌, inl, inr, ℕ, ◌<◌, ◌≤◌, Bool, true, false, List, [], Option, Some, None}
+use Rattle.std.proofs.Common.{◌≡◌, ◌⊎◌, inl, inr, ℕ, ◌<◌, ◌≤◌, Bool, true, false, List, [], Option, Some, None, IsSome}
 use Rattle.std.proofs.Common.{refl, sym, ◌∙◌, ap, subst, arith}
 use Rattle.ferry_blob.specs.Blob.{IsBlockOf, blocks}
 use Rattle.ferry_disk.specs.Act.{Step, ReplaceBy, SettleAll, Act, History, files_now, with_act}
@@ -9,9 +9,9 @@ use Rattle.ferry_disk.specs.Moments.{Moments}
 use Rattle.ferry_disk.specs.declared.name.Name.{Name}
 use Rattle.ferry_disk.specs.declared.name.Name.TheVariants.{Config as ConfigFile, Nonce as NonceFile, Readme}
 use Rattle.ferry_disk.proofs.ImageLemmas.{start_is_image, unsettled_image}
-use Rattle.ferry_nonce.proofs.MomentLemmas.{same_keeps, fits_left}
+use Rattle.ferry_nonce.proofs.MomentLemmas.{same_keeps, file_left, fits_left, numbers_now, since_drawn, since_more}
 use Rattle.ferry_nonce.proofs.TextLemmas.{one_number}
-use Rattle.ferry_nonce.specs.Counter.{CounterFits, KeepsAbove, LeavesNonce, reserves}
+use Rattle.ferry_nonce.specs.Counter.{CounterFits, IsDrawnSince, IsFrom, KeepsAbove, KeepsNumbers, LeavesNonce, begin_of, reserves}
 use Rattle.ferry_nonce.specs.declared.counter.Counter.{Counter}
 use Rattle.ferry_segment.specs.Entry.{LogEntry, PutEntry}
 use Rattle.ferry_stops.proofs.BlobLemmas.{begin_traced}
@@ -20,7 +20,7 @@ use Rattle.ferry_stops.specs.Blobs.{BlobOf, AllTraced, Gains}
 use Rattle.ferry_stops.specs.Chance.{EachStop}
 use Rattle.ferry_stops.specs.Counters.{IsNonce, AreApart, TakenBelow, IsAbove, IsFresh, IsKept, Counts}
 use Rattle.ferry_stops.specs.Entries.{Shows}
-use Rattle.ferry_store.proofs.StepLemmas.{moments_map, moments_both, moments_start, moments_settled, step_moments}
+use Rattle.ferry_store.proofs.StepLemmas.{moments_map, moments_both, moments_begin, moments_settled, step_moments}
 use Rattle.ferry_store.specs.State.{AreTaken, IsUnderWay, IsSound, Written, BeginsSound, Begins, with_entry, all_committed, IsStep, ShowsEither}
 use Rattle.ferry_store.specs.State.{EndsAtCommit, ShowsStanding, found}
 use Rattle.ferry_write.proofs.LawLemmas.{beside_fits, beside_rows, beside_blobs}
@@ -44,8 +44,34 @@ below_as h g n back below blob number is block = below blob number (back blob is
 pub fresh_by : (free : ℕ) (h : History) → settled h.acts ≡ true → Counts free h → AreTaken free h → IsFresh h
 fresh_by free h is_settled counts taken = record {
   apart = taken.apart;
-  above = λ image is. (same_keeps free h is_settled counts taken.below).last.above image is;
+  above = λ image is. ((same_keeps free h is_settled counts).0 taken.below).last.above image is;
 }
+
+-- ---- the number that a run began with
+
+-- of a later moment at which the counter's file is as it was
+since_later : (first behind : ℕ) (h g : History) (file : Option (List ℕ)) → begin_of g ≡ begin_of h → first ≤ behind
+    → ((blob : List ℕ) → BlobOf g blob → BlobOf h blob ⊎ IsFrom first blob) → plain_in h NonceFile ≡ rests_at file → plain_in g NonceFile ≡ rests_at file
+    → IsDrawnSince first h → IsDrawnSince behind g
+since_later first behind h g file begins order back before now since =
+    since_more first behind h g begins order back (λ some. subst (λ (f : PlainFate). IsSome f.read) (before ∙ sym now) some) since
+
+-- where no blob was put
+since_kept : (free : ℕ) (h g : History) (file : Option (List ℕ)) → begin_of g ≡ begin_of h → ((blob : List ℕ) → BlobOf g blob → BlobOf h blob)
+    → plain_in h NonceFile ≡ rests_at file → plain_in g NonceFile ≡ rests_at file → IsDrawnSince free h → IsDrawnSince free g
+since_kept free h g file begins back before now since =
+    since_later free free h g file begins (omega arith) (λ blob known. inl (back blob known)) before now since
+
+-- a counter's file that is at rest with what it was
+counts_rest : (free : ℕ) (h g : History) (counts : Counts free h) → plain_in g NonceFile ≡ rests_at counts.file → Counts free g
+counts_rest free h g counts rest = record { file = counts.file; at_rest = rest; value = counts.value; nonce = counts.nonce; within = counts.within }
+
+-- a step beside the session leaves the number
+pub since_beside : (free : ℕ) (step : Step) (done : Bool) (h : History) → IsBeside step → LeavesNonce step → Counts free h → IsDrawnSince free h
+    → IsDrawnSince free (with_act step done h)
+since_beside free step done h beside leaves counts since =
+    let rest = file_left h step done leaves (ap (λ (f : PlainFate). f.perhaps) counts.at_rest) ∙ counts.at_rest in
+    since_kept free h (with_act step done h) counts.file refl (λ blob. (beside_blobs h step done blob beside).0) counts.at_rest rest since
 
 -- ---- a moment as it stands
 
@@ -65,6 +91,7 @@ pub sound_now : (counts : Bool) (session : Session) (counter : Counter) (written
 sound_now counts session counter written h u = record {
   shows = λ image left. (_, own_shows _ written.committed h u.fits.own image left);
   traced = u.rows.traced;
+  numbers = numbers_now counter.free h u.fits.own.safe.settled_is u.counter_fits.free u.numbers;
   fresh = λ e. fresh_by counter.free h u.fits.own.safe.settled_is u.counter_fits.free (u.taken e);
 }
 
@@ -76,6 +103,7 @@ stands_now counts session counter written h u =
     record {
       shows = λ image left. ((_, own_shows _ written.committed h u.fits.own image left), config_left h written.config image u.config is_settled left.image_is);
       traced = u.rows.traced;
+      numbers = numbers_now counter.free h is_settled u.counter_fits.free u.numbers;
       fresh = λ e. fresh_by counter.free h is_settled u.counter_fits.free (u.taken e);
     }
 
@@ -84,7 +112,7 @@ pub standing_shown : (counts : Bool) (written : Written) (h g : History) → Mom
     → Moments (IsSound (λ image. Shows image written.committed) counts) h g
 standing_shown counts written h g m =
     moments_map (IsSound (ShowsStanding written) counts) (IsSound (λ image. Shows image written.committed) counts) h g
-    (λ k s. record { shows = λ image left. (s.shows image left).0; traced = s.traced; fresh = s.fresh }) m
+    (λ k s. record { shows = λ image left. (s.shows image left).0; traced = s.traced; numbers = s.numbers; fresh = s.fresh }) m
 
 -- ---- the begin of a run
 
@@ -137,6 +165,11 @@ config_later h g e start rest image is =
     start_left (λ (f : Files). f.config) (plain_in g ConfigFile) g image (rest ∙ ap rests_at (sym same)) (λ s. (is.after s).config) is in
     left ∙ (same ∙ ap (λ (f : Files). f.config) (sym (files_begun h e)))
 
+-- a blob of a run that had made no act is one of its begin
+begun_blob : (h g : History) → h.acts ≡ [] → begin_of g ≡ begin_of h → (blob : List ℕ) → BlobOf h blob → BlobOf (begin_of g) blob
+begun_blob h g e begins blob known =
+    subst (λ (k : History). BlobOf k blob) (ap (λ (acts : List Act). record h { acts = acts }) e ∙ sym begins) known
+
 -- what was kept at the begin is above, at each moment at which the file is as it was
 above_later : (h g : History) → h.acts ≡ [] → IsKept h → g.start ≡ h.start → plain_in g NonceFile ≡ rests_at h.start.nonce
     → ((blob : List ℕ) → BlobOf g blob → BlobOf h blob) → (image : Files) → ImageOf g image → IsAbove g image
@@ -149,6 +182,17 @@ above_later h g e kept start rest back image is =
       nonce = subst (λ (f : Option (List ℕ)). IsNonce f above.value) (sym left) above.nonce;
       above = λ blob number known block. above.above blob number (back blob known) block;
     }
+
+-- and so is the number that the run began with
+numbers_later : (h g : History) → h.acts ≡ [] → begin_of g ≡ begin_of h → plain_in g NonceFile ≡ rests_at h.start.nonce
+    → ((blob : List ℕ) → BlobOf g blob → BlobOf h blob) → KeepsNumbers g
+numbers_later h g e begins rest back number is = record {
+  blobs = λ blob known. inl (begun_blob h g e begins blob (back blob known));
+  nonce = λ image left. record { value = number; nonce = subst (λ (f : Option (List ℕ)). IsNonce f number) (sym (same image left)) is; within = omega arith };
+  stays = λ image left some. subst IsSome (sym (same image left)) some;
+} where
+  same : (image : Files) → ImageOf g image → image.nonce ≡ g.start.nonce
+  same image left = nonce_left g image (rest ∙ ap (λ (k : History). rests_at k.start.nonce) (sym begins)) left
 
 none_new : (h g : History) → Gains h (λ _. ⊥) g → (blob : List ℕ) → BlobOf g blob → BlobOf h blob
 none_new h g gains blob is = by_sum (gains.gained blob is) where
@@ -164,16 +208,20 @@ begin_sound after h g keeps brings plain counts committed begun =
     let config = plain ConfigFile (file_at h.start ConfigFile) (plain_begun h ConfigFile begun.no_acts) in
     let shows = keeps committed begun.shown (shows_begun after committed h begun.no_acts begun.shown) in
     let gains = brings begun.no_acts in
-    let start = moments_start _ h g gains in
+    let begins = moments_begin _ h g gains in
     moments_map _ (IsSound (ShowsStanding (found committed (files_now h))) counts) h g (λ m all. record {
-      shows = λ image left. (all.0.0 image left, config_later h m begun.no_acts all.1.1 all.1.0.1 image left.image_is);
+      shows = λ image left. (
+        all.0.0 image left,
+        config_later h m begun.no_acts (ap (λ (k : History). k.start) all.1.1) all.1.0.1 image left.image_is,
+      );
       traced = all.0.1.traced;
+      numbers = numbers_later h m begun.no_acts all.1.1 all.1.0.0 (none_new h m all.0.1);
       fresh = λ e. record {
         apart = apart_as h m (none_new h m all.0.1) (begun.kept e).fresh.apart;
-        above = above_later h m begun.no_acts (begun.kept e) all.1.1 all.1.0.0 (none_new h m all.0.1);
+        above = above_later h m begun.no_acts (begun.kept e) (ap (λ (k : History). k.start) all.1.1) all.1.0.0 (none_new h m all.0.1);
       };
     })
-    (moments_both _ _ h g (moments_both _ _ h g shows gains) (moments_both _ _ h g (moments_both _ _ h g nonce config) start))
+    (moments_both _ _ h g (moments_both _ _ h g shows gains) (moments_both _ _ h g (moments_both _ _ h g nonce config) begins))
 
 -- a counter's file is as it was
 counts_kept : (n : ℕ) (h g : History) → KeepsPlain h g → Counts n h → Counts n g
@@ -202,6 +250,17 @@ taken_begun free h e kept is =
 taken_later : (free : ℕ) (h g : History) → ((blob : List ℕ) → BlobOf g blob → BlobOf h blob) → AreTaken free h → AreTaken free g
 taken_later free h g back taken = record { apart = apart_as h g back taken.apart; below = below_as h g free back taken.below }
 
+-- and the counter's next free number is the one that the run began with
+since_begun : (free : ℕ) (h g : History) → h.acts ≡ [] → begin_of g ≡ begin_of h → plain_in g NonceFile ≡ rests_at h.start.nonce
+    → ((blob : List ℕ) → BlobOf g blob → BlobOf h blob) → IsNonce (file_at (files_now h) NonceFile) free → IsDrawnSince free g
+since_begun free h g e begins rest back number = record {
+  least = λ least is.
+      let begun = subst (λ (k : History). IsNonce k.start.nonce least) begins is in
+      let same = one_number h.start.nonce least free begun (subst (λ (f : Files). IsNonce f.nonce free) (files_begun h e) number) in omega (arith, same);
+  blobs = λ least is blob known. inl (begun_blob h g e begins blob (back blob known));
+  stays = λ some. subst (λ (f : PlainFate). IsSome f.read) (sym rest) (subst (λ (k : History). IsSome k.start.nonce) begins some);
+}
+
 pub begin_stands : (after : Option ℕ) (counter : Counter) (session : Session) (h g : History) → IsNonce (file_at (files_now h) NonceFile) counter.free
     → ((plain_in h NonceFile).perhaps ≡ None → CounterFits counter h) → SessionBegins after session h g → BeginsRows session h g → BeginBrings h g
     → KeepsPlain h g → EndsAtCommit session → Begins after counter session h g
@@ -210,6 +269,7 @@ begin_stands after counter session h g number opened begins rows brings plain en
     let rest = plain_begun h NonceFile e in
     let same = files_begun h e in
     let back = none_new h g (brings e).last in
+    let begins_is = (moments_begin _ h g (brings e)).last in
     record {
       fits = begins committed begun.shown;
       rows = rows e;
@@ -217,6 +277,7 @@ begin_stands after counter session h g number opened begins rows brings plain en
       counter_fits = counter_kept counter h g plain (opened (ap (λ (f : PlainFate). f.perhaps) rest));
       config = (plain ConfigFile (file_at h.start ConfigFile) (plain_begun h ConfigFile e)).last ∙ ap (λ (f : Files). rests_at f.config) (sym same);
       readme = (plain Readme (file_at h.start Readme) (plain_begun h Readme e)).last ∙ ap (λ (f : Files). rests_at f.readme) (sym same);
+      numbers = since_begun counter.free h g e begins_is (plain NonceFile (file_at h.start NonceFile) rest).last back number;
       taken = λ c. taken_later counter.free h g back (taken_begun counter.free h e (begun.kept c) number);
     }
 
@@ -251,6 +312,14 @@ gained_taken first behind entry h g order blocks gains taken = record {
   by_sums a b (inr x) (inl y) = inr (λ number p q.
       let lower = taken.below b number y q in let upper = (blocks a number x p).0 in let no : ⊥ = omega (arith, lower, upper) in no)
 
+-- no block of a blob that is put is below the first that it takes
+gained_from : (first behind : ℕ) (entry : LogEntry) (h g : History) → TakesBlocks entry first behind → Gains h (IsPutOf entry) g → (blob : List ℕ)
+    → BlobOf g blob → BlobOf h blob ⊎ IsFrom first blob
+gained_from first behind entry h g blocks gains blob known = by_sum (gains.gained blob known) where
+  by_sum : BlobOf h blob ⊎ IsPutOf entry blob → BlobOf h blob ⊎ IsFrom first blob
+  by_sum (inl old) = inl old
+  by_sum (inr put) = inr (λ block of. (blocks blob block put of).0)
+
 -- a counter behind a draw: its file counts up to its next free number, and what was taken before the draw is below the first
 pub record HasDrawn (counts : Bool) (session : Session) (first : ℕ) (counter : Counter) (written : Written) (history : History) : Type 0 where
   pub fits : SessionFits session written.committed written.pending history
@@ -259,6 +328,7 @@ pub record HasDrawn (counts : Bool) (session : Session) (first : ℕ) (counter :
   pub config : plain_in history ConfigFile ≡ rests_at written.config
   pub readme : plain_in history Readme ≡ rests_at written.readme
   pub order : first ≤ counter.free
+  pub numbers : IsDrawnSince first history
   pub taken : counts ≡ true → AreTaken first history
 
 pub put_sound : (counts : Bool) (session : Session) (first : ℕ) (counter : Counter) (written : Written) (entry : LogEntry) (h g : History)
@@ -270,20 +340,19 @@ put_sound counts session first counter written entry h g blocks u keeps brings p
     let nonce = plain NonceFile u.counter_fits.free.file u.counter_fits.free.at_rest in
     let config = plain ConfigFile written.config u.config in
     let is_settled = moments_settled _ h g u.fits.own.safe.settled_is gains in
-    moments_map _ (IsSound (ShowsStanding written) counts) h g (λ m all. record {
-      shows = λ image left. (all.0.0 image left, config_left m written.config image all.1.0.1 all.1.1 left.image_is);
+    let begins = moments_begin _ h g gains in
+    moments_map _ (IsSound (ShowsStanding written) counts) h g (λ m all.
+    let rest = counts_rest counter.free h m u.counter_fits.free all.1.0.0 in
+    record {
+      shows = λ image left. (all.0.0 image left, config_left m written.config image all.1.0.1 all.1.1.0 left.image_is);
       traced = all.0.1.traced;
-      fresh = λ e. fresh_by counter.free m all.1.1
-          (record {
-            file = u.counter_fits.free.file;
-            at_rest = all.1.0.0;
-            value = u.counter_fits.free.value;
-            nonce = u.counter_fits.free.nonce;
-            within = u.counter_fits.free.within;
-          })
-          (gained_taken first counter.free entry h m u.order blocks all.0.1 (u.taken e));
+      numbers = numbers_now counter.free m all.1.1.0 rest
+          (since_later first counter.free h m u.counter_fits.free.file all.1.1.1 u.order (gained_from first counter.free entry h m blocks all.0.1)
+          u.counter_fits.free.at_rest all.1.0.0 u.numbers);
+      fresh = λ e. fresh_by counter.free m all.1.1.0 rest (gained_taken first counter.free entry h m u.order blocks all.0.1 (u.taken e));
     })
-    (moments_both _ _ h g (moments_both _ _ h g shows gains) (moments_both _ _ h g (moments_both _ _ h g nonce config) is_settled))
+    (moments_both _ _ h g (moments_both _ _ h g shows gains)
+    (moments_both _ _ h g (moments_both _ _ h g nonce config) (moments_both _ _ h g is_settled begins)))
 
 pub put_stands : (counts : Bool) (session now : Session) (first : ℕ) (counter : Counter) (written : Written) (entry : LogEntry) (h g : History)
     → TakesBlocks entry first counter.free → HasDrawn counts session first counter written h → Puts session now entry h g → KeepsRows session now h g
@@ -295,6 +364,10 @@ put_stands counts session now first counter written entry h g blocks u puts rows
   counter_fits = counter_kept counter h g plain u.counter_fits;
   config = (plain ConfigFile written.config u.config).last;
   readme = (plain Readme written.readme u.readme).last;
+  numbers = since_later first counter.free h g u.counter_fits.free.file
+      (moments_begin _ h g (brings written.committed written.pending u.fits u.rows)).last u.order
+      (gained_from first counter.free entry h g blocks (brings written.committed written.pending u.fits u.rows).last) u.counter_fits.free.at_rest
+      (plain NonceFile u.counter_fits.free.file u.counter_fits.free.at_rest).last u.numbers;
   taken = λ e. gained_taken first counter.free entry h g u.order blocks (brings written.committed written.pending u.fits u.rows).last (u.taken e);
 }
 
@@ -305,10 +378,13 @@ pub beside_sound : (counts : Bool) (session : Session) (counter : Counter) (writ
 beside_sound counts session counter written step done h beside leaves u =
     let g = with_act step done h in
     let fits = beside_fits session written.committed written.pending h step done beside u.fits in
+    let counted = (fits_left counter h step done leaves u.counter_fits).free in
     record {
       shows = λ image left. (_, own_shows _ written.committed g fits.own image left);
       traced = (beside_rows session h step done beside u.rows).traced;
-      fresh = λ e. fresh_by counter.free g fits.own.safe.settled_is (fits_left counter h step done leaves u.counter_fits).free
+      numbers = numbers_now counter.free g fits.own.safe.settled_is counted
+          (since_beside counter.free step done h beside leaves u.counter_fits.free u.numbers);
+      fresh = λ e. fresh_by counter.free g fits.own.safe.settled_is counted
           (taken_later counter.free h g (λ blob. (beside_blobs h step done blob beside).0) (u.taken e));
     }
 
@@ -331,6 +407,7 @@ readme_stands counts session counter written bytes h u =
       counter_fits = fits_left counter h step true tt u.counter_fits;
       config = plain_next h step true ConfigFile ∙ u.config;
       readme = plain_next h step true Readme;
+      numbers = since_beside counter.free step true h tt tt u.counter_fits.free u.numbers;
       taken = λ e. taken_later counter.free h g (λ blob. (beside_blobs h step true blob tt).0) (u.taken e);
     }
 
@@ -347,6 +424,7 @@ config_stands counts session counter written bytes h u =
       counter_fits = fits_left counter h step true tt u.counter_fits;
       config = plain_next h step true ConfigFile;
       readme = plain_next h step true Readme ∙ u.readme;
+      numbers = since_beside counter.free step true h tt tt u.counter_fits.free u.numbers;
       taken = λ e. taken_later counter.free h g (λ blob. (beside_blobs h step true blob tt).0) (u.taken e);
     }
 
@@ -371,13 +449,14 @@ draw_base counts session counter written number h g u is =
     )) is
 
 quiet_sound : (counts : Bool) (session : Session) (counter : Counter) (written : Written) (m : History) → quiet session counter written m
-    → (counts ≡ true → IsFresh m) → IsSound (ShowsStanding written) counts m
-quiet_sound counts session counter written m q fresh = record {
+    → KeepsNumbers m → (counts ≡ true → IsFresh m) → IsSound (ShowsStanding written) counts m
+quiet_sound counts session counter written m q numbers fresh = record {
   shows = λ image left. (
     (_, own_shows _ written.committed m q.0.own image left),
     config_left m written.config image q.1.1 q.0.own.safe.settled_is left.image_is,
   );
   traced = q.1.0.traced;
+  numbers = numbers;
   fresh = fresh;
 }
 
@@ -386,13 +465,14 @@ pub draw_sound : (counts : Bool) (session : Session) (counter : Counter) (writte
     → Moments (IsSound (ShowsStanding written) counts) h g
 draw_sound false session counter written number h g u is keeps =
     moments_map _ (IsSound (ShowsStanding written) false) h g
-    (λ m q. quiet_sound false session counter written m q.0 (λ e. absurd (let no : ⊥ = cc in no))) (draw_base false session counter written number h g u is)
+    (λ m q. quiet_sound false session counter written m q.0.0 q.1 (λ e. absurd (let no : ⊥ = cc in no)))
+    (moments_both _ _ h g (draw_base false session counter written number h g u is) ((keeps u.counter_fits.free).1 u.numbers))
 draw_sound true session counter written number h g u is keeps =
     let taken = u.taken refl in
-    let above = keeps u.counter_fits.free taken.below in
+    let kept = keeps u.counter_fits.free in
     moments_map _ (IsSound (ShowsStanding written) true) h g
-    (λ m q. quiet_sound true session counter written m q.0.0 (λ e. record { apart = apart_as h m q.0.1 taken.apart; above = q.1.above }))
-    (moments_both _ _ h g (draw_base true session counter written number h g u is) above)
+    (λ m q. quiet_sound true session counter written m q.0.0 q.1.1 (λ e. record { apart = apart_as h m q.0.1 taken.apart; above = q.1.0.above }))
+    (moments_both _ _ h g (draw_base true session counter written number h g u is) (moments_both _ _ h g (kept.0 taken.below) (kept.1 u.numbers)))
 
 pub draw_stands : (counts : Bool) (session : Session) (counter drawn : Counter) (written : Written) (number : ℕ) (h g : History)
     → IsUnderWay counts session counter written h → (g ≡ h) ⊎ (g ≡ with_act (reserves number) true h) → counter.free ≤ drawn.free
@@ -405,6 +485,7 @@ draw_stands counts session counter drawn written number h g u (inl e) order fits
       config = u.config;
       readme = u.readme;
       order = order;
+      numbers = u.numbers;
       taken = u.taken;
     })
 draw_stands counts session counter drawn written number h g u (inr e) order fits =
@@ -417,6 +498,7 @@ draw_stands counts session counter drawn written number h g u (inr e) order fits
       config = plain_next h step true ConfigFile ∙ u.config;
       readme = plain_next h step true Readme ∙ u.readme;
       order = order;
+      numbers = since_drawn counter.free number true h u.numbers;
       taken = λ c. taken_later counter.free h k (λ blob. (beside_blobs h step true blob tt).0) (u.taken c);
     })
 
@@ -435,20 +517,18 @@ commit_sound counts session counter written h g u keeps brings plain =
     let nonce = plain NonceFile u.counter_fits.free.file u.counter_fits.free.at_rest in
     let config = plain ConfigFile written.config u.config in
     let is_settled = moments_settled _ h g u.fits.own.safe.settled_is gains in
-    moments_map _ (IsSound (ShowsEither written) counts) h g (λ m all. record {
-      shows = λ image left. either_shown written image (config_left m written.config image all.1.0.1 all.1.1 left.image_is) (all.0.0 image left);
+    let begins = moments_begin _ h g gains in
+    moments_map _ (IsSound (ShowsEither written) counts) h g (λ m all.
+    let rest = counts_rest counter.free h m u.counter_fits.free all.1.0.0 in
+    record {
+      shows = λ image left. either_shown written image (config_left m written.config image all.1.0.1 all.1.1.0 left.image_is) (all.0.0 image left);
       traced = all.0.1.traced;
-      fresh = λ e. fresh_by counter.free m all.1.1
-          (record {
-            file = u.counter_fits.free.file;
-            at_rest = all.1.0.0;
-            value = u.counter_fits.free.value;
-            nonce = u.counter_fits.free.nonce;
-            within = u.counter_fits.free.within;
-          })
-          (taken_later counter.free h m (none_new h m all.0.1) (u.taken e));
+      numbers = numbers_now counter.free m all.1.1.0 rest
+          (since_kept counter.free h m u.counter_fits.free.file all.1.1.1 (none_new h m all.0.1) u.counter_fits.free.at_rest all.1.0.0 u.numbers);
+      fresh = λ e. fresh_by counter.free m all.1.1.0 rest (taken_later counter.free h m (none_new h m all.0.1) (u.taken e));
     })
-    (moments_both _ _ h g (moments_both _ _ h g shows gains) (moments_both _ _ h g (moments_both _ _ h g nonce config) is_settled))
+    (moments_both _ _ h g (moments_both _ _ h g shows gains)
+    (moments_both _ _ h g (moments_both _ _ h g nonce config) (moments_both _ _ h g is_settled begins)))
 
 pub commit_stands : (counts : Bool) (session now : Session) (counter : Counter) (written : Written) (h g : History)
     → IsUnderWay counts session counter written h → Commits session now h g → KeepsRows session now h g → BringsNone session h g → KeepsPlain h g
@@ -460,5 +540,9 @@ commit_stands counts session now counter written h g u commits rows brings plain
   counter_fits = counter_kept counter h g plain u.counter_fits;
   config = (plain ConfigFile written.config u.config).last;
   readme = (plain Readme written.readme u.readme).last;
+  numbers = since_kept counter.free h g u.counter_fits.free.file
+      (moments_begin _ h g (brings written.committed written.pending u.fits u.rows)).last
+      (none_new h g (brings written.committed written.pending u.fits u.rows).last) u.counter_fits.free.at_rest
+      (plain NonceFile u.counter_fits.free.file u.counter_fits.free.at_rest).last u.numbers;
   taken = λ e. taken_later counter.free h g (none_new h g (brings written.committed written.pending u.fits u.rows).last) (u.taken e);
 }

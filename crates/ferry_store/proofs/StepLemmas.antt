@@ -13,6 +13,7 @@ use Rattle.ferry_disk.proofs.ImageLemmas.{settled-push}
 use Rattle.ferry_disk.specs.Device.{Told, Heard, Acts, acted, called, heard, heard_of, failed_at, first_failed, KeepsTold, KeptWhere, RoseWhere}
 use Rattle.ferry_disk.specs.Faults.{failed_told, FailedWhere}
 use Rattle.ferry_disk.specs.Moments.{Between, Moments, EachMoment, IsMoment, last_undone, with_steps}
+use Rattle.ferry_nonce.specs.Counter.{begin_of}
 use Rattle.ferry_store.specs.Fault.{depot_failed}
 use Rattle.ferry_store.specs.State.{IsStep, Did}
 use Rattle.ferry_write.specs.Script.{AllDone}
@@ -111,22 +112,22 @@ pub settle_settled : (h : History) → settled (with_act SettleAll true h).acts 
 settle_settled h = settled-push h.acts (did SettleAll) ∙ or_true (settled h.acts)
 
 -- each moment begins as the run did
-each_start : (h : History) (s : List Step) → EachMoment (λ g. g.start ≡ h.start) h s
-each_start h [] = refl
-each_start h (x ∷ s) = (refl, refl, each_start (with_act x true h) s)
+each_begin : (h : History) (s : List Step) → EachMoment (λ g. begin_of g ≡ begin_of h) h s
+each_begin h [] = refl
+each_begin h (x ∷ s) = (refl, refl, each_begin (with_act x true h) s)
 
-steps_start : (h : History) (s : List Step) → (with_steps s h).start ≡ h.start
-steps_start h [] = refl
-steps_start h (x ∷ s) = steps_start (with_act x true h) s
+steps_begin : (h : History) (s : List Step) → begin_of (with_steps s h) ≡ begin_of h
+steps_begin h [] = refl
+steps_begin h (x ∷ s) = steps_begin (with_act x true h) s
 
-pub moments_start : (P : History → Type 0) (a b : History) → Moments P a b → Moments (λ h. h.start ≡ a.start) a b
-moments_start P a b m = record {
+pub moments_begin : (P : History → Type 0) (a b : History) → Moments P a b → Moments (λ h. begin_of h ≡ begin_of a) a b
+moments_begin P a b m = record {
   steps = m.steps;
-  each = each_start a m.steps;
+  each = each_begin a m.steps;
   now_is = m.now_is;
   last = elim m.now_is [
-    | inl e ↦ ap (λ (h : History). h.start) e ∙ steps_start a m.steps
-    | inr e ↦ ap (λ (h : History). h.start) e.1 ∙ steps_start a m.steps
+    | inl e ↦ ap begin_of e ∙ steps_begin a m.steps
+    | inr e ↦ ap begin_of e.1 ∙ steps_begin a m.steps
   ];
 }
 

@@ -12,6 +12,8 @@ use Rattle.ferry_disk.specs.Image.{PlainFate, plain_in}
 use Rattle.ferry_disk.specs.Moments.{Between}
 use Rattle.ferry_disk.specs.declared.name.Name.TheVariants.{Config as ConfigFile, Readme}
 use Rattle.ferry_log.specs.Log.{IsUncommitted}
+use Rattle.ferry_nonce.proofs.MomentLemmas.{numbers_begun}
+use Rattle.ferry_nonce.specs.Counter.{KeepsNumbers}
 use Rattle.ferry_nonce.specs.declared.counter.Counter.{Counter}
 use Rattle.ferry_repo.proofs.LawLemmas.{opens_fits, repo_apart}
 use Rattle.ferry_repo.specs.Fault.{IsOfFiles, repo_failed}
@@ -40,7 +42,7 @@ use Rattle.ferry_store.specs.declared.fault.StoreRefusal.{StoreRefusal}
 use Rattle.ferry_store.specs.declared.fault.StoreRefusal.TheVariants.{Repo as RepoRefusal, Write, Nonce, Committed, TooLarge, Entropy, Memory}
 use Rattle.ferry_store.specs.New.{IsNothingOrNew, MakesSound, OpensNew, ShowsNew, first_written, manifest_blob, new_entries}
 use Rattle.ferry_store.specs.State.{Did, IsBegun, IsSound}
-use Rattle.ferry_store.specs.Store.{InitEach, InitFits, InitKeeps, InitMakes, InitShows, RefusesFiles, RefusesInit}
+use Rattle.ferry_store.specs.Store.{InitEach, InitFits, InitKeeps, InitMakes, InitShows, NumbersOn, RefusesFiles, RefusesInit}
 use Rattle.ferry_store.specs.declared.store.Store.{Store}
 use Rattle.ferry_write.proofs.LawLemmas.{fits_now}
 use Rattle.ferry_write.specs.Room.{behind}
@@ -73,6 +75,12 @@ keeps_of secret h g none made e kept =
     (λ k s. (record { fresh = s.fresh refl; shows = λ image left. shows_something secret image (s.shows image left) }, s.traced))
     (made true (begun_by true h e none (λ c. kept))).0
 
+-- no number is below the one that the run began with
+numbers_of : (secret : Secret) (h g : History) → IsUncommitted (files_now h) → MakesSound secret h g → NumbersOn h g
+numbers_of secret h g none made e =
+    moments_map (IsSound (ShowsNew secret) false) KeepsNumbers h g (λ k s. s.numbers)
+    (made false (begun_by false h e none (λ c. absurd (let no : ⊥ = cc in no)))).0
+
 first_of : (secret : Secret) (h g : History) → IsUncommitted (files_now h) → MakesSound secret h g → SettlesFirst h g
 first_of secret h g none made e = (made false (begun_by false h e none (λ c. absurd (let no : ⊥ = cc in no)))).1
 
@@ -85,12 +93,17 @@ shows_here secret h e none =
 pub keeps_here : (h : History) → InitKeeps h h
 keeps_here h e kept = moments_here (λ k. IsKept k × AllTraced k) h (kept, traced_begun h e)
 
+pub numbers_here : (h : History) → NumbersOn h h
+numbers_here h e = moments_here KeepsNumbers h (numbers_begun h e)
+
 pub each_here : (secret : Secret) (h : History) → InitEach secret h h
-each_here secret h = (shows_here secret h, (keeps_here h, (first_here h, λ committed. refl)))
+each_here secret h = (shows_here secret h, (keeps_here h, (numbers_here h, (first_here h, λ committed. refl))))
 
 pub each_of : (secret : Secret) (h g : History) → IsUncommitted (files_now h) → MakesSound secret h g → InitEach secret h g
-each_of secret h g none made =
-    (shows_of secret h g made, (keeps_of secret h g none made, (first_of secret h g none made, λ committed. absurd (committed none))))
+each_of secret h g none made = (
+  shows_of secret h g made,
+  (keeps_of secret h g none made, (numbers_of secret h g none made, (first_of secret h g none made, λ committed. absurd (committed none)))),
+)
 
 -- ---- the end
 

@@ -13,7 +13,7 @@ use Rattle.ferry_disk.specs.declared.name.Name.TheVariants.{Config as ConfigFile
 use Rattle.ferry_log.specs.Log.{IsUncommitted}
 use Rattle.ferry_log.specs.State.{IsBlobAt}
 use Rattle.ferry_log.specs.declared.place.Place.{Place}
-use Rattle.ferry_nonce.specs.Counter.{CounterFits, HasNoNumber}
+use Rattle.ferry_nonce.specs.Counter.{CounterFits, HasNoNumber, IsDrawnSince, KeepsNumbers}
 use Rattle.ferry_nonce.specs.declared.counter.Counter.{Counter}
 use Rattle.ferry_nonce.specs.declared.fault.NonceFault.TheVariants as Nonces
 use Rattle.ferry_repo.specs.declared.fault.RepoFault.TheVariants as Repos
@@ -68,7 +68,8 @@ abbrev pub EndsAtCommit : Session → Type 0
 EndsAtCommit session = session.size ≡ None → session.last ≡ session.after
 
 -- A repository is written: the session and the counter fit, a session that writes no segment ends at its commit, nothing of the plain
--- files is in doubt, and, where the blocks of the runs before count, each block that was taken is below the counter.
+-- files is in doubt, neither the counter nor the blobs that the run put have a lower number than it began with, and, where the blocks of the runs
+-- before count, each block that was taken is below the counter.
 pub record IsUnderWay (counts : Bool) (session : Session) (counter : Counter) (written : Written) (history : History) : Type 0 where
   pub fits : SessionFits session written.committed written.pending history
   pub rows : SessionRows session history
@@ -76,13 +77,16 @@ pub record IsUnderWay (counts : Bool) (session : Session) (counter : Counter) (w
   pub counter_fits : CounterFits counter history
   pub config : plain_in history ConfigFile ≡ rests_at written.config
   pub readme : plain_in history Readme ≡ rests_at written.readme
+  pub numbers : IsDrawnSince counter.free history
   pub taken : counts ≡ true → AreTaken counter.free history
 
--- A moment is sound: each stop shows this, each blob is traced, and, where the blocks of the runs before count, no counter block serves
--- two blobs and the file `nonce` is above all that were taken.
+-- A moment is sound: each stop shows this, each blob is traced, no block of a blob that the run put and no number that a stop leaves in the file
+-- `nonce` is below the number that it began with, and, where the blocks of the runs before count, no counter block serves two blobs and the file
+-- is above all that were taken.
 pub record IsSound (Show : Files → Type 0) (counts : Bool) (history : History) : Type 0 where
   pub shows : EachStop Show history
   pub traced : AllTraced history
+  pub numbers : KeepsNumbers history
   pub fresh : counts ≡ true → IsFresh history
 
 -- what is committed is shown, with the settings as they are

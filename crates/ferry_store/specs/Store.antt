@@ -9,6 +9,7 @@ use Rattle.ferry_disk.specs.Moments.{Moments}
 use Rattle.ferry_disk.specs.declared.name.Name.TheVariants.{Nonce as NonceFile}
 use Rattle.ferry_log.specs.Live.{key_cmp}
 use Rattle.ferry_log.specs.Log.{IsUncommitted}
+use Rattle.ferry_nonce.specs.Counter.{KeepsNumbers}
 use Rattle.ferry_nonce.specs.declared.fault.NonceFault.TheVariants as Nonces
 use Rattle.ferry_repo.specs.Opening.{FitsRepo, OpensFilesTo, RefusesRepo, RepoState, cached_in, repo_view}
 use Rattle.ferry_repo.specs.declared.fault.RepoFault.TheVariants as Repos
@@ -83,13 +84,19 @@ InitShows secret before now = before.acts ≡ [] → IsUncommitted (files_now be
 abbrev pub InitKeeps : History → History → Type 0
 InitKeeps before now = before.acts ≡ [] → IsKept before → Moments (λ h. IsKept h × AllTraced h) before now
 
+-- At each moment of a run that had made no act, no block of a blob that it put and no number that a stop leaves in the file `nonce` is below the
+-- number that it began with; and where that file was there, it is there still.
+abbrev pub NumbersOn : History → History → Type 0
+NumbersOn before now = before.acts ≡ [] → Moments KeepsNumbers before now
+
 -- Where something is committed, nothing is done.
 abbrev pub InitLeaves : History → History → Type 0
 InitLeaves before now = (IsUncommitted (files_now before) → ⊥) → now ≡ before
 
 -- At each moment of `init`, and at its end.
 abbrev pub InitEach : Secret → History → History → Type 0
-InitEach secret before now = InitShows secret before now × (InitKeeps before now × (SettlesFirst before now × InitLeaves before now))
+InitEach secret before now = InitShows secret before now
+    × (InitKeeps before now × (NumbersOn before now × (SettlesFirst before now × InitLeaves before now)))
 
 -- Why a repository isn't made of these files. Each but `Committed`, the devices and memory says as well that nothing is committed.
 abbrev pub RefusesFiles : Secret → List ℕ → Files → StoreRefusal → Type 0
@@ -127,7 +134,7 @@ OpenFits store before now = (counts : Bool) → before.acts ≡ [] → (counts �
 
 -- At each moment of `open`, and at its end.
 abbrev pub OpenEach : History → History → Type 0
-OpenEach before now = OpenShows before now × (InitKeeps before now × SettlesFirst before now)
+OpenEach before now = OpenShows before now × (InitKeeps before now × (NumbersOn before now × SettlesFirst before now))
 
 -- Why these files don't open to be written. `Nonce` says as well that the repository opens.
 abbrev pub RefusesOpen : Secret → Files → StoreRefusal → Type 0

@@ -17,6 +17,7 @@ use Rattle.ferry_disk.specs.declared.name.Name.TheVariants.{Config as ConfigFile
 use Rattle.ferry_disk.specs.declared.shelf.StoreFault.{StoreFault}
 use Rattle.ferry_disk.specs.declared.shelf.StoreFault.TheVariants as Shelf
 use Rattle.ferry_keyblob.specs.Opening.{Opened}
+use Rattle.ferry_nonce.specs.Counter.{KeepsNumbers}
 use Rattle.ferry_nonce.specs.declared.fault.NonceFault.TheVariants as Nonces
 use Rattle.ferry_repo.specs.Fault.{IsOfFiles, repo_failed}
 use Rattle.ferry_repo.specs.Opening.{RefusesKey, UnlockedText, UnlocksTo}
@@ -31,7 +32,7 @@ use Rattle.ferry_store.proofs.StepLemmas.{acts_done, acts_step, before_same, did
 use Rattle.ferry_store.specs.Fault.{depot_failed, repo_refusal, store_refusal}
 use Rattle.ferry_store.specs.New.{IsMade, IsNothingOrNew, OpensNew}
 use Rattle.ferry_store.specs.State.{Did, IsStep}
-use Rattle.ferry_store.specs.Store.{InitEach, InitFits, InitKeeps, InitMakes, InitShows, RefusesFiles, RefusesInit}
+use Rattle.ferry_store.specs.Store.{InitEach, InitFits, InitKeeps, InitMakes, InitShows, NumbersOn, RefusesFiles, RefusesInit}
 use Rattle.ferry_store.specs.declared.fault.StoreRefusal.{StoreRefusal}
 use Rattle.ferry_store.specs.declared.fault.StoreRefusal.TheVariants as Store
 use Rattle.ferry_store.specs.declared.store.Store.{Store as StoreValue}
@@ -76,6 +77,15 @@ tell_kept line done h kept = (
   beside_traced h (TellOf line) done tt kept.1,
 )
 
+tell_numbers : (line : List ℕ) (done : Bool) (h : History) → KeepsNumbers h → KeepsNumbers (with_act (TellOf line) done h)
+tell_numbers line done h keeps number is =
+    let kept = keeps number is in
+    record {
+      blobs = λ blob known. kept.blobs blob (tell_back line done h blob known);
+      nonce = λ image left. kept.nonce image ((tell_step h.start h.acts line done image).0 left);
+      stays = λ image left some. kept.stays image ((tell_step h.start h.acts line done image).0 left) some;
+    }
+
 -- ---- each moment of `init` and of the Tell behind it
 
 shows_then : (secret : Secret) (line : List ℕ) (h g i : History) → InitShows secret h g → AllDone h g → IsStep (TellOf line) g i → InitShows secret h i
@@ -89,6 +99,11 @@ keeps_then line h g i keeps done is e kept =
     let P : History → Type 0 = λ k. IsKept k × AllTraced k in
     let first = keeps e kept in
     moments_then P h g i first done (step_moments P (TellOf line) g i first.last (λ d. tell_kept line d g first.last) is)
+
+numbers_then : (line : List ℕ) (h g i : History) → NumbersOn h g → AllDone h g → IsStep (TellOf line) g i → NumbersOn h i
+numbers_then line h g i numbers done is e =
+    let first = numbers e in
+    moments_then KeepsNumbers h g i first done (step_moments KeepsNumbers (TellOf line) g i first.last (λ d. tell_numbers line d g first.last) is)
 
 -- acts of which a Settle is done are some
 first_more : (acts more : List Act) → settled acts ≡ true → BeginBySettle acts → BeginBySettle (acts ++ more)
@@ -104,7 +119,7 @@ fits_settled : (store : StoreValue) (h g : History) → InitFits store h g → h
 fits_settled store h g fits e = (fits false e (λ c. absurd (let no : ⊥ = cc in no))).under_way.fits.own.safe.settled_is
 
 pub each_command : (secret : Secret) (h g : History) → InitEach secret h g → CommandEach secret h g
-each_command secret h g each = (each.0, (each.1.0, (each.1.1.0, λ e. each.1.1.1)))
+each_command secret h g each = (each.0, (each.1.0, (each.1.1.0, (each.1.1.1.0, λ e. each.1.1.1.1))))
 
 -- `init` of the store has failed
 pub did_failed : {T : Type 0} (secret : Secret) (Q : T → History → History → Type 0) (R : Unit {0} → History → History → Type 0) (a b : Option Told)
@@ -123,8 +138,11 @@ each_then secret iterations timestamp bytes store line h g i each done fits make
   (
     keeps_then line h g i each.1.0 done is,
     (
-      first_then (TellOf line) h g i each.1.1.0 (fits_settled store h g fits) is,
-      λ e no. absurd (no (makes e).uncommitted),
+      numbers_then line h g i each.1.1.0 done is,
+      (
+        first_then (TellOf line) h g i each.1.1.1.0 (fits_settled store h g fits) is,
+        λ e no. absurd (no (makes e).uncommitted),
+      ),
     ),
   ),
 )

@@ -1,17 +1,21 @@
 -- Lemmas on specs/Rerun.antt: what a stop of a transfer leaves meets the conditions of the transfer again.
-use Rattle.std.proofs.Common.{◌≡◌, ◌⊎◌, ◌↔◌, inl, inr, ℕ, List, [], ◌∷◌, ◌++◌, Option, Some, None, refl, sym, ◌∙◌, subst, IfSome}
+use Rattle.std.proofs.Common.{◌≡◌, ◌⊎◌, ◌↔◌, inl, inr, ℕ, true, false, List, [], ◌∷◌, ◌++◌, Option, Some, None, refl, sym, ◌∙◌, subst, IfSome, IsSome}
 use Rattle.std.specs.List.{AllByRecursion}
 use Rattle.ferry_carry.proofs.WholeLemmas.{among_all, among_front}
 use Rattle.ferry_carry.specs.Gather.{IsAmong}
 use Rattle.ferry_carry.specs.Grow.{IsNamedBy, KeepsNames}
+use Rattle.ferry_disk.specs.Act.{History}
 use Rattle.ferry_disk.specs.Files.{Files}
+use Rattle.ferry_disk.specs.Image.{ImageOf}
 use Rattle.ferry_manifest.specs.Manifest.Text.{ManifestText}
 use Rattle.ferry_manifest.specs.declared.manifest.ArchiveRef.{ArchiveRef}
+use Rattle.ferry_nonce.specs.Counter.{HasAtLeast, KeepsNumbers}
 use Rattle.ferry_repo.proofs.LawLemmas.{one_repo}
 use Rattle.ferry_repo.specs.Archives.{archive_named}
 use Rattle.ferry_repo.specs.Opening.{RepoState, OpensFilesTo}
 use Rattle.ferry_repo.specs.Whole.{HasWhole, WholeArchive}
-use Rattle.ferry_top.specs.Rerun.{AreLeftInTurn, EachApart, EachChosen, IsAbsentOrEqual, IsEqualThere, IsNamedOrChosen, LacksName}
+use Rattle.ferry_stops.specs.Counters.{IsNonce}
+use Rattle.ferry_top.specs.Rerun.{AreLeftInTurn, EachApart, EachChosen, HasNumber, IsAbsentOrEqual, IsEqualThere, IsNamedOrChosen, KeepsNonce, LacksName}
 use Rattle.ferry_top.specs.Rerun.{MeetsConditions, NoneCollideIn}
 use Rattle.ferry_top.specs.Transfer.{Arrives, IsChosenFront, KeepsArchives, Request, chosen_of}
 
@@ -26,7 +30,7 @@ each_equal request source image repo (name ∷ done) arrived apart =
     let scope = apart.0 in
     ((a.whole, (a.whole_there, a.there scope.0 scope.1.0 scope.1.1.0 scope.1.1.1)), each_equal request source image repo done arrived.1 apart.1)
 
--- ---- a stop and a rerun
+-- ---- the chosen names
 
 -- a name that was absent at the start is absent, or it arrived
 absent_again : (request : Request) (source image : Files) (before repo : RepoState) (done : List (List ℕ)) (name : List ℕ)
@@ -47,7 +51,8 @@ name_again request source start image before repo done name wholes only equal (i
     absent_again request source image before repo done name only equal lacks (archive_named name repo.manifest.archives) refl
 name_again request source start image before repo done name wholes only equal (inr is) = inr (is.0, (is.1.0, wholes is.0 is.1.1))
 
-chosen_again : (request : Request) (start image : Files) (before repo : RepoState) (done : List (List ℕ))
+-- and so is each chosen name, or equal
+pub chosen_again : (request : Request) (start image : Files) (before repo : RepoState) (done : List (List ℕ))
     → ((name : List ℕ) (whole : WholeArchive) → HasWhole start request.secrets.target name whole → HasWhole image request.secrets.target name whole)
     → IsNamedBy before.manifest done repo.manifest → (told : Option Files)
     → (arrived : IfSome told (λ source. AllByRecursion (Arrives request source image repo) done)) → NoneCollideIn request image repo done told arrived
@@ -58,17 +63,47 @@ chosen_again request start image before repo done wholes only (Some source) arri
     name_again request source start image before repo done name (wholes name) only (each_equal request source image repo done arrived apart)
     (chosen from opens name among)
 
+-- ---- the number
+
+-- each stop shows what a run keeps of the number that it began with
+pub keeps_nonce : (moment : History) (image : Files) → KeepsNumbers moment → ImageOf moment image → KeepsNonce moment.start image
+keeps_nonce moment image keeps left number is =
+    let kept = keeps number is in (kept.nonce image left, kept.stays image left)
+
+-- a file that has a number, and is there
+number_in_file : (image : Files) (least : ℕ) (file : Option (List ℕ)) → image.nonce ≡ file → HasAtLeast least image.nonce → IsSome image.nonce
+    → HasNumber image
+number_in_file image least None e has some =
+    let never : false ≡ true = subst IsSome e some in absurd (let no : ⊥ = cc in no)
+number_in_file image least (Some text) e has some = record {
+  text = text;
+  nonce = e;
+  number = has.value;
+  spelled = subst (λ (f : Option (List ℕ)). IsNonce f has.value) e has.nonce;
+}
+
+-- where the start had one, so has what a stop leaves
+pub number_again : (start image : Files) → KeepsNonce start image → HasNumber start → HasNumber image
+number_again start image keeps has =
+    let is : IsNonce start.nonce has.number = subst (λ (f : Option (List ℕ)). IsNonce f has.number) (sym has.nonce) has.spelled in
+    let kept = keeps has.number is in
+    number_in_file image has.number image.nonce refl kept.0 (kept.1 (subst IsSome (sym has.nonce) refl))
+
+-- ---- a stop and a rerun
+
 -- what a stop leaves of a transfer meets the conditions that its start met
 pub meets_again : (request : Request) (start image : Files) (before : RepoState) (lines : List (List ℕ))
     → OpensFilesTo start request.secrets.target before → (keeps : KeepsArchives request start before.manifest lines image)
-    → NoneCollideIn request image keeps.repo keeps.done request.source keeps.arrived → MeetsConditions request start → MeetsConditions request image
-meets_again request start image before lines opens keeps apart meets =
+    → NoneCollideIn request image keeps.repo keeps.done request.source keeps.arrived → KeepsNonce start image
+    → MeetsConditions request start → MeetsConditions request image
+meets_again request start image before lines opens keeps apart nonce meets =
     let same = one_repo start request.secrets.target meets.repo before meets.opens opens in
     let chosen : EachChosen request request.source (λ source name. IsAbsentOrEqual request source start before name) =
     subst (λ (r : RepoState). EachChosen request request.source (λ source name. IsAbsentOrEqual request source start r name)) same meets.chosen in
     record {
       repo = keeps.repo;
       opens = keeps.opens;
+      nonce = number_again start image nonce meets.nonce;
       chosen = chosen_again request start image before keeps.repo keeps.done keeps.wholes keeps.only request.source keeps.arrived apart chosen;
     }
 
@@ -78,7 +113,7 @@ pub meets_in_turn : (request : Request) (start : Files) (images : List Files) �
 meets_in_turn request start [] left meets = tt
 meets_in_turn request start (image ∷ images) left meets =
     let by = left.0 in
-    let again = meets_again request start image by.before by.lines by.opens by.keeps by.apart meets in
+    let again = meets_again request start image by.before by.lines by.opens by.keeps by.apart by.nonce meets in
     (again, meets_in_turn request image images left.1 again)
 
 -- ---- an example
@@ -89,11 +124,11 @@ lacks_chosen : (request : Request) (start : Files) (repo : RepoState) (told : Op
 lacks_chosen request start repo None lacks = tt
 lacks_chosen request start repo (Some source) lacks = λ from opens name among. inl (lacks from opens name among)
 
--- a target that lacks each chosen name meets the conditions
-pub meets_first : (request : Request) (start : Files) (repo : RepoState) → OpensFilesTo start request.secrets.target repo
+-- a target that has a number and lacks each chosen name meets the conditions
+pub meets_first : (request : Request) (start : Files) (repo : RepoState) → OpensFilesTo start request.secrets.target repo → HasNumber start
     → EachChosen request request.source (λ source name. LacksName repo.manifest name) → MeetsConditions request start
-meets_first request start repo opens lacks =
-    record { repo = repo; opens = opens; chosen = lacks_chosen request start repo request.source lacks }
+meets_first request start repo opens nonce lacks =
+    record { repo = repo; opens = opens; nonce = nonce; chosen = lacks_chosen request start repo request.source lacks }
 
 -- ---- names
 

@@ -7,6 +7,8 @@ use Rattle.ferry_carry.specs.Carrying.{Origin, origin}
 use Rattle.ferry_carry.specs.Fault.{IsOfWork}
 use Rattle.ferry_carry.specs.Flight.{IsSettled}
 use Rattle.ferry_carry.specs.Grow.{StandsOn}
+use Rattle.ferry_carry.specs.Listing.{BeginsNames}
+use Rattle.ferry_carry.specs.Puts.{Addition}
 use Rattle.ferry_carry.specs.Lines.{name_line, told_of, total_line}
 use Rattle.ferry_carry.specs.Telling.{AreLines, IsReport, IsTotal, KeepsReported, StopsBehind, TellsNames}
 use Rattle.ferry_carry.specs.declared.fault.CarryFault.{CarryFault}
@@ -136,7 +138,7 @@ opening_told request h g untold each begun repo opens =
     let shown = entries_of_files (files_now h) request.secrets.target repo opens in
     let Stands : History → Type 0 = EachStop (ShowsStanding (found (Some shown.0) (files_now h))) in
     let moments = each.0 shown.0 begun shown.1 in
-    let standing = moments.last (files_now g) (now_left Stands h g begun each.1.1 moments) in
+    let standing = moments.last (files_now g) (now_left Stands h g begun each.1.1.1 moments) in
     subst (λ (lines : List (List ℕ)). (keeps : KeepsArchives request (files_now h) repo.manifest lines (files_now g))
     × AreLines repo.manifest [] lines keeps.done)
     (sym (untold ∙ untold_yet h begun)) (
@@ -170,9 +172,9 @@ module _ (secrets : Secrets) (options : Options) (names : List (List ℕ)) (sour
   Leaves h i manifest lines = (keeps : KeepsArchives request (files_now h) manifest lines (files_now i)) × AreLines manifest [] lines keeps.done
 
   -- what stands of a front of the names stands of all of them
-  abbrev wider : (some more : List (List ℕ)) (accepted : ManifestText) (repo : RepoState) (written : Written) (image : Files) → chosen ≡ some ++ more
-      → StandsOn from some accepted repo written image → StandsOn from chosen accepted repo written image
-  wider some more accepted repo written image split stands = record {
+  abbrev wider : (some more : List (List ℕ)) (within : List Addition) (accepted : ManifestText) (repo : RepoState) (written : Written) (image : Files)
+      → chosen ≡ some ++ more → StandsOn from some within accepted repo written image → StandsOn from chosen within accepted repo written image
+  wider some more within accepted repo written image split stands = record {
     entries = stands.entries;
     manifest = stands.manifest;
     shown = stands.shown;
@@ -191,16 +193,17 @@ module _ (secrets : Secrets) (options : Options) (names : List (List ℕ)) (sour
   }
 
   -- behind the opening those of a front of the names were carried and told, and no other
-  behind_told : (store : Store) (done rest : List (List ℕ)) (h g i : History) → IsSettled store → chosen ≡ done ++ rest
+  behind_told : (store : Store) (done rest : List (List ℕ)) (within : List Addition) (h g i : History) → IsSettled store → chosen ≡ done ++ rest
       → OpensFilesTo (files_now h) secrets.target (repo_view store.repo) → TellsNothing h g → OpenFits store h g
-      → KeepsReported from done store g i → TellsNames (accepted_in store) done g i → TransferEach request h i → LeavesTold request h i
-  behind_told store done rest h g i settled split opens untold fits reported told_names each begun repo opens_to =
+      → BeginsNames from (repo_view store.repo).keys (accepted_in store) [] chosen within
+      → KeepsReported from done store within g i → TellsNames (accepted_in store) done g i → TransferEach request h i → LeavesTold request h i
+  behind_told store done rest within h g i settled split opens untold fits begins reported told_names each begun repo opens_to =
       let o = fits false begun (λ c. absurd (let no : ⊥ = cc in no)) in
       let accepted = accepted_in store in
       let state = repo_view store.repo in
       let last = (reported false o.fits).last in
       let moments = each.0 begun repo opens_to in
-      let left = now_left (λ k. EachStop (KeepsArchives request (files_now h) repo.manifest (lines_of k.acts)) k) h i begun each.1.1 moments in
+      let left = now_left (λ k. EachStop (KeepsArchives request (files_now h) repo.manifest (lines_of k.acts)) k) h i begun each.1.1.1 moments in
       let shows = last.sound.shows (files_now i) left in
       let none : lines_of g.acts ≡ [] = untold ∙ untold_yet h begun in
       let lines_are : lines_of i.acts ≡ last.lines = last.told ∙ ap (λ (l : List (List ℕ)). l ++ last.lines) none in
@@ -208,8 +211,8 @@ module _ (secrets : Secrets) (options : Options) (names : List (List ℕ)) (sour
       let are : AreLines accepted [] last.lines shows.0.done =
       all_told accepted last.lines done shows.0.done shows.0.rest
       (subst (λ (l : List (List ℕ)). AreLines accepted [] l done) (sym names_are ∙ lines_are) told_names.1.1) shows.0.front shows.1 in
-      let kept = stands_opened secrets options names source told chosen source_opens chosen_is store h g last.lines (files_now i) settled opens o
-      (wider done rest accepted state o.fits.written (files_now i) split shows.0) shows.1 in
+      let kept = stands_opened secrets options names source told chosen source_opens chosen_is store within h g last.lines (files_now i) settled opens begins o
+      (wider done rest within accepted state o.fits.written (files_now i) split shows.0) shows.1 in
       subst (λ (r : RepoState). Leaves h i r.manifest (lines_of i.acts)) (one_repo (files_now h) secrets.target state repo opens opens_to)
       (subst (Leaves h i state.manifest) (sym lines_are)
       (kept.0, subst (AreLines state.manifest [] last.lines) (sym kept.1) (subst (λ (m : ManifestText). AreLines m [] last.lines shows.0.done) settled are)))
@@ -224,11 +227,13 @@ module _ (secrets : Secrets) (options : Options) (names : List (List ℕ)) (sour
       let Ended : History → History → Type 0 = λ h g. AllDone h g × OpenFits store h g in
       let Known : History → History → Type 0 = λ h g. Opens h × Ended h g in
       let Goes : History → History → Type 0 = λ h i. TransferEach request h i → LeavesTold request h i in
+      let Begun : History → Type 0 = λ _. BeginsNames from (repo_view store.repo).keys (accepted_in store) [] chosen stops.added in
+      let Behind : History → History → Type 0 = λ g i.
+      KeepsReported from stops.done store stops.added g i × TellsNames (accepted_in store) stops.done g i in
       let goes : Between a d Goes =
-      between_then a b d (λ h g. TellsNothing h g × Known h g)
-      (λ g i. KeepsReported from stops.done store g i × TellsNames (accepted_in store) stops.done g i) Goes
+      between_then a b d (λ h g. TellsNothing h g × Known h g) (λ g i. Begun g × Behind g i) Goes
       (λ h g i e f before.
-      behind_told store stops.done stops.rest h g i settled stops.split e.1.0 e.0 e.1.1.1 f.0 f.1 before)
-      (between_both a b TellsNothing Known untold (between_known Opens Ended a b opens opened.end)) stops.each in
+      behind_told store stops.done stops.rest stops.added h g i settled stops.split e.1.0 e.0 e.1.1.1 f.0 f.1.0 f.1.1 before)
+      (between_both a b TellsNothing Known untold (between_known Opens Ended a b opens opened.end)) (between_known Begun Behind b d stops.begins stops.each) in
       between_map a d (λ h i. TransferEach request h i × Goes h i) (LeavesTold request) (λ h i e. e.1 e.0)
       (between_both a d (TransferEach request) Goes each goes)

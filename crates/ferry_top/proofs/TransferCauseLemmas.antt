@@ -48,9 +48,9 @@ use Rattle.ferry_store.specs.declared.fault.StoreRefusal.{StoreRefusal}
 use Rattle.ferry_store.specs.declared.fault.StoreRefusal.TheVariants as Store
 use Rattle.ferry_store.specs.declared.store.Store.{Store as TheStore}
 use Rattle.ferry_top.proofs.LeftLemmas.{now_left}
-use Rattle.ferry_top.proofs.RerunLemmas.{meets_again}
+use Rattle.ferry_top.proofs.RerunLemmas.{chosen_again, number_again}
 use Rattle.ferry_top.proofs.TransferLemmas.{untold_yet}
-use Rattle.ferry_top.specs.Rerun.{EachChosen, IsAbsentOrEqual, LacksName, MeetsConditions, NoneCollideIn}
+use Rattle.ferry_top.specs.Rerun.{EachChosen, HasNumber, IsAbsentOrEqual, KeepsNonce, LacksName, NoneCollideIn}
 use Rattle.ferry_top.specs.Status.{carry_status, repo_status, store_status, target_status}
 use Rattle.ferry_top.specs.Transfer.{KeepsArchives, Request, TransferEach, TransferLeaves, asked, chosen_of, from_source}
 use Rattle.ferry_top.specs.TransferCauses.{EndsDone, HasLargeTarget, IsDoneUnless, IsFirstMissing, IsOfChosen, IsReadyFor, IsRefusedSo, IsTaken, RefusesAsked}
@@ -68,7 +68,7 @@ pub left_of : (request : Request) (h g : History) → TransferEach request h g �
 left_of request h g each begun repo opens =
     let moments = each.0 begun repo opens in
     moments.last (files_now g)
-    (now_left (λ k. EachStop (KeepsArchives request (files_now h) repo.manifest (lines_of k.acts)) k) h g begun each.1.1 moments)
+    (now_left (λ k. EachStop (KeepsArchives request (files_now h) repo.manifest (lines_of k.acts)) k) h g begun each.1.1.1 moments)
 
 -- ---- a store that fits over files that open
 
@@ -542,31 +542,33 @@ module _ (request : Request) (source start image : Files) (lines : List (List �
       (one_repo source request.secrets.source first.repo had.repo first.opens had.opens) ∙ had.is.named_is in
       let no : ⊥ = cc in no
 
-  -- what a transfer asks of the archives of its target
-  meets_ready : request.source ≡ Some source → MeetsConditions request start
-  meets_ready told =
-      record {
-        repo = ready.repo;
-        opens = ready.opens;
-        chosen = subst (λ (o : Option Files). EachChosen request o (λ files name. IsAbsentOrEqual request files start ready.repo name)) (sym told)
-            (λ from opens name among.
-            ready.chosen name
-            (subst (λ (r : RepoState). IsAmong (chosen_of request.names r.manifest) name)
-            (one_repo source request.secrets.source from ready.from opens ready.source_opens) among));
-      }
+  -- what a transfer asks of the chosen names in its target
+  chosen_ready : request.source ≡ Some source
+      → EachChosen request request.source (λ files name. IsAbsentOrEqual request files start ready.repo name)
+  chosen_ready told =
+      subst (λ (o : Option Files). EachChosen request o (λ files name. IsAbsentOrEqual request files start ready.repo name)) (sym told)
+      (λ from opens name among.
+      ready.chosen name
+      (subst (λ (r : RepoState). IsAmong (chosen_of request.names r.manifest) name)
+      (one_repo source request.secrets.source from ready.from opens ready.source_opens) among))
 
-  equal_there : (name : List ℕ) → IsTaken request source start lines image name → MeetsConditions request image → request.source ≡ Some source → ⊥
-  equal_there name taken meets told =
+  -- it finds again in what is left
+  chosen_left : request.source ≡ Some source → (keeps : KeepsArchives request start ready.repo.manifest lines image)
+      → NoneCollideIn request image keeps.repo keeps.done request.source keeps.arrived
+      → EachChosen request (Some source) (λ files name. IsAbsentOrEqual request files image keeps.repo name)
+  chosen_left told keeps apart =
+      subst (λ (o : Option Files). EachChosen request o (λ files name. IsAbsentOrEqual request files image keeps.repo name)) told
+      (chosen_again request start image ready.repo keeps.repo keeps.done keeps.wholes keeps.only request.source keeps.arrived apart (chosen_ready told))
+
+  equal_there : (name : List ℕ) → IsTaken request source start lines image name → (repo : RepoState) → OpensFilesTo image request.secrets.target repo
+      → EachChosen request (Some source) (λ files other. IsAbsentOrEqual request files image repo other) → ⊥
+  equal_there name taken repo opens chosen =
       so (chosen taken.from taken.source_opens name
       (among_next (chosen_of request.names taken.from.manifest) taken.done taken.rest name taken.split))
     where
-      chosen : (from : RepoState) → OpensFilesTo source request.secrets.source from → (other : List ℕ)
-          → IsAmong (chosen_of request.names from.manifest) other → IsAbsentOrEqual request source image meets.repo other
-      chosen = subst (λ (o : Option Files). EachChosen request o (λ files other. IsAbsentOrEqual request files image meets.repo other)) told meets.chosen
-
-      so : IsAbsentOrEqual request source image meets.repo name → ⊥
+      so : IsAbsentOrEqual request source image repo name → ⊥
       so (inl lacks) =
-          let same = one_repo image request.secrets.target taken.repo meets.repo taken.opens meets.opens in
+          let same = one_repo image request.secrets.target taken.repo repo taken.opens opens in
           let e : archive_named name taken.repo.manifest.archives ≡ None = ap (λ (r : RepoState). archive_named name r.manifest.archives) same ∙ lacks in
           let some : false ≡ true = subst IsSome e taken.there in
           let no : ⊥ = cc in
@@ -587,7 +589,7 @@ module _ (request : Request) (source start image : Files) (lines : List (List �
   refused_ends keeps apart told (Carry.Target refusal) (inl refused) = begun_ends refusal refused
   refused_ends keeps apart told (Carry.Target refusal) (inr stops) = stopped_ends refusal stops.0
   refused_ends keeps apart told (Carry.Taken name) taken =
-      absurd (equal_there name taken (meets_again request start image ready.repo lines ready.opens keeps apart (meets_ready told)) told)
+      absurd (equal_there name taken keeps.repo keeps.opens (chosen_left told keeps apart))
   refused_ends keeps apart told (Carry.NotFound name) missing = absurd (none_missing name missing)
   refused_ends keeps apart told Carry.Pieces long = long
   refused_ends keeps apart told Carry.Memory refused = tt
@@ -643,32 +645,26 @@ one_keys secret file a b p q =
     let same : one ≡ other = cc in
     p.keys_are ∙ (ap (λ (u : UnlockedText). u.text.key.keys) same ∙ sym q.keys_are)
 
--- what a transfer asks, it finds again in what it left, where the file `nonce` has a number
+-- what a transfer asks, it finds again in what it left
 pub ready_again : (request : Request) (source start image : Files) (lines : List (List ℕ)) → request.source ≡ Some source
     → (ready : IsReadyFor request source start) → (keeps : KeepsArchives request start ready.repo.manifest lines image)
-    → NoneCollideIn request image keeps.repo keeps.done request.source keeps.arrived → (text : List ℕ) (number : ℕ)
-    → file_at image NonceFile ≡ Some text → SpellsNumber text number → IsReadyFor request source image
-ready_again request source start image lines told ready keeps apart text number nonce spelled = record {
+    → NoneCollideIn request image keeps.repo keeps.done request.source keeps.arrived → KeepsNonce start image → IsReadyFor request source image
+ready_again request source start image lines told ready keeps apart nonce = record {
   from = ready.from;
   source_opens = ready.source_opens;
   whole = ready.whole;
   repo = keeps.repo;
   opens = keeps.opens;
-  text = text;
-  nonce = nonce;
-  number = number;
-  spelled = spelled;
+  text = counted.text;
+  nonce = counted.nonce;
+  number = counted.number;
+  spelled = counted.spelled;
   live = live;
-  chosen = λ name among.
-      subst (λ (r : RepoState). IsAbsentOrEqual request source image r name)
-      (one_repo image request.secrets.target meets.repo keeps.repo meets.opens keeps.opens) (chosen ready.from ready.source_opens name among);
+  chosen = λ name among. chosen_left request source start image lines ready told keeps apart ready.from ready.source_opens name among;
 } where
-  meets : MeetsConditions request image
-  meets = meets_again request start image ready.repo lines ready.opens keeps apart (meets_ready request source start image lines ready told)
-
-  chosen : (from : RepoState) → OpensFilesTo source request.secrets.source from → (name : List ℕ) → IsAmong (chosen_of request.names from.manifest) name
-      → IsAbsentOrEqual request source image meets.repo name
-  chosen = subst (λ (o : Option Files). EachChosen request o (λ files name. IsAbsentOrEqual request files image meets.repo name)) told meets.chosen
+  counted : HasNumber image
+  counted =
+      number_again start image nonce (record { text = ready.text; nonce = ready.nonce; number = ready.number; spelled = ready.spelled })
 
   keys : ready.repo.keys ≡ keeps.repo.keys
   keys =

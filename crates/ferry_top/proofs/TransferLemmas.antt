@@ -1,19 +1,20 @@
 -- A transfer: what each stop leaves opens, with each archive that was there and those of a front of the chosen names, and at the end with all of them.
 use Rattle.std.proofs.Common.{◌≡◌, ◌↔◌, ◌⊎◌, inl, inr, ℕ, suc, map, Bool, true, false, List, [], ◌∷◌, ◌++◌, Option, Some, None, Ok}
-use Rattle.std.proofs.Common.{Err, ◌-◌, ◌^◌, length, min, unwrap_or, option_map, slice_get, refl, arith, sym, ◌∙◌, ap, subst, IfSome}
+use Rattle.std.proofs.Common.{Err, is_some, ◌-◌, ◌^◌, length, min, unwrap_or, option_map, slice_get, refl, arith, sym, ◌∙◌, ap, subst, IfSome}
 use Rattle.std.proofs.lemmas.List.{append-nil}
 use Rattle.std.specs.List.{AllByRecursion}
 use Rattle.ferry_blob.specs.Blob.{OpensTo as OpensBlob}
-use Rattle.ferry_carry.proofs.PutsLemmas.{adds_here}
+use Rattle.ferry_carry.proofs.PutsLemmas.{adds_here, front_none}
 use Rattle.ferry_carry.proofs.ReportLemmas.{report_none, untold_moments, whole_report}
 use Rattle.ferry_carry.proofs.WholeLemmas.{each_to, whole_kept}
-use Rattle.ferry_carry.proofs.WorkLemmas.{works_both, works_err, works_nothing, works_ok, works_then}
+use Rattle.ferry_carry.proofs.WorkLemmas.{between_known, works_both, works_err, works_nothing, works_ok, works_then}
+use Rattle.ferry_carry.specs.Listing.{BeginsName, BeginsNames, IsThere, ListsNames}
+use Rattle.ferry_carry.specs.declared.options.Carried.{Carried}
 use Rattle.ferry_carry.specs.Carrying.{AreCut, CarriesOver, IsCarried, Origin, origin}
 use Rattle.ferry_carry.specs.Gather.{BringsOpening}
 use Rattle.ferry_carry.specs.Grow.{Grown, IsNamedBy, KeepsChunks, KeepsNames, StandsOn}
-use Rattle.ferry_carry.specs.Listing.{ListsNames}
-use Rattle.ferry_carry.specs.Puts.{Addition, AddsAll, GoesOn}
-use Rattle.ferry_carry.specs.Telling.{CarriesNames, IsReport, IsReported, KeepsReported, ReportsWhole, ShowsReport, TellsWhole}
+use Rattle.ferry_carry.specs.Puts.{Addition, AddsAll, GoesOn, IsFront}
+use Rattle.ferry_carry.specs.Telling.{BeginsAll, CarriesNames, IsReport, IsReported, KeepsReported, ReportsWhole, ShowsReport, TellsWhole}
 use Rattle.ferry_carry.specs.Lines.{total_line}
 use Rattle.ferry_carry.specs.Work.{Works}
 use Rattle.ferry_carry.specs.declared.fault.CarryFault.{CarryFault}
@@ -31,6 +32,8 @@ use Rattle.ferry_disk.specs.declared.name.Name.TheVariants.{Config as ConfigFile
 use Rattle.ferry_log.specs.Log.{Located}
 use Rattle.ferry_log.specs.State.{LogState}
 use Rattle.ferry_manifest.specs.Manifest.Text.{ManifestText}
+use Rattle.ferry_manifest.specs.declared.manifest.ArchiveRef.{ArchiveRef}
+use Rattle.ferry_nonce.specs.Counter.{KeepsNumbers}
 use Rattle.ferry_repo.proofs.LawLemmas.{one_repo, opens_fits}
 use Rattle.ferry_repo.specs.Archives.{archive_named}
 use Rattle.ferry_repo.specs.Objects.{HasBlob, HoldsChunk}
@@ -55,9 +58,8 @@ use Rattle.ferry_store.specs.State.{Did, ShowsStanding, Written, found}
 use Rattle.ferry_store.specs.Store.{OpenEach, OpenFits, OpensFound, StoreFits}
 use Rattle.ferry_store.specs.declared.fault.StoreRefusal.{StoreRefusal}
 use Rattle.ferry_store.specs.declared.store.Store.{Store}
-use Rattle.ferry_top.specs.Transfer.{AddsBehind, AreCutThere, Arrives, BringsWhatOpens, IsChosen, IsChosenFront, KeepsArchives, ListsChosen, Request}
-use Rattle.ferry_top.specs.Transfer.{TransferEach, TransferEnds, TransferShows}
-use Rattle.ferry_top.specs.Transfer.{asked, chosen_of, from_source}
+use Rattle.ferry_top.specs.Transfer.{AddsBehind, AreCutThere, Arrives, BeginsChosen, BringsWhatOpens, IsBegun, IsChosen, IsChosenFront, KeepsArchives}
+use Rattle.ferry_top.specs.Transfer.{ListsChosen, Request, TransferEach, TransferEnds, TransferShows, asked, chosen_of, from_source}
 use Rattle.ferry_top.specs.declared.status.Secrets.{Secrets}
 use Rattle.ferry_write.proofs.LawLemmas.{fits_now}
 use Rattle.ferry_write.specs.Room.{behind}
@@ -129,19 +131,46 @@ adds_shown request start image repo committed entries added opens shown shown_no
     )
 
 -- entries that go on from what was written, where nothing was pending
-adds_on : (request : Request) (start image : Files) (repo : RepoState) (written : Written) (committed entries : List LogEntry)
+adds_on : (request : Request) (start image : Files) (repo : RepoState) (within : List Addition) (written : Written) (committed entries : List LogEntry)
     → OpensFilesTo start request.secrets.target repo → Shows start (Some committed) → Shows image (Some entries) → committed_of written ≡ committed
-    → entries_of written ≡ committed → GoesOn repo.keys request.checkpoint written entries
-    → (added : List Addition) × AddsBehind request start image added
-adds_on request start image repo written committed entries opens shown shown_now same all (inl is) = (
+    → entries_of written ≡ committed → GoesOn repo.keys request.checkpoint within written entries
+    → (added : List Addition) × (AddsBehind request start image added × IsFront added within)
+adds_on request start image repo within written committed entries opens shown shown_now same all (inl is) = (
   [],
-  adds_shown request start image repo committed entries [] opens shown shown_now
-      (subst (AddsAll repo.keys request.checkpoint committed []) (sym (is ∙ same)) (adds_here repo.keys request.checkpoint committed)),
+  (
+    adds_shown request start image repo committed entries [] opens shown shown_now
+        (subst (AddsAll repo.keys request.checkpoint committed []) (sym (is ∙ same)) (adds_here repo.keys request.checkpoint committed)),
+    front_none within,
+  ),
 )
-adds_on request start image repo written committed entries opens shown shown_now same all (inr adds) = (
+adds_on request start image repo within written committed entries opens shown shown_now same all (inr adds) = (
   adds.0,
-  adds_shown request start image repo committed entries adds.0 opens shown shown_now
-      (subst (λ (front : List LogEntry). AddsAll repo.keys request.checkpoint front adds.0 entries) all adds.1),
+  (
+    adds_shown request start image repo committed entries adds.0 opens shown shown_now
+        (subst (λ (front : List LogEntry). AddsAll repo.keys request.checkpoint front adds.0 entries) all adds.1.1),
+    adds.1.0,
+  ),
+)
+
+-- nothing is the begin of what is added for names
+names_begin : (from : Origin) (before : RepoState) (accepted : ManifestText) (names : List (List ℕ)) → BeginsNames from before.keys accepted [] names []
+names_begin from before accepted [] = refl
+names_begin from before accepted (name ∷ names) = inl (by_there (archive_named name accepted.archives) refl) where
+  by_there : (found : Option ArchiveRef) → archive_named name accepted.archives ≡ found → BeginsName from before.keys accepted [] name []
+  by_there (Some entry) is = inl (inl (ap is_some is), refl)
+  by_there None is = inr (lacks, inl refl) where
+    lacks : IsThere accepted [] name → ⊥
+    lacks (inl there) = let never : true ≡ false = sym there ∙ ap is_some is in cc
+    lacks (inr among) = let never : None ≡ Some name = among.1 in cc
+
+none_begun : (request : Request) (before : RepoState) (source : Option Files) → IfSome source (BeginsChosen request before [])
+none_begun request before None = tt
+none_begun request before (Some files) = λ repo opens. (
+  [],
+  (
+    front_none [],
+    names_begin (from_source request files repo) before before.manifest (chosen_of request.names repo.manifest),
+  ),
 )
 
 -- where a store counts nothing as pending, what was written is committed
@@ -189,7 +218,13 @@ shown_keeps request start image repo committed opens shown standing =
       only = λ name entry is. inl is;
       opening = brings_opening request start image repo repo committed committed live.log opens shown (λ id blob apart e. inl e)
           (λ id blob has. (live.blobs id blob).0 has);
-      adds = ([], adds_shown request start image repo committed committed [] opens shown standing.0 (adds_here repo.keys request.checkpoint committed));
+      adds = (
+        [],
+        (
+          adds_shown request start image repo committed committed [] opens shown standing.0 (adds_here repo.keys request.checkpoint committed),
+          λ before other. none_begun request before request.source,
+        ),
+      );
       told = report_none repo.manifest [];
     }
 
@@ -263,6 +298,24 @@ module _ (secrets : Secrets) (options : Options) (names : List (List ℕ)) (sour
         ),
       )
 
+  -- what was added for the names that were chosen is the first of what is
+  begun_of : (told : Option Told) (chosen : List (List ℕ)) (accepted : ManifestText) (start : Files) (repo : RepoState) (within added : List Addition)
+      → SourceOpens told → chosen ≡ chosen_of names source.manifest → accepted ≡ repo.manifest → OpensFilesTo start secrets.target repo
+      → BeginsNames (origin told source options.block options.checkpoint) repo.keys accepted [] chosen within → IsFront added within
+      → IsBegun (asked secrets options names told) start added
+  begun_of None chosen accepted start repo within added source_opens chosen_is accepted_is opens begins front before other = tt
+  begun_of (Some t) chosen accepted start repo within added source_opens chosen_is accepted_is opens begins front before other = λ next next_opens.
+      let request = asked secrets options names (Some t) in
+      let Begins : RepoState → RepoState → Type 0 = λ from_repo target.
+      BeginsNames (from_source request (told_files t) from_repo) target.keys target.manifest [] (chosen_of names from_repo.manifest) within in
+      let here : Begins source repo =
+      subst (λ (all : List (List ℕ)). BeginsNames (from_source request (told_files t) source) repo.keys repo.manifest [] all within) chosen_is
+      (subst (λ (m : ManifestText). BeginsNames (from_source request (told_files t) source) repo.keys m [] chosen within) accepted_is begins) in
+      let there : Begins source before = subst (Begins source) (one_repo start secrets.target repo before opens other) here in (
+        within,
+        (front, subst (λ (r : RepoState). Begins r before) (one_repo (told_files t) secrets.source source next source_opens next_opens) there),
+      )
+
   all_arrived : (told : Option Told) (image : Files) (next : RepoState) (entries : List LogEntry) (log : LogState) (done : List (List ℕ)) → SourceOpens told
       → OpensFilesTo image secrets.target (record next { log = log }) → HasAll image log entries
       → AllByRecursion (IsCarried (origin told source options.block options.checkpoint) next.keys entries next.manifest.archives) done
@@ -291,21 +344,24 @@ module _ (secrets : Secrets) (options : Options) (names : List (List ℕ)) (sour
       }
 
   -- what stands keeps the archives, with those that were carried
-  stands_keeps : (told : Option Told) (chosen : List (List ℕ)) (accepted : ManifestText) (start image : Files) (repo : RepoState) (written : Written)
-      (committed : List LogEntry) → SourceOpens told → chosen ≡ chosen_of names source.manifest → accepted ≡ repo.manifest
+  stands_keeps : (told : Option Told) (chosen : List (List ℕ)) (within : List Addition) (accepted : ManifestText) (start image : Files) (repo : RepoState)
+      (written : Written) (committed : List LogEntry) → SourceOpens told → chosen ≡ chosen_of names source.manifest → accepted ≡ repo.manifest
       → OpensFilesTo start secrets.target repo → Shows start (Some committed) → committed_of written ≡ committed → entries_of written ≡ committed
       → written.config ≡ start.config → (lines : List (List ℕ))
-      → (stands : StandsOn (origin told source options.block options.checkpoint) chosen accepted repo written image)
+      → BeginsNames (origin told source options.block options.checkpoint) repo.keys accepted [] chosen within
+      → (stands : StandsOn (origin told source options.block options.checkpoint) chosen within accepted repo written image)
       → IsReport accepted lines stands.done
       → (keeps : KeepsArchives (asked secrets options names told) start repo.manifest lines image) × (keeps.done ≡ stands.done)
-  stands_keeps told chosen accepted start image repo written committed source_opens chosen_is accepted_is opens shown same all config lines stands
-      report =
+  stands_keeps told chosen within accepted start image repo written committed source_opens chosen_is accepted_is opens shown same all config lines begins
+      stands report =
       let secret = secrets.target in
       let next = with_manifest repo stands.manifest in
       let unlocks : UnlocksSettings secret image.config repo.config repo.keys =
       subst (λ (c : Option (List ℕ)). UnlocksSettings secret c repo.config repo.keys) (sym (stands.config ∙ config)) (opened_unlocks start secret repo opens)
       in
       let live = opens_live secret image next stands.entries stands.shown unlocks stands.holds in
+      let adds = adds_on (asked secrets options names told) start image repo within written committed stands.entries opens shown stands.shown same all
+      stands.puts in
       let chunks : KeepsChunks committed stands.entries = subst (λ (c : List LogEntry). KeepsChunks c stands.entries) same stands.chunks in (
         record {
           repo = record next { log = live.log };
@@ -320,7 +376,13 @@ module _ (secrets : Secrets) (options : Options) (names : List (List ℕ)) (sour
           only = subst (λ (m : ManifestText). IsNamedBy m stands.done stands.manifest) accepted_is stands.only;
           opening = brings_opening (asked secrets options names told) start image repo next committed stands.entries live.log opens shown
               (subst (λ (c : List LogEntry). BringsOpening repo.keys c stands.entries) all stands.opening) (λ id blob has. (live.blobs id blob).0 has);
-          adds = adds_on (asked secrets options names told) start image repo written committed stands.entries opens shown stands.shown same all stands.puts;
+          adds = (
+            adds.0,
+            (
+              adds.1.0,
+              begun_of told chosen accepted start repo within adds.0 source_opens chosen_is accepted_is opens begins adds.1.1,
+            ),
+          );
           told = subst (λ (m : ManifestText). IsReport m lines stands.done) accepted_is report;
         },
         refl,
@@ -347,9 +409,9 @@ shows_opened request h g committed shown untold each begun repo opens =
     (shown_keeps request (files_now h) image repo committed opens shown (stops.0 image left)))
     (untold_moments Stands h g untold (each.0 committed begun shown))
 
-sound_kept : (from : Origin) (chosen : List (List ℕ)) (accepted : ManifestText) (repo : RepoState) (h k : History) (written : Written)
-    → IsReported (ShowsReport from chosen accepted repo written) true h k → IsKept k × AllTraced k
-sound_kept from chosen accepted repo h k written reported =
+sound_kept : (from : Origin) (chosen : List (List ℕ)) (within : List Addition) (accepted : ManifestText) (repo : RepoState) (h k : History)
+    (written : Written) → IsReported (ShowsReport from chosen within accepted repo written) true h k → IsKept k × AllTraced k
+sound_kept from chosen within accepted repo h k written reported =
     let sound = reported.sound in (
       record { fresh = sound.fresh refl; shows = λ image left. let stands = (sound.shows image left).0 in (Some stands.entries, stands.shown) },
       sound.traced,
@@ -360,7 +422,7 @@ sound_kept from chosen accepted repo h k written reported =
 -- what is committed in a store into which the archives came stands, with all of them
 grown_stands : (from : Origin) (chosen : List (List ℕ)) (added : List Addition) (accepted : ManifestText) (store now : Store) (h g : History)
     (fits : StoreFits false store h) → accepted_in now ≡ (repo_view now.repo).manifest → (grown : Grown accepted from chosen added false store now h g fits)
-    → (stands : StandsOn from chosen accepted (repo_view store.repo) fits.written (files_now g)) × ((stands.done ≡ chosen)
+    → (stands : StandsOn from chosen added accepted (repo_view store.repo) fits.written (files_now g)) × ((stands.done ≡ chosen)
     × (committed_of grown.fits_now.written ≡ stands.entries))
 grown_stands from chosen added accepted store now h g fits settled grown =
     let fits_then = grown.fits_now in
@@ -381,7 +443,7 @@ grown_stands from chosen added accepted store now h g fits settled grown =
         chunks = subst (λ (c : List LogEntry). KeepsChunks (committed_of fits.written) c) entries_are grown.chunks;
         opening = λ id blob apart live. grown.opening id blob apart
             (fits_then.keeps id blob (subst (λ (c : List LogEntry). live_in id c ≡ Some blob) (sym entries_are) live));
-        puts = subst (GoesOn (repo_view store.repo).keys from.most fits.written) entries_are grown.committed;
+        puts = subst (GoesOn (repo_view store.repo).keys from.most added fits.written) entries_are grown.committed;
         holds = commits.holds;
         names = grown.most.names;
         config = config ∙ grown.config;
@@ -407,91 +469,104 @@ module _ (secrets : Secrets) (options : Options) (names : List (List ℕ)) (sour
   abbrev from : Origin
   from = origin told source options.block options.checkpoint
 
+  -- What is added for the names that were chosen begins with these.
+  abbrev pub IsBegin : Store → List Addition → Type 0
+  IsBegin store within = BeginsNames from (repo_view store.repo).keys (accepted_in store) [] chosen within
+
   -- what stands behind the opening keeps the archives
-  pub stands_opened : (store : Store) (h g : History) (lines : List (List ℕ)) (image : Files) → IsSettled store
-      → OpensFilesTo (files_now h) secrets.target (repo_view store.repo)
-      → (o : OpensFound false store h g) → (stands : StandsOn from chosen (accepted_in store) (repo_view store.repo) o.fits.written image)
+  pub stands_opened : (store : Store) (within : List Addition) (h g : History) (lines : List (List ℕ)) (image : Files) → IsSettled store
+      → OpensFilesTo (files_now h) secrets.target (repo_view store.repo) → IsBegin store within
+      → (o : OpensFound false store h g) → (stands : StandsOn from chosen within (accepted_in store) (repo_view store.repo) o.fits.written image)
       → IsReport (accepted_in store) lines stands.done
       → (keeps : KeepsArchives request (files_now h) (repo_view store.repo).manifest lines image) × (keeps.done ≡ stands.done)
-  stands_opened store h g lines image settled opens o stands report =
-      stands_keeps secrets options names source told chosen (accepted_in store) (files_now h) image (repo_view store.repo) o.fits.written o.committed
+  stands_opened store within h g lines image settled opens begins o stands report =
+      stands_keeps secrets options names source told chosen within (accepted_in store) (files_now h) image (repo_view store.repo) o.fits.written o.committed
       source_opens chosen_is settled opens o.shown (ap committed_of o.found_is) (ap entries_of o.found_is ∙ append-nil o.committed)
-      (ap (λ (w : Written). w.config) o.found_is) lines stands report
+      (ap (λ (w : Written). w.config) o.found_is) lines begins stands report
 
   -- the same at a moment, by all lines that were told
-  kept_at : (store : Store) (h g k : History) → h.acts ≡ [] → TellsNothing h g → IsSettled store
-      → OpensFilesTo (files_now h) secrets.target (repo_view store.repo) → (o : OpensFound false store h g)
-      → IsReported (ShowsReport from chosen (accepted_in store) (repo_view store.repo) o.fits.written) false g k
+  kept_at : (store : Store) (within : List Addition) (h g k : History) → h.acts ≡ [] → TellsNothing h g → IsSettled store
+      → OpensFilesTo (files_now h) secrets.target (repo_view store.repo) → IsBegin store within → (o : OpensFound false store h g)
+      → IsReported (ShowsReport from chosen within (accepted_in store) (repo_view store.repo) o.fits.written) false g k
       → KeepsAt request h (repo_view store.repo).manifest k
-  kept_at store h g k begun untold settled opens o reported image left =
+  kept_at store within h g k begun untold settled opens begins o reported image left =
       let is : lines_of k.acts ≡ reported.lines =
       reported.told ∙ ap (λ (l : List (List ℕ)). l ++ reported.lines) (untold ∙ untold_yet h begun) in
       let shows = reported.sound.shows image left in
       subst (λ (lines : List (List ℕ)). KeepsArchives request (files_now h) (repo_view store.repo).manifest lines image) (sym is)
-      (stands_opened store h g reported.lines image settled opens o shows.0 shows.1).0
+      (stands_opened store within h g reported.lines image settled opens begins o shows.0 shows.1).0
 
-  transfer_then : (store : Store) (h g i : History) → IsSettled store → OpensFilesTo (files_now h) secrets.target (repo_view store.repo)
-      → TellsNothing h g → OpenEach h g → AllDone h g → OpenFits store h g → KeepsReported from chosen store g i → TransferEach request h i
-  transfer_then store h g i settled opens untold each done fits reported = (
+  transfer_then : (store : Store) (within : List Addition) (h g i : History) → IsSettled store
+      → OpensFilesTo (files_now h) secrets.target (repo_view store.repo) → TellsNothing h g → OpenEach h g → AllDone h g → OpenFits store h g
+      → IsBegin store within → KeepsReported from chosen store within g i → TransferEach request h i
+  transfer_then store within h g i settled opens untold each done fits begins reported = (
     λ begun repo opens_to.
         let o = fits false begun (λ c. absurd (let no : ⊥ = cc in no)) in
         let same = one_repo (files_now h) secrets.target (repo_view store.repo) repo opens opens_to in
         moments_then (KeepsAt request h repo.manifest) h g i
         (shows_opened request h g o.committed o.shown untold each begun repo opens_to) done
-        (moments_map (IsReported (ShowsReport from chosen (accepted_in store) (repo_view store.repo) o.fits.written) false g)
+        (moments_map (IsReported (ShowsReport from chosen within (accepted_in store) (repo_view store.repo) o.fits.written) false g)
         (KeepsAt request h repo.manifest) g i
-        (λ k sound. subst (λ (r : RepoState). KeepsAt request h r.manifest k) same (kept_at store h g k begun untold settled opens o sound))
+        (λ k sound. subst (λ (r : RepoState). KeepsAt request h r.manifest k) same (kept_at store within h g k begun untold settled opens begins o sound))
         (reported false o.fits)),
     (
       λ begun kept.
           let o = fits true begun (λ c. kept) in
           moments_then (λ k. IsKept k × AllTraced k) h g i (each.1.0 begun kept) done
-          (moments_map (IsReported (ShowsReport from chosen (accepted_in store) (repo_view store.repo) o.fits.written) true g) (λ k. IsKept k × AllTraced k)
-          g i (λ k sound. sound_kept from chosen (accepted_in store) (repo_view store.repo) g k o.fits.written sound) (reported true o.fits)),
-      λ begun.
-          let o = fits false begun (λ c. absurd (let no : ⊥ = cc in no)) in
-          first_kept (IsReported (ShowsReport from chosen (accepted_in store) (repo_view store.repo) o.fits.written) false g) g i
-          o.fits.under_way.fits.own.safe.settled_is (each.1.1 begun) (reported false o.fits),
+          (moments_map (IsReported (ShowsReport from chosen within (accepted_in store) (repo_view store.repo) o.fits.written) true g)
+          (λ k. IsKept k × AllTraced k) g i
+          (λ k sound. sound_kept from chosen within (accepted_in store) (repo_view store.repo) g k o.fits.written sound) (reported true o.fits)),
+      (
+        λ begun.
+            let o = fits false begun (λ c. absurd (let no : ⊥ = cc in no)) in
+            moments_then KeepsNumbers h g i (each.1.1.0 begun) done
+            (moments_map (IsReported (ShowsReport from chosen within (accepted_in store) (repo_view store.repo) o.fits.written) false g) KeepsNumbers g i
+            (λ k at. at.sound.numbers) (reported false o.fits)),
+        λ begun.
+            let o = fits false begun (λ c. absurd (let no : ⊥ = cc in no)) in
+            first_kept (IsReported (ShowsReport from chosen within (accepted_in store) (repo_view store.repo) o.fits.written) false g) g i
+            o.fits.under_way.fits.own.safe.settled_is (each.1.1.1 begun) (reported false o.fits),
+      ),
     ),
   )
 
-  ends_then : (store now : Store) (h g i : History) → IsSettled store → IsSettled now → now.pending ≡ 0
-      → OpensFilesTo (files_now h) secrets.target (repo_view store.repo) → TellsNothing h g → OpenFits store h g → CarriesNames from chosen store now g i
-      → TellsWhole (accepted_in store) chosen g i → TransferEnds request h i
-  ends_then store now h g i settled settled_now none opens untold fits carries told_then begun =
+  ends_then : (store now : Store) (added : List Addition) (carried : Carried) (h g i : History) → IsSettled store → IsSettled now → now.pending ≡ 0
+      → OpensFilesTo (files_now h) secrets.target (repo_view store.repo) → TellsNothing h g → OpenFits store h g → IsBegin store added
+      → CarriesNames from chosen added store now g i → TellsWhole (accepted_in store) chosen added carried g i → TransferEnds request h i
+  ends_then store now added carried h g i settled settled_now none opens untold fits begins carries told_then begun =
       let o = fits false begun (λ c. absurd (let no : ⊥ = cc in no)) in
-      let added = carries.0 in
-      let grown = carries.1.0 false o.fits in
+      let grown = carries.0 false o.fits in
       let stands = grown_stands from chosen added (accepted_in store) store now g i o.fits settled_now grown in
       let keys = (repo_view store.repo).keys in
       let written : entries_of o.fits.written ≡ o.committed = ap entries_of o.found_is ∙ append-nil o.committed in
       let entries : entries_of grown.fits_now.written ≡ stands.0.entries = none_pending now i grown.fits_now none ∙ stands.1.1 in
-      let whole : TellsWhole (accepted_in store) chosen h i = (
+      let whole : TellsWhole (accepted_in store) chosen added carried h i = (
         told_then.0,
         (
           told_then.1.0,
           (
-            told_then.1.1.0 ∙ ap (λ (l : List (List ℕ)). l ++ (told_then.0 ++ total_line told_then.1.0 ∷ [])) untold,
+            told_then.1.1.0 ∙ ap (λ (l : List (List ℕ)). l ++ (told_then.1.0 ++ total_line carried ∷ [])) untold,
             told_then.1.1.1,
           ),
         ),
       ) in
       let report = subst (λ (l : List (List ℕ)). IsReport (accepted_in store) (lines_of i.acts) l) (sym stands.1.0)
-      (whole_report (accepted_in store) chosen h i (untold_yet h begun) whole) in
-      let kept = stands_opened store h g (lines_of i.acts) (files_now i) settled opens o stands.0 report in
+      (whole_report (accepted_in store) chosen added carried h i (untold_yet h begun) whole) in
+      let kept = stands_opened store added h g (lines_of i.acts) (files_now i) settled opens begins o stands.0 report in
       record {
         repo = repo_view store.repo;
         opens = opens;
         keeps = kept.0;
         all = all_of secrets options names source told kept.0.done source_opens (kept.1 ∙ (stands.1.0 ∙ chosen_is));
-        told_all = subst (λ (m : ManifestText). TellsWhole m kept.0.done h i) settled
-            (subst (λ (l : List (List ℕ)). TellsWhole (accepted_in store) l h i) (sym (kept.1 ∙ stands.1.0)) whole);
         added = added;
+        carried = carried;
+        told_all = subst (λ (m : ManifestText). TellsWhole m kept.0.done added carried h i) settled
+            (subst (λ (l : List (List ℕ)). TellsWhole (accepted_in store) l added carried h i) (sym (kept.1 ∙ stands.1.0)) whole);
         adds = adds_shown request (files_now h) (files_now i) (repo_view store.repo) o.committed stands.0.entries added opens o.shown stands.0.shown
             (subst (AddsAll keys options.checkpoint o.committed added) entries
             (subst (λ (front : List LogEntry). AddsAll keys options.checkpoint front added (entries_of grown.fits_now.written)) written grown.puts));
         lists = all_listed secrets options names source told chosen (accepted_in store) (repo_view store.repo) added source_opens chosen_is settled
-            carries.1.1;
+            carries.1;
       }
 
   -- the store that was opened, over the files that opened to its repository
@@ -513,31 +588,52 @@ module _ (secrets : Secrets) (options : Options) (names : List (List ℕ)) (sour
       (works_ok OpenEach (λ (s : Store) h g. P h × OpenFits s h g) OpensUntold OpensTo a b n m store store (λ h g none e. (none, e)) (λ h g e. e) untold
       (did_known P OpenEach OpenFits a b n m store opens opened))
 
+  -- what begins at an opened store is known at each moment behind it
+  begun_each : (store : Store) (within : List Addition) (a b : Option Told) → BeginsAll a from store chosen within
+      → Between a b (KeepsReported from chosen store within) → Between a b (λ h g. IsBegin store within × KeepsReported from chosen store within h g)
+  begun_each store within a b begins each = between_known (λ _. IsBegin store within) (KeepsReported from chosen store within) a b begins each
+
   -- the archives of the chosen names were copied
-  pub copied_all : {T U : Type 0} (store now : Store) (a b c : Option Told) (n m k : ℕ) (x : T) (y : U) → IsSettled store → IsSettled now
+  pub copied_all : {U : Type 0} (store now : Store) (a b c : Option Told) (n m k : ℕ) (x : Carried) (y : U) → IsSettled store → IsSettled now
       → now.pending ≡ 0 → IfSome a (λ t. OpensFilesTo (files_now t.history) secrets.target (repo_view store.repo)) → Between a b TellsNothing
-      → Did OpenEach OpenFits a b n m (Ok store) → ReportsWhole {T = T} from chosen store now b c m k (Ok x)
+      → Did OpenEach OpenFits a b n m (Ok store) → ReportsWhole from chosen store now b c m k (Ok x)
       → Works (TransferEach request) (λ (_ : U). TransferEnds request) a c n k (Ok y)
-  copied_all {T} {U} store now a b c n m k x y settled settled_now none opens untold opened carried =
-      let all = works_then OpensUntold OpensToUntold (KeepsReported from chosen store)
-      (λ (_ : T) h g. CarriesNames from chosen store now h g × TellsWhole (accepted_in store) chosen h g) (TransferEach request)
-      (λ (_ : T). TransferEnds request) a b c n m k store (Ok x)
-      (λ h g i each done fits reported. transfer_then store h g i settled fits.1.0 each.0 each.1 done fits.1.1 reported)
-      (λ _ h g i fits end. ends_then store now h g i settled settled_now none fits.1.0 fits.0.0 fits.1.1 end.0 end.1)
-      (opened_works store a b n m opens untold opened) carried in
+  copied_all {U} store now a b c n m k x y settled settled_now none opens untold opened carried =
+      let added = carried.added in
+      let Each : History → History → Type 0 = λ h g. IsBegin store added × KeepsReported from chosen store added h g in
+      let Ends : Carried → History → History → Type 0 =
+      λ total h g. CarriesNames from chosen added store now h g × TellsWhole (accepted_in store) chosen added total h g in
+      let begun : Works Each (λ total h g. Each h g × Ends total h g) b c m k (Ok x) =
+      works_both Each Ends b c m k (Ok x)
+      (record {
+        each = begun_each store added b c carried.begins carried.works.each;
+        end = carried.works.end;
+        ends = carried.works.ends;
+        cause = carried.works.cause;
+      }) in
+      let all = works_then OpensUntold OpensToUntold Each (λ total h g. Each h g × Ends total h g) (TransferEach request)
+      (λ (_ : Carried). TransferEnds request) a b c n m k store (Ok x)
+      (λ h g i each done fits reported. transfer_then store added h g i settled fits.1.0 each.0 each.1 done fits.1.1 reported.0 reported.1)
+      (λ total h g i fits end.
+      ends_then store now added total h g i settled settled_now none fits.1.0 fits.0.0 fits.1.1 end.0.0 end.1.0 end.1.1)
+      (opened_works store a b n m opens untold opened) begun in
       record { each = all.each; end = all.end; ends = all.ends; cause = all.cause }
 
   -- they were not
-  pub copied_some : {T U : Type 0} (store now : Store) (a b c : Option Told) (n m k : ℕ) (fault : CarryFault) → IsSettled store
+  pub copied_some : {U : Type 0} (store now : Store) (a b c : Option Told) (n m k : ℕ) (fault : CarryFault) → IsSettled store
       → IfSome a (λ t. OpensFilesTo (files_now t.history) secrets.target (repo_view store.repo)) → Between a b TellsNothing
-      → Did OpenEach OpenFits a b n m (Ok store) → ReportsWhole {T = T} from chosen store now b c m k (Err fault)
+      → Did OpenEach OpenFits a b n m (Ok store) → ReportsWhole from chosen store now b c m k (Err fault)
       → Works (TransferEach request) (λ (_ : U). TransferEnds request) a c n k (Err fault)
-  copied_some {T} {U} store now a b c n m k fault settled opens untold opened carried =
-      let all = works_then OpensUntold OpensToUntold (KeepsReported from chosen store)
-      (λ (_ : T) h g. CarriesNames from chosen store now h g × TellsWhole (accepted_in store) chosen h g) (TransferEach request)
-      (λ (_ : T) (h : History) (g : History). Unit {0}) a b c n m k store (Err fault)
-      (λ h g i each done fits reported. transfer_then store h g i settled fits.1.0 each.0 each.1 done fits.1.1 reported) (λ _ h g i e f. tt)
-      (opened_works store a b n m opens untold opened) carried in
+  copied_some {U} store now a b c n m k fault settled opens untold opened carried =
+      let added = carried.added in
+      let Each : History → History → Type 0 = λ h g. IsBegin store added × KeepsReported from chosen store added h g in
+      let Ends : Carried → History → History → Type 0 = λ _ h g. Unit {0} in
+      let begun : Works Each Ends b c m k (Err fault) =
+      record { each = begun_each store added b c carried.begins carried.works.each; end = tt; ends = carried.works.ends; cause = carried.works.cause } in
+      let all = works_then OpensUntold OpensToUntold Each Ends (TransferEach request)
+      (λ (_ : Carried) (h : History) (g : History). Unit {0}) a b c n m k store (Err fault)
+      (λ h g i each done fits reported. transfer_then store added h g i settled fits.1.0 each.0 each.1 done fits.1.1 reported.0 reported.1)
+      (λ _ h g i e f. tt) (opened_works store a b n m opens untold opened) begun in
       record { each = all.each; end = tt; ends = all.ends; cause = all.cause }
 
 -- ---- the devices

@@ -12,7 +12,7 @@ use Rattle.ferry_repo.specs.declared.fault.RepoFault.{RepoFault}
 use Rattle.ferry_repo.specs.declared.secret.Secret.{Secret}
 use Rattle.ferry_store.specs.Init.{HasNoBlocks, IsTooLarge}
 use Rattle.ferry_store.specs.Key.{RefusesGiven}
-use Rattle.ferry_store.specs.Store.{InitKeeps, InitLeaves, InitShows, MakesFiles, RefusesInit}
+use Rattle.ferry_store.specs.Store.{InitKeeps, InitLeaves, InitShows, MakesFiles, NumbersOn, RefusesInit}
 use Rattle.ferry_store.specs.declared.fault.StoreRefusal.{StoreRefusal}
 use Rattle.ferry_store.specs.declared.fault.StoreRefusal.TheVariants.{Repo, Write, Memory}
 use Rattle.ferry_top.specs.Devices.{Devices}
@@ -42,8 +42,8 @@ InitTells secret iterations timestamp bytes before now = before.acts ≡ [] → 
 
 -- At each moment of the command, and at its end.
 abbrev pub CommandEach : Secret → History → History → Type 0
-CommandEach secret before now = InitShows secret before now × (InitKeeps before now × (SettlesFirst before now
-    × (before.acts ≡ [] → InitLeaves before now)))
+CommandEach secret before now = InitShows secret before now × (InitKeeps before now × (NumbersOn before now × (SettlesFirst before now
+    × (before.acts ≡ [] → InitLeaves before now))))
 
 -- Why a line isn't told: the target failed, or memory was refused.
 abbrev pub RefusesTelling : StoreRefusal → Type 0
@@ -58,7 +58,8 @@ pub record IsRefused (secret : Secret) (timestamp : List ℕ) (target : Option T
   pub refuses : IfSome target (λ t. RefusesInit secret timestamp t.history refusal)
 
 -- A repository is made in the target, or that is refused. Whatever a stop leaves at any moment has no commit, or is the new repository; the
--- counter blocks of the runs before stay apart. Source and output are not used.
+-- counter blocks of the runs before stay apart, and none of this run's, and no number of the file `nonce`, is below the one that it began with. Source and
+-- output are not used.
 pub record MakesRepository (secret : Secret) (iterations : ℕ) (timestamp : List ℕ) (before : Devices) (status : Status) (after : Devices) : Type 0 where
   pub source : after.source ≡ before.source
   pub output : after.output ≡ before.output

@@ -1,14 +1,17 @@
 -- A transfer that is run again: what it asks of the archives of its target, and what the stops of earlier runs left.
-use Rattle.std.specs.Prelude.{◌≡◌, ◌⊎◌, ℕ, List, [], ◌∷◌, Option, Some, None, IfSome}
+use Rattle.std.specs.Prelude.{◌≡◌, ◌⊎◌, ℕ, List, [], ◌∷◌, Option, Some, None, IfSome, IsSome}
 use Rattle.std.specs.List.{AllByRecursion}
 use Rattle.ferry_carry.specs.Copied.{adds_of}
 use Rattle.ferry_carry.specs.Gather.{HoldsWithin, IsAmong, NoCollision}
-use Rattle.ferry_disk.specs.Files.{Files}
+use Rattle.ferry_disk.specs.Files.{Files, file_at}
+use Rattle.ferry_disk.specs.declared.name.Name.TheVariants.{Nonce as NonceFile}
 use Rattle.ferry_manifest.specs.Manifest.Text.{ManifestText}
 use Rattle.ferry_manifest.specs.declared.manifest.ArchiveRef.{ArchiveRef}
 use Rattle.ferry_repo.specs.Archives.{archive_named}
 use Rattle.ferry_repo.specs.Opening.{RepoState, OpensFilesTo}
 use Rattle.ferry_repo.specs.Whole.{HasWhole, WholeArchive}
+use Rattle.ferry_nonce.specs.Counter.{HasAtLeast}
+use Rattle.ferry_stops.specs.Counters.{IsNonce, SpellsNumber}
 use Rattle.ferry_top.specs.Transfer.{Arrives, KeepsArchives, Request, chosen_of}
 
 -- ---- what is asked of a target
@@ -31,10 +34,22 @@ abbrev pub EachChosen : Request → Option Files → (Files → List ℕ → Typ
 EachChosen request told Holds = IfSome told (λ source. (from : RepoState) → OpensFilesTo source request.secrets.source from → (name : List ℕ)
     → IsAmong (chosen_of request.names from.manifest) name → Holds source name)
 
--- What a transfer asks of the archives of a target so that it can end: the target opens, and each chosen name is absent there or equal.
+-- The file `nonce` is there, and has a number.
+pub record HasNumber (files : Files) : Type 0 where
+  pub text : List ℕ
+  pub nonce : file_at files NonceFile ≡ Some text
+  pub number : ℕ
+  pub spelled : SpellsNumber text number
+
+-- Where the file `nonce` of the first had a number, that of the second has one that isn't lower, and is there where it was.
+abbrev pub KeepsNonce : Files → Files → Type 0
+KeepsNonce start image = (number : ℕ) → IsNonce start.nonce number → HasAtLeast number image.nonce × (IsSome start.nonce → IsSome image.nonce)
+
+-- What a transfer asks of a target so that it can end: the target opens, with a number in the file `nonce`, and each chosen name is absent there or equal.
 pub record MeetsConditions (request : Request) (image : Files) : Type 0 where
   pub repo : RepoState
   pub opens : OpensFilesTo image request.secrets.target repo
+  pub nonce : HasNumber image
   pub chosen : EachChosen request request.source (λ source name. IsAbsentOrEqual request source image repo name)
 
 -- ---- what is assumed of what a stop leaves
@@ -72,6 +87,7 @@ pub record IsLeftBy (request : Request) (start image : Files) : Type 0 where
   pub opens : OpensFilesTo start request.secrets.target before
   pub lines : List (List ℕ)
   pub keeps : KeepsArchives request start before.manifest lines image
+  pub nonce : KeepsNonce start image
   pub apart : NoneCollideIn request image keeps.repo keeps.done request.source keeps.arrived
 
 -- Each of these files was left by a transfer that began with the files before it, the first by one that began with the start.

@@ -7,9 +7,10 @@ use Rattle.ferry_carry.specs.Carrying.{IsRecordText, Origin}
 use Rattle.ferry_carry.specs.Copied.{IsCopyOf, adds_of}
 use Rattle.ferry_carry.specs.Gather.{HoldsWithin, IsAmong, NoCollision}
 use Rattle.ferry_carry.specs.Grow.{IsNamedBy, KeepsNames}
-use Rattle.ferry_carry.specs.Listing.{ListsNames}
-use Rattle.ferry_carry.specs.Puts.{Addition, AddsAll}
+use Rattle.ferry_carry.specs.Listing.{BeginsNames, ListsNames}
+use Rattle.ferry_carry.specs.Puts.{Addition, AddsAll, IsFront}
 use Rattle.ferry_carry.specs.Telling.{AreLines, IsReport, TellsWhole}
+use Rattle.ferry_carry.specs.declared.options.Carried.{Carried}
 use Rattle.ferry_carry.specs.declared.options.Options.{Options}
 use Rattle.ferry_disk.specs.Act.{History, files_now}
 use Rattle.ferry_disk.specs.Device.{Told, told_files}
@@ -25,7 +26,7 @@ use Rattle.ferry_segment.specs.Entry.{LogEntry}
 use Rattle.ferry_stops.specs.Chance.{EachStop}
 use Rattle.ferry_stops.specs.Entries.{Shows}
 use Rattle.ferry_stops.specs.Tells.{lines_of}
-use Rattle.ferry_store.specs.Store.{InitKeeps}
+use Rattle.ferry_store.specs.Store.{InitKeeps, NumbersOn}
 use Rattle.ferry_top.specs.declared.status.Secrets.{Secrets}
 use Rattle.ferry_write.specs.Session.{SettlesFirst}
 
@@ -103,6 +104,16 @@ abbrev pub AddsBehind : Request → Files → Files → List Addition → Type 0
 AddsBehind request start image added = (before : RepoState) → OpensFilesTo start request.secrets.target before → (entries : List LogEntry)
     → Shows start (Some entries) → (after : List LogEntry) × (Shows image (Some after) × AddsAll before.keys request.checkpoint entries added after)
 
+-- Where the source's files open, these are the first of what is added for the chosen names to a target that opened so, as far as it came.
+abbrev pub BeginsChosen : Request → RepoState → List Addition → Files → Type 0
+BeginsChosen request before added files = (repo : RepoState) → OpensFilesTo files request.secrets.source repo → (begun : List Addition)
+    × (IsFront added begun
+    × BeginsNames (from_source request files repo) before.keys before.manifest [] (chosen_of request.names repo.manifest) begun)
+
+abbrev pub IsBegun : Request → Files → List Addition → Type 0
+IsBegun request start added =
+    (before : RepoState) → OpensFilesTo start request.secrets.target before → IfSome request.source (BeginsChosen request before added)
+
 -- Where the source's files open, these names are a front of those that are chosen.
 abbrev pub IsChosenFront : Request → List (List ℕ) → Files → Type 0
 IsChosenFront request done files = (repo : RepoState) → OpensFilesTo files request.secrets.source repo
@@ -110,7 +121,8 @@ IsChosenFront request done files = (repo : RepoState) → OpensFilesTo files req
 
 -- Files open under the target's secret, with the settings that these had, and each archive of these is named there, and says the same where it was whole. Of
 -- the chosen names those of a front arrived, cut anew where they weren't there, and beside them and those that were there no other is named. What chunks
--- came, open, and each was put because none was live under its id. These lines tell a front of those that arrived, and behind them perhaps the whole.
+-- came, open, and each was put because none was live under its id; what was added is the first of what is added for the chosen names. These lines tell a
+-- front of those that arrived, and behind them perhaps the whole.
 pub record KeepsArchives (request : Request) (start : Files) (before : ManifestText) (lines : List (List ℕ)) (image : Files) : Type 0 where
   pub repo : RepoState
   pub opens : OpensFilesTo image request.secrets.target repo
@@ -124,7 +136,7 @@ pub record KeepsArchives (request : Request) (start : Files) (before : ManifestT
   pub cut : IfSome request.source (AreCutThere request before repo done)
   pub only : IsNamedBy before done repo.manifest
   pub opening : BringsWhatOpens request start image repo
-  pub adds : (added : List Addition) × AddsBehind request start image added
+  pub adds : (added : List Addition) × (AddsBehind request start image added × IsBegun request start added)
   pub told : IsReport before lines done
 
 -- ---- each stop
@@ -135,9 +147,9 @@ abbrev pub TransferShows : Request → History → History → Type 0
 TransferShows request before now = before.acts ≡ [] → (repo : RepoState) → OpensFilesTo (files_now before) request.secrets.target repo
     → Moments (λ moment. EachStop (KeepsArchives request (files_now before) repo.manifest (lines_of moment.acts)) moment) before now
 
--- At each moment of the command: its stops, the counter blocks of all runs, and its first act.
+-- At each moment of the command: its stops, the counter blocks of all runs, those of its own and the number in the file `nonce`, and its first act.
 abbrev pub TransferEach : Request → History → History → Type 0
-TransferEach request before now = TransferShows request before now × (InitKeeps before now × SettlesFirst before now)
+TransferEach request before now = TransferShows request before now × (InitKeeps before now × (NumbersOn before now × SettlesFirst before now))
 
 -- ---- the end
 
@@ -151,15 +163,16 @@ abbrev pub ListsChosen : Request → RepoState → List Addition → Files → T
 ListsChosen request before added files = (repo : RepoState) × (OpensFilesTo files request.secrets.source repo
     × ListsNames (from_source request files repo) before.keys before.manifest [] (chosen_of request.names repo.manifest) added)
 
--- The target's files opened, and now they open with each archive that was there. All chosen names arrived and were told, and behind them the whole. What was
--- added is all that is added for them.
+-- The target's files opened, and now they open with each archive that was there. All chosen names arrived and were told, and behind them the whole, with the
+-- numbers of these names and of what was put of what was added, which is all that is added for them.
 pub record HasTransferred (request : Request) (before now : History) : Type 0 where
   pub repo : RepoState
   pub opens : OpensFilesTo (files_now before) request.secrets.target repo
   pub keeps : KeepsArchives request (files_now before) repo.manifest (lines_of now.acts) (files_now now)
   pub all : IfSome request.source (IsChosen request keeps.done)
-  pub told_all : TellsWhole repo.manifest keeps.done before now
   pub added : List Addition
+  pub carried : Carried
+  pub told_all : TellsWhole repo.manifest keeps.done added carried before now
   pub adds : AddsBehind request (files_now before) (files_now now) added
   pub lists : IfSome request.source (ListsChosen request repo added)
 

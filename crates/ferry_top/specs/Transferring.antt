@@ -12,7 +12,7 @@ use Rattle.ferry_top.specs.declared.status.Status.TheVariants.{Done}
 -- it isn't done, the refusal says why. Where it is done, all chosen archives are there and were told. However it ends, each archive that the target had
 -- is unchanged; where it is refused, but for a device that failed and want of memory, no archive came that wasn't told. Whatever a stop leaves at any
 -- moment opens, with each archive that the target had and those of a front of the chosen names, those that were told among them; the counter blocks of the
--- runs before stay apart. The output is not used.
+-- runs before stay apart, and none of this run's, and no number of the file `nonce`, is below the one that it began with. The output is not used.
 pub record Transfers (request : Request) (before : Devices) (status : Status) (after : Devices) : Type 0 where
   pub output : after.output ≡ before.output
   pub completes : EndsDone request before.target.told after.target.told status

@@ -4,7 +4,10 @@ ghost use Rattle.std.specs.List.{AllByRecursion};
 ghost use Rattle.ferry_carry.specs.Gather.{IsAmong};
 ghost use Rattle.ferry_check.specs.Verify.{FilesVerify};
 ghost use Rattle.ferry_disk.specs.Device.{Told, told_files};
+ghost use Rattle.ferry_disk.specs.Act.{History};
 ghost use Rattle.ferry_disk.specs.Files.{Files, file_at};
+ghost use Rattle.ferry_disk.specs.Image.{ImageOf};
+ghost use Rattle.ferry_nonce.specs.Counter.{KeepsNumbers};
 ghost use Rattle.ferry_disk.specs.declared.name.Name.TheVariants.{Nonce};
 ghost use Rattle.ferry_repo.specs.Opening.{OpensFilesTo, RepoState};
 ghost use Rattle.ferry_repo.specs.declared.secret.Secret.{Secret};
@@ -12,7 +15,7 @@ ghost use Rattle.ferry_repo.specs.Whole.{HasWhole, WholeArchive};
 ghost use Rattle.ferry_stops.specs.Counters.{SpellsNumber};
 ghost use Rattle.ferry_store.specs.New.{OpensNew};
 ghost use Rattle.ferry_top.specs.Init.{IsFault, IsReady, IsRefused};
-ghost use Rattle.ferry_top.specs.Rerun.{AreLeftInTurn, EachChosen, IsNamedOrChosen, LacksName, MeetsConditions, NoneCollideIn};
+ghost use Rattle.ferry_top.specs.Rerun.{AreLeftInTurn, EachChosen, HasNumber, IsNamedOrChosen, KeepsNonce, LacksName, MeetsConditions, NoneCollideIn};
 ghost use Rattle.ferry_top.specs.Transfer.{KeepsArchives, Request, chosen_of};
 ghost use Rattle.ferry_top.specs.TransferCauses.{IsReadyFor};
 ghost use Rattle.ferry_top.specs.declared.status.Status.{Status as TheStatus};
@@ -24,14 +27,16 @@ pub fn init_laws()
         → IsReady secret timestamp (told_files told) → IsRefused secret timestamp (Some told) status → IsFault status }
 {}
 
-/// What a transfer asks of the archives of its target, it finds again in what it left at a stop, with the same words and the same source: the files
-/// open, and each chosen name is absent there or equal. Of the file `nonce` nothing is said here.
+/// What a transfer asks of its target, it finds again in what it left at a stop, with the same words and the same source: the files open, the file
+/// `nonce` has a number, and each chosen name is absent there or equal.
 pub fn transfer_laws()
     // This needs that no contents collide among those of each archive that arrived and those that are live in what the stop left.
     ensures rerun { (request : Request) (start image : Files) (before : RepoState) (lines : List (List ℕ))
         → OpensFilesTo start request.secrets.target before → (keeps : KeepsArchives request start before.manifest lines image)
-        → NoneCollideIn request image keeps.repo keeps.done request.source keeps.arrived
+        → NoneCollideIn request image keeps.repo keeps.done request.source keeps.arrived → KeepsNonce start image
         → MeetsConditions request start → MeetsConditions request image }
+    // What a run keeps of the number that it began with, each stop shows, chance or none.
+    ensures nonce { (moment : History) (image : Files) → KeepsNumbers moment → ImageOf moment image → KeepsNonce moment.start image }
     // The same over any number of stops, each of a run over what the one before left.
     ensures runs { (request : Request) (start : Files) (images : List Files) → AreLeftInTurn request start images → MeetsConditions request start
         → AllByRecursion (MeetsConditions request) images }
@@ -40,18 +45,18 @@ pub fn transfer_laws()
         → request.source ≡ Some source → OpensFilesTo source request.secrets.source from
         → (keeps : KeepsArchives request start before.manifest lines image) (name : List ℕ)
         → IsNamedOrChosen request from.manifest keeps.repo.manifest name ↔ IsNamedOrChosen request from.manifest before.manifest name }
-    // The same of all that a transfer asks so that it is done, where the file `nonce` has a number.
+    // The same of all that a transfer asks so that it is done.
     ensures ready { (request : Request) (source start image : Files) (lines : List (List ℕ)) → request.source ≡ Some source
         → (ready : IsReadyFor request source start) → (keeps : KeepsArchives request start ready.repo.manifest lines image)
-        → NoneCollideIn request image keeps.repo keeps.done request.source keeps.arrived → (text : List ℕ) (number : ℕ)
-        → file_at image Nonce ≡ Some text → SpellsNumber text number → IsReadyFor request source image }
+        → NoneCollideIn request image keeps.repo keeps.done request.source keeps.arrived → KeepsNonce start image
+        → IsReadyFor request source image }
     // Where the source tells its files, what is left verifies where the start did.
     ensures verifies { (request : Request) (source start image : Files) (before : RepoState) (lines : List (List ℕ)) → request.source ≡ Some source
         → OpensFilesTo start request.secrets.target before → FilesVerify start request.secrets.target
         → (keeps : KeepsArchives request start before.manifest lines image)
         → NoneCollideIn request image keeps.repo keeps.done request.source keeps.arrived → FilesVerify image request.secrets.target }
-    // A target that opens and lacks each chosen name meets the conditions.
-    ensures first { (request : Request) (start : Files) (repo : RepoState) → OpensFilesTo start request.secrets.target repo
+    // A target that opens, with a number in the file `nonce`, and lacks each chosen name meets the conditions.
+    ensures first { (request : Request) (start : Files) (repo : RepoState) → OpensFilesTo start request.secrets.target repo → HasNumber start
         → EachChosen request request.source (λ source name. LacksName repo.manifest name) → MeetsConditions request start }
     // A new repository is ready for archives that are whole in the source.
     ensures fresh { (request : Request) (source start : Files) (from : RepoState) → OpensFilesTo source request.secrets.source from

@@ -1,4 +1,4 @@
-use Rattle.std.proofs.Common.{rules, ◌≡◌, None, Result, IfErr, IfSome, refl}
+use Rattle.std.proofs.Common.{rules, ◌≡◌, None, Ok, Result, IfErr, IfSome, refl, subst}
 use Rattle.ferry_carry.proofs.AcceptingLemmas.{telling_small}
 use Rattle.ferry_carry.proofs.CauseLemmas.{line_refused, names_refused, none_missing, not_there}
 use Rattle.ferry_carry.proofs.GrowLemmas.{accepts_on}
@@ -9,7 +9,8 @@ use Rattle.ferry_carry.specs.Accepting.{LimitsNames}
 use Rattle.ferry_carry.specs.Carrying.{origin}
 use Rattle.ferry_carry.specs.Lines.{total_line}
 use Rattle.ferry_carry.specs.Refusals.{RefusesNames}
-use Rattle.ferry_carry.specs.Telling.{ReportsWhole, StopsBehind, TellsNames}
+use Rattle.ferry_carry.specs.Counting.{nothing_carried}
+use Rattle.ferry_carry.specs.Telling.{Reports, ReportsWhole, StopsBehind, TellsNames}
 use Rattle.ferry_carry.specs.declared.fault.CarryFault.{CarryFault}
 use Rattle.ferry_carry.specs.declared.fault.CarryFault.TheVariants.{NotFound, Memory, Target}
 use Rattle.ferry_carry.specs.declared.options.Carried.{Carried}
@@ -27,13 +28,13 @@ returns-in_err-name-clause-works g c =
     let n = g.D.Shelf.faults c.args.depot.now in
     let from = origin (g.S.Shelf.told c.args.shelf.now) (repo_view c.args.source.now) c.args.options.now.block c.args.options.now.checkpoint in
     err_is c.from_residual.result Memory (λ (r : Result Carried CarryFault). ReportsWhole from names store store a a n n r) c.from_residual.ensures.1
-    (whole_nothing {T = Carried} from names store store a n Memory (accepts_on store store c.requires.settled) refl)
+    (whole_nothing from names store store a n Memory (accepts_on store store c.requires.settled) refl)
 
 pub returns-in-Some-clause-works : goal.returns-in-Some-clause-works
 returns-in-Some-clause-works g c =
     let store = c.args.store.now in
     let names = c.args.names.now in
-    whole_nothing {T = Carried}
+    whole_nothing
     (origin (g.S.Shelf.told c.args.shelf.now) (repo_view c.args.source.now) c.args.options.now.block c.args.options.now.checkpoint) names store store
     (g.D.Shelf.told c.args.depot.now) (g.D.Shelf.faults c.args.depot.now) (NotFound c.new.result) (accepts_on store store c.requires.settled) refl
 
@@ -50,7 +51,7 @@ returns-in_err-carry_all-clause-works g c =
     let from = origin (g.S.Shelf.told c.args.shelf.now) (repo_view c.args.source.now) c.args.options.now.block c.args.options.now.checkpoint in
     err_is c.from_residual-in_err-carry_all.result fault (λ (r : Result Carried CarryFault). ReportsWhole from names store now a b n m r)
     c.from_residual-in_err-carry_all.ensures.1
-    (whole_err {T = Unit {0}} {U = Carried} from names store now a b n m fault c.in_err-carry_all.ensures.works)
+    (whole_err from names store now _ _ a b n m fault c.in_err-carry_all.ensures.works)
 
 pub returns-in_err-tell-clause-works : goal.returns-in_err-tell-clause-works
 returns-in_err-tell-clause-works g c =
@@ -71,8 +72,8 @@ returns-in_err-tell-clause-works g c =
     let from = origin (g.S.Shelf.told c.args.shelf.now) (repo_view c.args.source.now) c.args.options.now.block c.args.options.now.checkpoint in
     err_is c.from_residual-in_err-tell.result fault (λ (r : Result Carried CarryFault). ReportsWhole from names store now a d n k r)
     c.from_residual-in_err-tell.ensures.1
-    (whole_untold {T = Unit {0}} {U = Unit {0}} {V = Carried} from carried names line store now a b d n m k tt fault is c.requires.settled
-    (accepts_on now now ensures.settled) ensures.works c.in_err-tell.ensures.works)
+    (whole_untold from c.nothing-carried.result carried names line store now a b d n m k fault is c.requires.settled (accepts_on now now ensures.settled)
+    ensures.works c.in_err-tell.ensures.works)
 
 pub returns-clause-works : goal.returns-clause-works
 returns-clause-works g c =
@@ -90,8 +91,9 @@ returns-clause-works g c =
     let is : line ≡ total_line carried = search rules in
     let ensures = c.in_ok-carry_all.ensures in
     let from = origin (g.S.Shelf.told c.args.shelf.now) (repo_view c.args.source.now) c.args.options.now.block c.args.options.now.checkpoint in
-    reports_whole {T = Unit {0}} {U = Unit {0}} {V = Carried} from carried names line store now a b d n m k tt tt carried is
-    c.requires.settled (accepts_on now now ensures.settled) ensures.works c.in_ok-tell.ensures.works
+    let nothing : c.nothing-carried.result ≡ nothing_carried = c.nothing-carried.ensures in
+    reports_whole from carried names line store now a b d n m k is c.requires.settled (accepts_on now now ensures.settled)
+    (subst (λ (before : Carried). Reports from names store now before carried a b n m (Ok tt)) nothing ensures.works) c.in_ok-tell.ensures.works
 
 pub returns-in_err-carry_all-clause-refused : goal.returns-in_err-carry_all-clause-refused
 returns-in_err-carry_all-clause-refused g c =

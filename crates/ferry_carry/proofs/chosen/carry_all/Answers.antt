@@ -1,5 +1,5 @@
-use Rattle.std.proofs.Common.{◌≡◌, ◌<◌, ◌≤◌, ◌+◌, ℕ, List, Result, Ok, Err, length, take, drop, get_or, refl, sym, ◌∙◌, ap, subst, arith, IfErr, IfSome}
-use Rattle.std.proofs.lemmas.List.{take-append-drop, take_all}
+use Rattle.std.proofs.Common.{◌≡◌, ◌<◌, ◌≤◌, ◌+◌, ℕ, List, Result, Ok, Err, length, take, drop, get_or, refl, ◌∙◌, ap, subst, arith, IfErr, IfSome}
+use Rattle.std.proofs.lemmas.List.{take_all}
 use Rattle.ferry_carry.proofs.AcceptingLemmas.{next_at, one_large}
 use Rattle.ferry_carry.proofs.FlyLemmas.{origin_kept}
 use Rattle.ferry_carry.proofs.GrowLemmas.{accepts_on, most_here, most_then}
@@ -36,10 +36,10 @@ loop-place-init g c = record {
   ended = λ none. none;
   most = most_here c.args.store.now;
   next = refl;
-  works = reports_none {T = Unit {0}}
+  works = reports_none
       (origin (g.S.Shelf.told c.args.shelf.now) (repo_view c.args.source.now) c.args.options.now.block c.args.options.now.checkpoint)
-      c.args.store.now (g.D.Shelf.told c.args.depot.now) (g.D.Shelf.faults c.args.depot.now) tt
-      (accepts_on c.args.store.now c.args.store.now c.requires.settled);
+      c.args.store.now c.args.carried.now (g.D.Shelf.told c.args.depot.now) (g.D.Shelf.faults c.args.depot.now)
+      (accepts_on c.args.store.now c.args.store.now c.requires.settled) (omega arith) (omega arith) (omega arith) (omega arith) (omega arith);
 }
 
 pub loop-place-preserved : goal.loop-place-preserved
@@ -73,11 +73,13 @@ loop-place-preserved g c =
       next = next_at c.args.options.now.timestamp source.manifest after.manifest (repo_view store.repo).keys (repo_view c.loop-place.store.repo).keys
           c.args.names.now c.loop-place.place name _ (accepted_in store) (accepted_in c.loop-place.store) (accepted_in now)
           (ap (λ (r : RepoState). r.manifest) invariant.repo) invariant.most.keys lt named invariant.next ensures.next;
-      works = reports_more (origin told source block most) (origin later after block most) c.args.names.now c.loop-place.place name _ store
-          c.loop-place.store now (g.D.Shelf.told c.args.depot.now) (g.D.Shelf.told c.loop-place.depot) (g.D.Shelf.told c.carry_one.new.depot)
+      works = reports_more (origin told source block most) (origin later after block most) c.args.names.now c.loop-place.place name _
+          c.args.options.now.timestamp source.manifest store c.loop-place.store now c.args.carried.now c.loop-place.carried c.carry_one.new.carried
+          (g.D.Shelf.told c.args.depot.now) (g.D.Shelf.told c.loop-place.depot) (g.D.Shelf.told c.carry_one.new.depot)
           (g.D.Shelf.faults c.args.depot.now) (g.D.Shelf.faults c.loop-place.depot) (g.D.Shelf.faults c.carry_one.new.depot) (Ok tt)
           (origin_kept told later source after block block most most invariant.alike invariant.repo refl refl) lt named c.requires.settled
-          (accepts_on c.loop-place.store c.loop-place.store invariant.settled) c.requires.fits invariant.works ensures.works;
+          (accepts_on c.loop-place.store c.loop-place.store invariant.settled) c.requires.fits invariant.next invariant.most.keys invariant.works
+          ensures.works;
     }
 
 pub returns-in_err-carry_one-clause-works : goal.returns-in_err-carry_one-clause-works
@@ -101,23 +103,26 @@ returns-in_err-carry_one-clause-works g c =
     let source = repo_view c.args.source.now in
     let after = repo_view c.loop-place.source in
     let from = origin told source block most in
-    err_is c.from_residual.result fault (λ (r : Result (Unit {0}) CarryFault). Reports from names store now a d n k r)
+    let carried = c.args.carried.now in
+    let last = c.carry_one.new.carried in
+    err_is c.from_residual.result fault (λ (r : Result (Unit {0}) CarryFault). Reports from names store now carried last a d n k r)
     c.from_residual.ensures.1
-    (reports_front {T = Unit {0}} {U = Unit {0}} from names (c.loop-place.place + 1) store now a d n k fault
-    (reports_more from (origin later after block most) names c.loop-place.place name _ store c.loop-place.store now a (g.D.Shelf.told c.loop-place.depot) d n
-    (g.D.Shelf.faults c.loop-place.depot) k (Err fault) (origin_kept told later source after block block most most invariant.alike invariant.repo refl refl) lt
-    named c.requires.settled (accepts_on c.loop-place.store c.loop-place.store invariant.settled) c.requires.fits invariant.works
-    c.in_err-carry_one.ensures.works))
+    (reports_front from names (c.loop-place.place + 1) store now carried last a d n k fault
+    (reports_more from (origin later after block most) names c.loop-place.place name _ c.args.options.now.timestamp source.manifest store c.loop-place.store
+    now carried c.loop-place.carried last a (g.D.Shelf.told c.loop-place.depot) d n (g.D.Shelf.faults c.loop-place.depot) k (Err fault)
+    (origin_kept told later source after block block most most invariant.alike invariant.repo refl refl) lt
+    named c.requires.settled (accepts_on c.loop-place.store c.loop-place.store invariant.settled) c.requires.fits invariant.next invariant.most.keys
+    invariant.works c.in_err-carry_one.ensures.works))
 
 pub returns-clause-works : goal.returns-clause-works
 returns-clause-works g c =
     let invariant = c.loop-place.invariant in
     let names = c.args.names.now in
     let le : length names ≤ c.loop-place.place = omega arith in
-    reports_all {T = Unit {0}} {U = Unit {0}}
+    reports_all
     (origin (g.S.Shelf.told c.args.shelf.now) (repo_view c.args.source.now) c.args.options.now.block c.args.options.now.checkpoint) names
-    c.loop-place.place c.args.store.now c.loop-place.store (g.D.Shelf.told c.args.depot.now) (g.D.Shelf.told c.loop-place.depot)
-    (g.D.Shelf.faults c.args.depot.now) (g.D.Shelf.faults c.loop-place.depot) tt tt le invariant.works
+    c.loop-place.place c.args.store.now c.loop-place.store c.args.carried.now c.loop-place.carried (g.D.Shelf.told c.args.depot.now)
+    (g.D.Shelf.told c.loop-place.depot) (g.D.Shelf.faults c.args.depot.now) (g.D.Shelf.faults c.loop-place.depot) le invariant.works
 
 pub returns-in_err-carry_one-clause-refused : goal.returns-in_err-carry_one-clause-refused
 returns-in_err-carry_one-clause-refused g c =
@@ -141,13 +146,13 @@ returns-in_err-carry_one-clause-refused g c =
     let from = origin told source block most in
     let accepted = accepted_in store in
     let done = take c.loop-place.place names in
-    let told_all = between_map a b (λ h g. AllDone h g × (CarriesNames from done store c.loop-place.store h g × TellsNames accepted done h g))
-    (TellsNames accepted done) (λ h g e. e.1.1) invariant.works.end in
+    let told_all = between_map a b (λ h g. AllDone h g × (CarriesNames from done invariant.works.added store c.loop-place.store h g
+    × TellsNames accepted done h g)) (TellsNames accepted done) (λ h g e. e.1.1) invariant.works.works.end in
     err_is c.from_residual.result fault (λ (r : Result (Unit {0}) CarryFault). IfErr r (RefusesOne from a store d now names)) c.from_residual.ensures.1
     (one_refused from a d store now names done name (drop (c.loop-place.place + 1) names) fault (split_at names c.loop-place.place name _ lt named)
     (λ still. told_still accepted done a b d told_all (c.in_err-carry_one.ensures.untold still))
     (name_refused {T = Unit {0}} from (origin later after block most) a b d _ store c.loop-place.store now name name (Err fault)
-    (origin_kept told later source after block block most most invariant.alike invariant.repo refl refl) refl invariant.works.each invariant.most
+    (origin_kept told later source after block block most most invariant.alike invariant.repo refl refl) refl invariant.works.works.each invariant.most
     c.in_err-carry_one.ensures.refused))
 
 pub returns-clause-next : goal.returns-clause-next
@@ -179,8 +184,8 @@ returns-in_err-carry_one-clause-limit g c =
     let from = origin (g.S.Shelf.told c.args.shelf.now) source block c.args.options.now.checkpoint in
     let accepted = accepted_in store in
     let done = take c.loop-place.place names in
-    let told_all = between_map a b (λ h g. AllDone h g × (CarriesNames from done store c.loop-place.store h g × TellsNames accepted done h g))
-    (TellsNames accepted done) (λ h g e. e.1.1) invariant.works.end in
+    let told_all = between_map a b (λ h g. AllDone h g × (CarriesNames from done invariant.works.added store c.loop-place.store h g
+    × TellsNames accepted done h g)) (TellsNames accepted done) (λ h g e. e.1.1) invariant.works.works.end in
     err_is c.from_residual.result fault
     (λ (r : Result (Unit {0}) CarryFault). IfErr r (λ (f : CarryFault). f ≡ Target TooLarge
     → IfSome a (λ b. IfSome d (λ t. LimitsNames given source.manifest keys accepted names (λ told. TellsNames accepted told b.history t.history)))))
@@ -206,6 +211,9 @@ returns-in_err-carry_one-clause-stands g c =
     let most = c.args.options.now.checkpoint in
     let names = c.args.names.now in
     let place = c.loop-place.place in
+    let lt : place < length names = omega arith in
+    let name = c.as_slice-name.result.now in
+    let named : name ≡ get_or names place _ = c.as_slice-name.ensures ∙ c.index-names-place.is in
     let told = g.S.Shelf.told c.args.shelf.now in
     let later = g.S.Shelf.told c.loop-place.shelf in
     let source = repo_view c.args.source.now in
@@ -213,6 +221,8 @@ returns-in_err-carry_one-clause-stands g c =
     let from = origin told source block most in
     err_is c.from_residual.result fault (λ (r : Result (Unit {0}) CarryFault). IfErr r (λ (f : CarryFault). IsOfWork f → StopsBehind from names store a d))
     c.from_residual.ensures.1
-    (λ work. stops_behind from (origin later after block most) names (take place names) (drop place names) store middle a b d
-    (origin_kept told later source after block block most most invariant.alike invariant.repo refl refl) (sym (take-append-drop place names))
-    c.requires.settled (accepts_on middle middle invariant.settled) invariant.works.each invariant.works.end (c.in_err-carry_one.ensures.stands work))
+    (λ work. stops_behind from (origin later after block most) names (take place names) name (drop (place + 1) names) c.args.options.now.timestamp
+    source.manifest store middle c.args.carried.now c.loop-place.carried a b d (g.D.Shelf.faults c.args.depot.now) (g.D.Shelf.faults c.loop-place.depot)
+    (origin_kept told later source after block block most most invariant.alike invariant.repo refl refl) (split_at names place name _ lt named)
+    c.requires.settled (accepts_on middle middle invariant.settled) invariant.most.keys invariant.next invariant.works
+    (c.in_err-carry_one.ensures.stands work))

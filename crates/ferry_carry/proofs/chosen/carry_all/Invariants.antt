@@ -28,6 +28,7 @@ invariant-loop-place g l = record {
   most : KeepsMost l.fn.store l.store;
   next : AreNextOf l.fn.options.timestamp (repo_view l.fn.source).manifest (repo_view l.fn.store.repo).keys (accepted_in l.fn.store)
       (take l.place l.names) (accepted_in l.store);
-  works : Reports {T = Unit {0}} (origin (g.S.Shelf.told l.fn.shelf) (repo_view l.fn.source) l.fn.options.block l.fn.options.checkpoint) (take l.place l.names)
-      l.fn.store l.store (g.D.Shelf.told l.fn.depot) (g.D.Shelf.told l.depot) (g.D.Shelf.faults l.fn.depot) (g.D.Shelf.faults l.depot) (Ok tt);
+  works : Reports (origin (g.S.Shelf.told l.fn.shelf) (repo_view l.fn.source) l.fn.options.block l.fn.options.checkpoint) (take l.place l.names)
+      l.fn.store l.store l.fn.carried l.carried (g.D.Shelf.told l.fn.depot) (g.D.Shelf.told l.depot) (g.D.Shelf.faults l.fn.depot)
+      (g.D.Shelf.faults l.depot) (Ok tt);
 }

@@ -1,15 +1,15 @@
-use Rattle.std.proofs.Common.{◌≡◌, ℕ, List, [], ◌∷◌, ◌++◌, Bool, false, Result, Ok, Err, IfErr, subst, IfSome}
+use Rattle.std.proofs.Common.{◌≡◌, List, [], ◌∷◌, ◌++◌, Bool, false, Result, Ok, Err, IfErr, subst, sym, IfSome}
 use Rattle.ferry_carry.proofs.AcceptingLemmas.{telling_small}
 use Rattle.ferry_carry.proofs.GrowLemmas.{accepts_on}
-use Rattle.ferry_carry.proofs.ReportLemmas.{reports_name, reports_silent}
+use Rattle.ferry_carry.proofs.ReportLemmas.{all_one, counts_one, reports_name, reports_silent}
 use Rattle.ferry_carry.proofs.WorkLemmas.{err_is}
 use Rattle.ferry_carry.proofs.chosen.carry_flight.Goals as goal
-use Rattle.ferry_carry.specs.Flight.{ListsDone, flown_from}
+use Rattle.ferry_carry.specs.Flight.{BeginsDone, ListsDone, flown_from}
 use Rattle.ferry_carry.specs.Grow.{KeepsGrowing}
-use Rattle.ferry_carry.specs.Puts.{pieces}
+use Rattle.ferry_carry.specs.Puts.{Addition}
 use Rattle.ferry_carry.specs.Refusals.{is_of_telling}
 use Rattle.ferry_carry.specs.Accepting.{HasLargeNext}
-use Rattle.ferry_carry.specs.Telling.{Reports}
+use Rattle.ferry_carry.specs.Telling.{Reports, StopsUnnamed}
 use Rattle.ferry_carry.specs.declared.fault.CarryFault.{CarryFault}
 use Rattle.ferry_carry.specs.declared.fault.CarryFault.TheVariants.{Target}
 use Rattle.ferry_disk.proofs.MomentLemmas.{between_map}
@@ -18,7 +18,9 @@ use Rattle.ferry_repo.specs.Opening.{repo_view}
 use Rattle.ferry_stops.specs.Tells.{TellsNothing}
 use Rattle.ferry_store.specs.Commit.{accepted_in}
 use Rattle.ferry_store.specs.declared.fault.StoreRefusal.TheVariants.{TooLarge}
-use Rattle.ferry_carry.proofs.StandLemmas.{StandsGrowing, telling_apart}
+use Rattle.ferry_carry.proofs.StandLemmas.{telling_apart}
+use Rattle.ferry_carry.specs.Counting.{CountsOf}
+use Rattle.ferry_carry.specs.Fault.{IsOfWork}
 
 pub returns-in_err-named-clause-works : goal.returns-in_err-named-clause-works
 returns-in_err-named-clause-works g c =
@@ -29,11 +31,14 @@ returns-in_err-named-clause-works g c =
     let n = g.D.Shelf.faults c.args.depot.now in
     let m = g.D.Shelf.faults c.fly.new.depot in
     let from = flown_from (g.S.Shelf.told c.args.shelf.now) (repo_view c.args.source.now) c.args.flight.now in
-    let names = c.args.flight.now.named.name ∷ [] in
+    let name = c.args.flight.now.named.name in
+    let carried = c.args.carried.now in
     let fault = c.in_err-named.field-0.0 in
     let flown = c.in_err-named.ensures.works c.requires.flight.0 in
-    err_is c.from_residual.result fault (λ (r : Result (Unit {0}) CarryFault). Reports from names store now a b n m r) c.from_residual.ensures.1
-    (reports_silent {T = Bool} {U = Unit {0}} from names flown.0 store now a b n m fault flown.1.0)
+    let begins = subst (λ (l : List Addition). BeginsDone a from (repo_view store.repo).keys (accepted_in store) name (l ++ flown.0)) c.requires.flight.1
+    flown.1.begins in
+    err_is c.from_residual.result fault (λ (r : Result (Unit {0}) CarryFault). Reports from (name ∷ []) store now carried carried a b n m r)
+    c.from_residual.ensures.1 (reports_silent {T = Bool} from name flown.0 store now carried carried a b n m fault begins flown.1.carries)
 
 pub returns-in_err-tell_name-clause-works : goal.returns-in_err-tell_name-clause-works
 returns-in_err-tell_name-clause-works g c =
@@ -47,16 +52,19 @@ returns-in_err-tell_name-clause-works g c =
     let k = g.D.Shelf.faults c.tell_name.new.depot in
     let from = flown_from (g.S.Shelf.told c.args.shelf.now) (repo_view c.args.source.now) c.args.flight.now in
     let name = c.args.flight.now.named.name in
+    let carried = c.args.carried.now in
     let fault = c.in_err-tell_name.field-0.0 in
     let ensures = c.in_ok-named.ensures in
     let named = c.in_ok-named.named in
     let flown = ensures.works c.requires.flight.0 in
-    let done : ListsDone a from (repo_view store.repo).keys name flown.0 named =
-    subst (λ (l : List (List ℕ)). ListsDone a from (repo_view store.repo).keys name (pieces l ++ flown.0) named) c.requires.flight.1 flown.1.1 in
-    err_is c.from_residual-in_err-tell_name.result fault (λ (r : Result (Unit {0}) CarryFault). Reports from (name ∷ []) store now a d n k r)
-    c.from_residual-in_err-tell_name.ensures.1
-    (reports_name {T = Bool} {U = Unit {0}} from named name c.args.name.now flown.0 store now a b d n m k named (Err fault) c.requires.called
-    (accepts_on now now ensures.settled) ensures.word done flown.1.0 c.in_err-tell_name.ensures.works)
+    let keys = (repo_view store.repo).keys in
+    let none = c.requires.flight.1 in
+    let begins = subst (λ (l : List Addition). BeginsDone a from keys (accepted_in store) name (l ++ flown.0)) none flown.1.begins in
+    let done = subst (λ (l : List Addition). ListsDone a from keys name (l ++ flown.0) named) none flown.1.lists.0 in
+    err_is c.from_residual-in_err-tell_name.result fault
+    (λ (r : Result (Unit {0}) CarryFault). Reports from (name ∷ []) store now carried carried a d n k r) c.from_residual-in_err-tell_name.ensures.1
+    (reports_name {T = Bool} from named name c.args.name.now flown.0 store now carried carried a b d n m k named (Err fault) c.requires.called
+    (accepts_on now now ensures.settled) ensures.word done begins tt flown.1.carries c.in_err-tell_name.ensures.works)
 
 pub returns-clause-works : goal.returns-clause-works
 returns-clause-works g c =
@@ -70,13 +78,22 @@ returns-clause-works g c =
     let k = g.D.Shelf.faults c.tell_name.new.depot in
     let from = flown_from (g.S.Shelf.told c.args.shelf.now) (repo_view c.args.source.now) c.args.flight.now in
     let name = c.args.flight.now.named.name in
+    let carried = c.args.carried.now in
+    let after = c.count.new.self in
     let ensures = c.in_ok-named.ensures in
     let named = c.in_ok-named.named in
     let flown = ensures.works c.requires.flight.0 in
-    let done : ListsDone a from (repo_view store.repo).keys name flown.0 named =
-    subst (λ (l : List (List ℕ)). ListsDone a from (repo_view store.repo).keys name (pieces l ++ flown.0) named) c.requires.flight.1 flown.1.1 in
-    reports_name {T = Bool} {U = Unit {0}} from named name c.args.name.now flown.0 store now a b d n m k named (Ok tt) c.requires.called
-    (accepts_on now now ensures.settled) ensures.word done flown.1.0 c.in_ok-tell_name.ensures.works
+    let keys = (repo_view store.repo).keys in
+    let none = c.requires.flight.1 in
+    let begins = subst (λ (l : List Addition). BeginsDone a from keys (accepted_in store) name (l ++ flown.0)) none flown.1.begins in
+    let done = subst (λ (l : List Addition). ListsDone a from keys name (l ++ flown.0) named) none flown.1.lists.0 in
+    let counts = subst (λ (l : List Addition). CountsOf (l ++ flown.0) c.fly.new.flight.put) none flown.1.lists.1 in
+    let put : c.put.result ≡ c.fly.new.flight.put = c.put.ensures in
+    let counted = c.count.ensures in
+    reports_name {T = Bool} from named name c.args.name.now flown.0 store now carried after a b d n m k named (Ok tt) c.requires.called
+    (accepts_on now now ensures.settled) ensures.word done begins
+    (counts_one (accepted_in store) name flown.0 named c.put.result carried after ensures.word (subst (CountsOf flown.0) (sym put) counts)
+    counted.transferred counted.present counted.chunks counted.bytes counted.meta) flown.1.carries c.in_ok-tell_name.ensures.works
 
 pub returns-in_err-named-clause-untold : goal.returns-in_err-named-clause-untold
 returns-in_err-named-clause-untold g c =
@@ -84,10 +101,11 @@ returns-in_err-named-clause-untold g c =
     let b = g.D.Shelf.told c.fly.new.depot in
     let from = flown_from (g.S.Shelf.told c.args.shelf.now) (repo_view c.args.source.now) c.args.flight.now in
     let fault = c.in_err-named.field-0.0 in
+    let flown = c.in_err-named.ensures.works c.requires.flight.0 in
     err_is c.from_residual.result fault
     (λ (r : Result (Unit {0}) CarryFault). IfErr r (λ (f : CarryFault). is_of_telling f ≡ false → Between a b TellsNothing)) c.from_residual.ensures.1
-    (λ still. between_map a b (KeepsGrowing from (c.args.flight.now.named.name ∷ []) c.args.store.now) TellsNothing (λ h g e. e.0)
-    (c.in_err-named.ensures.works c.requires.flight.0).1.0.each)
+    (λ still. between_map a b (KeepsGrowing from (c.args.flight.now.named.name ∷ []) c.args.store.now flown.0) TellsNothing (λ h g e. e.0)
+    flown.1.carries.each)
 
 pub returns-in_err-tell_name-clause-untold : goal.returns-in_err-tell_name-clause-untold
 returns-in_err-tell_name-clause-untold g c =
@@ -114,12 +132,18 @@ returns-in_err-tell_name-clause-limit g c =
 
 pub returns-in_err-named-clause-stands : goal.returns-in_err-named-clause-stands
 returns-in_err-named-clause-stands g c =
+    let store = c.args.store.now in
     let a = g.D.Shelf.told c.args.depot.now in
     let b = g.D.Shelf.told c.fly.new.depot in
     let from = flown_from (g.S.Shelf.told c.args.shelf.now) (repo_view c.args.source.now) c.args.flight.now in
+    let name = c.args.flight.now.named.name in
     let fault = c.in_err-named.field-0.0 in
-    err_is c.from_residual.result fault (λ (r : Result (Unit {0}) CarryFault). IfErr r (StandsGrowing from c.args.store.now a b)) c.from_residual.ensures.1
-    c.in_err-named.ensures.stands
+    let flown = c.in_err-named.ensures.works c.requires.flight.0 in
+    let begins = subst (λ (l : List Addition). BeginsDone a from (repo_view store.repo).keys (accepted_in store) name (l ++ flown.0)) c.requires.flight.1
+    flown.1.begins in
+    err_is c.from_residual.result fault (λ (r : Result (Unit {0}) CarryFault). IfErr r (λ (f : CarryFault). IsOfWork f → StopsUnnamed from name store a b))
+    c.from_residual.ensures.1
+    (λ work. record { added = flown.0; begins = all_one a from store name flown.0 begins; each = flown.1.stands work })
 
 pub returns-in_err-tell_name-clause-stands : goal.returns-in_err-tell_name-clause-stands
 returns-in_err-tell_name-clause-stands g c =
@@ -128,5 +152,6 @@ returns-in_err-tell_name-clause-stands g c =
     let from = flown_from (g.S.Shelf.told c.args.shelf.now) (repo_view c.args.source.now) c.args.flight.now in
     let fault = c.in_err-tell_name.field-0.0 in
     err_is c.from_residual-in_err-tell_name.result fault
-    (λ (r : Result (Unit {0}) CarryFault). IfErr r (StandsGrowing from c.args.store.now a d)) c.from_residual-in_err-tell_name.ensures.1
+    (λ (r : Result (Unit {0}) CarryFault). IfErr r (λ (f : CarryFault). IsOfWork f
+    → StopsUnnamed from c.args.flight.now.named.name c.args.store.now a d)) c.from_residual-in_err-tell_name.ensures.1
     (λ work. telling_apart fault c.in_err-tell_name.ensures.telling work)

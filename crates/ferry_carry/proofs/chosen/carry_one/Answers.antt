@@ -1,6 +1,6 @@
 use Rattle.std.proofs.Common.{◌≡◌, [], ◌∷◌, ℕ, List, false, Result, ap, IfErr, IfSome, OnOk, refl, subst, sym}
 use Rattle.ferry_carry.proofs.AcceptingLemmas.{begin_small}
-use Rattle.ferry_carry.proofs.GrowLemmas.{accepts_on, growing_here}
+use Rattle.ferry_carry.proofs.GrowLemmas.{accepts_on}
 use Rattle.ferry_carry.proofs.ReportLemmas.{reports_as, reports_nothing}
 use Rattle.ferry_carry.proofs.TellLemmas.{begin_still}
 use Rattle.ferry_carry.proofs.WorkLemmas.{err_is}
@@ -8,8 +8,8 @@ use Rattle.ferry_carry.proofs.chosen.carry_one.Goals as goal
 use Rattle.ferry_carry.specs.Accepting.{HasLargeNext, IsNextOf}
 use Rattle.ferry_carry.specs.Carrying.{origin, Origin}
 use Rattle.ferry_carry.specs.Flight.{flown_from}
-use Rattle.ferry_carry.specs.Grow.{KeepsGrowing}
-use Rattle.ferry_carry.specs.Telling.{Reports}
+use Rattle.ferry_carry.specs.Fault.{IsOfWork}
+use Rattle.ferry_carry.specs.Telling.{Reports, StopsUnnamed}
 use Rattle.ferry_carry.specs.declared.fault.CarryFault.{CarryFault}
 use Rattle.ferry_carry.specs.declared.fault.CarryFault.TheVariants.{Target}
 use Rattle.ferry_carry.specs.declared.options.Options.{Options}
@@ -20,7 +20,7 @@ use Rattle.ferry_store.proofs.StepLemmas.{here_each}
 use Rattle.ferry_store.specs.Commit.{accepted_in}
 use Rattle.ferry_store.specs.declared.fault.StoreRefusal.TheVariants.{TooLarge}
 use Rattle.ferry_carry.specs.Refusals.{RefusesName, is_of_telling}
-use Rattle.ferry_carry.proofs.StandLemmas.{StandsGrowing}
+use Rattle.ferry_carry.proofs.StandLemmas.{unnamed_here}
 
 pub returns-in_err-flight-clause-works : goal.returns-in_err-flight-clause-works
 returns-in_err-flight-clause-works g c =
@@ -29,9 +29,10 @@ returns-in_err-flight-clause-works g c =
     let n = g.D.Shelf.faults c.args.depot.now in
     let from = origin (g.S.Shelf.told c.args.shelf.now) (repo_view c.args.source.now) c.args.options.now.block c.args.options.now.checkpoint in
     let names = c.args.name.now ∷ [] in
+    let carried = c.args.carried.now in
     let fault = c.in_err-flight.field-0.0 in
-    err_is c.from_residual.result fault (λ (r : Result (Unit {0}) CarryFault). Reports from names store store a a n n r)
-    c.from_residual.ensures.1 (reports_nothing {T = Unit {0}} from names store store a n fault (accepts_on store store c.requires.settled)
+    err_is c.from_residual.result fault (λ (r : Result (Unit {0}) CarryFault). Reports from names store store carried carried a a n n r)
+    c.from_residual.ensures.1 (reports_nothing from names store store carried carried a n fault (accepts_on store store c.requires.settled)
     (begin_still fault c.args.name.now _ c.in_err-flight.ensures.refused))
 
 pub carry_flight-requires-clause-flight : goal.carry_flight-requires-clause-flight
@@ -48,9 +49,9 @@ returns-clause-works g c =
     let flight = c.in_ok-flight.flight in
     let is : flown_from told source flight ≡ origin told source c.args.options.now.block c.args.options.now.checkpoint =
     ap (λ (o : Options). origin told source o.block o.checkpoint) c.in_ok-flight.ensures.options in
-    reports_as {T = Unit {0}} (origin told source c.args.options.now.block c.args.options.now.checkpoint) (flown_from told source flight) (c.args.name.now ∷ [])
-    (flight.named.name ∷ []) c.args.store.now c.carry_flight.new.store (g.D.Shelf.told c.args.depot.now) (g.D.Shelf.told c.carry_flight.new.depot)
-    (g.D.Shelf.faults c.args.depot.now) (g.D.Shelf.faults c.carry_flight.new.depot) c.carry_flight.result is
+    reports_as (origin told source c.args.options.now.block c.args.options.now.checkpoint) (flown_from told source flight) (c.args.name.now ∷ [])
+    (flight.named.name ∷ []) c.args.store.now c.carry_flight.new.store c.args.carried.now c.carry_flight.new.carried (g.D.Shelf.told c.args.depot.now)
+    (g.D.Shelf.told c.carry_flight.new.depot) (g.D.Shelf.faults c.args.depot.now) (g.D.Shelf.faults c.carry_flight.new.depot) c.carry_flight.result is
     (ap (λ (n : List ℕ). n ∷ []) c.in_ok-flight.ensures.name) c.carry_flight.ensures.works
 
 pub returns-clause-refused : goal.returns-clause-refused
@@ -116,15 +117,20 @@ returns-in_err-flight-clause-stands g c =
     let a = g.D.Shelf.told c.args.depot.now in
     let store = c.args.store.now in
     let from = origin (g.S.Shelf.told c.args.shelf.now) (repo_view c.args.source.now) c.args.options.now.block c.args.options.now.checkpoint in
+    let name = c.args.name.now in
     let fault = c.in_err-flight.field-0.0 in
-    err_is c.from_residual.result fault (λ (r : Result (Unit {0}) CarryFault). IfErr r (StandsGrowing from store a a)) c.from_residual.ensures.1
-    (λ _. here_each (KeepsGrowing from [] store) a (λ h. growing_here from [] store h (accepts_on store store c.requires.settled)))
+    err_is c.from_residual.result fault (λ (r : Result (Unit {0}) CarryFault). IfErr r (λ (f : CarryFault). IsOfWork f → StopsUnnamed from name store a a))
+    c.from_residual.ensures.1 (λ _. unnamed_here from name store a (accepts_on store store c.requires.settled))
 
 pub returns-clause-stands : goal.returns-clause-stands
 returns-clause-stands g c =
     let told = g.S.Shelf.told c.args.shelf.now in
     let source = repo_view c.args.source.now in
+    let flight = c.in_ok-flight.flight in
     let a = g.D.Shelf.told c.args.depot.now in
     let b = g.D.Shelf.told c.carry_flight.new.depot in
-    subst (λ (o : Options). IfErr c.carry_flight.result (StandsGrowing (origin told source o.block o.checkpoint) c.args.store.now a b))
-    c.in_ok-flight.ensures.options c.carry_flight.ensures.stands
+    let store = c.args.store.now in
+    subst (λ (o : Options). IfErr c.carry_flight.result (λ (f : CarryFault). IsOfWork f
+    → StopsUnnamed (origin told source o.block o.checkpoint) c.args.name.now store a b)) c.in_ok-flight.ensures.options
+    (subst (λ (n : List ℕ). IfErr c.carry_flight.result (λ (f : CarryFault). IsOfWork f → StopsUnnamed (flown_from told source flight) n store a b))
+    c.in_ok-flight.ensures.name c.carry_flight.ensures.stands)

@@ -1,11 +1,9 @@
-use Rattle.std.proofs.Common.{◌≡◌, ◌≤◌, List, [], ◌∷◌, ◌++◌, false, Ok, IfSome}
+use Rattle.std.proofs.Common.{◌≡◌, ◌≤◌, false, IfSome}
+use Rattle.ferry_carry.proofs.FlyLemmas.{TakesOn}
 use Rattle.ferry_carry.proofs.chosen.fly.Given as goal
 use Rattle.ferry_carry.specs.Flight.{FlightFits, IsSettled, flown_from}
-use Rattle.ferry_carry.specs.Grow.{Grows, KeepsGrowing, KeepsMost}
-use Rattle.ferry_carry.specs.Puts.{Addition, pieces}
-use Rattle.ferry_carry.specs.Work.{Works}
+use Rattle.ferry_carry.specs.Grow.{KeepsMost}
 use Rattle.ferry_disk.specs.Device.{heard, told_files}
-use Rattle.ferry_disk.specs.Moments.{Between}
 use Rattle.ferry_manifest.specs.Manifest.Writing.{IsPackable}
 use Rattle.ferry_repo.specs.Opening.{FitsRepo, cached_in, repo_view}
 use Rattle.ferry_store.specs.Commit.{accepted_in}
@@ -29,14 +27,8 @@ invariant-loop g l = record {
   drawn : g.E.Entropy.faults l.entropy ≡ g.E.Entropy.faults l.fn.entropy;
   most : KeepsMost l.fn.store l.store;
   pending : l.store.pending ≤ l.fn.flight.options.checkpoint;
-  stands : Between (g.D.Shelf.told l.fn.depot) (g.D.Shelf.told l.depot)
-      (KeepsGrowing (flown_from (g.S.Shelf.told l.fn.shelf) (repo_view l.fn.source) l.fn.flight) [] l.fn.store);
   works : (fits : FlightFits (g.S.Shelf.told l.fn.shelf) (repo_view l.fn.source) (g.D.Shelf.told l.fn.depot) l.fn.store l.fn.flight)
-      → (more : List Addition)
-      × ((now : FlightFits (g.S.Shelf.told l.shelf) (repo_view l.source) (g.D.Shelf.told l.depot) l.store l.flight)
-      × ((pieces now.added ≡ pieces fits.added ++ more)
-      × Works {T = Unit {0}}
-      (KeepsGrowing (flown_from (g.S.Shelf.told l.fn.shelf) (repo_view l.fn.source) l.fn.flight) (l.fn.flight.named.name ∷ []) l.fn.store)
-      (λ _. Grows (flown_from (g.S.Shelf.told l.fn.shelf) (repo_view l.fn.source) l.fn.flight) [] more l.fn.store l.store) (g.D.Shelf.told l.fn.depot)
-      (g.D.Shelf.told l.depot) (g.D.Shelf.faults l.fn.depot) (g.D.Shelf.faults l.depot) (Ok tt)));
+      → TakesOn (g.S.Shelf.told l.shelf) (repo_view l.source) (flown_from (g.S.Shelf.told l.fn.shelf) (repo_view l.fn.source) l.fn.flight)
+      l.fn.flight.named.name fits.added l.fn.store l.store l.flight (g.D.Shelf.told l.fn.depot) (g.D.Shelf.told l.depot) (g.D.Shelf.faults l.fn.depot)
+      (g.D.Shelf.faults l.depot);
 }

@@ -1,12 +1,17 @@
-use Rattle.std.proofs.Common.{[], Result, OnOk}
+use Rattle.std.proofs.Common.{ℕ, List, [], inl, inr, Result, OnOk, IfSome, refl, sym, subst}
 use Rattle.ferry_carry.proofs.FaultLemmas.{source_still}
+use Rattle.ferry_carry.proofs.PieceLemmas.{ok_to}
 use Rattle.ferry_carry.proofs.WorkLemmas.{err_is, gathered_nothing}
 use Rattle.ferry_carry.proofs.copy.write_content.Goals as goal
-use Rattle.ferry_carry.specs.Copying.{WritesContent}
+use Rattle.ferry_carry.specs.Copying.{BeginsChunk, WritesContent}
 use Rattle.ferry_carry.specs.Fault.{source_fault}
 use Rattle.ferry_carry.specs.Gather.{Gathers, KeepsStanding}
+use Rattle.ferry_carry.specs.Piece.{CountsOn, WritesOn}
+use Rattle.ferry_carry.specs.Puts.{AreOf, Content, contents_in}
 use Rattle.ferry_carry.specs.Work.{Works}
 use Rattle.ferry_carry.specs.declared.fault.CarryFault.{CarryFault}
+use Rattle.ferry_disk.specs.Device.{told_files}
+use Rattle.ferry_repo.specs.Archives.{HoldsContent}
 use Rattle.ferry_repo.specs.Opening.{repo_view}
 
 pub returns-in_err-content-clause-written : goal.returns-in_err-content-clause-written
@@ -15,11 +20,45 @@ returns-in_err-content-clause-written g c =
     let a = g.D.Shelf.told c.args.depot.now in
     let n = g.D.Shelf.faults c.args.depot.now in
     let writer = c.args.writer.now in
+    let told = g.S.Shelf.told c.args.shelf.now in
+    let source = repo_view c.args.source.now in
     let fault = c.in_err-content.field-0.0 in (
       [],
       err_is c.from_residual.result (source_fault fault)
-          (λ (r : Result (Unit {0}) CarryFault). Works (KeepsStanding writer.checkpoint store) (λ _. Gathers writer.checkpoint store [] store) a a n n r
-          × OnOk r (WritesContent (g.S.Shelf.told c.args.shelf.now) (repo_view c.args.source.now) (repo_view store.repo).keys c.args.chunk.now
-          writer.cutter writer.chunks.items [] writer.cutter writer.chunks.items)) c.from_residual.ensures.1
-          (gathered_nothing {T = Unit {0}} writer.checkpoint store store [] a n (source_fault fault) (source_still fault), tt),
+          (λ (r : Result (Unit {0}) CarryFault). Works (KeepsStanding writer.checkpoint store []) (λ _. Gathers writer.checkpoint store [] store) a a n n r
+          × (AreOf Content [] × (BeginsChunk told source c.args.chunk.now writer.cutter []
+          × OnOk r (WritesContent told source (repo_view store.repo).keys c.args.chunk.now
+          writer.cutter writer.chunks.items [] writer.cutter writer.chunks.items × CountsOn Content writer [] writer)))) c.from_residual.ensures.1
+          (gathered_nothing {T = Unit {0}} writer.checkpoint store store [] a n (source_fault fault) (source_still fault), (tt, (inl refl, tt))),
+    )
+
+pub returns-clause-written : goal.returns-clause-written
+returns-clause-written g c =
+    let wrote = c.write.ensures.written Content in
+    let more = wrote.0 in
+    let writer = c.args.writer.now in
+    let writer_now = c.write.new.self in
+    let told = g.S.Shelf.told c.args.shelf.now in
+    let source = repo_view c.args.source.now in
+    let keys = (repo_view c.args.store.now.repo).keys in
+    let ref = c.args.chunk.now in
+    let content = c.deref.result.now in
+    let comes : IfSome told (λ t. HoldsContent (told_files t) source.log source.keys ref content) =
+    subst (λ (bytes : List ℕ). IfSome told (λ t. HoldsContent (told_files t) source.log source.keys ref bytes)) (sym c.deref.ensures.value)
+    c.in_ok-content.ensures.content in (
+      more,
+      (
+        wrote.1.0,
+        (
+          wrote.1.1.0,
+          (
+            inr (content, (comes, wrote.1.1.1.0)),
+            ok_to {T = Unit {0}} (WritesOn keys writer.cutter writer.chunks.items content (contents_in more) writer_now.cutter writer_now.chunks.items
+                × CountsOn Content writer more writer_now)
+                (WritesContent told source keys ref writer.cutter writer.chunks.items (contents_in more) writer_now.cutter writer_now.chunks.items
+                × CountsOn Content writer more writer_now) c.write.result
+                (λ writes. (record { content = content; comes = comes; writes = writes.0 }, writes.1)) wrote.1.1.1.1,
+          ),
+        ),
+      ),
     )

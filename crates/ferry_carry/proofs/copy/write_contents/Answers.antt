@@ -1,13 +1,15 @@
-use Rattle.std.proofs.Common.{◌≤◌, ◌<◌, ◌++◌, ℕ, [], Result, Ok, Err, IfErr, OnOk, length, refl, ◌∙◌, subst, arith}
-use Rattle.ferry_carry.proofs.CopyLemmas.{contents_written, nothing_written}
+use Rattle.std.proofs.Common.{◌≤◌, ◌<◌, ◌+◌, ◌++◌, ℕ, List, [], Result, Ok, Err, IfErr, OnOk, length, take, refl, sym, ◌∙◌, subst, arith}
+use Rattle.ferry_carry.proofs.CopyLemmas.{contents_all, contents_behind, contents_full, contents_written, nothing_written}
 use Rattle.ferry_carry.proofs.GatherLemmas.{rest_here, rest_then}
-use Rattle.ferry_carry.proofs.PieceLemmas.{pieces_then}
+use Rattle.ferry_carry.proofs.PieceLemmas.{counts_none, counts_then, pieces_then}
+use Rattle.ferry_carry.proofs.PutsLemmas.{contents_append, of_append}
 use Rattle.ferry_carry.proofs.RefusalLemmas.{contents_refused}
 use Rattle.ferry_carry.proofs.WorkLemmas.{err_is, gathered_none}
 use Rattle.ferry_carry.proofs.copy.write_contents.Goals as goal
-use Rattle.ferry_carry.specs.Copying.{WritesContents}
+use Rattle.ferry_carry.specs.Copying.{BeginsContents, WritesContents}
 use Rattle.ferry_carry.specs.Gather.{Gathers, KeepsStanding}
-use Rattle.ferry_carry.specs.Puts.{pieces}
+use Rattle.ferry_carry.specs.Piece.{CountsOn}
+use Rattle.ferry_carry.specs.Puts.{AreOf, Content, contents_in}
 use Rattle.ferry_carry.specs.Refusals.{RefusesContents}
 use Rattle.ferry_carry.specs.Work.{Works}
 use Rattle.ferry_carry.specs.declared.fault.CarryFault.{CarryFault}
@@ -30,9 +32,17 @@ loop-place-init g c =
       faults = refl;
       written = (
         [],
-        gathered_none {T = Unit {0}} c.args.writer.now.checkpoint store (g.D.Shelf.told c.args.depot.now) (g.D.Shelf.faults c.args.depot.now) tt,
-        nothing_written (g.S.Shelf.told c.args.shelf.now) (repo_view c.args.source.now) (repo_view store.repo).keys c.args.writer.now.cutter
-            c.args.writer.now.chunks.items c.requires.room,
+        (
+          gathered_none {T = Unit {0}} c.args.writer.now.checkpoint store (g.D.Shelf.told c.args.depot.now) (g.D.Shelf.faults c.args.depot.now) tt,
+          (
+            tt,
+            (
+              nothing_written (g.S.Shelf.told c.args.shelf.now) (repo_view c.args.source.now) (repo_view store.repo).keys c.args.writer.now.cutter
+                  c.args.writer.now.chunks.items c.requires.room,
+              counts_none Content c.args.writer.now c.put-counted.result.0 c.put-counted.result.1 c.put-counted.ensures,
+            ),
+          ),
+        ),
       );
     }
 
@@ -50,16 +60,32 @@ returns-in_err-write_content-clause-written g c =
     let writer = c.args.writer.now in
     let writer_now = c.write_content.new.writer in
     let most = writer.checkpoint in
+    let told = g.S.Shelf.told c.args.shelf.now in
+    let source = repo_view c.args.source.now in
+    let chunks = c.args.chunks.now in
+    let lt : c.loop-place.place < length chunks = omega arith in
     let fault = c.in_err-write_content.field-0.0 in (
       more,
       err_is c.from_residual.result fault
-          (λ (r : Result (Unit {0}) CarryFault). Works (KeepsStanding most store) (λ _. Gathers most store (pieces more) now) a b n m r
-          × OnOk r (WritesContents (g.S.Shelf.told c.args.shelf.now) (repo_view c.args.source.now) (repo_view store.repo).keys c.args.chunks.now
-          writer.cutter writer.chunks.items more writer_now.cutter writer_now.chunks.items)) c.from_residual.ensures.1 (
+          (λ (r : Result (Unit {0}) CarryFault). Works (KeepsStanding most store more) (λ _. Gathers most store more now) a b n m r
+          × (AreOf Content more × (BeginsContents told source chunks writer.cutter (contents_in more)
+          × OnOk r (WritesContents told source (repo_view store.repo).keys chunks writer.cutter writer.chunks.items (contents_in more) writer_now.cutter
+          writer_now.chunks.items × CountsOn Content writer more writer_now)))) c.from_residual.ensures.1 (
             pieces_then {T = Unit {0}} {U = Unit {0}} most most c.loop-place.writer.checkpoint store c.loop-place.store now so.0 next.0 a
                 (g.D.Shelf.told c.loop-place.depot) b n
-                (g.D.Shelf.faults c.loop-place.depot) m tt (Err fault) refl c.loop-place.invariant.checkpoint c.loop-place.invariant.rest tt so.1 next.1.0,
-            tt,
+                (g.D.Shelf.faults c.loop-place.depot) m tt (Err fault) refl c.loop-place.invariant.checkpoint c.loop-place.invariant.rest tt so.1.0
+                next.1.0,
+            (
+              of_append Content so.0 next.0 so.1.1.0 next.1.1.0,
+              (
+                subst (BeginsContents told source chunks writer.cutter) (sym (contents_append so.0 next.0))
+                    (contents_behind told (g.S.Shelf.told c.loop-place.shelf) source (repo_view c.loop-place.source) (repo_view store.repo).keys chunks
+                    c.loop-place.place _ writer.cutter c.loop-place.writer.cutter writer.chunks.items c.loop-place.writer.chunks.items
+                    (contents_in so.0) (contents_in next.0) c.loop-place.invariant.alike c.loop-place.invariant.repo lt c.requires.room so.1.1.1.0
+                    next.1.1.1.0),
+                tt,
+              ),
+            ),
           ),
     )
 
@@ -71,10 +97,15 @@ loop-place-preserved g c =
     let store = c.args.store.now in
     let middle = c.loop-place.store in
     let now = c.write_content.new.store in
+    let writer = c.args.writer.now in
+    let writer_now = c.write_content.new.writer in
+    let told = g.S.Shelf.told c.args.shelf.now in
+    let source = repo_view c.args.source.now in
+    let keys = (repo_view store.repo).keys in
     let lt : c.loop-place.place < length c.args.chunks.now = omega arith in
     record {
-      room = next.1.1.writes.room;
-      block = next.1.1.writes.block ∙ invariant.block;
+      room = next.1.1.1.1.0.writes.room;
+      block = next.1.1.1.1.0.writes.block ∙ invariant.block;
       checkpoint = c.in_ok-write_content.ensures.checkpoint ∙ invariant.checkpoint;
       pending = subst (λ (count : ℕ). now.pending ≤ count) invariant.checkpoint c.in_ok-write_content.ensures.pending;
       unspent = c.in_ok-write_content.ensures.unspent;
@@ -86,18 +117,52 @@ loop-place-preserved g c =
       faults = c.in_ok-write_content.ensures.cause ∙ invariant.faults;
       written = (
         so.0 ++ next.0,
-        pieces_then {T = Unit {0}} {U = Unit {0}} c.args.writer.now.checkpoint c.args.writer.now.checkpoint c.loop-place.writer.checkpoint store middle now so.0
-            next.0 (g.D.Shelf.told c.args.depot.now)
-            (g.D.Shelf.told c.loop-place.depot) (g.D.Shelf.told c.write_content.new.depot) (g.D.Shelf.faults c.args.depot.now)
-            (g.D.Shelf.faults c.loop-place.depot) (g.D.Shelf.faults c.write_content.new.depot) tt (Ok tt) refl invariant.checkpoint invariant.rest
-            c.in_ok-write_content.ensures.rest so.1 next.1.0,
-        contents_written (g.S.Shelf.told c.args.shelf.now) (g.S.Shelf.told c.loop-place.shelf) (repo_view c.args.source.now)
-            (repo_view c.loop-place.source) (repo_view store.repo).keys (repo_view middle.repo).keys c.args.chunks.now c.loop-place.place _
-            c.args.writer.now.cutter c.loop-place.writer.cutter c.write_content.new.writer.cutter c.args.writer.now.chunks.items
-            c.loop-place.writer.chunks.items c.write_content.new.writer.chunks.items so.0 next.0 invariant.alike invariant.repo invariant.rest.keys lt so.2
-            next.1.1,
+        (
+          pieces_then {T = Unit {0}} {U = Unit {0}} c.args.writer.now.checkpoint c.args.writer.now.checkpoint c.loop-place.writer.checkpoint store middle now
+              so.0 next.0 (g.D.Shelf.told c.args.depot.now)
+              (g.D.Shelf.told c.loop-place.depot) (g.D.Shelf.told c.write_content.new.depot) (g.D.Shelf.faults c.args.depot.now)
+              (g.D.Shelf.faults c.loop-place.depot) (g.D.Shelf.faults c.write_content.new.depot) tt (Ok tt) refl invariant.checkpoint invariant.rest
+              c.in_ok-write_content.ensures.rest so.1.0 next.1.0,
+          (
+            of_append Content so.0 next.0 so.1.1.0 next.1.1.0,
+            (
+              subst (λ (pieces : List (List ℕ)). WritesContents told source keys (take (c.loop-place.place + 1) c.args.chunks.now) writer.cutter
+                  writer.chunks.items pieces writer_now.cutter writer_now.chunks.items) (sym (contents_append so.0 next.0))
+                  (contents_written told (g.S.Shelf.told c.loop-place.shelf) source (repo_view c.loop-place.source) keys (repo_view middle.repo).keys
+                  c.args.chunks.now c.loop-place.place _ writer.cutter c.loop-place.writer.cutter writer_now.cutter writer.chunks.items
+                  c.loop-place.writer.chunks.items writer_now.chunks.items (contents_in so.0) (contents_in next.0) invariant.alike invariant.repo
+                  invariant.rest.keys lt so.1.1.1.0 next.1.1.1.1.0),
+              counts_then Content writer c.loop-place.writer writer_now so.0 next.0 so.1.1.1.1 next.1.1.1.1.1,
+            ),
+          ),
+        ),
       );
     }
+
+pub returns-clause-written : goal.returns-clause-written
+returns-clause-written g c =
+    let so = c.loop-place.invariant.written in
+    let writer = c.args.writer.now in
+    let writer_now = c.loop-place.writer in
+    let told = g.S.Shelf.told c.args.shelf.now in
+    let source = repo_view c.args.source.now in
+    let keys = (repo_view c.args.store.now.repo).keys in
+    let chunks = c.args.chunks.now in
+    let all = contents_all told source keys chunks c.loop-place.place writer.cutter writer_now.cutter writer.chunks.items writer_now.chunks.items
+    (contents_in so.0) c.loop-place-test.false so.1.1.1.0 in (
+      so.0,
+      (
+        so.1.0,
+        (
+          so.1.1.0,
+          (
+            contents_full told source keys chunks writer.cutter writer_now.cutter writer.chunks.items writer_now.chunks.items (contents_in so.0)
+                c.requires.room all,
+            (all, so.1.1.1.1),
+          ),
+        ),
+      ),
+    )
 
 pub returns-in_err-write_content-clause-refused : goal.returns-in_err-write_content-clause-refused
 returns-in_err-write_content-clause-refused g c =
@@ -109,4 +174,4 @@ returns-in_err-write_content-clause-refused g c =
     let lt : c.loop-place.place < length chunks = omega arith in
     err_is c.from_residual.result fault (λ (r : Result (Unit {0}) CarryFault). IfErr r (RefusesContents told source chunks)) c.from_residual.ensures.1
     (contents_refused told (g.S.Shelf.told c.loop-place.shelf) source (repo_view c.loop-place.source) chunks c.loop-place.place _
-    invariant.written.2.contents fault invariant.alike invariant.repo lt invariant.written.2.come c.in_err-write_content.ensures.refused)
+    invariant.written.1.1.1.0.contents fault invariant.alike invariant.repo lt invariant.written.1.1.1.0.come c.in_err-write_content.ensures.refused)

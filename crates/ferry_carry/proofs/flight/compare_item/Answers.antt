@@ -23,7 +23,7 @@ returns-in_err-compared-clause-works g c most =
     let now : Store = record store { repo = c.step.new.target } in
     let fault = c.in_err-compared.field-0.0 in
     err_is c.from_residual.result (compare_fault fault)
-    (λ (r : Result Compared CarryFault). Works (KeepsStanding most store) (λ _. Gathers most store [] now) a b n m r) c.from_residual.ensures.1
+    (λ (r : Result Compared CarryFault). Works (KeepsStanding most store []) (λ _. Gathers most store [] now) a b n m r) c.from_residual.ensures.1
     (works_unread {U = Compared} Compared most store now a b n m fault c.in_err-compared.ensures.target_same c.in_err-compared.ensures.target_cause)
 
 pub returns-in_err-compared-clause-fits : goal.returns-in_err-compared-clause-fits

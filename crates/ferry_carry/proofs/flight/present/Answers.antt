@@ -1,4 +1,5 @@
 use Rattle.std.proofs.Common.{[], Result}
+use Rattle.ferry_carry.proofs.PutsLemmas.{front_all}
 use Rattle.ferry_carry.proofs.WorkLemmas.{err_is, gathered_as, gathered_err, gathered_none}
 use Rattle.ferry_carry.proofs.flight.present.Goals as goal
 use Rattle.ferry_carry.specs.Gather.{Gathers, KeepsStanding}
@@ -21,9 +22,9 @@ returns-in_err-commit_pieces-clause-works g c =
     let n = g.D.Shelf.faults c.args.depot.now in
     let m = g.D.Shelf.faults c.commit_pieces.new.depot in
     let fault = c.in_err-commit_pieces.field-0.0 in
-    err_is c.from_residual.result fault (λ (r : Result Turn CarryFault). Works (KeepsStanding most store) (λ _. Gathers most store [] now) a b n m r)
+    err_is c.from_residual.result fault (λ (r : Result Turn CarryFault). Works (KeepsStanding most store []) (λ _. Gathers most store [] now) a b n m r)
     c.from_residual.ensures.1
-    (gathered_err {T = Unit {0}} {U = Turn} most store now [] [] a b n m fault (c.in_err-commit_pieces.ensures.works most))
+    (gathered_err {T = Unit {0}} {U = Turn} most store now [] [] a b n m fault (front_all []) (c.in_err-commit_pieces.ensures.works most))
 
 pub returns-clause-works : goal.returns-clause-works
 returns-clause-works g c =

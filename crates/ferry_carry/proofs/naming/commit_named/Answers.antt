@@ -1,4 +1,4 @@
-use Rattle.std.proofs.Common.{rules, ◌≡◌, Result, IfErr, sym, refl, ap, subst}
+use Rattle.std.proofs.Common.{rules, ◌≡◌, [], Result, IfErr, sym, refl, ap, subst}
 use Rattle.ferry_carry.specs.Refusals.{LimitsManifest}
 use Rattle.ferry_mac.specs.declared.keys.Keys.{Keys}
 use Rattle.ferry_next.specs.Next.{next_manifest, written_at}
@@ -81,4 +81,4 @@ returns-clause-stands g c =
     let store = c.args.store.now in
     let middle = c.name_archive.new.self in
     IfErr-weaker c.commit.result (StandsAll middle a b) (StandsAll store a b)
-    (λ fault stands work most. accepted_stands most store middle a b c.in_ok-name_archive.ensures.rest (stands work most)) c.commit.ensures.stands
+    (λ fault stands work most. accepted_stands most store middle [] a b c.in_ok-name_archive.ensures.rest (stands work most)) c.commit.ensures.stands

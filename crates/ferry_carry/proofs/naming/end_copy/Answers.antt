@@ -1,46 +1,55 @@
-use Rattle.std.proofs.Common.{ℕ, true, List, [], ◌∷◌, ◌++◌, Result, Ok, Err, IfErr, IfOk, sym, ◌∙◌, subst}
+use Rattle.std.proofs.Common.{ℕ, List, [], ◌∷◌, ◌++◌, Result, Ok, Err, IfErr, sym, ◌∙◌, subst, ap}
 use Rattle.std.proofs.lemmas.List.{append-nil}
 use Rattle.ferry_carry.proofs.AcceptingLemmas.{record_named}
 use Rattle.ferry_carry.proofs.GrowLemmas.{most_from, most_then}
 use Rattle.ferry_carry.proofs.FlightLemmas.{rest_accepts, rest_packable}
 use Rattle.ferry_carry.proofs.FaultLemmas.{stops_of_pieces}
-use Rattle.ferry_carry.proofs.NamingLemmas.{gathered_at, lists_done, pieces_limit, record_limit, unnamed_rest}
+use Rattle.ferry_carry.proofs.NamingLemmas.{begins_done, counts_done, lists_done, pieces_limit, record_limit, unnamed_rest}
+use Rattle.ferry_carry.proofs.PieceLemmas.{pieces_at}
 use Rattle.ferry_carry.proofs.ProgressLemmas.{readies}
+use Rattle.ferry_carry.proofs.PutsLemmas.{front_all}
 use Rattle.ferry_carry.proofs.WorkLemmas.{carried_as, carried_err, carried_from, carried_from_err, carried_then, err_is}
 use Rattle.ferry_carry.proofs.naming.end_copy.Goals as goal
-use Rattle.ferry_carry.specs.Flight.{Carries, ListsDone}
-use Rattle.ferry_carry.specs.Puts.{Addition, Record, pieces}
+use Rattle.ferry_carry.specs.Flight.{Carries, EndsCopy}
+use Rattle.ferry_carry.specs.Naming.{copied_in}
+use Rattle.ferry_carry.specs.Puts.{Addition}
 use Rattle.ferry_carry.specs.declared.fault.CarryFault.{CarryFault}
 use Rattle.ferry_carry.specs.declared.options.Carried.{Carried}
-use Rattle.ferry_rechunk.specs.Cut.{cut}
 use Rattle.ferry_carry.proofs.CauseLemmas.{record_refused}
+use Rattle.ferry_carry.specs.Gather.{KeepsStanding, chunks_of}
 use Rattle.ferry_carry.specs.Refusals.{IsLimited, RefusesEnd, StopsTarget}
+use Rattle.ferry_disk.specs.Moments.{Between}
+use Rattle.ferry_manifest.specs.Record.Text.{archive_view}
+use Rattle.ferry_rechunk.specs.Cut.{cut}
 use Rattle.ferry_repo.specs.Opening.{repo_view}
-use Rattle.ferry_carry.proofs.StandLemmas.{Stands, stands_behind}
+use Rattle.ferry_carry.proofs.StandLemmas.{stands_behind}
 
 pub returns-in_err-id-clause-works : goal.returns-in_err-id-clause-works
 returns-in_err-id-clause-works g c =
     λ from added all.
     let store = c.args.store.now in
     let now = c.end_stream.new.store in
-    let name = c.args.named.now.name in
-    let chosen = name ∷ [] in
-    let cutter = c.args.copy.stream.cutter in
+    let copy = c.args.copy in
+    let named = c.args.named.now in
+    let chosen = named.name ∷ [] in
     let a = g.D.Shelf.told c.args.depot.now in
     let b = g.D.Shelf.told c.end_stream.new.depot in
     let n = g.D.Shelf.faults c.args.depot.now in
     let m = g.D.Shelf.faults c.end_stream.new.depot in
     let fault = c.in_err-id.field-0.0 in
     let ended = c.in_err-id.ensures.ended in
-    let adds = pieces (cut cutter.block cutter.piece) ++ Record ended.0 ∷ [] in (
-      [],
-      err_is c.from_residual.result fault (λ (r : Result Carried CarryFault). Carries from chosen [] store now a b n m r
-          × IfOk r (λ _. ListsDone a from (repo_view store.repo).keys name (pieces added ++ []) true)) c.from_residual.ensures.1 (
-            carried_from_err {T = List ℕ} {U = Carried} from chosen chosen store now now adds [] a b n m fault c.requires.accepts
-                (gathered_at {T = List ℕ} from.most c.args.copy.stream.checkpoint store now adds a b n m (Err fault)
-                (c.requires.ready.same ∙ sym all.0.most) ended.1.0),
-            tt,
-          ),
+    let more = ended.0 ++ ended.1.0 in
+    let works = pieces_at {T = List ℕ} from.most copy.stream.checkpoint store now more a b n m (Err fault) (c.requires.ready.same ∙ sym all.0.most)
+    ended.1.1.0 in (
+      more,
+      err_is c.from_residual.result fault (λ (r : Result Carried CarryFault). EndsCopy from named.name added more store now a b n m r)
+          c.from_residual.ensures.1 (record {
+            carries = carried_from_err {T = List ℕ} {U = Carried} from chosen chosen store now now more more a b n m fault c.requires.accepts
+                (front_all more) works;
+            begins = begins_done from named a store copy added ended.0 ended.1.0 c.requires.ready ended.1.1.1.0 ended.1.1.1.1.0 all;
+            stands = λ _. works.each;
+            lists = tt;
+          }),
     )
 
 pub name_record-requires-clause-packable : goal.name_record-requires-clause-packable
@@ -71,20 +80,28 @@ returns-in_err-name_record-clause-works g c =
     let fault = c.in_err-name_record.field-0.0 in
     let id = c.in_ok-id.id in
     let ended = c.in_ok-id.ensures.ended in
+    let under = ended.1.1.1.1.1.0 in
     let rest = c.in_ok-id.ensures.rest in
-    let adds = pieces (cut copy.stream.cutter.block copy.stream.cutter.piece) ++ Record ended.0 ∷ [] in
-    let works = gathered_at {T = List ℕ} from.most copy.stream.checkpoint store middle adds a b n m (Ok id) (c.requires.ready.same ∙ sym all.0.most)
-    ended.1.0 in
-    let ready = readies {T = List ℕ} from a b named store middle copy added ended.0 id n m id c.requires.fits c.requires.ready works rest ended.1.1 all in (
-      [],
-      err_is c.from_residual-in_err-name_record.result fault (λ (r : Result Carried CarryFault). Carries from chosen [] store now a z n k r
-          × IfOk r (λ _. ListsDone a from (repo_view store.repo).keys named.name (pieces added ++ []) true)) c.from_residual-in_err-name_record.ensures.1 (
-            carried_err {T = Unit {0}} {U = Carried} from chosen chosen chosen (adds ++ []) [] store now now a z n k fault
-                (carried_then {T = Unit {0}} {U = Unit {0}} from [] chosen adds [] store middle now a b z n m k tt (Err fault)
-                (carried_from {T = List ℕ} {U = Unit {0}} from chosen store middle adds a b n m id tt c.requires.accepts rest works)
-                (c.in_err-name_record.ensures.works from ready)),
-            tt,
-          ),
+    let more = ended.0 ++ ended.1.0 in
+    let works = pieces_at {T = List ℕ} from.most copy.stream.checkpoint store middle more a b n m (Ok id) (c.requires.ready.same ∙ sym all.0.most)
+    ended.1.1.0 in
+    let ready = readies {T = List ℕ} from a b named store middle copy added ended.0 ended.1.0 id n m id c.requires.fits c.requires.ready works rest
+    ended.1.1.1.0 under all in
+    let carried = carried_then {T = Unit {0}} {U = Unit {0}} from [] chosen more [] store middle now a b z n m k tt (Err fault)
+    (carried_from {T = List ℕ} {U = Unit {0}} from chosen store middle more a b n m id tt c.requires.accepts rest works)
+    (c.in_err-name_record.ensures.works from ready) in (
+      more,
+      err_is c.from_residual-in_err-name_record.result fault (λ (r : Result Carried CarryFault). EndsCopy from named.name added more store now a z n k r)
+          c.from_residual-in_err-name_record.ensures.1 (record {
+            carries = carried_err {T = Unit {0}} {U = Carried} from chosen chosen chosen (more ++ []) more store now now a z n k fault
+                ([], sym (append-nil more) ∙ sym (append-nil (more ++ []))) carried;
+            begins = begins_done from named a store copy added ended.0 ended.1.0 c.requires.ready ended.1.1.1.0 ended.1.1.1.1.0 all;
+            stands = λ work.
+                subst (λ (l : List Addition). Between a z (KeepsStanding from.most store l)) (append-nil more)
+                (stands_behind {T = List ℕ} from.most store middle more [] a b z n m id rest.keys works
+                (c.in_err-name_record.ensures.stands work from.most));
+            lists = tt;
+          }),
     )
 
 pub returns-clause-works : goal.returns-clause-works
@@ -93,6 +110,7 @@ returns-clause-works g c =
     let store = c.args.store.now in
     let middle = c.end_stream.new.store in
     let now = c.name_record.new.store in
+    let keys = (repo_view store.repo).keys in
     let copy = c.args.copy in
     let named = c.args.named.now in
     let chosen = named.name ∷ [] in
@@ -104,20 +122,33 @@ returns-clause-works g c =
     let k = g.D.Shelf.faults c.name_record.new.depot in
     let id = c.in_ok-id.id in
     let ended = c.in_ok-id.ensures.ended in
+    let under = ended.1.1.1.1.1.0 in
     let rest = c.in_ok-id.ensures.rest in
-    let adds = pieces (cut copy.stream.cutter.block copy.stream.cutter.piece) ++ Record ended.0 ∷ [] in
-    let works = gathered_at {T = List ℕ} from.most copy.stream.checkpoint store middle adds a b n m (Ok id) (c.requires.ready.same ∙ sym all.0.most)
-    ended.1.0 in
-    let ready = readies {T = List ℕ} from a b named store middle copy added ended.0 id n m id c.requires.fits c.requires.ready works rest ended.1.1 all in
-    let carried = carried_then {T = Unit {0}} {U = Unit {0}} from [] chosen adds [] store middle now a b z n m k tt (Ok tt)
-    (carried_from {T = List ℕ} {U = Unit {0}} from chosen store middle adds a b n m id tt c.requires.accepts rest works)
+    let last = ended.0 in
+    let more = last ++ ended.1.0 in
+    let put = c.of_pieces.result in
+    let archive = copied_in (archive_view copy.archive) copy.block (copy.stream.chunks.items
+    ++ chunks_of keys (cut copy.stream.cutter.block copy.stream.cutter.piece)) in
+    let works = pieces_at {T = List ℕ} from.most copy.stream.checkpoint store middle more a b n m (Ok id) (c.requires.ready.same ∙ sym all.0.most)
+    ended.1.1.0 in
+    let ready = readies {T = List ℕ} from a b named store middle copy added last ended.1.0 id n m id c.requires.fits c.requires.ready works rest
+    ended.1.1.1.0 under all in
+    let carried = carried_then {T = Unit {0}} {U = Unit {0}} from [] chosen more [] store middle now a b z n m k tt (Ok tt)
+    (carried_from {T = List ℕ} {U = Unit {0}} from chosen store middle more a b n m id tt c.requires.accepts rest works)
     (c.in_ok-name_record.ensures.works from ready) in (
-      adds,
-      (
-        subst (λ (l : List Addition). Carries {T = Carried} from chosen l store now a z n k (Ok c.of_pieces.result)) (append-nil adds)
-            (carried_as {T = Unit {0}} {U = Carried} from chosen chosen (adds ++ []) store now a z n k tt c.of_pieces.result carried),
-        lists_done from named a store copy added ended.0 id c.requires.ready ended.1.1 all,
-      ),
+      more,
+      record {
+        carries = subst (λ (l : List Addition). Carries {T = Carried} from chosen l store now a z n k (Ok put)) (append-nil more)
+            (carried_as {T = Unit {0}} {U = Carried} from chosen chosen (more ++ []) store now a z n k tt put carried);
+        begins = begins_done from named a store copy added last ended.1.0 c.requires.ready ended.1.1.1.0 ended.1.1.1.1.0 all;
+        stands = tt;
+        lists = (
+          lists_done from named a store copy added last ended.1.0 c.requires.ready ended.1.1.1.0 under.adds all,
+          counts_done from copy c.end_stream.new.stream added last ended.1.0 keys archive put all.0 ended.1.1.1.0.1 ended.1.1.1.1.1.1 under.adds
+              (ap (λ (x : Carried). x.chunks) c.of_pieces.ensures ∙ c.put.ensures.0) (ap (λ (x : Carried). x.bytes) c.of_pieces.ensures ∙ c.put.ensures.1)
+              (ap (λ (x : Carried). x.meta) c.of_pieces.ensures ∙ c.put-2.ensures.0),
+        );
+      },
     )
 
 pub returns-clause-most : goal.returns-clause-most
@@ -163,53 +194,16 @@ returns-in_err-name_record-clause-limit g c =
     let source = repo_view c.args.source.now in
     let named = c.args.named.now in
     let fault = c.in_err-name_record.field-0.0 in
-    let ended = c.in_ok-id.ensures.ended in
+    let under = c.in_ok-id.ensures.ended.1.1.1.1.1.0 in
     err_is c.from_residual-in_err-name_record.result fault (λ (r : Result Carried CarryFault). IfErr r (IsLimited d given source store named))
     c.from_residual-in_err-name_record.ensures.1
-    (record_limit d given source store c.end_stream.new.store named c.in_ok-id.id ended.0 fault c.in_ok-id.ensures.rest ended.1.1.id_is
+    (record_limit d given source store c.end_stream.new.store named c.in_ok-id.id under.adds.text fault c.in_ok-id.ensures.rest under.id_is
     c.requires.unnamed c.in_err-name_record.ensures.limit)
 
 pub returns-clause-named : goal.returns-clause-named
 returns-clause-named g c =
-    let ended = c.in_ok-id.ensures.ended in (
-      ended.0,
+    let under = c.in_ok-id.ensures.ended.1.1.1.1.1.0 in (
+      under.adds.text,
       record_named c.args.timestamp.now (repo_view c.args.source.now) c.args.store.now c.end_stream.new.store c.name_record.new.store c.args.named.now
-          c.in_ok-id.id ended.0 c.in_ok-id.ensures.rest ended.1.1.id_is c.in_ok-name_record.ensures.named c.in_ok-name_record.ensures.accepted,
+          c.in_ok-id.id under.adds.text c.in_ok-id.ensures.rest under.id_is c.in_ok-name_record.ensures.named c.in_ok-name_record.ensures.accepted,
     )
-
-pub returns-in_err-id-clause-stands : goal.returns-in_err-id-clause-stands
-returns-in_err-id-clause-stands g c =
-    let store = c.args.store.now in
-    let now = c.end_stream.new.store in
-    let copy = c.args.copy in
-    let cutter = copy.stream.cutter in
-    let most = copy.contents.checkpoint in
-    let a = g.D.Shelf.told c.args.depot.now in
-    let b = g.D.Shelf.told c.end_stream.new.depot in
-    let fault = c.in_err-id.field-0.0 in
-    let ended = c.in_err-id.ensures.ended in
-    let works = gathered_at {T = List ℕ} most copy.stream.checkpoint store now (pieces (cut cutter.block cutter.piece) ++ Record ended.0 ∷ []) a b
-    (g.D.Shelf.faults c.args.depot.now) (g.D.Shelf.faults c.end_stream.new.depot) (Err fault) c.requires.ready.same ended.1.0 in
-    err_is c.from_residual.result fault (λ (r : Result Carried CarryFault). IfErr r (Stands most store a b)) c.from_residual.ensures.1 (λ _. works.each)
-
-pub returns-in_err-name_record-clause-stands : goal.returns-in_err-name_record-clause-stands
-returns-in_err-name_record-clause-stands g c =
-    let store = c.args.store.now in
-    let middle = c.end_stream.new.store in
-    let copy = c.args.copy in
-    let cutter = copy.stream.cutter in
-    let most = copy.contents.checkpoint in
-    let a = g.D.Shelf.told c.args.depot.now in
-    let b = g.D.Shelf.told c.end_stream.new.depot in
-    let d = g.D.Shelf.told c.name_record.new.depot in
-    let n = g.D.Shelf.faults c.args.depot.now in
-    let m = g.D.Shelf.faults c.end_stream.new.depot in
-    let fault = c.in_err-name_record.field-0.0 in
-    let id = c.in_ok-id.id in
-    let ended = c.in_ok-id.ensures.ended in
-    let adds = pieces (cut cutter.block cutter.piece) ++ Record ended.0 ∷ [] in
-    let works = gathered_at {T = List ℕ} most copy.stream.checkpoint store middle adds a b n m (Ok id) c.requires.ready.same ended.1.0 in
-    err_is c.from_residual-in_err-name_record.result fault (λ (r : Result Carried CarryFault). IfErr r (Stands most store a d))
-    c.from_residual-in_err-name_record.ensures.1
-    (λ work. stands_behind {T = List ℕ} most store middle adds a b d n m id c.in_ok-id.ensures.rest.keys works
-    (c.in_err-name_record.ensures.stands work most))

@@ -1,10 +1,12 @@
-use Rattle.std.proofs.Common.{ℕ, List, [], ◌∷◌, ◌++◌, Result, IfOk, Vec, Global, ◌∙◌}
-use Rattle.ferry_carry.proofs.NamingLemmas.{record_as}
+use Rattle.std.proofs.Common.{ℕ, inl, List, [], ◌++◌, Result, IfOk, OnOk, Vec, Global, refl, ◌∙◌}
+use Rattle.ferry_carry.proofs.NamingLemmas.{on_any, record_as}
+use Rattle.ferry_carry.proofs.PutsLemmas.{front_of}
 use Rattle.ferry_carry.proofs.WorkLemmas.{err_is, gathered_err, gathered_then}
 use Rattle.ferry_carry.proofs.naming.end_stream.Goals as goal
 use Rattle.ferry_carry.specs.Gather.{Gathers, KeepsStanding, chunks_of}
-use Rattle.ferry_carry.specs.Naming.{IsRecord}
-use Rattle.ferry_carry.specs.Puts.{Record, pieces}
+use Rattle.ferry_carry.specs.Naming.{AddsUnder, BeginsRecord, copied_in}
+use Rattle.ferry_carry.specs.Piece.{CountsOn}
+use Rattle.ferry_carry.specs.Puts.{ArePieces, Stream}
 use Rattle.ferry_carry.specs.Work.{Works}
 use Rattle.ferry_carry.specs.declared.fault.CarryFault.{CarryFault}
 use Rattle.ferry_item.specs.declared.item.ChunkRef.{ChunkRef}
@@ -20,20 +22,26 @@ returns-in_err-pieces-clause-ended g c =
     let stream = c.args.stream.now in
     let most = stream.checkpoint in
     let left = cut stream.cutter.block stream.cutter.piece in
+    let archive = copied_in (archive_view c.args.archive) c.args.block (stream.chunks.items ++ chunks_of keys left) in
     let a = g.D.Shelf.told c.args.depot.now in
     let b = g.D.Shelf.told c.finish.new.depot in
     let n = g.D.Shelf.faults c.args.depot.now in
     let m = g.D.Shelf.faults c.finish.new.depot in
-    let fault = c.in_err-pieces.field-0.0 in (
-      [],
-      err_is c.from_residual.result fault
-          (λ (r : Result (List ℕ) CarryFault). Works (KeepsStanding most store) (λ _. Gathers most store (pieces left ++ Record [] ∷ []) now) a b n m r
-          × IfOk r (λ id. IsRecord keys (archive_view c.args.archive) c.args.block (stream.chunks.items ++ chunks_of keys left) [] id))
-          c.from_residual.ensures.1 (
-            gathered_err {T = Vec ChunkRef Global} {U = List ℕ} most store now (pieces left) (pieces left ++ Record [] ∷ []) a b n m fault
-                c.in_err-pieces.ensures.works,
-            tt,
-          ),
+    let fault = c.in_err-pieces.field-0.0 in
+    let finished = c.in_err-pieces.ensures.works Stream in
+    let last = finished.0 in (
+      last,
+      (
+        [],
+        err_is c.from_residual.result fault
+            (λ (r : Result (List ℕ) CarryFault). Works (KeepsStanding most store (last ++ [])) (λ _. Gathers most store (last ++ []) now) a b n m r
+            × (ArePieces Stream left last × (BeginsRecord keys archive []
+            × (IfOk r (AddsUnder keys archive []) × OnOk r (CountsOn Stream stream last c.finish.new.self)))))
+            c.from_residual.ensures.1 (
+              gathered_err {T = Vec ChunkRef Global} {U = List ℕ} most store now last (last ++ []) a b n m fault (front_of last []) finished.1.0,
+              (finished.1.1.0, (inl refl, (tt, tt))),
+            ),
+      ),
     )
 
 pub returns-clause-ended : goal.returns-clause-ended
@@ -45,16 +53,20 @@ returns-clause-ended g c =
     let stream = c.args.stream.now in
     let most = stream.checkpoint in
     let left = cut stream.cutter.block stream.cutter.piece in
-    let put = c.put_copied.ensures.put in (
-      put.0,
+    let finished = c.in_ok-pieces.ensures.works Stream in
+    let put = c.put_copied.ensures.put in
+    let said = record_as c.put_copied.result keys (repo_view middle.repo).keys (archive_view c.args.archive) c.args.block
+    (stream.chunks.items ++ chunks_of keys left) c.deref.result.now put.0 c.in_ok-pieces.ensures.rest.keys
+    (c.deref.ensures.value ∙ c.in_ok-pieces.ensures.chunks) put.1.1 in (
+      finished.0,
       (
-        gathered_then {T = Vec ChunkRef Global} {U = List ℕ} most store middle now (pieces left) (Record put.0 ∷ []) (g.D.Shelf.told c.args.depot.now)
-            (g.D.Shelf.told c.finish.new.depot) (g.D.Shelf.told c.put_copied.new.depot) (g.D.Shelf.faults c.args.depot.now)
-            (g.D.Shelf.faults c.finish.new.depot) (g.D.Shelf.faults c.put_copied.new.depot) c.in_ok-pieces.pieces c.put_copied.result
-            c.in_ok-pieces.ensures.rest c.put_copied.ensures.rest c.in_ok-pieces.ensures.works
-            (put.1.0 most c.requires.checkpoint c.in_ok-pieces.ensures.pending),
-        record_as c.put_copied.result keys (repo_view middle.repo).keys (archive_view c.args.archive) c.args.block
-            (stream.chunks.items ++ chunks_of keys left) c.deref.result.now put.0 c.in_ok-pieces.ensures.rest.keys
-            (c.deref.ensures.value ∙ c.in_ok-pieces.ensures.chunks) put.1.1,
+        put.0,
+        (
+          gathered_then {T = Vec ChunkRef Global} {U = List ℕ} most store middle now finished.0 put.0 (g.D.Shelf.told c.args.depot.now)
+              (g.D.Shelf.told c.finish.new.depot) (g.D.Shelf.told c.put_copied.new.depot) (g.D.Shelf.faults c.args.depot.now)
+              (g.D.Shelf.faults c.finish.new.depot) (g.D.Shelf.faults c.put_copied.new.depot) c.in_ok-pieces.pieces c.put_copied.result
+              c.in_ok-pieces.ensures.rest c.put_copied.ensures.rest finished.1.0 (put.1.0 most c.requires.checkpoint c.in_ok-pieces.ensures.pending),
+          (finished.1.1.0, (said.0, (said.1, on_any c.put_copied.result finished.1.1.1))),
+        ),
       ),
     )

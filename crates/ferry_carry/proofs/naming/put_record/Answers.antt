@@ -1,14 +1,14 @@
-use Rattle.std.proofs.Common.{◌≡◌, ℕ, List, [], ◌∷◌, Result, Ok, IfErr, IfOk}
-use Rattle.ferry_blob.specs.Blob.{content_id}
+use Rattle.std.proofs.Common.{ℕ, inl, List, [], ◌∷◌, Result, IfErr, IfOk, refl}
 use Rattle.ferry_carry.proofs.NamingLemmas.{record_put}
 use Rattle.ferry_carry.proofs.WorkLemmas.{err_is, gathered_nothing}
 use Rattle.ferry_carry.proofs.naming.put_record.Goals as goal
 use Rattle.ferry_carry.specs.Gather.{Gathers, KeepsStanding}
-use Rattle.ferry_carry.specs.Puts.{Record}
+use Rattle.ferry_carry.specs.Naming.{AddsUnder}
+use Rattle.ferry_carry.specs.Puts.{Record, addition}
 use Rattle.ferry_carry.specs.Refusals.{StopsPieces}
 use Rattle.ferry_carry.specs.Work.{Works}
 use Rattle.ferry_carry.specs.declared.fault.CarryFault.{CarryFault}
-use Rattle.ferry_manifest.specs.Record.Text.{archive_of, archive_view, as_tagged}
+use Rattle.ferry_manifest.specs.Record.Text.{archive_view}
 use Rattle.ferry_repo.specs.Opening.{repo_view}
 
 pub returns-in_err-text-clause-put : goal.returns-in_err-text-clause-put
@@ -22,22 +22,28 @@ returns-in_err-text-clause-put g c =
       (
         λ most checkpoint pending.
             err_is c.from_residual.result fault
-            (λ (r : Result (List ℕ) CarryFault). Works (KeepsStanding most store) (λ _. Gathers most store (Record [] ∷ []) store) a a n n r)
-            c.from_residual.ensures.1 (gathered_nothing {T = List ℕ} most store store (Record [] ∷ []) a n fault c.in_err-text.ensures.still),
-        err_is c.from_residual.result fault
-            (λ (r : Result (List ℕ) CarryFault). IfOk r (λ id. (id ≡ content_id keys [])
-            × (archive_of keys [] ≡ Ok (as_tagged (archive_view c.args.archive.now))))) c.from_residual.ensures.1 tt,
+            (λ (r : Result (List ℕ) CarryFault). Works (KeepsStanding most store []) (λ _. Gathers most store [] store) a a n n r)
+            c.from_residual.ensures.1 (gathered_nothing {T = List ℕ} most store store [] a n fault c.in_err-text.ensures.still),
+        (
+          inl refl,
+          err_is c.from_residual.result fault (λ (r : Result (List ℕ) CarryFault). IfOk r (AddsUnder keys (archive_view c.args.archive.now) []))
+              c.from_residual.ensures.1 tt,
+        ),
       ),
     )
 
 pub returns-clause-put : goal.returns-clause-put
 returns-clause-put g c =
-    let keys = (repo_view c.args.store.now.repo).keys in (
-      c.deref.result.now,
+    let keys = (repo_view c.args.store.now.repo).keys in
+    let archive = archive_view c.args.archive.now in
+    let text = c.deref.result.now in
+    let works = c.add_record.ensures.works in
+    let more = addition Record text works.0 ∷ [] in (
+      more,
       (
-        c.add_record.ensures.works,
-        record_put c.add_record.result keys c.keys.result.now c.deref.result.now c.in_ok-text.text.items (as_tagged (archive_view c.args.archive.now))
-            c.keys.ensures.keys c.deref.ensures.value c.add_record.ensures.id c.in_ok-text.ensures.reads,
+        works.1,
+        record_put c.add_record.result keys c.keys.result.now text c.in_ok-text.text.items works.0 archive c.keys.ensures.keys
+            c.deref.ensures.value c.in_ok-text.ensures.reads c.add_record.ensures.id,
       ),
     )
 

@@ -9,6 +9,7 @@ use Rattle.ferry_carry.proofs.WorkLemmas.{err_is, works_err, works_ok}
 use Rattle.ferry_carry.proofs.piece.add.Goals as goal
 use Rattle.ferry_carry.specs.Fault.{target_fault}
 use Rattle.ferry_carry.specs.Gather.{Gathers, KeepsStanding}
+use Rattle.ferry_carry.specs.Puts.{addition}
 use Rattle.ferry_carry.specs.Refusals.{StopsPieces}
 use Rattle.ferry_carry.specs.Work.{Works}
 use Rattle.ferry_carry.specs.declared.fault.CarryFault.{CarryFault}
@@ -18,7 +19,7 @@ use Rattle.ferry_store.specs.State.{KeepsSound}
 use Rattle.ferry_store.specs.declared.content.Added.{Added}
 
 pub returns-in_err-added-clause-works : goal.returns-in_err-added-clause-works
-returns-in_err-added-clause-works g c most one is room =
+returns-in_err-added-clause-works g c most kind put is room =
     let a = g.D.Shelf.told c.args.depot.now in
     let b = g.D.Shelf.told c.add.new.depot in
     let n = g.D.Shelf.faults c.args.depot.now in
@@ -26,14 +27,16 @@ returns-in_err-added-clause-works g c most one is room =
     let store = c.args.store.now in
     let now = c.add.new.self in
     let content = c.args.content.now in
+    let one = addition kind content put in
     let refusal = c.in_err-added.field-0.0 in
     err_is c.from_residual.result (target_fault refusal)
-    (λ (r : Result Added CarryFault). Works (KeepsStanding most store) (λ _. Gathers most store (one ∷ []) now) a b n m r) c.from_residual.ensures.1
-    (works_err {T = Added} (KeepsSound store.session store.counter) (Adds store content now) (KeepsStanding most store) (λ _. Gathers most store (one ∷ []) now)
-    a b n m refusal (add_stands most store) c.add.ensures.untold c.in_err-added.ensures.did)
+    (λ (r : Result Added CarryFault). Works (KeepsStanding most store (one ∷ [])) (λ _. Gathers most store (one ∷ []) now) a b n m r) c.from_residual.ensures.1
+    (works_err {T = Added} (KeepsSound store.session store.counter) (Adds store content now) (KeepsStanding most store (one ∷ []))
+    (λ _. Gathers most store (one ∷ []) now)
+    a b n m refusal (add_stands most store (one ∷ [])) c.add.ensures.untold c.in_err-added.ensures.did)
 
 pub returns-clause-works : goal.returns-clause-works
-returns-clause-works g c most one is room =
+returns-clause-works g c most kind put is room =
     let a = g.D.Shelf.told c.args.depot.now in
     let b = g.D.Shelf.told c.add.new.depot in
     let n = g.D.Shelf.faults c.args.depot.now in
@@ -41,6 +44,7 @@ returns-clause-works g c most one is room =
     let store = c.args.store.now in
     let now = c.add.new.self in
     let content = c.args.content.now in
+    let one = addition kind content put in
     let added = c.in_ok-added.added in
     let so : AddedSo store content now added = record {
       id = c.in_ok-added.ensures.id;
@@ -50,9 +54,9 @@ returns-clause-works g c most one is room =
       opens = c.in_ok-added.ensures.opens;
       accepted = c.add.ensures.accepted;
     } in
-    works_ok (KeepsSound store.session store.counter) (Adds store content now) (KeepsStanding most store) (λ _. Gathers most store (one ∷ []) now) a b n m
-    added added
-    (add_stands most store) (λ h k adds. add_gathers most store now one content added h k is room so adds) c.add.ensures.untold
+    works_ok (KeepsSound store.session store.counter) (Adds store content now) (KeepsStanding most store (one ∷ []))
+    (λ _. Gathers most store (one ∷ []) now) a b n m added added
+    (add_stands most store (one ∷ [])) (λ h k adds. add_gathers most store now kind content put added h k is room so adds) c.add.ensures.untold
     c.in_ok-added.ensures.did
 
 pub returns-clause-fits : goal.returns-clause-fits

@@ -24,9 +24,9 @@ returns-in_err-checkpoint-clause-works g c most =
     let now = c.checkpoint.new.self in
     let refusal = c.in_err-checkpoint.field-0.0 in
     err_is c.from_residual.result (target_fault refusal)
-    (λ (r : Result (Unit {0}) CarryFault). Works (KeepsStanding most store) (λ _. Gathers most store [] now) a b n m r) c.from_residual.ensures.1
-    (works_err {T = Unit {0}} (CommitsSound store.session store.counter) (λ _. Checkpoints store now) (KeepsStanding most store)
-    (λ _. Gathers most store [] now) a b n m refusal (checkpoint_stands most store) c.checkpoint.ensures.untold c.in_err-checkpoint.ensures.did)
+    (λ (r : Result (Unit {0}) CarryFault). Works (KeepsStanding most store []) (λ _. Gathers most store [] now) a b n m r) c.from_residual.ensures.1
+    (works_err {T = Unit {0}} (CommitsSound store.session store.counter) (λ _. Checkpoints store now) (KeepsStanding most store [])
+    (λ _. Gathers most store [] now) a b n m refusal (checkpoint_stands most store []) c.checkpoint.ensures.untold c.in_err-checkpoint.ensures.did)
 
 pub returns-clause-works : goal.returns-clause-works
 returns-clause-works g c most =
@@ -37,8 +37,8 @@ returns-clause-works g c most =
     let store = c.args.store.now in
     let now = c.checkpoint.new.self in
     works_ok {T = Unit {0}} {U = Unit {0}} (CommitsSound store.session store.counter) (λ _. Checkpoints store now)
-    (KeepsStanding most store) (λ _. Gathers most store [] now) a b n m tt tt
-    (checkpoint_stands most store) (λ h k takes. checkpoint_gathers most store now h k c.checkpoint.ensures.repo takes) c.checkpoint.ensures.untold
+    (KeepsStanding most store []) (λ _. Gathers most store [] now) a b n m tt tt
+    (checkpoint_stands most store []) (λ h k takes. checkpoint_gathers most store now h k c.checkpoint.ensures.repo takes) c.checkpoint.ensures.untold
     c.in_ok-checkpoint.ensures.did
 
 pub returns-clause-fits : goal.returns-clause-fits

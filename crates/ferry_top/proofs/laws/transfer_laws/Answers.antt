@@ -1,4 +1,4 @@
-use Rattle.ferry_top.proofs.RerunLemmas.{meets_again, meets_first, meets_in_turn, same_names}
+use Rattle.ferry_top.proofs.RerunLemmas.{keeps_nonce, meets_again, meets_first, meets_in_turn, same_names}
 use Rattle.ferry_top.proofs.TransferCauseLemmas.{ready_again, ready_first}
 use Rattle.ferry_top.proofs.VerifyLemmas.{verifies_again}
 use Rattle.ferry_top.proofs.laws.transfer_laws.Goals as goal
@@ -6,6 +6,7 @@ use Rattle.ferry_top.proofs.laws.transfer_laws.Goals as goal
 pub returns : goal.returns
 returns c = record {
   rerun = meets_again;
+  nonce = keeps_nonce;
   runs = meets_in_turn;
   names = same_names;
   ready = ready_again;

@@ -4,7 +4,6 @@ use Rattle.ferry_carry.specs.Fault.{IsOfWork, target_fault}
 use Rattle.ferry_carry.specs.Work.{Works}
 use Rattle.ferry_carry.specs.declared.fault.CarryFault.{CarryFault}
 use Rattle.ferry_carry.specs.declared.fault.CarryFault.TheVariants.{Memory}
-use Rattle.ferry_carry.specs.declared.options.Carried.{Carried}
 use Rattle.ferry_disk.specs.Moments.{Between}
 use Rattle.ferry_repo.specs.Opening.{repo_view}
 use Rattle.ferry_store.proofs.UseLemmas.{fits_opened}
@@ -70,7 +69,7 @@ returns-in_err-carry-clause-works g c =
     (λ (r : Result (Unit {0}) CarryFault). Works (TransferEach request) (λ _. TransferEnds request) a d n k r)
     c.from_residual-in_err-carry.ensures.1
     (copied_some c.args.secrets.now c.args.options.now c.args.names.now (repo_view c.args.repo.now) told c.deref-2.result.now
-    c.requires.source_opens (c.deref-2.ensures.value ∙ c.in_ok-chosen.ensures.chosen) {T = Carried} {U = Unit {0}} store c.carry.new.store a b d n m k fault
+    c.requires.source_opens (c.deref-2.ensures.value ∙ c.in_ok-chosen.ensures.chosen) {U = Unit {0}} store c.carry.new.store a b d n m k fault
     (ap (accepted_or (repo_view store.repo).manifest) c.in_ok-store.ensures.accepted) c.in_ok-store.ensures.opened c.open.ensures.untold
     c.in_ok-store.ensures.did c.in_err-carry.ensures.works)
 
@@ -78,7 +77,7 @@ pub returns-clause-works : goal.returns-clause-works
 returns-clause-works g c =
     let store = c.in_ok-store.store in
     copied_all c.args.secrets.now c.args.options.now c.args.names.now (repo_view c.args.repo.now) (g.S.Shelf.told c.args.source.now)
-    c.deref-2.result.now c.requires.source_opens (c.deref-2.ensures.value ∙ c.in_ok-chosen.ensures.chosen) {T = Carried} {U = Unit {0}} store
+    c.deref-2.result.now c.requires.source_opens (c.deref-2.ensures.value ∙ c.in_ok-chosen.ensures.chosen) {U = Unit {0}} store
     c.carry.new.store (g.D.Shelf.told c.args.target.now) (g.D.Shelf.told c.open.new.depot) (g.D.Shelf.told c.carry.new.depot)
     (g.D.Shelf.faults c.args.target.now) (g.D.Shelf.faults c.open.new.depot) (g.D.Shelf.faults c.carry.new.depot) c.in_ok-carry.field-0 tt
     (ap (accepted_or (repo_view store.repo).manifest) c.in_ok-store.ensures.accepted) c.in_ok-carry.ensures.settled
@@ -127,7 +126,7 @@ returns-in_err-carry-clause-refused g c =
     let chosen_is = c.deref-2.ensures.value ∙ c.in_ok-chosen.ensures.chosen in
     let accepts = ap (accepted_or (repo_view store.repo).manifest) c.in_ok-store.ensures.accepted in
     let works = copied_some c.args.secrets.now c.args.options.now c.args.names.now (repo_view c.args.repo.now) told c.deref-2.result.now
-    c.requires.source_opens chosen_is {T = Carried} {U = Unit {0}} store c.carry.new.store a b d n m k fault accepts
+    c.requires.source_opens chosen_is {U = Unit {0}} store c.carry.new.store a b d n m k fault accepts
     c.in_ok-store.ensures.opened c.open.ensures.untold c.in_ok-store.ensures.did c.in_err-carry.ensures.works in
     err_is c.from_residual-in_err-carry.result fault (λ (r : Result (Unit {0}) CarryFault). IfErr r (RefusesAsked request a d))
     c.from_residual-in_err-carry.ensures.1
@@ -180,7 +179,7 @@ returns-in_err-carry-clause-only_told g c =
     let chosen_is = c.deref-2.ensures.value ∙ c.in_ok-chosen.ensures.chosen in
     let accepts = ap (accepted_or (repo_view store.repo).manifest) c.in_ok-store.ensures.accepted in
     let works = copied_some c.args.secrets.now c.args.options.now c.args.names.now (repo_view c.args.repo.now) told c.deref-2.result.now
-    c.requires.source_opens chosen_is {T = Carried} {U = Unit {0}} store c.carry.new.store a b d n m k fault accepts
+    c.requires.source_opens chosen_is {U = Unit {0}} store c.carry.new.store a b d n m k fault accepts
     c.in_ok-store.ensures.opened c.open.ensures.untold c.in_ok-store.ensures.did c.in_err-carry.ensures.works in
     err_is c.from_residual-in_err-carry.result fault
     (λ (r : Result (Unit {0}) CarryFault). IfErr r (λ (f : CarryFault). IsOfWork f → Between a d (LeavesTold request)))

@@ -23,6 +23,7 @@ returns-clause-flight c told heard store =
         };
         added = [];
         work = refl;
+        uncounted = c.nothing.ensures;
       },
       refl,
     )

@@ -20,7 +20,7 @@ returns-in_err-comparison-clause-works g c most =
     let now : Store = record store { repo = c.begin.new.target } in
     let fault = c.in_err-comparison.field-0.0 in
     err_is c.from_residual.result (compare_fault fault)
-    (λ (r : Result Comparison CarryFault). Works (KeepsStanding most store) (λ _. Gathers most store [] now) a b n m r) c.from_residual.ensures.1
+    (λ (r : Result Comparison CarryFault). Works (KeepsStanding most store []) (λ _. Gathers most store [] now) a b n m r) c.from_residual.ensures.1
     (works_unread {U = Comparison} Comparison most store now a b n m fault c.in_err-comparison.ensures.target_same c.in_err-comparison.ensures.target_cause)
 
 pub returns-in_err-comparison-clause-fits : goal.returns-in_err-comparison-clause-fits

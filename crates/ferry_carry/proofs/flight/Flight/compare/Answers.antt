@@ -2,11 +2,11 @@ use Rattle.std.proofs.Common.{◌≡◌, [], ◌∷◌, ℕ, List, Some, Result,
 use Rattle.ferry_carry.proofs.AcceptingLemmas.{still_rest}
 use Rattle.ferry_carry.proofs.CopyLemmas.{gathered_fault}
 use Rattle.ferry_carry.proofs.FlightLemmas.{on_ok, read_rest, rest_accepts, rest_there, there_accepted}
-use Rattle.ferry_carry.proofs.FlyLemmas.{flies_as, flies_fault, present_flies, err_beside, taken_still, turn_present}
+use Rattle.ferry_carry.proofs.FlyLemmas.{begins_there, flies_as, flies_fault, present_flies, taken_still, turn_present, turn_stands, turned_err}
 use Rattle.ferry_carry.proofs.GrowLemmas.{most_from}
 use Rattle.ferry_carry.proofs.WorkLemmas.{carried_from, err_is}
 use Rattle.ferry_carry.proofs.flight.Flight.compare.Goals as goal
-use Rattle.ferry_carry.specs.Flight.{Flies, IsSame, flown_from}
+use Rattle.ferry_carry.specs.Flight.{IsSame, flown_from}
 use Rattle.ferry_carry.specs.Gather.{KeepsRest}
 use Rattle.ferry_carry.specs.Grow.{AcceptsMore}
 use Rattle.ferry_carry.specs.declared.fault.CarryFault.{CarryFault}
@@ -20,7 +20,8 @@ use Rattle.ferry_carry.proofs.NamingLemmas.{pieces_limit, taken_limit}
 use Rattle.ferry_carry.specs.Carrying.{origin}
 use Rattle.ferry_carry.specs.Refusals.{DiffersThere, IsLimited, RefusesComparing, RefusesName, StopsPieces}
 use Rattle.std.proofs.lemmas.Result.{IfErr-weaker}
-use Rattle.ferry_carry.proofs.StandLemmas.{Stands, stands_behind}
+use Rattle.ferry_carry.proofs.StandLemmas.{stands_behind}
+use Rattle.ferry_store.specs.Commit.{accepted_in}
 
 pub returns-in-More-clause-works : goal.returns-in-More-clause-works
 returns-in-More-clause-works g c =
@@ -33,13 +34,17 @@ returns-in-More-clause-works g c =
     let n = g.D.Shelf.faults c.args.depot.now in
     let m = g.D.Shelf.faults c.compare_item.new.depot in
     let compared = c.in_ok-compare_item.field-0 in
-    let read = c.compare_item.ensures.read in (
+    let read = c.compare_item.ensures.read in
+    let works = c.in_ok-compare_item.ensures.works from.most in (
       [],
-      (
-        flies_as {T = Compared} from name [] [] store now a b n m compared More refl
+      record {
+        flies = flies_as {T = Compared} from name [] [] store now a b n m compared More refl
             (carried_from {T = Compared} {U = Compared} from (name ∷ []) store now [] a b n m compared compared c.requires.accepts
-            (read_rest store now read) (c.in_ok-compare_item.ensures.works from.most)),
-        (
+            (read_rest store now read) works);
+        begins = begins_there a from (repo_view store.repo).keys (accepted_in store) name
+            (there_accepted store name c.requires.accepts c.requires.there);
+        stands = works.each;
+        lists = (
           record {
             stands = record {
               options = c.requires.flight.options;
@@ -53,10 +58,11 @@ returns-in-More-clause-works g c =
               subst (λ (r : RepoState). IsSome (archive_named name r.manifest.archives)) (sym read.repo) c.requires.there,
               refl,
             );
+            uncounted = c.requires.uncounted;
           },
           refl,
-        ),
-      ),
+        );
+      },
     )
 
 pub returns-in-More-clause-accepts : goal.returns-in-More-clause-accepts
@@ -81,16 +87,22 @@ returns-in-Equal-clause-works g c =
     let rest = read_rest store middle c.compare_item.ensures.read in
     let same : IsSame from b (repo_view middle.repo) name =
     subst (IsSame from b (repo_view middle.repo)) c.requires.same_name
-    (c.in_ok-compare_item.ensures.equal (ap Ok c.in-Equal.is) from.block from.most) in (
+    (c.in_ok-compare_item.ensures.equal (ap Ok c.in-Equal.is) from.block from.most) in
+    let compared = c.in_ok-compare_item.field-0 in
+    let works = c.in_ok-compare_item.ensures.works from.most in
+    let ends = c.present.ensures.works from.most in (
       [],
-      (
-        present_flies {T = Compared} from name store middle now a b d n m k c.in_ok-compare_item.field-0 c.present.result c.requires.accepts
+      record {
+        flies = present_flies {T = Compared} from name store middle now a b d n m k compared c.present.result c.requires.accepts
             (rest_accepts store middle rest c.requires.accepts) rest c.present.ensures.rest c.present.ensures.pending c.present.ensures.present
-            (rest_there store middle name rest c.requires.there) same
-            (c.in_ok-compare_item.ensures.works from.most) (c.present.ensures.works from.most),
-        turn_present (g.S.Shelf.told c.compare_item.new.shelf) (repo_view c.compare_item.new.source) d now _ a from (repo_view store.repo).keys
-            c.present.result c.present.ensures.present,
-      ),
+            (rest_there store middle name rest c.requires.there) same works ends;
+        begins = begins_there a from (repo_view store.repo).keys (accepted_in store) name
+            (there_accepted store name c.requires.accepts c.requires.there);
+        stands = turn_stands from.most store [] a d c.present.result
+            (stands_behind {T = Compared} from.most store middle [] [] a b d n m compared rest.keys works ends.each);
+        lists = turn_present (g.S.Shelf.told c.compare_item.new.shelf) (repo_view c.compare_item.new.source) d now _ a from (repo_view store.repo).keys
+            c.present.result c.requires.uncounted c.present.ensures.present;
+      },
     )
 
 pub returns-in-Equal-clause-accepts : goal.returns-in-Equal-clause-accepts
@@ -112,10 +124,16 @@ returns-in_err-compare_item-clause-works g c =
     let b = g.D.Shelf.told c.compare_item.new.depot in
     let n = g.D.Shelf.faults c.args.depot.now in
     let m = g.D.Shelf.faults c.compare_item.new.depot in
-    let fault = c.in_err-compare_item.field-0.0 in (
+    let fault = c.in_err-compare_item.field-0.0 in
+    let works = c.in_err-compare_item.ensures.works from.most in (
       [],
-      err_beside c.from_residual.result fault (λ (r : Result Turn CarryFault). Flies from name [] store now a b n m r) _ c.from_residual.ensures.1
-          (flies_fault {T = Compared} from name store now [] [] a b n m fault c.requires.accepts (c.in_err-compare_item.ensures.works from.most)),
+      turned_err _ _ from name [] [] store now _ a b n m c.from_residual.result fault c.from_residual.ensures.1 (record {
+        flies = flies_fault {T = Compared} from name store now [] a b n m fault c.requires.accepts works;
+        begins = begins_there a from (repo_view store.repo).keys (accepted_in store) name
+            (there_accepted store name c.requires.accepts c.requires.there);
+        stands = λ _. works.each;
+        lists = tt;
+      }),
     )
 
 pub returns-in-Differs-clause-works : goal.returns-in-Differs-clause-works
@@ -127,14 +145,18 @@ returns-in-Differs-clause-works g c =
     let a = g.D.Shelf.told c.args.depot.now in
     let b = g.D.Shelf.told c.compare_item.new.depot in
     let n = g.D.Shelf.faults c.args.depot.now in
-    let m = g.D.Shelf.faults c.compare_item.new.depot in (
+    let m = g.D.Shelf.faults c.compare_item.new.depot in
+    let works = c.in_ok-compare_item.ensures.works from.most in (
       [],
-      (
-        flies_fault {T = Compared} from name store now [] [] a b n m c.taken.result c.requires.accepts
+      record {
+        flies = flies_fault {T = Compared} from name store now [] a b n m c.taken.result c.requires.accepts
             (gathered_fault {T = Compared} {U = Compared} from.most store now [] a b n m c.in_ok-compare_item.field-0 c.taken.result
-            (taken_still c.taken.result c.as_slice.result.now c.taken.ensures.taken) (c.in_ok-compare_item.ensures.works from.most)),
-        tt,
-      ),
+            (taken_still c.taken.result c.as_slice.result.now c.taken.ensures.taken) works);
+        begins = begins_there a from (repo_view store.repo).keys (accepted_in store) name
+            (there_accepted store name c.requires.accepts c.requires.there);
+        stands = λ _. works.each;
+        lists = tt;
+      },
     )
 
 pub returns-in_err-compare_item-clause-refused : goal.returns-in_err-compare_item-clause-refused
@@ -220,32 +242,3 @@ returns-in-Equal-clause-still g c is =
     let store = c.args.store.now in
     let middle = c.compare_item.new.store in
     still_rest store middle c.present.new.store c.present.result Present (read_rest store middle c.compare_item.ensures.read) c.present.ensures.rest is
-
-pub returns-in_err-compare_item-clause-stands : goal.returns-in_err-compare_item-clause-stands
-returns-in_err-compare_item-clause-stands g c =
-    let a = g.D.Shelf.told c.args.depot.now in
-    let b = g.D.Shelf.told c.compare_item.new.depot in
-    let fault = c.in_err-compare_item.field-0.0 in
-    let most = c.args.self.now.options.checkpoint in
-    err_is c.from_residual.result fault (λ (r : Result Turn CarryFault). IfErr r (Stands most c.args.store.now a b)) c.from_residual.ensures.1
-    (λ _. (c.in_err-compare_item.ensures.works most).each)
-
-pub returns-in-More-clause-more_stands : goal.returns-in-More-clause-more_stands
-returns-in-More-clause-more_stands g c = λ _. (c.in_ok-compare_item.ensures.works c.args.self.now.options.checkpoint).each
-
-pub returns-in-Differs-clause-stands : goal.returns-in-Differs-clause-stands
-returns-in-Differs-clause-stands g c = λ _. (c.in_ok-compare_item.ensures.works c.args.self.now.options.checkpoint).each
-
--- what is put, if anything, is committed behind the comparison
-pub returns-in-Equal-clause-stands : goal.returns-in-Equal-clause-stands
-returns-in-Equal-clause-stands g c =
-    let store = c.args.store.now in
-    let middle = c.compare_item.new.store in
-    let a = g.D.Shelf.told c.args.depot.now in
-    let b = g.D.Shelf.told c.compare_item.new.depot in
-    let d = g.D.Shelf.told c.present.new.depot in
-    let most = c.args.self.now.options.checkpoint in
-    let rest = read_rest store middle c.compare_item.ensures.read in
-    let behind = stands_behind {T = Compared} most store middle [] a b d (g.D.Shelf.faults c.args.depot.now) (g.D.Shelf.faults c.compare_item.new.depot)
-    c.in_ok-compare_item.field-0 rest.keys (c.in_ok-compare_item.ensures.works most) (c.present.ensures.works most).each in
-    IfErr-weaker c.present.result (StopsPieces d (repo_view middle.repo).keys) (Stands most store a d) (λ fault stops work. behind) c.present.ensures.stops

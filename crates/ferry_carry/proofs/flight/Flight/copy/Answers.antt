@@ -1,19 +1,19 @@
-use Rattle.std.proofs.Common.{rules, ◌≡◌, [], ◌∷◌, ◌++◌, false, true, Some, None, Bool, List, Result, Ok, Err, refl, sym, ap, subst, IfErr, ℕ}
+use Rattle.std.proofs.Common.{rules, ◌≡◌, [], ◌∷◌, ◌++◌, false, true, Some, None, Bool, List, Result, Ok, Err, refl, sym, subst, IfErr, ℕ}
 use Rattle.ferry_carry.proofs.CauseLemmas.{end_refused, lacks_by, step_refused}
 use Rattle.ferry_carry.proofs.AcceptingLemmas.{next_rest}
 use Rattle.ferry_carry.proofs.FlightLemmas.{rest_accepts}
-use Rattle.ferry_carry.proofs.FlyLemmas.{done_before, flies_as, flies_err, flies_fault, flown_more, err_beside, so_far_as, so_far_later, stepped_as}
+use Rattle.ferry_carry.proofs.FlyLemmas.{begins_new, done_before, flies_as, flies_err, flies_fault, so_far_as, so_far_later, stepped_as, turn_ended, turned_err}
 use Rattle.ferry_carry.proofs.GrowLemmas.{most_from, most_then}
 use Rattle.ferry_carry.proofs.NamingLemmas.{pieces_limit, rest_limit}
-use Rattle.ferry_carry.proofs.PutsLemmas.{pieces_append}
 use Rattle.ferry_carry.proofs.WorkLemmas.{carried_from, err_is}
 use Rattle.ferry_carry.proofs.flight.Flight.copy.Goals as goal
 use Rattle.ferry_carry.specs.Carrying.{origin}
-use Rattle.ferry_carry.specs.Flight.{Flies, flown_from}
-use Rattle.ferry_carry.specs.Gather.{KeepsStanding}
+use Rattle.ferry_carry.specs.Flight.{flown_from}
+use Rattle.ferry_carry.specs.Gather.{Gathers, KeepsStanding}
 use Rattle.ferry_carry.specs.Progress.{CopiesOn, IsCopiedSoFar}
-use Rattle.ferry_carry.specs.Puts.{pieces}
+use Rattle.ferry_carry.specs.Puts.{Addition}
 use Rattle.ferry_carry.specs.Refusals.{IsLimited, RefusesName, RefusesStep}
+use Rattle.ferry_carry.specs.Work.{Works}
 use Rattle.ferry_carry.specs.declared.fault.CarryFault.{CarryFault}
 use Rattle.ferry_carry.specs.declared.flight.Turn.{Turn}
 use Rattle.ferry_carry.specs.declared.flight.Turn.TheVariants.{More, Named}
@@ -22,8 +22,6 @@ use Rattle.ferry_manifest.specs.Manifest.Text.{ManifestText}
 use Rattle.ferry_repo.specs.Archives.{archive_named}
 use Rattle.ferry_repo.specs.Opening.{RepoState, repo_view}
 use Rattle.ferry_store.specs.Commit.{accepted_in}
-use Rattle.ferry_carry.proofs.StandLemmas.{Stands, stands_behind}
-use Rattle.ferry_disk.specs.Moments.{Between}
 
 pub returns-in_err-more-clause-works : goal.returns-in_err-more-clause-works
 returns-in_err-more-clause-works g c =
@@ -45,9 +43,14 @@ returns-in_err-more-clause-works g c =
     (so_far_as told source from.block from.most flight.named a store copy added so) in
     let works = stepped_as told source from.block from.most copy.block copy.contents.checkpoint flight.named a b store now c.step.new.self added stepped.0
     n m (Err fault) (sym so.0.block) (sym so.0.most) stepped.1 in (
-      [],
-      err_beside c.from_residual.result fault (λ (r : Result Turn CarryFault). Flies from name [] store now a b n m r) _ c.from_residual.ensures.1
-          (flies_fault {T = Bool} from name store now (pieces stepped.0) [] a b n m fault c.requires.accepts works.0),
+      stepped.0,
+      turned_err _ _ from name added stepped.0 store now _ a b n m c.from_residual.result fault c.from_residual.ensures.1 (record {
+        flies = flies_fault {T = Bool} from name store now stepped.0 a b n m fault c.requires.accepts works.0;
+        begins = begins_new a from (repo_view store.repo).keys (accepted_in store) name (added ++ stepped.0) c.requires.unnamed
+            (works.1.0 c.requires.flight.named);
+        stands = λ _. works.0.each;
+        lists = tt;
+      }),
     )
 
 pub returns-then-more-clause-works : goal.returns-then-more-clause-works
@@ -75,12 +78,15 @@ returns-then-more-clause-works g c =
     let works = stepped_as told source from.block from.most copy.block copy.contents.checkpoint named a b store now c.step.new.self added stepped.0 n m
     (Ok more) (sym so.0.block) (sym so.0.most) stepped.1 in
     let so_far : IsCopiedSoFar from named b now c.step.new.self (added ++ stepped.0) =
-    subst (CopiesOn from named b now c.step.new.self added stepped.0) taken works.1 in (
-      pieces stepped.0,
-      (
-        flies_as {T = Bool} from name [] (pieces stepped.0) store now a b n m more More refl
-            (carried_from {T = Bool} {U = Bool} from (name ∷ []) store now (pieces stepped.0) a b n m more more c.requires.accepts ensures.rest works.0),
-        (
+    subst (CopiesOn from named b now c.step.new.self added stepped.0) taken works.1.1 in (
+      stepped.0,
+      record {
+        flies = flies_as {T = Bool} from name [] stepped.0 store now a b n m more More refl
+            (carried_from {T = Bool} {U = Bool} from (name ∷ []) store now stepped.0 a b n m more more c.requires.accepts ensures.rest works.0);
+        begins = begins_new a from (repo_view store.repo).keys (accepted_in store) name (added ++ stepped.0) c.requires.unnamed
+            (works.1.0 c.requires.flight.named);
+        stands = works.0.each;
+        lists = (
           record {
             stands = record {
               options = c.requires.flight.options;
@@ -93,10 +99,11 @@ returns-then-more-clause-works g c =
               ensures.walk_fits,
               so_far_later told later source after from.block from.most named b now c.step.new.self (added ++ stepped.0) ensures.same ensures.kept so_far,
             );
+            uncounted = c.requires.uncounted;
           },
-          pieces_append added stepped.0,
-        ),
-      ),
+          refl,
+        );
+      },
     )
 
 pub returns-then-more-clause-accepts : goal.returns-then-more-clause-accepts
@@ -127,18 +134,20 @@ returns-in_err-self-clause-works g c =
     let copy = c.args.copy in
     let more = c.in_ok-more.more in
     let not_more : more ≡ false = search rules in
+    let rest = c.in_ok-more.ensures.rest in
     let stepped = c.in_ok-more.ensures.copied named added (so_far_as told source from.block from.most named a store copy added so) in
     let works = stepped_as told source from.block from.most copy.block copy.contents.checkpoint named a b store middle c.step.new.self added stepped.0 n m
     (Ok more) (sym so.0.block) (sym so.0.most) stepped.1 in
     let ended : CopiesOn from named b middle c.step.new.self added stepped.0 false =
-    subst (CopiesOn from named b middle c.step.new.self added stepped.0) not_more works.1 in
+    subst (CopiesOn from named b middle c.step.new.self added stepped.0) not_more works.1.1 in
+    let first : Works {T = Bool} (KeepsStanding from.most store []) (λ _. Gathers from.most store [] middle) a b n m (Ok more) =
+    subst (λ (l : List Addition). Works {T = Bool} (KeepsStanding from.most store l) (λ _. Gathers from.most store l middle) a b n m (Ok more)) ended.0
+    works.0 in
     let ends = c.in_err-self.ensures.works from added (ended.1 c.requires.flight.named) in (
-      pieces stepped.0 ++ [],
-      err_beside c.from_residual-in_err-self.result fault
-          (λ (r : Result Turn CarryFault). Flies from name (pieces stepped.0 ++ []) store now a d n k r) _ c.from_residual-in_err-self.ensures.1
-          (flown_more {T = Bool} told told source source from.block from.most name store middle now (pieces stepped.0) [] a b d n m k more (Err fault) refl
-          refl c.requires.accepts c.in_ok-more.ensures.rest works.0
-          (flies_err {T = Carried} from name (name ∷ []) ends.0 [] middle now now b d m k fault ends.1.0)),
+      ends.0,
+      turned_err _ _ from name added ends.0 store now _ a d n k c.from_residual-in_err-self.result fault c.from_residual-in_err-self.ensures.1
+          (turn_ended from name added ends.0 store middle now _ _ _ a b d n m k more (Err fault) c.requires.accepts rest c.requires.unnamed first
+          (flies_err {T = Carried} from name (name ∷ []) ends.0 middle now now b d m k fault ends.1.carries) ends.1.begins ends.1.stands tt),
     )
 
 pub returns-clause-works : goal.returns-clause-works
@@ -167,17 +176,21 @@ returns-clause-works g c =
     let works = stepped_as told source from.block from.most copy.block copy.contents.checkpoint named a b store middle c.step.new.self added stepped.0 n m
     (Ok more) (sym so.0.block) (sym so.0.most) stepped.1 in
     let ended : CopiesOn from named b middle c.step.new.self added stepped.0 false =
-    subst (CopiesOn from named b middle c.step.new.self added stepped.0) not_more works.1 in
+    subst (CopiesOn from named b middle c.step.new.self added stepped.0) not_more works.1.1 in
+    let first : Works {T = Bool} (KeepsStanding from.most store []) (λ _. Gathers from.most store [] middle) a b n m (Ok more) =
+    subst (λ (l : List Addition). Works {T = Bool} (KeepsStanding from.most store l) (λ _. Gathers from.most store l middle) a b n m (Ok more)) ended.0
+    works.0 in
     let ends = c.in_ok-self.ensures.works from added (ended.1 c.requires.flight.named) in (
-      pieces stepped.0 ++ ends.0,
-      (
-        flown_more {T = Bool} told told source source from.block from.most name store middle now (pieces stepped.0) ends.0 a b d n m k more (Ok Named) refl
-            refl c.requires.accepts rest works.0
-            (flies_as {T = Carried} from name (name ∷ []) ends.0 middle now b d m k c.in_ok-self.field-0 Named refl ends.1.0),
-        done_before from from (repo_view store.repo).keys (repo_view middle.repo).keys name (pieces added ++ (pieces stepped.0 ++ ends.0))
-            (pieces added ++ ends.0) true (KeepsStanding from.most store) a b works.0.each refl rest.keys
-            (ap (λ (l : List (List ℕ)). pieces added ++ (pieces l ++ ends.0)) (sym ended.0)) ends.1.1,
-      ),
+      ends.0,
+      turn_ended from name added ends.0 store middle now _ _ _ a b d n m k more (Ok Named) c.requires.accepts rest c.requires.unnamed first
+          (flies_as {T = Carried} from name (name ∷ []) ends.0 middle now b d m k c.in_ok-self.field-0 Named refl ends.1.carries) ends.1.begins tt (
+            refl,
+            (
+              done_before from from (repo_view store.repo).keys (repo_view middle.repo).keys name (added ++ ends.0) (added ++ ends.0) true
+                  (KeepsStanding from.most store []) a b first.each refl rest.keys refl ends.1.lists.0,
+              ends.1.lists.1,
+            ),
+          ),
     )
 
 pub returns-clause-most : goal.returns-clause-most
@@ -233,11 +246,11 @@ returns-in_err-self-clause-refused g c =
     let works = stepped_as told source from.block from.most copy.block copy.contents.checkpoint named a b store middle c.step.new.self added stepped.0 n m
     (Ok more) (sym so.0.block) (sym so.0.most) stepped.1 in
     let ended : CopiesOn from named b middle c.step.new.self added stepped.0 false =
-    subst (CopiesOn from named b middle c.step.new.self added stepped.0) not_more works.1 in
+    subst (CopiesOn from named b middle c.step.new.self added stepped.0) not_more works.1.1 in
     let lacks = lacks_by (repo_view store.repo).manifest (accepted_in store) named.name c.requires.accepts c.requires.unnamed in
     err_is c.from_residual-in_err-self.result fault (λ (r : Result Turn CarryFault). IfErr r (RefusesName from a store d now named.name))
     c.from_residual-in_err-self.ensures.1
-    (end_refused from a b d (KeepsStanding from.most store) store middle now named.name fault works.0.each c.in_ok-more.ensures.rest.keys lacks
+    (end_refused from a b d (KeepsStanding from.most store stepped.0) store middle now named.name fault works.0.each c.in_ok-more.ensures.rest.keys lacks
     c.in_err-self.ensures.stops (c.in_err-self.ensures.refused from added (ended.1 c.requires.flight.named)))
 
 pub returns-in_err-more-clause-limit : goal.returns-in_err-more-clause-limit
@@ -269,38 +282,3 @@ returns-clause-next g c _ =
     let flight = c.args.self.now in
     next_rest flight.options.timestamp (repo_view c.args.source.now) (repo_view c.step.new.source) c.args.store.now c.step.new.store flight.named
     (accepted_in c.end_copy.new.store) c.in_ok-more.ensures.rest c.step.ensures.kept c.in_ok-self.ensures.named
-
-pub returns-in_err-more-clause-stands : goal.returns-in_err-more-clause-stands
-returns-in_err-more-clause-stands g c =
-    let a = g.D.Shelf.told c.args.depot.now in
-    let b = g.D.Shelf.told c.step.new.depot in
-    let store = c.args.store.now in
-    let fault = c.in_err-more.field-0.0 in
-    let most = c.args.self.now.options.checkpoint in
-    err_is c.from_residual.result fault (λ (r : Result Turn CarryFault). IfErr r (Stands most store a b)) c.from_residual.ensures.1
-    (λ _. subst (λ (l : ℕ). Between a b (KeepsStanding l store)) (sym c.requires.copied.1.0.most) c.in_err-more.ensures.works.1.each)
-
-pub returns-then-more-clause-more_stands : goal.returns-then-more-clause-more_stands
-returns-then-more-clause-more_stands g c = λ _.
-    let a = g.D.Shelf.told c.args.depot.now in
-    let b = g.D.Shelf.told c.step.new.depot in
-    subst (λ (l : ℕ). Between a b (KeepsStanding l c.args.store.now)) (sym c.requires.copied.1.0.most) c.in_ok-more.ensures.works.1.each
-
-pub returns-in_err-self-clause-stands : goal.returns-in_err-self-clause-stands
-returns-in_err-self-clause-stands g c =
-    let a = g.D.Shelf.told c.args.depot.now in
-    let b = g.D.Shelf.told c.step.new.depot in
-    let d = g.D.Shelf.told c.end_copy.new.depot in
-    let store = c.args.store.now in
-    let middle = c.step.new.store in
-    let fault = c.in_err-self.field-0.0 in
-    let copy = c.args.copy in
-    let ensures = c.in_ok-more.ensures in
-    let most = copy.contents.checkpoint in
-    let same = sym c.requires.copied.1.0.most in
-    err_is c.from_residual-in_err-self.result fault (λ (r : Result Turn CarryFault). IfErr r (Stands c.args.self.now.options.checkpoint store a d))
-    c.from_residual-in_err-self.ensures.1
-    (λ work. subst (λ (l : ℕ). Between a d (KeepsStanding l store)) same
-    (stands_behind {T = Bool} most store middle (pieces ensures.works.0) a b d (g.D.Shelf.faults c.args.depot.now) (g.D.Shelf.faults c.step.new.depot)
-    c.in_ok-more.more ensures.rest.keys ensures.works.1
-    (subst (λ (l : ℕ). Between b d (KeepsStanding l middle)) ensures.checkpoint (c.in_err-self.ensures.stands work))))

@@ -1,6 +1,7 @@
-use Rattle.std.proofs.Common.{rules, ◌≡◌, [], List, ℕ, IfOk, sym, subst}
+use Rattle.std.proofs.Common.{rules, ◌≡◌, [], List, sym, subst}
 use Rattle.ferry_carry.proofs.flight.Flight.step.Goals as goal
-use Rattle.ferry_carry.specs.Flight.{TurnLists, WorkFits, flown_from}
+use Rattle.ferry_carry.specs.Flight.{TakesTurn, WorkFits, flown_from}
+use Rattle.ferry_carry.specs.Puts.{Addition}
 use Rattle.ferry_carry.specs.declared.flight.Work.TheVariants.{Waiting, Copying, Comparing}
 use Rattle.ferry_repo.specs.Opening.{repo_view}
 
@@ -16,13 +17,13 @@ returns-in-Waiting-clause-works g c =
     let is : flight.work ≡ Waiting = search rules in
     let none : fits.added ≡ [] = subst (WorkFits told source a store flight.named flight.options fits.added) is fits.work in (
       taken.0,
-      (
-        taken.1.0,
-        subst (λ (l : List (List ℕ)). IfOk c.take_first.result (TurnLists (g.S.Shelf.told c.take_first.new.shelf) (repo_view c.take_first.new.source)
-            (g.D.Shelf.told c.take_first.new.depot) c.take_first.new.store c.take_first.new.self a (flown_from told source flight)
-            (repo_view store.repo).keys l taken.0)) (sym none) taken.1.1,
-      ),
+      subst (λ (l : List Addition). TakesTurn (g.S.Shelf.told c.take_first.new.shelf) (repo_view c.take_first.new.source) (flown_from told source flight)
+          flight.named.name l taken.0 store c.take_first.new.store c.take_first.new.self a (g.D.Shelf.told c.take_first.new.depot)
+          (g.D.Shelf.faults c.args.depot.now) (g.D.Shelf.faults c.take_first.new.depot) c.take_first.result) (sym none) taken.1,
     )
+
+pub take_first-requires-clause-uncounted : goal.take_first-requires-clause-uncounted
+take_first-requires-clause-uncounted g c = c.requires.flight.uncounted
 
 pub copy-requires-clause-copied : goal.copy-requires-clause-copied
 copy-requires-clause-copied g c =
@@ -54,10 +55,7 @@ returns-in-Comparing-clause-works g c =
     let is : flight.work ≡ Comparing c.in-Comparing.comparison = search rules in
     let work = subst (WorkFits told source a store flight.named flight.options fits.added) is fits.work in (
       compared.0,
-      (
-        compared.1.0,
-        subst (λ (l : List (List ℕ)). IfOk c.compare.result (TurnLists (g.S.Shelf.told c.compare.new.shelf) (repo_view c.compare.new.source)
-            (g.D.Shelf.told c.compare.new.depot) c.compare.new.store c.compare.new.self a (flown_from told source flight) (repo_view store.repo).keys l
-            compared.0)) (sym work.3) compared.1.1,
-      ),
+      subst (λ (l : List Addition). TakesTurn (g.S.Shelf.told c.compare.new.shelf) (repo_view c.compare.new.source) (flown_from told source flight)
+          flight.named.name l compared.0 store c.compare.new.store c.compare.new.self a (g.D.Shelf.told c.compare.new.depot)
+          (g.D.Shelf.faults c.args.depot.now) (g.D.Shelf.faults c.compare.new.depot) c.compare.result) (sym work.3) compared.1,
     )

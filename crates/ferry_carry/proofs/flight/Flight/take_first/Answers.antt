@@ -1,12 +1,12 @@
-use Rattle.std.proofs.Common.{[], ◌∷◌, Result, refl, sym, IfErr, IfOk, subst, ◌∙◌}
+use Rattle.std.proofs.Common.{[], ◌∷◌, Result, refl, sym, IfErr, subst, ◌∙◌}
 use Rattle.ferry_carry.proofs.AcceptingLemmas.{next_rest, next_source}
 use Rattle.ferry_carry.proofs.FlightLemmas.{on_ok, read_rest}
-use Rattle.ferry_carry.proofs.FlyLemmas.{flies_err, flies_fault, flies_later, flown_more, origin_kept, err_beside, turns_before}
+use Rattle.ferry_carry.proofs.FlyLemmas.{begins_none, flies_err, flies_fault, origin_kept, turned_behind, turned_err}
 use Rattle.ferry_carry.proofs.GrowLemmas.{most_from, most_then}
 use Rattle.ferry_carry.proofs.ProgressLemmas.{begin_copied}
 use Rattle.ferry_carry.proofs.WorkLemmas.{carried_nothing, err_is}
 use Rattle.ferry_carry.proofs.flight.Flight.take_first.Goals as goal
-use Rattle.ferry_carry.specs.Flight.{Flies, TurnLists, flown_from}
+use Rattle.ferry_carry.specs.Flight.{TakesTurn, flown_from}
 use Rattle.ferry_carry.specs.Grow.{KeepsMost}
 use Rattle.ferry_carry.specs.declared.fault.CarryFault.{CarryFault}
 use Rattle.ferry_carry.specs.declared.flight.Turn.{Turn}
@@ -19,7 +19,6 @@ use Rattle.ferry_carry.specs.Gather.{KeepsStanding}
 use Rattle.ferry_carry.specs.Refusals.{IsLimited, RefusesName}
 use Rattle.ferry_carry.proofs.NamingLemmas.{begin_limit, pieces_limit, rest_limit}
 use Rattle.std.proofs.lemmas.Result.{IfErr-weaker}
-use Rattle.ferry_carry.proofs.StandLemmas.{Stands, stands_behind}
 use Rattle.ferry_carry.proofs.GatherLemmas.{stands_here}
 use Rattle.ferry_store.proofs.StepLemmas.{here_each}
 
@@ -32,10 +31,13 @@ returns-in_err-copy-clause-works g c =
     let from = flown_from (g.S.Shelf.told c.args.shelf.now) (repo_view c.args.source.now) c.args.self.now in
     let name = c.args.self.now.named.name in (
       [],
-      err_beside c.from_residual-in_err-copy.result fault (λ (r : Result Turn CarryFault). Flies from name [] store store a a n n r) _
-          c.from_residual-in_err-copy.ensures.1
-          (flies_err {T = Turn} from name [] [] [] store store store a a n n fault
-          (carried_nothing {T = Turn} from (name ∷ []) [] [] store store a n fault c.requires.accepts c.in_err-copy.ensures.still)),
+      turned_err _ _ from name [] [] store store _ a a n n c.from_residual-in_err-copy.result fault c.from_residual-in_err-copy.ensures.1 (record {
+        flies = flies_err {T = Turn} from name [] [] store store store a a n n fault
+            (carried_nothing {T = Turn} from (name ∷ []) [] [] store store a n fault c.requires.accepts c.in_err-copy.ensures.still);
+        begins = begins_none a from (repo_view store.repo).keys (accepted_in store) name;
+        stands = λ _. here_each (KeepsStanding from.most store []) a (λ h. stands_here from.most store [] h);
+        lists = tt;
+      }),
     )
 
 pub returns-in_ok-comparison-clause-works : goal.returns-in_ok-comparison-clause-works
@@ -46,27 +48,15 @@ returns-in_ok-comparison-clause-works g c =
     let after = repo_view c.begin_comparing.new.source in
     let store = c.args.store.now in
     let middle = c.begin_comparing.new.store in
-    let now = c.compare.new.store in
     let flight = c.args.self.now in
-    let block = flight.options.block in
-    let most = flight.options.checkpoint in
-    let a = g.D.Shelf.told c.args.depot.now in
-    let b = g.D.Shelf.told c.begin_comparing.new.depot in
-    let d = g.D.Shelf.told c.compare.new.depot in
-    let alike = c.in_ok-comparison.ensures.same in
-    let kept = c.begin_comparing.ensures.kept in
-    let rest = read_rest store middle c.begin_comparing.ensures.read in
-    let begun = c.in_ok-comparison.ensures.works most in
     let compared = c.compare.ensures.works in (
       compared.0,
-      (
-        flown_more {T = Comparison} told later source after block most flight.named.name store middle now [] compared.0 a b d
-            (g.D.Shelf.faults c.args.depot.now) (g.D.Shelf.faults c.begin_comparing.new.depot) (g.D.Shelf.faults c.compare.new.depot)
-            c.in_ok-comparison.comparison c.compare.result alike kept c.requires.accepts rest begun compared.1.0,
-        turns_before (g.S.Shelf.told c.compare.new.shelf) (repo_view c.compare.new.source) d now c.compare.new.self (origin told source block most)
-            (origin later after block most) (repo_view store.repo).keys (repo_view middle.repo).keys [] compared.0 c.compare.result
-            (KeepsStanding most store) a b begun.each (origin_kept told later source after block block most most alike kept refl refl) rest.keys compared.1.1,
-      ),
+      turned_behind {T = Comparison} told later (g.S.Shelf.told c.compare.new.shelf) source after (repo_view c.compare.new.source) flight.options.block
+          flight.options.checkpoint flight.named.name store middle c.compare.new.store c.compare.new.self compared.0 (g.D.Shelf.told c.args.depot.now)
+          (g.D.Shelf.told c.begin_comparing.new.depot) (g.D.Shelf.told c.compare.new.depot) (g.D.Shelf.faults c.args.depot.now)
+          (g.D.Shelf.faults c.begin_comparing.new.depot) (g.D.Shelf.faults c.compare.new.depot) c.in_ok-comparison.comparison c.compare.result
+          c.in_ok-comparison.ensures.same c.begin_comparing.ensures.kept c.requires.accepts (read_rest store middle c.begin_comparing.ensures.read)
+          (c.in_ok-comparison.ensures.works flight.options.checkpoint) compared.1,
     )
 
 pub returns-in_ok-comparison-clause-most : goal.returns-in_ok-comparison-clause-most
@@ -87,10 +77,15 @@ returns-in_err-comparison-clause-works g c =
     let b = g.D.Shelf.told c.begin_comparing.new.depot in
     let n = g.D.Shelf.faults c.args.depot.now in
     let m = g.D.Shelf.faults c.begin_comparing.new.depot in
-    let fault = c.in_err-comparison.field-0.0 in (
+    let fault = c.in_err-comparison.field-0.0 in
+    let works = c.in_err-comparison.ensures.works from.most in (
       [],
-      err_beside c.from_residual.result fault (λ (r : Result Turn CarryFault). Flies from name [] store now a b n m r) _ c.from_residual.ensures.1
-          (flies_fault {T = Comparison} from name store now [] [] a b n m fault c.requires.accepts (c.in_err-comparison.ensures.works from.most)),
+      turned_err _ _ from name [] [] store now _ a b n m c.from_residual.result fault c.from_residual.ensures.1 (record {
+        flies = flies_fault {T = Comparison} from name store now [] a b n m fault c.requires.accepts works;
+        begins = begins_none a from (repo_view store.repo).keys (accepted_in store) name;
+        stands = λ _. works.each;
+        lists = tt;
+      }),
     )
 
 pub copy-requires-clause-copied : goal.copy-requires-clause-copied
@@ -100,7 +95,7 @@ copy-requires-clause-copied g c =
       [],
       begin_copied (g.S.Shelf.told c.args.shelf.now) (g.S.Shelf.told c.begin.new.shelf) (g.D.Shelf.told c.args.depot.now) (repo_view c.args.source.now)
           (repo_view c.begin.new.source) options.block options.checkpoint c.args.self.now.named c.args.store.now c.in_ok-copy.copy ensures.same
-          c.begin.ensures.kept (sym ensures.block) (sym ensures.checkpoint) ensures.archive ensures.walk ensures.stream,
+          c.begin.ensures.kept (sym ensures.block) (sym ensures.checkpoint) ensures.archive ensures.walk ensures.stream ensures.counted,
     )
 
 pub returns-in_ok-copy-clause-works : goal.returns-in_ok-copy-clause-works
@@ -110,24 +105,19 @@ returns-in_ok-copy-clause-works g c =
     let source = repo_view c.args.source.now in
     let after = repo_view c.begin.new.source in
     let store = c.args.store.now in
-    let now = c.copy.new.store in
     let flight = c.args.self.now in
     let block = flight.options.block in
     let most = flight.options.checkpoint in
     let a = g.D.Shelf.told c.args.depot.now in
-    let d = g.D.Shelf.told c.copy.new.depot in
     let ensures = c.in_ok-copy.ensures in
     let kept = c.begin.ensures.kept in
     let so = begin_copied told later a source after block most flight.named store c.in_ok-copy.copy ensures.same kept (sym ensures.block)
-    (sym ensures.checkpoint) ensures.archive ensures.walk ensures.stream in
+    (sym ensures.checkpoint) ensures.archive ensures.walk ensures.stream ensures.counted in
     let copied = c.copy.ensures.works [] so in (
       copied.0,
-      (
-        flies_later told later source after block most flight.named.name copied.0 store now a d (g.D.Shelf.faults c.args.depot.now)
-            (g.D.Shelf.faults c.copy.new.depot) c.copy.result ensures.same kept copied.1.0,
-        subst (λ (f : Origin). IfOk c.copy.result (TurnLists (g.S.Shelf.told c.copy.new.shelf) (repo_view c.copy.new.source) d now c.copy.new.self a f
-            (repo_view store.repo).keys [] copied.0)) (origin_kept told later source after block block most most ensures.same kept refl refl) copied.1.1,
-      ),
+      subst (λ (f : Origin). TakesTurn (g.S.Shelf.told c.copy.new.shelf) (repo_view c.copy.new.source) f flight.named.name [] copied.0 store c.copy.new.store
+          c.copy.new.self a (g.D.Shelf.told c.copy.new.depot) (g.D.Shelf.faults c.args.depot.now) (g.D.Shelf.faults c.copy.new.depot) c.copy.result)
+          (origin_kept told later source after block block most most ensures.same kept refl refl) copied.1,
     )
 
 pub returns-in_err-copy-clause-refused : goal.returns-in_err-copy-clause-refused
@@ -186,7 +176,7 @@ returns-in_ok-comparison-clause-refused g c =
     let block = flight.options.block in
     let most = flight.options.checkpoint in
     name_refused {T = Turn} (origin told source block most) (origin later after block most) (g.D.Shelf.told c.args.depot.now)
-    (g.D.Shelf.told c.begin_comparing.new.depot) (g.D.Shelf.told c.compare.new.depot) (KeepsStanding most store) store middle c.compare.new.store
+    (g.D.Shelf.told c.begin_comparing.new.depot) (g.D.Shelf.told c.compare.new.depot) (KeepsStanding most store []) store middle c.compare.new.store
     flight.named.name flight.named.name c.compare.result
     (origin_kept told later source after block block most most c.in_ok-comparison.ensures.same c.begin_comparing.ensures.kept refl refl) refl
     (c.in_ok-comparison.ensures.works most).each (most_from store middle (read_rest store middle c.begin_comparing.ensures.read)) c.compare.ensures.refused
@@ -252,45 +242,3 @@ returns-in_ok-copy-clause-next g c is =
     let flight = c.args.self.now in
     next_source flight.options.timestamp (repo_view c.args.source.now) (repo_view c.begin.new.source) c.args.store.now flight.named
     (accepted_in c.copy.new.store) c.begin.ensures.kept (c.copy.ensures.next is)
-
-pub returns-in_err-copy-clause-stands : goal.returns-in_err-copy-clause-stands
-returns-in_err-copy-clause-stands g c =
-    let a = g.D.Shelf.told c.args.depot.now in
-    let store = c.args.store.now in
-    let fault = c.in_err-copy.field-0.0 in
-    let most = c.args.self.now.options.checkpoint in
-    err_is c.from_residual-in_err-copy.result fault (λ (r : Result Turn CarryFault). IfErr r (Stands most store a a))
-    c.from_residual-in_err-copy.ensures.1 (λ _. here_each (KeepsStanding most store) a (λ h. stands_here most store h))
-
-pub returns-in_err-comparison-clause-stands : goal.returns-in_err-comparison-clause-stands
-returns-in_err-comparison-clause-stands g c =
-    let a = g.D.Shelf.told c.args.depot.now in
-    let b = g.D.Shelf.told c.begin_comparing.new.depot in
-    let fault = c.in_err-comparison.field-0.0 in
-    let most = c.args.self.now.options.checkpoint in
-    err_is c.from_residual.result fault (λ (r : Result Turn CarryFault). IfErr r (Stands most c.args.store.now a b)) c.from_residual.ensures.1
-    (λ _. (c.in_err-comparison.ensures.works most).each)
-
-pub returns-in_ok-comparison-clause-stands : goal.returns-in_ok-comparison-clause-stands
-returns-in_ok-comparison-clause-stands g c =
-    let store = c.args.store.now in
-    let middle = c.begin_comparing.new.store in
-    let a = g.D.Shelf.told c.args.depot.now in
-    let b = g.D.Shelf.told c.begin_comparing.new.depot in
-    let d = g.D.Shelf.told c.compare.new.depot in
-    let most = c.args.self.now.options.checkpoint in
-    let rest = read_rest store middle c.begin_comparing.ensures.read in
-    IfErr-weaker c.compare.result (Stands most middle b d) (Stands most store a d)
-    (λ fault stands work. stands_behind {T = Comparison} most store middle [] a b d (g.D.Shelf.faults c.args.depot.now)
-    (g.D.Shelf.faults c.begin_comparing.new.depot) c.in_ok-comparison.comparison rest.keys (c.in_ok-comparison.ensures.works most) (stands work))
-    c.compare.ensures.stands
-
-pub returns-in_ok-comparison-clause-more_stands : goal.returns-in_ok-comparison-clause-more_stands
-returns-in_ok-comparison-clause-more_stands g c is =
-    let store = c.args.store.now in
-    let middle = c.begin_comparing.new.store in
-    let most = c.args.self.now.options.checkpoint in
-    let rest = read_rest store middle c.begin_comparing.ensures.read in
-    stands_behind {T = Comparison} most store middle [] (g.D.Shelf.told c.args.depot.now) (g.D.Shelf.told c.begin_comparing.new.depot)
-    (g.D.Shelf.told c.compare.new.depot) (g.D.Shelf.faults c.args.depot.now) (g.D.Shelf.faults c.begin_comparing.new.depot)
-    c.in_ok-comparison.comparison rest.keys (c.in_ok-comparison.ensures.works most) (c.compare.ensures.more_stands is)
