@@ -1,5 +1,5 @@
 -- Lemmas on specs/Copying.antt: the contents of an item, written one behind another, and the item that is written for it.
-use Rattle.std.proofs.Common.{◌≡◌, ◌≤◌, ◌<◌, ◌+◌, ℕ, inl, inr, Bool, false, List, [], ◌∷◌, ◌++◌, Option, Some, None, Ok, Err, All, IfSome}
+use Rattle.std.proofs.Common.{◌≡◌, ◌≤◌, ◌<◌, ◌+◌, ℕ, inl, inr, List, [], ◌∷◌, ◌++◌, Option, Some, None, All, IfSome}
 use Rattle.std.proofs.Common.{length, take, drop, get_or, refl, sym, ◌∙◌, ap, subst, arith}
 use Rattle.std.proofs.lemmas.List.{append-nil, append_assoc, take_all, take_more, take-append-drop}
 use Rattle.std.proofs.lemmas.List.Elements.{All-append, All-head, All-tail}
@@ -8,8 +8,7 @@ use Rattle.std.specs.List.{AllByRecursion, concat}
 use Rattle.ferry_base.specs.Limits.{content_limit}
 use Rattle.ferry_compare.proofs.StepLemmas.{at_first}
 use Rattle.ferry_disk.proofs.DeviceLemmas.{told_any, told_then, told_with}
-use Rattle.ferry_disk.specs.Device.{RoseWhere, Told, told_files, heard}
-use Rattle.ferry_disk.specs.Faults.{FailedWhere}
+use Rattle.ferry_disk.specs.Device.{Told, told_files, heard}
 use Rattle.ferry_item.specs.Item.{ItemText}
 use Rattle.ferry_item.specs.Writing.{ChunksFit, IsPackable}
 use Rattle.ferry_item.specs.declared.item.ChunkRef.{ChunkRef}
@@ -25,13 +24,8 @@ use Rattle.ferry_repo.specs.Whole.{ContentsCome, HoldsJoined}
 use Rattle.ferry_carry.proofs.PieceLemmas.{begins_nothing, begins_written, chunks_more, hand_fed}
 use Rattle.ferry_carry.proofs.WholeLemmas.{joined_concat}
 use Rattle.ferry_carry.specs.Copying.{BeginsChunk, BeginsContent, BeginsContents, CopiesContent, WritesContent, WritesContents}
-use Rattle.ferry_carry.specs.Fault.{target_failed}
-use Rattle.ferry_carry.specs.Gather.{Gathers, KeepsStanding, chunks_of}
+use Rattle.ferry_carry.specs.Gather.{chunks_of}
 use Rattle.ferry_carry.specs.Piece.{BeginsOn, WritesOn}
-use Rattle.ferry_carry.specs.Puts.{Addition}
-use Rattle.ferry_carry.specs.Work.{Works}
-use Rattle.ferry_carry.specs.declared.fault.CarryFault.{CarryFault}
-use Rattle.ferry_store.specs.declared.store.Store.{Store}
 
 -- ---- WritesOn
 
@@ -278,16 +272,4 @@ copied_packable told source block keys item copied more least most packable copi
   path = packable.path;
   apart = packable.apart;
   chunks = copied_fit told source block keys item.chunks copied more _ least most packable.chunks copies;
-}
-
--- ---- a fault behind what was done
-
-pub gathered_fault : {T U : Type 0} (most : ℕ) (store now : Store) (added : List Addition) (a b : Option Told) (n m : ℕ) (x : T) (fault : CarryFault)
-    → target_failed fault ≡ false → Works (KeepsStanding most store added) (λ (_ : T). Gathers most store added now) a b n m (Ok x)
-    → Works (KeepsStanding most store added) (λ (_ : U). Gathers most store added now) a b n m (Err fault)
-gathered_fault most store now added a b n m x fault still p = record {
-  each = p.each;
-  end = tt;
-  ends = subst (λ (d : Bool). FailedWhere d a b) (sym still) p.ends;
-  cause = subst (λ (d : Bool). RoseWhere d n m) (sym still) p.cause;
 }

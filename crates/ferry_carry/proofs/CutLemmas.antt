@@ -11,6 +11,7 @@ use Rattle.ferry_carry.proofs.CarryLemmas.{if_some}
 use Rattle.ferry_carry.specs.Carrying.{AreCut, CanBeNamed, CutsOver, IsCut, IsReadyToName, Origin, SaysIn}
 use Rattle.ferry_carry.specs.Gather.{IsAmong}
 use Rattle.ferry_carry.specs.Grow.{IsNamedBy, KeepsNames}
+use Rattle.ferry_carry.specs.Puts.{Addition}
 
 -- ---- IsAmong
 
@@ -71,12 +72,12 @@ cut_then accepted middle from keys before after some more only names first secon
   by (inr is) = at (archive_named name middle.archives) refl is
 
 -- an archive that can be named, once it is
-pub cut_one : (accepted : ManifestText) (from : Origin) (files : Files) (repo : RepoState) (manifest : ManifestText) (entry : ArchiveRef)
-    → archive_named entry.name manifest.archives ≡ Some entry → IsReadyToName from files repo entry
+pub cut_one : (accepted : ManifestText) (from : Origin) (added : List Addition) (files : Files) (repo : RepoState) (manifest : ManifestText)
+    (entry : ArchiveRef) → archive_named entry.name manifest.archives ≡ Some entry → IsReadyToName from added files repo entry
     → AreCut accepted from repo.keys manifest.archives (entry.name ∷ [])
-cut_one accepted from files repo manifest entry is ready name among none =
+cut_one accepted from added files repo manifest entry is ready name among none =
     subst (IsCut from repo.keys manifest.archives) (among_one entry.name name among)
-    (if_some (λ there. CanBeNamed there from files repo entry) (λ there. CutsOver there from repo.keys manifest.archives entry.name) from.files
+    (if_some (λ there. CanBeNamed there from added files repo entry) (λ there. CutsOver there from repo.keys manifest.archives entry.name) from.files
     (λ there c. record { whole = c.whole; source = c.source; entry = entry; entry_is = is; text = c.text; id = c.id; copy = c.copy }) ready)
 
 -- one that was there isn't new

@@ -7,7 +7,7 @@ use Rattle.std.specs.FinMap.{get}
 use Rattle.std.specs.Str.{bytes_eq}
 use Rattle.ferry_base.specs.Limits.{zero_id}
 use Rattle.ferry_compare.specs.Compare.{AreEqual, Says}
-use Rattle.ferry_compare.specs.Fault.{target_failed as other_failed}
+use Rattle.ferry_compare.specs.Fault.{RefusesTarget, target_failed as other_failed}
 use Rattle.ferry_compare.specs.declared.fault.CompareFault.{CompareFault}
 use Rattle.ferry_compare.specs.declared.fault.CompareFault.TheVariants as Compares
 use Rattle.ferry_disk.proofs.FaultLemmas.{keeps_end}
@@ -35,23 +35,27 @@ use Rattle.ferry_store.specs.Commit.{accepted_in, accepted_or}
 use Rattle.ferry_store.specs.Content.{IsThere}
 use Rattle.ferry_store.specs.Fault.{depot_failed}
 use Rattle.ferry_store.specs.Standing.{CommitsManifest, HoldsLive, committed_of, entries_of, live_in}
-use Rattle.ferry_store.specs.Store.{IsKnown, IsUnspent, StoreFits}
+use Rattle.ferry_store.specs.Store.{IsKnown, StoreFits}
 use Rattle.ferry_store.specs.declared.fault.StoreRefusal.TheVariants as Stores
 use Rattle.ferry_store.specs.declared.store.Store.{Store}
 use Rattle.ferry_write.specs.Room.{behind}
 use Rattle.ferry_write.specs.Script.{AllDone}
+use Rattle.ferry_carry.proofs.AddingLemmas.{gathers_all, stops_unbroken}
 use Rattle.ferry_carry.proofs.CarryLemmas.{if_some, same_over}
 use Rattle.ferry_carry.proofs.CutLemmas.{cut_same}
 use Rattle.ferry_carry.proofs.GatherLemmas.{moved_here, stands_here}
 use Rattle.ferry_carry.proofs.GrowLemmas.{growing_by, has_kept, most_from}
 use Rattle.ferry_carry.proofs.PutsLemmas.{adds_here, goes_same}
+use Rattle.ferry_carry.specs.Adding.{AddsOn, HoldsAll, IsNoChunk}
 use Rattle.ferry_carry.specs.Fault.{compare_fault, target_failed}
 use Rattle.ferry_carry.specs.Carrying.{CarriesOver, IsCarried, Origin, SaysIn, origin}
 use Rattle.ferry_carry.specs.Flight.{IsCommitted, IsSame, IsSettled, ReadsStore}
 use Rattle.ferry_carry.proofs.WorkLemmas.{between_known}
-use Rattle.ferry_carry.specs.Gather.{Gathered, Gathers, HoldsWithin, KeepsRest, KeepsStanding}
+use Rattle.ferry_carry.specs.Gather.{Gathered, Gathers, GathersAt, HoldsWithin, KeepsRest, KeepsStanding, KeepsStandingAt}
 use Rattle.ferry_carry.specs.Grow.{AcceptsMore, Grows, KeepsGrowing, KeepsNames}
+use Rattle.ferry_carry.specs.Puts.{Addition, AtBegin, Within, border_behind}
 use Rattle.ferry_carry.specs.Work.{Works}
+use Rattle.ferry_carry.specs.declared.fault.CarryFault.TheVariants.{Target}
 
 -- ---- faults of a comparison
 
@@ -76,6 +80,29 @@ pub compared_target : (fault : CompareFault) → target_failed (compare_fault fa
 compared_target (Compares.Source fault) = refl
 compared_target (Compares.Target fault) = depot_is fault
 compared_target Compares.Memory = refl
+
+repo_unbroken : (fault : RepoFault) → RefusesTarget (Compares.Target fault) → IsNoChunk (Target (Stores.Repo fault))
+repo_unbroken Repos.NoCommit failed = tt
+repo_unbroken (Repos.Damaged segment at) failed = tt
+repo_unbroken (Repos.Config f) failed = tt
+repo_unbroken (Repos.Key f) failed = tt
+repo_unbroken (Repos.Missing id) failed = tt
+repo_unbroken (Repos.Blob id f) failed = let never : ⊥ = cc in never
+repo_unbroken (Repos.Manifest f) failed = tt
+repo_unbroken (Repos.Archive id f) failed = tt
+repo_unbroken (Repos.Item id f) failed = tt
+repo_unbroken (Repos.Size id) failed = tt
+repo_unbroken (Repos.KeyFile f) failed = tt
+repo_unbroken (Repos.Other file config) failed = tt
+repo_unbroken Repos.NoKey failed = tt
+repo_unbroken Repos.Device failed = tt
+repo_unbroken Repos.Memory failed = tt
+
+-- no chunk of the target refuses a comparison
+pub compared_unbroken : (fault : CompareFault) → RefusesTarget fault → IsNoChunk (compare_fault fault)
+compared_unbroken (Compares.Source fault) refused = tt
+compared_unbroken (Compares.Target fault) refused = repo_unbroken fault refused
+compared_unbroken Compares.Memory refused = tt
 
 -- ---- what a device told that is only read
 
@@ -126,6 +153,7 @@ read_fits counts store repo h same repo_fits fits = record {
   manifest = subst (λ (r : RepoState). CommitsManifest r fits.written.committed) (sym same) fits.manifest;
   keeps = fits.keeps;
   pending = fits.pending;
+  chunks = fits.chunks;
   learnt = λ id blob apart live.
       subst (λ (r : RepoState). (live_in id (committed_of fits.written) ≡ Some blob) ⊎ IsSome (get r.log.learnt id)) (sym same)
       (fits.learnt id blob apart live);
@@ -135,12 +163,12 @@ read_gathers : (most : ℕ) (store : Store) (repo : Repo) (h g : History) → re
     → (g ≡ h) × FitsRepo (files_now g) (repo_view repo) (cached_in repo) → Gathers most store [] (with_repo store repo) h g
 unfolding read_fits
 read_gathers most store repo h g same reads counts fits =
-    subst (λ (k : History). FitsRepo (files_now k) (repo_view repo) (cached_in repo) → Gathered most counts store [] (with_repo store repo) h k fits)
+    subst (λ (k : History). FitsRepo (files_now k) (repo_view repo) (cached_in repo) → Gathered Within most counts store [] (with_repo store repo) h k fits)
     (sym reads.0) (λ repo_fits. record {
       fits_now = read_fits counts store repo h same repo_fits fits;
       moved = moved_here (repo_view store.repo).keys fits.written;
-      puts = adds_here (repo_view store.repo).keys most (entries_of fits.written);
-      committed = goes_same (repo_view store.repo).keys most [] fits.written;
+      puts = adds_here Within (repo_view store.repo).keys most (entries_of fits.written);
+      committed = goes_same Within (repo_view store.repo).keys most [] fits.written;
       brings = λ scope apart all within. (subst (λ (r : RepoState). HoldsWithin scope (files_now h) r) (sym same) within, tt);
     }) reads.1
 
@@ -157,31 +185,45 @@ fits_read {T} store repo a b result same kept repo_fits fits = by_end b repo_fit
 -- such a call as a body of a flight
 pub works_read : {T U : Type 0} (most : ℕ) (store : Store) (repo : Repo) (a b : Option Told) (n m : ℕ) (x : T) (y : U) → repo_view repo ≡ repo_view store.repo
     → KeepsTold {F = CompareFault} other_failed a b (Ok x) → m ≡ n → IfSome b (λ t. FitsRepo (told_files t) (repo_view repo) (cached_in repo))
-    → Works (KeepsStanding most store []) (λ (_ : U). Gathers most store [] (with_repo store repo)) a b n m (Ok y)
+    → AddsOn {T = U} most store [] (with_repo store repo) a b n m (Ok y)
 works_read {T} {U} most store repo a b n m x y same kept caused repo_fits =
     let reads : Between a b (λ h g. g ≡ h) = same_told {T = T} {F = CompareFault} other_failed a b (Ok x) kept in
     record {
-      each = between_map a b (λ h g. g ≡ h) (KeepsStanding most store [])
-          (λ h g e. subst (KeepsStanding most store [] h) (sym e) (stands_here most store [] h)) reads;
-      end = between_map a b (λ h g. (g ≡ h) × FitsRepo (files_now g) (repo_view repo) (cached_in repo))
-          (λ h g. AllDone h g × Gathers most store [] (with_repo store repo) h g)
-          (λ h g e. (subst (AllDone h) (sym e.0) (done_here h), read_gathers most store repo h g same e))
-          (between_end (λ h. FitsRepo (files_now h) (repo_view repo) (cached_in repo)) (λ h g. g ≡ h) a b repo_fits reads);
-      ends = keeps_end {T = T} {F = CompareFault} other_failed a b (Ok x) kept;
-      cause = caused;
+      works = record {
+        each = between_map a b (λ h g. g ≡ h) (KeepsStanding most store [])
+            (λ h g e. subst (KeepsStanding most store [] h) (sym e) (stands_here most store [] h)) reads;
+        end = between_map a b (λ h g. (g ≡ h) × FitsRepo (files_now g) (repo_view repo) (cached_in repo))
+            (λ h g. AllDone h g × Gathers most store [] (with_repo store repo) h g)
+            (λ h g e. (subst (AllDone h) (sym e.0) (done_here h), read_gathers most store repo h g same e))
+            (between_end (λ h. FitsRepo (files_now h) (repo_view repo) (cached_in repo)) (λ h g. g ≡ h) a b repo_fits reads);
+        ends = keeps_end {T = T} {F = CompareFault} other_failed a b (Ok x) kept;
+        cause = caused;
+      };
+      last = tt;
+      held = tt;
     }
 
-pub works_unread : {U : Type 0} (T : Type 0) (most : ℕ) (store now : Store) (a b : Option Told) (n m : ℕ) (fault : CompareFault)
-    → KeepsTold {T = T} other_failed a b (Err fault) → HasCause {T = T} other_failed n m (Err fault)
-    → Works (KeepsStanding most store []) (λ (_ : U). Gathers most store [] now) a b n m (Err (compare_fault fault))
-works_unread {U} T most store now a b n m fault kept caused =
+pub works_unread : {U : Type 0} (T : Type 0) (most : ℕ) (store : Store) (repo : Repo) (a b : Option Told) (n m : ℕ) (fault : CompareFault)
+    → repo_view repo ≡ repo_view store.repo → KeepsTold {T = T} other_failed a b (Err fault) → HasCause {T = T} other_failed n m (Err fault)
+    → RefusesTarget fault → IfSome b (λ t. FitsRepo (told_files t) (repo_view repo) (cached_in repo))
+    → AddsOn {T = U} most store [] (with_repo store repo) a b n m (Err (compare_fault fault))
+works_unread {U} T most store repo a b n m fault same kept caused refused repo_fits =
+    let now = with_repo store repo in
     let reads : Between a b (λ h g. g ≡ h) = same_told {T = T} {F = CompareFault} other_failed a b (Err fault) kept in
+    let ends = keeps_end {T = T} {F = CompareFault} other_failed a b (Err fault) kept in
     record {
-      each = between_map a b (λ h g. g ≡ h) (KeepsStanding most store [])
-          (λ h g e. subst (KeepsStanding most store [] h) (sym e) (stands_here most store [] h)) reads;
-      end = tt;
-      ends = subst (λ (d : Bool). FailedWhere d a b) (sym (compared_target fault)) (keeps_end {T = T} {F = CompareFault} other_failed a b (Err fault) kept);
-      cause = subst (λ (d : Bool). RoseWhere d n m) (sym (compared_target fault)) caused;
+      works = record {
+        each = between_map a b (λ h g. g ≡ h) (KeepsStanding most store [])
+            (λ h g e. subst (KeepsStanding most store [] h) (sym e) (stands_here most store [] h)) reads;
+        end = tt;
+        ends = subst (λ (d : Bool). FailedWhere d a b) (sym (compared_target fault)) ends;
+        cause = subst (λ (d : Bool). RoseWhere d n m) (sym (compared_target fault)) caused;
+      };
+      last = stops_unbroken a (repo_view store.repo).keys [] (compare_fault fault) (compared_unbroken fault refused);
+      held = λ _.
+          between_map a b (λ h g. (g ≡ h) × FitsRepo (files_now g) (repo_view repo) (cached_in repo)) (HoldsAll Within most store [] now)
+          (λ h g e. gathers_all most store now [] h g (read_gathers most store repo h g same e))
+          (between_end (λ h. FitsRepo (files_now h) (repo_view repo) (cached_in repo)) (λ h g. g ≡ h) a b repo_fits reads);
     }
 
 -- what was compared is the same still
@@ -244,14 +286,17 @@ no_entries : (entries : List LogEntry) → length entries ≡ 0 → entries ≡ 
 no_entries [] none = refl
 no_entries (e ∷ es) none = absurd (omega (arith, none))
 
-same_grows : (from : Origin) (name : List ℕ) (store now : Store) (h g : History) → AcceptsMore store → KeepsRest store now → now.pending ≡ 0
+same_grows : (earlier : List Addition) (from : Origin) (name : List ℕ) (store now : Store) (h g : History) → AcceptsMore store → KeepsRest store now
+    → now.pending ≡ 0
     → IsSome (archive_named name (repo_view store.repo).manifest.archives)
     → IfSome from.files (λ there. (whole : WholeArchive)
     × (SaysIn there from.repo name whole × SaysIn (files_now h) (repo_view store.repo) name whole))
-    → Gathers from.most store [] now h g → Grows from (name ∷ []) [] store now h g
-same_grows from name store now h g accepts rest pending there same gathers counts fits =
+    → GathersAt (border_behind AtBegin earlier) from.most store [] now h g → Grows earlier from (name ∷ []) [] store now h g
+same_grows earlier from name store now h g accepts rest pending there same gathers counts fits =
     let end = gathers counts fits in
     let written = end.fits_now.written in
+    let all_added = earlier ++ [] in
+    let base = entries_of fits.written in
     let none : written.pending ≡ [] =
     no_entries written.pending (none_pending now.pending (length written.pending) pending end.fits_now.pending) in
     let all : entries_of written ≡ committed_of written =
@@ -260,10 +305,11 @@ same_grows from name store now h g accepts rest pending there same gathers count
     → live_in id (committed_of written) ≡ Some blob =
     λ id blob apart has.
     ap (live_in id) (sym all) ∙ end.moved.entries id blob ((fits.holds id blob apart).0 has) in
-    let carried : IsCarried from (repo_view store.repo).keys (committed_of written) (repo_view store.repo).manifest.archives name =
+    let carried : IsCarried from all_added base (repo_view store.repo).keys (committed_of written) (repo_view store.repo).manifest.archives name =
     if_some (λ there. (whole : WholeArchive) × (SaysIn there from.repo name whole × SaysIn (files_now h) (repo_view store.repo) name whole))
-    (λ there. CarriesOver there from (repo_view store.repo).keys (committed_of written) (repo_view store.repo).manifest.archives name) from.files
-    (λ there s. same_over there from (files_now h) (repo_view store.repo) name s.0 (committed_of written) lives s.1.0 s.1.1) same in
+    (λ there. CarriesOver there from all_added base (repo_view store.repo).keys (committed_of written) (repo_view store.repo).manifest.archives name)
+    from.files
+    (λ there s. same_over there from all_added base (files_now h) (repo_view store.repo) name s.0 (committed_of written) lives s.1.0 s.1.1) same in
     record {
       fits_now = end.fits_now;
       chunks = λ id blob apart live. end.moved.committed id blob live;
@@ -273,8 +319,9 @@ same_grows from name store now h g accepts rest pending there same gathers count
       config = end.moved.config;
       most = most_from store now rest;
       carried = (
-        subst (λ (k : Keys). IsCarried from k (committed_of written) (repo_view now.repo).manifest.archives name) (sym rest.keys)
-            (subst (λ (m : ManifestText). IsCarried from (repo_view store.repo).keys (committed_of written) m.archives name) (sym rest.manifest) carried),
+        subst (λ (k : Keys). IsCarried from all_added base k (committed_of written) (repo_view now.repo).manifest.archives name) (sym rest.keys)
+            (subst (λ (m : ManifestText). IsCarried from all_added base (repo_view store.repo).keys (committed_of written) m.archives name)
+            (sym rest.manifest) carried),
         tt,
       );
       cut = cut_same (accepted_in store) from (files_now h) (repo_view store.repo) (repo_view now.repo).keys (repo_view now.repo).manifest.archives name
@@ -283,21 +330,24 @@ same_grows from name store now h g accepts rest pending there same gathers count
       only = λ other entry is. inl (ap (λ (m : ManifestText). archive_named other m.archives) (sym rest.accepted) ∙ is);
     }
 
-pub same_carried : {T : Type 0} (from : Origin) (name : List ℕ) (store now : Store) (a b : Option Told) (n m : ℕ) (x : T) → AcceptsMore store
-    → KeepsRest store now → now.pending ≡ 0 → IsSome (archive_named name (repo_view store.repo).manifest.archives)
-    → IsSame from a (repo_view store.repo) name → Works (KeepsStanding from.most store []) (λ (_ : T). Gathers from.most store [] now) a b n m (Ok x)
-    → Works (KeepsGrowing from (name ∷ []) store []) (λ (_ : T). Grows from (name ∷ []) [] store now) a b n m (Ok x)
-same_carried {T} from name store now a b n m x accepts rest pending there same p = record {
-  each = between_map a b (KeepsStanding from.most store []) (KeepsGrowing from (name ∷ []) store [])
-      (λ h g e. growing_by from (name ∷ []) (accepted_in store) store [] h g accepts e) p.each;
+pub same_carried : {T : Type 0} (earlier : List Addition) (from : Origin) (name : List ℕ) (store now : Store) (a b : Option Told) (n m : ℕ) (x : T)
+    → AcceptsMore store → KeepsRest store now → now.pending ≡ 0 → IsSome (archive_named name (repo_view store.repo).manifest.archives)
+    → IsSame from a (repo_view store.repo) name
+    → Works (KeepsStandingAt (border_behind AtBegin earlier) from.most store [])
+    (λ (_ : T). GathersAt (border_behind AtBegin earlier) from.most store [] now) a b n m (Ok x)
+    → Works (KeepsGrowing earlier from (name ∷ []) store []) (λ (_ : T). Grows earlier from (name ∷ []) [] store now) a b n m (Ok x)
+same_carried {T} earlier from name store now a b n m x accepts rest pending there same p = record {
+  each = between_map a b (KeepsStandingAt (border_behind AtBegin earlier) from.most store []) (KeepsGrowing earlier from (name ∷ []) store [])
+      (λ h g e. growing_by earlier from (name ∷ []) (accepted_in store) store [] h g accepts e) p.each;
   end = between_map a b
       (λ h g. IfSome from.files (λ there. (whole : WholeArchive)
-      × (SaysIn there from.repo name whole × SaysIn (files_now h) (repo_view store.repo) name whole)) × (AllDone h g × Gathers from.most store [] now h g))
-      (λ h g. AllDone h g × Grows from (name ∷ []) [] store now h g)
-      (λ h g e. (e.1.0, same_grows from name store now h g accepts rest pending there e.0 e.1.1))
+      × (SaysIn there from.repo name whole × SaysIn (files_now h) (repo_view store.repo) name whole))
+      × (AllDone h g × GathersAt (border_behind AtBegin earlier) from.most store [] now h g))
+      (λ h g. AllDone h g × Grows earlier from (name ∷ []) [] store now h g)
+      (λ h g e. (e.1.0, same_grows earlier from name store now h g accepts rest pending there e.0 e.1.1))
       (between_known (λ h. IfSome from.files (λ there. (whole : WholeArchive)
-      × (SaysIn there from.repo name whole × SaysIn (files_now h) (repo_view store.repo) name whole))) (λ h g. AllDone h g × Gathers from.most store [] now h g)
-      a b same p.end);
+      × (SaysIn there from.repo name whole × SaysIn (files_now h) (repo_view store.repo) name whole)))
+      (λ h g. AllDone h g × GathersAt (border_behind AtBegin earlier) from.most store [] now h g) a b same p.end);
   ends = p.ends;
   cause = p.cause;
 }

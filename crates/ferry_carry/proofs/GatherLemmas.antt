@@ -18,7 +18,7 @@ use Rattle.ferry_manifest.specs.declared.manifest.Manifest.{Manifest}
 use Rattle.ferry_repo.specs.Opening.{RepoState, repo_view}
 use Rattle.ferry_repo.specs.declared.repo.Repo.{Repo}
 use Rattle.ferry_store.specs.Commit.{accepted_or}
-use Rattle.ferry_segment.specs.Entry.{LogEntry, CommitEntry, PutEntry}
+use Rattle.ferry_segment.specs.Entry.{LogEntry, PutEntry}
 use Rattle.ferry_stops.proofs.TellLemmas.{untold_then}
 use Rattle.ferry_stops.specs.Entries.{Shows}
 use Rattle.ferry_stops.specs.Tells.{TellsNothing}
@@ -30,17 +30,20 @@ use Rattle.ferry_store.proofs.UseLemmas.{fits_added}
 use Rattle.ferry_store.specs.Adding.{Adds, Checkpoints, entry_of, id_under}
 use Rattle.ferry_store.specs.Content.{IsNew, Learns, blob_for, with_added}
 use Rattle.ferry_store.specs.Standing.{Keeps, committed_of, entries_committed, entries_of, live_in}
-use Rattle.ferry_store.specs.State.{CommitsSound, Did, IsSound, KeepsSound, ShowsEither, ShowsStanding, Written}
+use Rattle.ferry_store.specs.State.{CommitsSound, Did, IsSound, KeepsSound, ShowsEither, ShowsStanding, Written, all_committed}
 use Rattle.ferry_store.specs.Store.{IsKnown, StoreFits}
 use Rattle.ferry_store.specs.declared.content.Added.{Added}
 use Rattle.ferry_store.specs.declared.store.Store.{Store}
 use Rattle.ferry_write.specs.Script.{AllDone}
-use Rattle.ferry_carry.proofs.PutsLemmas.{adds_here, adds_one, adds_then, contents_append, front_of, goes_commit, goes_same, goes_then, goes_wider, room_of}
+use Rattle.ferry_carry.proofs.PutsLemmas.{Allows, adds_at, adds_commit, adds_here, adds_one, adds_room, adds_then, allows_within, contents_append}
+use Rattle.ferry_carry.proofs.PutsLemmas.{front_of, full_of, goes_at, goes_behind, goes_commit, goes_room, goes_same, goes_then, goes_wider, room_of}
+use Rattle.ferry_carry.proofs.PutsLemmas.{some_of}
 use Rattle.ferry_carry.proofs.WholeLemmas.{all_both, all_front, each_to}
-use Rattle.ferry_carry.specs.Gather.{Brings, BringsOpening, Gathers, HoldsContents, HoldsWithin, IsAmong, KeepsRest, KeepsStanding, Moved, NoCollision}
-use Rattle.ferry_carry.specs.Gather.{StandsFrom}
+use Rattle.ferry_carry.specs.Gather.{Brings, BringsOpening, Gathered, Gathers, GathersAt, HoldsContents, HoldsWithin, IsAmong, KeepsRest, KeepsStanding}
+use Rattle.ferry_carry.specs.Gather.{KeepsStandingAt, MakesRoom, Moved, NoCollision, StandsFrom}
 use Rattle.ferry_carry.specs.Piece.{HasRoom}
-use Rattle.ferry_carry.specs.Puts.{Addition, AddsAll, GoesOn, IsAddedBehind, IsFront, IsLiveIn, Kind, addition, contents_in}
+use Rattle.ferry_carry.specs.Puts.{Addition, AddsAll, AtBegin, Border, ComesBefore, GoesOn, IsAddedBehind, IsCheckpoint, IsFront, IsFull, IsLiveIn, Kind}
+use Rattle.ferry_carry.specs.Puts.{Within, addition, border_behind, contents_in, is_piece}
 
 -- ---- what opens
 
@@ -76,39 +79,51 @@ opening_put keys id blob content entries opens other found apart live = by_id (s
 committed_some : (counts : Bool) (store : Store) (h : History) (fits : StoreFits counts store h) → fits.written.committed ≡ Some (committed_of fits.written)
 committed_some counts store h fits = fits.manifest.is ∙ ap Some (sym (ap (λ (c : Option (List LogEntry)). unwrap_or c []) fits.manifest.is))
 
-pub standing_from : (most : ℕ) (within : List Addition) (counts : Bool) (store : Store) (h : History) (fits : StoreFits counts store h) (image : Files)
-    → ShowsStanding fits.written image → StandsFrom (repo_view store.repo).keys most within fits.written image
-standing_from most within counts store h fits image shown = record {
+pub standing_from : (at : Border) (most : ℕ) (within : List Addition) (counts : Bool) (store : Store) (h : History) (fits : StoreFits counts store h)
+    (image : Files) → ShowsStanding fits.written image → StandsFrom at (repo_view store.repo).keys most within fits.written image
+standing_from at most within counts store h fits image shown = record {
   entries = committed_of fits.written;
   shown = subst (Shows image) (committed_some counts store h fits) shown.0;
   keeps = keeps_same (committed_of fits.written);
   opening = opening_kept (repo_view store.repo).keys (entries_of fits.written) (committed_of fits.written) fits.keeps;
-  puts = goes_same (repo_view store.repo).keys most within fits.written;
+  puts = goes_same at (repo_view store.repo).keys most within fits.written;
   config = shown.1;
 }
 
 -- what stands with some that may be added stands with more
-pub stands_wider : (keys : Keys) (most : ℕ) (some all : List Addition) (written : Written) (image : Files) → IsFront some all
-    → StandsFrom keys most some written image → StandsFrom keys most all written image
-stands_wider keys most some all written image front stands = record {
+pub stands_wider : (at : Border) (keys : Keys) (most : ℕ) (some all : List Addition) (written : Written) (image : Files) → IsFront some all
+    → StandsFrom at keys most some written image → StandsFrom at keys most all written image
+stands_wider at keys most some all written image front stands = record {
   entries = stands.entries;
   shown = stands.shown;
   keeps = stands.keeps;
   opening = stands.opening;
-  puts = goes_wider keys most some all written stands.entries front stands.puts;
+  puts = goes_wider at keys most some all written stands.entries front stands.puts;
+  config = stands.config;
+}
+
+-- what stands at one border stands at another where what may come at the one may come at the other
+pub stands_at : (at other : Border) (keys : Keys) (most : ℕ) (within : List Addition) (written : Written) (image : Files)
+    → Allows at other (entries_of written) → StandsFrom at keys most within written image → StandsFrom other keys most within written image
+stands_at at other keys most within written image allows stands = record {
+  entries = stands.entries;
+  shown = stands.shown;
+  keeps = stands.keeps;
+  opening = stands.opening;
+  puts = goes_at at other keys most within written stands.entries allows stands.puts;
   config = stands.config;
 }
 
 -- what stands from later on stands from before
-pub stands_then : (keys : Keys) (most : ℕ) (written next : Written) (added more : List Addition) (image : Files) → Moved keys written next
-    → AddsAll keys most (entries_of written) added (entries_of next) → GoesOn keys most added written (committed_of next)
-    → StandsFrom keys most more next image → StandsFrom keys most (added ++ more) written image
-stands_then keys most written next added more image moved adds goes stands = record {
+pub stands_then : (at : Border) (keys : Keys) (most : ℕ) (written next : Written) (added more : List Addition) (image : Files) → Moved keys written next
+    → AddsAll at keys most (entries_of written) added (entries_of next) → GoesOn at keys most added written (committed_of next)
+    → StandsFrom (border_behind at added) keys most more next image → StandsFrom at keys most (added ++ more) written image
+stands_then at keys most written next added more image moved adds goes stands = record {
   entries = stands.entries;
   shown = stands.shown;
   keeps = keeps_then (committed_of written) (committed_of next) stands.entries moved.committed stands.keeps;
   opening = opening_then keys (entries_of written) (entries_of next) stands.entries moved.opening stands.opening;
-  puts = goes_then keys most written next stands.entries added more adds goes stands.puts;
+  puts = goes_then at keys most written next stands.entries added more adds goes stands.puts;
   config = stands.config ∙ moved.config;
 }
 
@@ -161,29 +176,57 @@ chunk_on counts store now h g fits fits_now keeps keys id content chunk =
 
 -- ---- one after another
 
-pub gathers_here : (most : ℕ) (store : Store) (h : History) → Gathers most store [] store h h
-gathers_here most store h counts fits = record {
+-- where nothing is done
+pub gathered_here : (at : Border) (most : ℕ) (store : Store) (h : History) → GathersAt at most store [] store h h
+gathered_here at most store h counts fits = record {
   fits_now = fits;
   moved = moved_here (repo_view store.repo).keys fits.written;
-  puts = adds_here (repo_view store.repo).keys most (entries_of fits.written);
-  committed = goes_same (repo_view store.repo).keys most [] fits.written;
+  puts = adds_here at (repo_view store.repo).keys most (entries_of fits.written);
+  committed = goes_same at (repo_view store.repo).keys most [] fits.written;
   brings = λ scope apart all within. (within, tt);
 }
 
-pub gathers_then : (most : ℕ) (store middle now : Store) (some more : List Addition) → KeepsRest store middle → KeepsRest middle now → (h g i : History)
-    → Gathers most store some middle h g → Gathers most middle more now g i → Gathers most store (some ++ more) now h i
-gathers_then most store middle now some more rest rest_now h g i p q counts fits =
+-- the same within an archive
+pub gathers_here : (most : ℕ) (store : Store) (h : History) → Gathers most store [] store h h
+gathers_here most store h = gathered_here Within most store h
+
+-- the same at another border, where what may come at the one may come at the other
+pub gathered_at : (at other : Border) (most : ℕ) (counts : Bool) (store : Store) (added : List Addition) (store_now : Store) (before now : History)
+    (fits : StoreFits counts store before) → Allows at other (entries_of fits.written)
+    → Gathered at most counts store added store_now before now fits → Gathered other most counts store added store_now before now fits
+gathered_at at other most counts store added store_now before now fits allows p =
+    let keys = (repo_view store.repo).keys in
+    record {
+      fits_now = p.fits_now;
+      moved = p.moved;
+      puts = adds_at at other keys most (entries_of fits.written) added (entries_of p.fits_now.written) allows p.puts;
+      committed = goes_at at other keys most added fits.written (committed_of p.fits_now.written) allows p.committed;
+      brings = p.brings;
+    }
+
+-- what was added within an archive was added at each border
+pub gathers_at : (at : Border) (most : ℕ) (store : Store) (added : List Addition) (store_now : Store) (before now : History)
+    → Gathers most store added store_now before now → GathersAt at most store added store_now before now
+gathers_at at most store added store_now before now p counts fits =
+    gathered_at Within at most counts store added store_now before now fits (allows_within at (entries_of fits.written)) (p counts fits)
+
+-- contents behind contents, from border to border
+pub gathers_behind : (at : Border) (most : ℕ) (store middle now : Store) (some more : List Addition) → KeepsRest store middle → KeepsRest middle now
+    → (h g i : History) → GathersAt at most store some middle h g → GathersAt (border_behind at some) most middle more now g i
+    → GathersAt at most store (some ++ more) now h i
+gathers_behind at most store middle now some more rest rest_now h g i p q counts fits =
     let first = p counts fits in
     let second = q counts first.fits_now in
     let keys = (repo_view store.repo).keys in
+    let behind = border_behind at some in
     record {
       fits_now = second.fits_now;
       moved = moved_then (repo_view store.repo).keys fits.written first.fits_now.written second.fits_now.written first.moved
           (subst (λ (k : Keys). Moved k first.fits_now.written second.fits_now.written) rest.keys second.moved);
-      puts = adds_then keys most (entries_of fits.written) (entries_of first.fits_now.written) (entries_of second.fits_now.written) some more first.puts
-          (subst (λ (k : Keys). AddsAll k most (entries_of first.fits_now.written) more (entries_of second.fits_now.written)) rest.keys second.puts);
-      committed = goes_then keys most fits.written first.fits_now.written (committed_of second.fits_now.written) some more first.puts first.committed
-          (subst (λ (k : Keys). GoesOn k most more first.fits_now.written (committed_of second.fits_now.written)) rest.keys second.committed);
+      puts = adds_then at keys most (entries_of fits.written) (entries_of first.fits_now.written) (entries_of second.fits_now.written) some more first.puts
+          (subst (λ (k : Keys). AddsAll behind k most (entries_of first.fits_now.written) more (entries_of second.fits_now.written)) rest.keys second.puts);
+      committed = goes_then at keys most fits.written first.fits_now.written (committed_of second.fits_now.written) some more first.puts first.committed
+          (subst (λ (k : Keys). GoesOn behind k most more first.fits_now.written (committed_of second.fits_now.written)) rest.keys second.committed);
       brings = λ scope apart all within.
           let parts = all_front (IsAmong scope) (contents_in some) (contents_in more)
           (subst (AllByRecursion (IsAmong scope)) (contents_append some more) all) in
@@ -203,41 +246,79 @@ gathers_then most store middle now some more rest rest_now h g i p q counts fits
           subst (λ (k : Keys). HoldsChunk (files_now i) (repo_view now.repo).log (repo_view now.repo).keys (content_id k content) content) (sym rest_now.keys)
           (chunk_on counts middle now g i fits fits_now keeps rest_now.keys (content_id (repo_view middle.repo).keys content) content chunk)) all
 
-pub standing_wider : (most : ℕ) (store : Store) (some all : List Addition) (h g : History) → IsFront some all → KeepsStanding most store some h g
-    → KeepsStanding most store all h g
-standing_wider most store some all h g front keeps = (
+-- contents behind contents within an archive, whichever the first are: nothing comes before the second
+pub gathers_then : (most : ℕ) (store middle now : Store) (some more : List Addition) → KeepsRest store middle → KeepsRest middle now → (h g i : History)
+    → Gathers most store some middle h g → Gathers most middle more now g i → Gathers most store (some ++ more) now h i
+gathers_then most store middle now some more rest rest_now h g i p q =
+    gathers_behind Within most store middle now some more rest rest_now h g i p (gathers_at (border_behind Within some) most middle more now g i q)
+
+-- with more that may be added
+pub keeps_wider : (at : Border) (most : ℕ) (store : Store) (some all : List Addition) (h g : History) → IsFront some all
+    → KeepsStandingAt at most store some h g → KeepsStandingAt at most store all h g
+keeps_wider at most store some all h g front keeps = (
   keeps.0,
   λ counts fits.
       let keys = (repo_view store.repo).keys in
-      sound_moments (StandsFrom keys most some fits.written) (StandsFrom keys most all fits.written) counts h g
-      (λ image stands. stands_wider keys most some all fits.written image front stands) (keeps.1 counts fits),
+      sound_moments (StandsFrom at keys most some fits.written) (StandsFrom at keys most all fits.written) counts h g
+      (λ image stands. stands_wider at keys most some all fits.written image front stands) (keeps.1 counts fits),
 )
 
-pub each_then : (most : ℕ) (store middle : Store) (added more : List Addition) (h g i : History)
-    → (repo_view middle.repo).keys ≡ (repo_view store.repo).keys → KeepsStanding most store added h g → AllDone h g → Gathers most store added middle h g
-    → KeepsStanding most middle more g i → KeepsStanding most store (added ++ more) h i
-each_then most store middle added more h g i same before done gathers after = (
+-- the same within an archive
+pub standing_wider : (most : ℕ) (store : Store) (some all : List Addition) (h g : History) → IsFront some all → KeepsStanding most store some h g
+    → KeepsStanding most store all h g
+standing_wider most store some all h g front keeps = keeps_wider Within most store some all h g front keeps
+
+-- what keeps standing within an archive keeps standing at each border
+pub keeps_at : (at : Border) (most : ℕ) (store : Store) (within : List Addition) (h g : History) → KeepsStanding most store within h g
+    → KeepsStandingAt at most store within h g
+keeps_at at most store within h g keeps = (
+  keeps.0,
+  λ counts fits.
+      let keys = (repo_view store.repo).keys in
+      sound_moments (StandsFrom Within keys most within fits.written) (StandsFrom at keys most within fits.written) counts h g
+      (λ image stands. stands_at Within at keys most within fits.written image (allows_within at (entries_of fits.written)) stands) (keeps.1 counts fits),
+)
+
+-- a body behind contents that were added, from border to border
+pub each_behind : (at : Border) (most : ℕ) (store middle : Store) (added more : List Addition) (h g i : History)
+    → (repo_view middle.repo).keys ≡ (repo_view store.repo).keys → KeepsStandingAt at most store added h g → AllDone h g
+    → GathersAt at most store added middle h g → KeepsStandingAt (border_behind at added) most middle more g i
+    → KeepsStandingAt at most store (added ++ more) h i
+each_behind at most store middle added more h g i same before done gathers after = (
   untold_then h g i before.0 after.0,
   λ counts fits.
       let first = gathers counts fits in
       let keys = (repo_view store.repo).keys in
-      moments_then (IsSound (StandsFrom keys most (added ++ more) fits.written) counts) h g i
-      ((standing_wider most store added (added ++ more) h g (front_of added more) before).1 counts fits) done
-      (sound_moments (StandsFrom (repo_view middle.repo).keys most more first.fits_now.written) (StandsFrom keys most (added ++ more) fits.written) counts g i
+      let behind = border_behind at added in
+      moments_then (IsSound (StandsFrom at keys most (added ++ more) fits.written) counts) h g i
+      ((keeps_wider at most store added (added ++ more) h g (front_of added more) before).1 counts fits) done
+      (sound_moments (StandsFrom behind (repo_view middle.repo).keys most more first.fits_now.written)
+      (StandsFrom at keys most (added ++ more) fits.written) counts g i
       (λ image stands.
-      stands_then keys most fits.written first.fits_now.written added more image first.moved first.puts first.committed
-      (subst (λ (k : Keys). StandsFrom k most more first.fits_now.written image) same stands)) (after.1 counts first.fits_now)),
+      stands_then at keys most fits.written first.fits_now.written added more image first.moved first.puts first.committed
+      (subst (λ (k : Keys). StandsFrom behind k most more first.fits_now.written image) same stands)) (after.1 counts first.fits_now)),
 )
 
+-- a body within an archive behind contents that were added
+pub each_then : (most : ℕ) (store middle : Store) (added more : List Addition) (h g i : History)
+    → (repo_view middle.repo).keys ≡ (repo_view store.repo).keys → KeepsStanding most store added h g → AllDone h g → Gathers most store added middle h g
+    → KeepsStanding most middle more g i → KeepsStanding most store (added ++ more) h i
+each_then most store middle added more h g i same before done gathers after =
+    each_behind Within most store middle added more h g i same before done gathers (keeps_at (border_behind Within added) most middle more g i after)
+
 -- where nothing is done, what stands is what a sound moment shows
-pub stands_here : (most : ℕ) (store : Store) (within : List Addition) (h : History) → KeepsStanding most store within h h
-stands_here most store within h = (
+pub stands_still : (at : Border) (most : ℕ) (store : Store) (within : List Addition) (h : History) → KeepsStandingAt at most store within h h
+stands_still at most store within h = (
   refl,
   λ counts fits.
-      sound_moments (ShowsStanding fits.written) (StandsFrom (repo_view store.repo).keys most within fits.written) counts h h
-      (λ image shown. standing_from most within counts store h fits image shown)
+      sound_moments (ShowsStanding fits.written) (StandsFrom at (repo_view store.repo).keys most within fits.written) counts h h
+      (λ image shown. standing_from at most within counts store h fits image shown)
       (keeps_here store.session store.counter h counts fits.written fits.under_way),
 )
+
+-- the same within an archive
+pub stands_here : (most : ℕ) (store : Store) (within : List Addition) (h : History) → KeepsStanding most store within h h
+stands_here most store within h = stands_still Within most store within h
 
 pub rest_here : (store : Store) → KeepsRest store store
 rest_here store = record { keys = refl; config = refl; manifest = refl; accepted = refl }
@@ -448,7 +529,7 @@ one_gathers most store now one added h g put_is room so adds counts fits =
     record {
       fits_now = end.0;
       moved = all.moved;
-      puts = adds_one keys most (entries_of fits.written) one (entries_of end.0.written) all.puts;
+      puts = adds_one Within keys most (entries_of fits.written) one (entries_of end.0.written) all.puts;
       committed = inl all.committed;
       brings = all.brings;
     }
@@ -465,8 +546,8 @@ pub add_stands : (most : ℕ) (store : Store) (within : List Addition) (h g : Hi
 add_stands most store within h g untold keeps = (
   untold,
   λ counts fits.
-      sound_moments (ShowsStanding fits.written) (StandsFrom (repo_view store.repo).keys most within fits.written) counts h g
-      (λ image shown. standing_from most within counts store h fits image shown)
+      sound_moments (ShowsStanding fits.written) (StandsFrom Within (repo_view store.repo).keys most within fits.written) counts h g
+      (λ image shown. standing_from Within most within counts store h fits image shown)
       (keeps counts fits.written fits.under_way),
 )
 
@@ -477,55 +558,185 @@ checkpoint_rest store now repo accepted =
     let view : repo_view now.repo ≡ repo_view store.repo = ap repo_view repo in
     rest_by store now (ap (λ (r : RepoState). r.keys) view) (ap (λ (r : RepoState). r.config) view) (ap (λ (r : RepoState). r.manifest) view) accepted
 
-pub checkpoint_gathers : (most : ℕ) (store now : Store) (h g : History) → now.repo ≡ store.repo → Checkpoints store now h g
-    → Gathers most store [] now h g
-checkpoint_gathers most store now h g repo takes counts fits =
-    let end = takes counts fits in
+-- what is live behind a commit is what was live before it
+commit_live : (written now : Written) → now ≡ all_committed written → (id : List ℕ) → live_in id (entries_of now) ≡ live_in id (entries_of written)
+commit_live written now is id = ap (λ (x : Written). live_in id (entries_of x)) is ∙ live_committed written id
+
+commit_entries : (written now : Written) → now ≡ all_committed written → entries_of now ≡ entries_committed written
+commit_entries written now is = ap entries_of is ∙ append-nil (entries_committed written)
+
+commit_moved : (counts : Bool) (store : Store) (h : History) (fits : StoreFits counts store h) (now : Written) → now ≡ all_committed fits.written
+    → Moved (repo_view store.repo).keys fits.written now
+commit_moved counts store h fits now is =
     let w = fits.written in
-    let keys : (repo_view now.repo).keys ≡ (repo_view store.repo).keys = ap (λ (r : Repo). (repo_view r).keys) repo in
-    let live : (id : List ℕ) → live_in id (entries_of end.0.written) ≡ live_in id (entries_of w) =
-    λ id. ap (λ (x : Written). live_in id (entries_of x)) end.1 ∙ live_committed w id in
     record {
-      fits_now = end.0;
-      moved = record {
-        committed = subst (λ (x : Written). Keeps (committed_of w) (committed_of x)) (sym end.1)
-            (keeps_then (committed_of w) (entries_of w) (entries_of w ++ CommitEntry ∷ []) fits.keeps (keeps_commit (entries_of w)));
-        entries = λ id blob there. live id ∙ there;
-        opening = opening_kept (repo_view store.repo).keys (entries_of w) (entries_of end.0.written) (λ id blob there. sym (live id) ∙ there);
-        config = ap (λ (x : Written). x.config) end.1;
-      };
-      puts = (CommitEntry ∷ [], ((tt, tt), ap entries_of end.1 ∙ append-nil (entries_committed w)));
-      committed = subst (λ (x : Written). GoesOn (repo_view store.repo).keys most [] w (committed_of x)) (sym end.1)
-          (goes_commit (repo_view store.repo).keys most [] w);
-      brings = λ scope apart all within. (
-        λ id found holds. within id found
-            (chunk_on counts now store g h end.0 fits (λ other blob there. sym (live other) ∙ there) (sym keys) id found holds),
-        tt,
-      );
+      committed = subst (λ (x : Written). Keeps (committed_of w) (committed_of x)) (sym is)
+          (keeps_then (committed_of w) (entries_of w) (entries_committed w) fits.keeps (keeps_commit (entries_of w)));
+      entries = λ id blob there. commit_live w now is id ∙ there;
+      opening = opening_kept (repo_view store.repo).keys (entries_of w) (entries_of now) (λ id blob there. sym (commit_live w now is id) ∙ there);
+      config = ap (λ (x : Written). x.config) is;
     }
 
-either_from : (most : ℕ) (within : List Addition) (counts : Bool) (store : Store) (h : History) (fits : StoreFits counts store h) (image : Files)
-    → ShowsEither fits.written image → StandsFrom (repo_view store.repo).keys most within fits.written image
-either_from most within counts store h fits image (inl shown) = standing_from most within counts store h fits image shown
-either_from most within counts store h fits image (inr shown) =
+commit_brings : (counts : Bool) (store now : Store) (h g : History) (fits : StoreFits counts store h) (fits_now : StoreFits counts now g)
+    → now.repo ≡ store.repo → fits_now.written ≡ all_committed fits.written → Brings (repo_view store.repo) [] (repo_view now.repo) h g
+commit_brings counts store now h g fits fits_now repo is scope apart all within =
+    let keys : (repo_view now.repo).keys ≡ (repo_view store.repo).keys = ap (λ (r : Repo). (repo_view r).keys) repo in (
+      λ id found holds. within id found
+          (chunk_on counts now store g h fits_now fits (λ other blob there. sym (commit_live fits.written fits_now.written is other) ∙ there) (sym keys)
+          id found holds),
+      tt,
+    )
+
+-- at the begin what is pending is committed
+pub checkpoint_gathers : (most : ℕ) (store now : Store) (h g : History) → now.repo ≡ store.repo → store.pending ≢ 0 → Checkpoints store now h g
+    → GathersAt AtBegin most store [] now h g
+checkpoint_gathers most store now h g repo some takes counts fits =
+    let end = takes counts fits in
+    let w = fits.written in
+    let keys = (repo_view store.repo).keys in
+    let pending = some_of counts store h fits some in
+    record {
+      fits_now = end.0;
+      moved = commit_moved counts store h fits end.0.written end.1;
+      puts = subst (AddsAll AtBegin keys most (entries_of w) []) (sym (commit_entries w end.0.written end.1)) (adds_commit keys most (entries_of w) pending);
+      committed = subst (λ (x : Written). GoesOn AtBegin keys most [] w (committed_of x)) (sym end.1) (goes_commit keys most [] w pending);
+      brings = commit_brings counts store now h g fits end.0 repo end.1;
+    }
+
+either_from : (at : Border) (most : ℕ) (within : List Addition) (counts : Bool) (store : Store) (h : History) (fits : StoreFits counts store h)
+    (image : Files) → GoesOn at (repo_view store.repo).keys most within fits.written (entries_committed fits.written) → ShowsEither fits.written image
+    → StandsFrom at (repo_view store.repo).keys most within fits.written image
+either_from at most within counts store h fits image goes (inl shown) = standing_from at most within counts store h fits image shown
+either_from at most within counts store h fits image goes (inr shown) =
     let w = fits.written in
     record {
       entries = entries_committed w;
       shown = shown.0;
       keeps = keeps_then (committed_of w) (entries_of w) (entries_committed w) fits.keeps (keeps_commit (entries_of w));
       opening = opening_kept (repo_view store.repo).keys (entries_of w) (entries_committed w) (λ id blob live. sym (live_commit id (entries_of w)) ∙ live);
-      puts = goes_commit (repo_view store.repo).keys most within w;
+      puts = goes;
       config = shown.1;
     }
 
-pub checkpoint_stands : (most : ℕ) (store : Store) (within : List Addition) (h g : History) → TellsNothing h g
-    → CommitsSound store.session store.counter h g → KeepsStanding most store within h g
-checkpoint_stands most store within h g untold keeps = (
+-- a commit, where what is committed by it may come there
+commit_stands : (at : Border) (most : ℕ) (store : Store) (within : List Addition) (h g : History) → TellsNothing h g
+    → CommitsSound store.session store.counter h g
+    → ((counts : Bool) (fits : StoreFits counts store h)
+    → GoesOn at (repo_view store.repo).keys most within fits.written (entries_committed fits.written))
+    → KeepsStandingAt at most store within h g
+commit_stands at most store within h g untold keeps goes = (
   untold,
   λ counts fits.
-      sound_moments (ShowsEither fits.written) (StandsFrom (repo_view store.repo).keys most within fits.written) counts h g
-      (λ image shown. either_from most within counts store h fits image shown)
+      sound_moments (ShowsEither fits.written) (StandsFrom at (repo_view store.repo).keys most within fits.written) counts h g
+      (λ image shown. either_from at most within counts store h fits image (goes counts fits) shown)
       (keeps counts fits.written fits.under_way),
+)
+
+-- and at each moment of it there stands what may
+pub checkpoint_stands : (most : ℕ) (store : Store) (within : List Addition) (h g : History) → store.pending ≢ 0 → TellsNothing h g
+    → CommitsSound store.session store.counter h g → KeepsStandingAt AtBegin most store within h g
+checkpoint_stands most store within h g some untold keeps =
+    commit_stands AtBegin most store within h g untold keeps
+    (λ counts fits. goes_commit (repo_view store.repo).keys most within fits.written (some_of counts store h fits some))
+
+-- ---- a checkpoint before a piece
+
+-- as many are pending as may be, and the piece is to be put
+room_full : (most : ℕ) (counts : Bool) (store : Store) (one : Addition) (h : History) (fits : StoreFits counts store h) → IsCheckpoint most
+    → is_piece one.kind ≡ true → store.pending ≡ most → IsNew (repo_view store.repo) (id_under store one.content)
+    → IsFull (repo_view store.repo).keys most (entries_of fits.written) one
+room_full most counts store one h fits checkpoint piece full new = record {
+  piece = piece;
+  full = full_of counts store h fits most checkpoint full;
+  new = unlive_new (id_under store one.content) (entries_of fits.written) new.0
+      (missing_unlive (files_now h) (repo_view store.repo).log (entries_of fits.written) (id_under store one.content) new.0 new.1 fits.holds);
+}
+
+-- a checkpoint makes room for a piece
+pub room_makes : (most : ℕ) (store now : Store) (one : Addition) (h g : History) → IsCheckpoint most → now.repo ≡ store.repo
+    → is_piece one.kind ≡ true → store.pending ≡ most → IsNew (repo_view store.repo) (id_under store one.content) → Checkpoints store now h g
+    → MakesRoom most store one now h g
+room_makes most store now one h g checkpoint repo piece full new takes counts fits =
+    let end = takes counts fits in
+    let w = fits.written in
+    let so = room_full most counts store one h fits checkpoint piece full new in
+    record {
+      fits_now = end.0;
+      moved = commit_moved counts store h fits end.0.written end.1;
+      comes = inr (so, commit_entries w end.0.written end.1);
+      committed = inr (inr (so, ap committed_of end.1));
+      brings = commit_brings counts store now h g fits end.0 repo end.1;
+    }
+
+-- and so it is at each moment of it
+pub room_stands : (most : ℕ) (store : Store) (one : Addition) (h g : History) → IsCheckpoint most → is_piece one.kind ≡ true → store.pending ≡ most
+    → IsNew (repo_view store.repo) (id_under store one.content) → TellsNothing h g → CommitsSound store.session store.counter h g
+    → KeepsStanding most store (one ∷ []) h g
+room_stands most store one h g checkpoint piece full new untold keeps =
+    commit_stands Within most store (one ∷ []) h g untold keeps
+    (λ counts fits. goes_room Within (repo_view store.repo).keys most one fits.written (entries_committed fits.written)
+    (inr (room_full most counts store one h fits checkpoint piece full new, refl)))
+
+-- where there is room
+pub room_here : (most : ℕ) (store : Store) (one : Addition) (h : History) → MakesRoom most store one store h h
+room_here most store one h counts fits = record {
+  fits_now = fits;
+  moved = moved_here (repo_view store.repo).keys fits.written;
+  comes = inl refl;
+  committed = inl refl;
+  brings = λ scope apart all within. (within, tt);
+}
+
+-- a content that was added behind what came before it
+pub room_then : (most : ℕ) (store middle now : Store) (one : Addition) (h k g : History) → IsCheckpoint most → KeepsRest store middle
+    → MakesRoom most store one middle h k → Gathers most middle (one ∷ []) now k g → Gathers most store (one ∷ []) now h g
+room_then most store middle now one h k g checkpoint rest p q counts fits =
+    let first = p counts fits in
+    let second = q counts first.fits_now in
+    let keys = (repo_view store.repo).keys in
+    let w = fits.written in
+    let next = first.fits_now.written in
+    let last = second.fits_now.written in
+    record {
+      fits_now = second.fits_now;
+      moved = moved_then keys w next last first.moved (subst (λ (k : Keys). Moved k next last) rest.keys second.moved);
+      puts = adds_room keys most (entries_of w) (entries_of next) one [] (entries_of last) checkpoint first.comes
+          (subst (λ (k : Keys). AddsAll Within k most (entries_of next) (one ∷ []) (entries_of last)) rest.keys second.puts);
+      committed = goes_behind keys most one w next (committed_of last) checkpoint first.comes first.committed
+          (subst (λ (k : Keys). GoesOn Within k most (one ∷ []) next (committed_of last)) rest.keys second.committed);
+      brings = λ scope apart all within.
+          second.brings scope (subst (λ (k : Keys). NoCollision k scope) (sym rest.keys) apart) all (first.brings scope apart tt within).0;
+    }
+
+-- what stands while it is added stands from before
+pub stands_room : (keys : Keys) (most : ℕ) (written next : Written) (one : Addition) (image : Files) → IsCheckpoint most → Moved keys written next
+    → ComesBefore keys most (entries_of written) one (entries_of next)
+    → (committed_of next ≡ committed_of written) ⊎ ComesBefore keys most (entries_of written) one (committed_of next)
+    → StandsFrom Within keys most (one ∷ []) next image → StandsFrom Within keys most (one ∷ []) written image
+stands_room keys most written next one image checkpoint moved comes committed stands = record {
+  entries = stands.entries;
+  shown = stands.shown;
+  keeps = keeps_then (committed_of written) (committed_of next) stands.entries moved.committed stands.keeps;
+  opening = opening_then keys (entries_of written) (entries_of next) stands.entries moved.opening stands.opening;
+  puts = goes_behind keys most one written next stands.entries checkpoint comes committed stands.puts;
+  config = stands.config ∙ moved.config;
+}
+
+-- a body behind what came before a content
+pub each_room : (most : ℕ) (store middle : Store) (one : Addition) (h g i : History) → IsCheckpoint most
+    → (repo_view middle.repo).keys ≡ (repo_view store.repo).keys → KeepsStanding most store (one ∷ []) h g → AllDone h g
+    → MakesRoom most store one middle h g → KeepsStanding most middle (one ∷ []) g i → KeepsStanding most store (one ∷ []) h i
+each_room most store middle one h g i checkpoint same before done makes after = (
+  untold_then h g i before.0 after.0,
+  λ counts fits.
+      let first = makes counts fits in
+      let keys = (repo_view store.repo).keys in
+      let next = first.fits_now.written in
+      moments_then (IsSound (StandsFrom Within keys most (one ∷ []) fits.written) counts) h g i (before.1 counts fits) done
+      (sound_moments (StandsFrom Within (repo_view middle.repo).keys most (one ∷ []) next) (StandsFrom Within keys most (one ∷ []) fits.written) counts g i
+      (λ image stands.
+      stands_room keys most fits.written next one image checkpoint first.moved first.comes first.committed
+      (subst (λ (k : Keys). StandsFrom Within k most (one ∷ []) next image) same stands)) (after.1 counts first.fits_now)),
 )
 
 -- ---- from call to call

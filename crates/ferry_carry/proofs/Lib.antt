@@ -1,11 +1,13 @@
 pub mod PutsLemmas
 pub mod GatherLemmas
+pub mod AddingLemmas
 pub mod WorkLemmas
 pub mod FaultLemmas
 pub mod WholeLemmas
 pub mod SourceLemmas
 pub mod PieceLemmas
 pub mod CopyLemmas
+pub mod FillingLemmas
 pub mod GrowLemmas
 pub mod HealedLemmas
 pub mod ListingLemmas
@@ -22,3 +24,4 @@ pub mod FlyLemmas
 pub mod ReportLemmas
 pub mod StandLemmas
 pub mod CutLemmas
+pub mod HeldLemmas

@@ -1,7 +1,7 @@
 -- Lemmas on specs/Naming.antt: the record that was put for an archive, what the store lets a next body do, and the commit of a name.
 use Rattle.std.proofs.Common.{◌≡◌, ◌⊎◌, inl, inr, Bool, ℕ, List, [], ◌∷◌, Option, None, Result, Ok, Err, IfOk, IfSome, OnOk, ◌+◌, ◌-◌, ◌^◌, min}
 use Rattle.std.proofs.Common.{length, ◌<◌, ◌++◌, refl, sym, ◌∙◌, ap, arith, subst, false, true}
-use Rattle.std.proofs.lemmas.List.{append-nil}
+use Rattle.std.proofs.lemmas.List.{append-nil, append_assoc}
 use Rattle.std.proofs.lemmas.Option.{IfSome_then}
 use Rattle.std.proofs.lemmas.Result.{IfOk-weaker}
 use Rattle.ferry_base.specs.Limits.{content_limit, zero_id}
@@ -36,7 +36,7 @@ use Rattle.ferry_carry.proofs.FaultLemmas.{failed_target}
 use Rattle.ferry_carry.proofs.GrowLemmas.{commit_growing, commit_grows, growing_accepted, grows_accepted}
 use Rattle.ferry_carry.proofs.ListingLemmas.{bytes_apart, count_apart, counts_then, items_ended}
 use Rattle.ferry_carry.proofs.ProgressLemmas.{any_told, stream_ids}
-use Rattle.ferry_carry.proofs.PutsLemmas.{bytes_append, count_append}
+use Rattle.ferry_carry.proofs.PutsLemmas.{border_record, bytes_append, count_append}
 use Rattle.ferry_carry.proofs.WorkLemmas.{between_known, carried_nothing, works_as, works_front}
 use Rattle.ferry_carry.specs.Carrying.{IsReadyToName, Origin}
 use Rattle.ferry_carry.specs.Fault.{target_failed, target_fault}
@@ -50,7 +50,7 @@ use Rattle.ferry_carry.specs.Listing.{BeginsOne, EndsItemsOf, ListsArchive, List
 use Rattle.ferry_carry.specs.Naming.{AddsRecord, AddsUnder, BeginsRecord, copied_in, entry_for}
 use Rattle.ferry_carry.specs.Piece.{CountsOn}
 use Rattle.ferry_carry.specs.Progress.{CopiesAll, IsAllCopied, IsCopyFrom, WritesItems}
-use Rattle.ferry_carry.specs.Puts.{Addition, AreOf, ArePieces, Content, Kind, Record, Stream, addition, put_bytes, put_count}
+use Rattle.ferry_carry.specs.Puts.{Addition, AreOf, ArePieces, AtBegin, AtEnd, Content, Kind, Record, Stream, addition, border_behind, put_bytes, put_count}
 use Rattle.ferry_carry.specs.Refusals.{IsLimited, LimitsManifest, RefusesBegin, StopsPieces, named_next}
 use Rattle.ferry_carry.specs.Time.{time_for}
 use Rattle.ferry_carry.specs.declared.copy.Copy.{Copy}
@@ -199,6 +199,14 @@ counts_done from copy stream added last more keys archive carried is of counts a
       meta = omega (arith, meta_are, meta);
     }
 
+-- behind its record an archive is at its end
+pub behind_record : (keys : Keys) (archive : ArchiveText) (added last more : List Addition) → AddsRecord keys archive more
+    → border_behind AtBegin (added ++ (last ++ more)) ≡ AtEnd
+behind_record keys archive added last more adds =
+    let one = addition Record adds.text adds.put ∷ [] in
+    ap (λ (l : List Addition). border_behind AtBegin (added ++ (last ++ l))) adds.more_is
+    ∙ (ap (border_behind AtBegin) (sym (append_assoc added last one)) ∙ border_record AtBegin (added ++ last) adds.text adds.put)
+
 -- ---- what contents that were added leave
 
 pub unnamed_rest : (store now : Store) (name : List ℕ) → KeepsRest store now → archive_named name (accepted_in store).archives ≡ None
@@ -211,16 +219,17 @@ unnamed_rest store now name rest unnamed =
 module _ (accepted : ManifestText) (entry : ArchiveRef) (store now : Store) (manifest : ManifestText) (blob : List ℕ) (a b : Option Told) (n m : ℕ) where
   -- at each moment of the commit
   commit_each : KeepsNames (repo_view store.repo).manifest manifest → manifest.archives ≡ (accepted_in store).archives → AcceptsOne accepted store entry
-      → (from : Origin) → IfSome a (λ t. IsReadyToName from (told_files t) (repo_view store.repo) entry) → Between a b TellsNothing
+      → (from : Origin) (earlier : List Addition) → border_behind AtBegin earlier ≡ AtEnd
+      → IfSome a (λ t. IsReadyToName from earlier (told_files t) (repo_view store.repo) entry) → Between a b TellsNothing
       → Between a b (CommitsEntry (with_manifest (repo_view store.repo) manifest) store.session store.counter (PutEntry zero_id blob))
-      → Between a b (KeepsGrowingBy accepted from (entry.name ∷ []) store [])
-  commit_each names archives one from ready untold each =
+      → Between a b (KeepsGrowingBy earlier accepted from (entry.name ∷ []) store [])
+  commit_each names archives one from earlier at_end ready untold each =
       let commits = CommitsEntry (with_manifest (repo_view store.repo) manifest) store.session store.counter (PutEntry zero_id blob) in
       between_map a b
-      (λ h g. IsReadyToName from (files_now h) (repo_view store.repo) entry × (TellsNothing h g × commits h g))
-      (KeepsGrowingBy accepted from (entry.name ∷ []) store [])
-      (λ h g e. commit_growing from accepted entry store manifest blob h g names archives one e.0 e.1.0 e.1.1)
-      (between_known (λ h. IsReadyToName from (files_now h) (repo_view store.repo) entry) (λ h g. TellsNothing h g × commits h g) a b ready
+      (λ h g. IsReadyToName from earlier (files_now h) (repo_view store.repo) entry × (TellsNothing h g × commits h g))
+      (KeepsGrowingBy earlier accepted from (entry.name ∷ []) store [])
+      (λ h g e. commit_growing from earlier at_end accepted entry store manifest blob h g names archives one e.0 e.1.0 e.1.1)
+      (between_known (λ h. IsReadyToName from earlier (files_now h) (repo_view store.repo) entry) (λ h g. TellsNothing h g × commits h g) a b ready
       (between_both a b TellsNothing commits untold each))
 
   pub commit_works_err : (refusal : StoreRefusal) → KeepsNames (repo_view store.repo).manifest manifest
@@ -228,8 +237,8 @@ module _ (accepted : ManifestText) (entry : ArchiveRef) (store now : Store) (man
       → Did {T = Unit {0}} (CommitsEntry (with_manifest (repo_view store.repo) manifest) store.session store.counter (PutEntry zero_id blob))
       (λ _. Commits store (PutEntry zero_id blob) now) a b n m (Err refusal)
       → NamesArchive accepted entry store now a b n m (Err (target_fault refusal))
-  commit_works_err refusal names archives one untold did from ready = record {
-    each = commit_each names archives one from ready untold did.each;
+  commit_works_err refusal names archives one untold did from earlier at_end ready = record {
+    each = commit_each names archives one from earlier at_end ready untold did.each;
     end = tt;
     ends = subst (λ (d : Bool). FailedWhere d a b) (sym (failed_target refusal)) did.ends;
     cause = subst (λ (d : Bool). RoseWhere d n m) (sym (failed_target refusal)) did.cause;
@@ -240,13 +249,16 @@ module _ (accepted : ManifestText) (entry : ArchiveRef) (store now : Store) (man
       → Between a b TellsNothing
       → Did {T = Unit {0}} (CommitsEntry (with_manifest (repo_view store.repo) manifest) store.session store.counter (PutEntry zero_id blob))
       (λ _. Commits store (PutEntry zero_id blob) now) a b n m (Ok tt) → NamesArchive accepted entry store now a b n m (Ok tt)
-  commit_works names most archives manifest_is accepted_is one untold did from ready = record {
-    each = commit_each names archives one from ready untold did.each;
+  commit_works names most archives manifest_is accepted_is one untold did from earlier at_end ready = record {
+    each = commit_each names archives one from earlier at_end ready untold did.each;
     end = between_map a b
-        (λ h g. IsReadyToName from (files_now h) (repo_view store.repo) entry × (AllDone h g × Commits store (PutEntry zero_id blob) now h g))
-        (λ h g. AllDone h g × GrowsBy accepted from (entry.name ∷ []) [] store now h g)
-        (λ h g e. (e.1.0, commit_grows from accepted entry store now manifest blob h g most archives manifest_is accepted_is one e.0 e.1.1))
-        (between_known (λ h. IsReadyToName from (files_now h) (repo_view store.repo) entry)
+        (λ h g. IsReadyToName from earlier (files_now h) (repo_view store.repo) entry × (AllDone h g × Commits store (PutEntry zero_id blob) now h g))
+        (λ h g. AllDone h g × GrowsBy earlier accepted from (entry.name ∷ []) [] store now h g)
+        (λ h g e. (
+          e.1.0,
+          commit_grows from earlier at_end accepted entry store manifest blob now h g most archives manifest_is accepted_is one e.0 e.1.1,
+        ))
+        (between_known (λ h. IsReadyToName from earlier (files_now h) (repo_view store.repo) entry)
         (λ h g. AllDone h g × Commits store (PutEntry zero_id blob) now h g) a b ready did.end);
     ends = did.ends;
     cause = did.cause;
@@ -265,25 +277,29 @@ commit_most store now manifest is names = record {
 pub named_behind : (accepted : ManifestText) (entry : ArchiveRef) (store middle now : Store) (a b : Option Told) (n m : ℕ)
     (result : Result (Unit {0}) CarryFault) → middle ≡ record store { accepted = middle.accepted } → NamesArchive accepted entry middle now a b n m result
     → NamesArchive accepted entry store now a b n m result
-named_behind accepted entry store middle now a b n m (Ok x) same p from ready =
-    let works = p from
-    (subst (λ (r : RepoState). IfSome a (λ t. IsReadyToName from (told_files t) r entry)) (sym (ap (λ (s : Store). repo_view s.repo) same)) ready) in
-    works_as (KeepsGrowingBy accepted from (entry.name ∷ []) middle []) (λ (_ : Unit {0}). GrowsBy accepted from (entry.name ∷ []) [] middle now)
-    (KeepsGrowingBy accepted from (entry.name ∷ []) store []) (λ (_ : Unit {0}). GrowsBy accepted from (entry.name ∷ []) [] store now) a b n m x x
-    (λ h g e. growing_accepted accepted from (entry.name ∷ []) store middle [] h g same e)
-    (λ h g e. grows_accepted accepted from (entry.name ∷ []) [] store middle now h g same e) works
-named_behind accepted entry store middle now a b n m (Err fault) same p from ready =
-    let works = p from
-    (subst (λ (r : RepoState). IfSome a (λ t. IsReadyToName from (told_files t) r entry)) (sym (ap (λ (s : Store). repo_view s.repo) same)) ready) in
-    works_front (KeepsGrowingBy accepted from (entry.name ∷ []) middle []) (λ (_ : Unit {0}). GrowsBy accepted from (entry.name ∷ []) [] middle now)
-    (KeepsGrowingBy accepted from (entry.name ∷ []) store []) (λ (_ : Unit {0}). GrowsBy accepted from (entry.name ∷ []) [] store now) a b n m fault
-    (λ h g e. growing_accepted accepted from (entry.name ∷ []) store middle [] h g same e) works
+named_behind accepted entry store middle now a b n m (Ok x) same p from earlier at_end ready =
+    let works = p from earlier at_end
+    (subst (λ (r : RepoState). IfSome a (λ t. IsReadyToName from earlier (told_files t) r entry)) (sym (ap (λ (s : Store). repo_view s.repo) same)) ready) in
+    works_as (KeepsGrowingBy earlier accepted from (entry.name ∷ []) middle [])
+    (λ (_ : Unit {0}). GrowsBy earlier accepted from (entry.name ∷ []) [] middle now)
+    (KeepsGrowingBy earlier accepted from (entry.name ∷ []) store []) (λ (_ : Unit {0}). GrowsBy earlier accepted from (entry.name ∷ []) [] store now)
+    a b n m x x
+    (λ h g e. growing_accepted earlier accepted from (entry.name ∷ []) store middle [] h g same e)
+    (λ h g e. grows_accepted earlier accepted from (entry.name ∷ []) [] store middle now h g same e) works
+named_behind accepted entry store middle now a b n m (Err fault) same p from earlier at_end ready =
+    let works = p from earlier at_end
+    (subst (λ (r : RepoState). IfSome a (λ t. IsReadyToName from earlier (told_files t) r entry)) (sym (ap (λ (s : Store). repo_view s.repo) same)) ready) in
+    works_front (KeepsGrowingBy earlier accepted from (entry.name ∷ []) middle [])
+    (λ (_ : Unit {0}). GrowsBy earlier accepted from (entry.name ∷ []) [] middle now)
+    (KeepsGrowingBy earlier accepted from (entry.name ∷ []) store []) (λ (_ : Unit {0}). GrowsBy earlier accepted from (entry.name ∷ []) [] store now)
+    a b n m fault
+    (λ h g e. growing_accepted earlier accepted from (entry.name ∷ []) store middle [] h g same e) works
 
 -- where no call was made
 pub names_nothing : (entry : ArchiveRef) (store now : Store) (a : Option Told) (n : ℕ) (fault : CarryFault) → AcceptsMore store
     → target_failed fault ≡ false → NamesArchive (accepted_in store) entry store now a a n n (Err fault)
-names_nothing entry store now a n fault accepts still from ready =
-    carried_nothing {T = Unit {0}} from (entry.name ∷ []) (entry.name ∷ []) [] store now a n fault accepts still
+names_nothing entry store now a n fault accepts still from earlier at_end ready =
+    carried_nothing {T = Unit {0}} earlier from (entry.name ∷ []) (entry.name ∷ []) [] store now a n fault accepts still
 
 -- ---- a manifest that is too large
 

@@ -1,6 +1,6 @@
 -- Lemmas on specs/Piece.antt: a writer of pieces from round to round, and what its last piece is.
 use Rattle.std.proofs.Common.{◌≡◌, ◌≤◌, ◌<◌, ◌+◌, ◌-◌, ◌^◌, ℕ, inl, inr, Bool, true, false, if◌then◌else◌, List, [], ◌∷◌, ◌++◌}
-use Rattle.std.proofs.Common.{Option, Some, None, IsSome, is_some, Result, Ok, Err, OnOk}
+use Rattle.std.proofs.Common.{Option, Some, None, IsSome, is_some, Result, Ok, Err, IfErr, OnOk}
 use Rattle.std.proofs.Common.{length, min, take, drop, refl, sym, ◌∙◌, ap, subst, arith}
 use Rattle.std.proofs.lemmas.Bool.{cases_lt}
 use Rattle.std.proofs.lemmas.List.{append-nil, append_assoc, drop_all, length-append, length-take, map-append}
@@ -12,15 +12,24 @@ use Rattle.ferry_rechunk.proofs.CutLemmas.{cut_nothing}
 use Rattle.ferry_rechunk.proofs.FeedLemmas.{FedSoFar, next_round, none_yet, one_more}
 use Rattle.ferry_rechunk.specs.Cut.{cut}
 use Rattle.ferry_rechunk.specs.Cutting.{Cutting, IsFed}
+use Rattle.ferry_carry.proofs.AddingLemmas.{held_target, stops_then, stops_unbroken}
+use Rattle.ferry_carry.proofs.GatherLemmas.{each_room, room_makes, room_stands, room_then}
 use Rattle.ferry_carry.proofs.PutsLemmas.{bytes_append, count_append}
-use Rattle.ferry_carry.proofs.WorkLemmas.{gathered_then}
-use Rattle.ferry_carry.specs.Gather.{Gathers, KeepsRest, KeepsStanding, chunk_of, chunks_of}
+use Rattle.ferry_carry.proofs.WorkLemmas.{gathered_then, works_as, works_front, works_then}
+use Rattle.ferry_carry.specs.Adding.{AddsOn, IsNoChunk}
+use Rattle.ferry_carry.specs.Gather.{Gathers, KeepsRest, KeepsStanding, MakesRoom, chunk_of, chunks_of}
 use Rattle.ferry_carry.specs.Piece.{BeginsOn, CountsOn, WritesOn}
-use Rattle.ferry_carry.specs.Puts.{Addition, Content, Kind, Record, Stream, addition, put_bytes, put_count}
+use Rattle.ferry_carry.specs.Puts.{Addition, Content, IsCheckpoint, Kind, Record, Stream, Within, addition, is_piece, put_bytes, put_count}
+use Rattle.ferry_carry.specs.Refusals.{is_target}
 use Rattle.ferry_carry.specs.Work.{Works}
 use Rattle.ferry_carry.specs.declared.fault.CarryFault.{CarryFault}
 use Rattle.ferry_carry.specs.declared.piece.PieceWriter.{PieceWriter}
 use Rattle.ferry_disk.specs.Device.{Told}
+use Rattle.ferry_repo.specs.Opening.{repo_view}
+use Rattle.ferry_stops.specs.Tells.{TellsNothing}
+use Rattle.ferry_store.specs.Adding.{Checkpoints, id_under}
+use Rattle.ferry_store.specs.Content.{IsNew}
+use Rattle.ferry_store.specs.State.{CommitsSound}
 use Rattle.ferry_store.specs.declared.store.Store.{Store}
 
 -- ---- the last piece
@@ -194,21 +203,62 @@ counts_by kind writer other now last more put bytes put_now bytes_now p = record
   bytes = bytes_now ∙ (p.bytes ∙ ap (λ (n : ℕ). min (n + put_bytes kind more) (2 ^ 128 - 1)) (sym bytes));
 }
 
+-- ---- a checkpoint before a piece
+
+-- as many are pending as may be, and the piece is to be put: the checkpoint comes before it
+pub room_works : {T : Type 0} (most : ℕ) (store now : Store) (one : Addition) (a b : Option Told) (n m : ℕ) (result : Result T CarryFault)
+    → IsCheckpoint most → is_piece one.kind ≡ true → store.pending ≡ most → IsNew (repo_view store.repo) (id_under store one.content)
+    → OnOk result (now.repo ≡ store.repo)
+    → Works (λ h g. TellsNothing h g × CommitsSound store.session store.counter h g) (λ (_ : T). Checkpoints store now) a b n m result
+    → Works (KeepsStanding most store (one ∷ [])) (λ (_ : T). MakesRoom most store one now) a b n m result
+room_works {T} most store now one a b n m (Ok x) checkpoint piece full new repo p =
+    works_as (λ h g. TellsNothing h g × CommitsSound store.session store.counter h g) (λ (_ : T). Checkpoints store now)
+    (KeepsStanding most store (one ∷ [])) (λ (_ : T). MakesRoom most store one now) a b n m x x
+    (λ h g e. room_stands most store one h g checkpoint piece full new e.0 e.1)
+    (λ h g e. room_makes most store now one h g checkpoint repo piece full new e) p
+room_works {T} most store now one a b n m (Err fault) checkpoint piece full new repo p =
+    works_front (λ h g. TellsNothing h g × CommitsSound store.session store.counter h g) (λ (_ : T). Checkpoints store now)
+    (KeepsStanding most store (one ∷ [])) (λ (_ : T). MakesRoom most store one now) a b n m fault
+    (λ h g e. room_stands most store one h g checkpoint piece full new e.0 e.1) p
+
+-- a piece that was added behind what came before it
+pub room_added : {T U : Type 0} (most : ℕ) (store middle now : Store) (one : Addition) (a b c : Option Told) (n m k : ℕ) (x : T)
+    (result : Result U CarryFault) → IsCheckpoint most → KeepsRest store middle → IfErr result (λ fault. is_target fault ≡ true)
+    → Works (KeepsStanding most store (one ∷ [])) (λ (_ : T). MakesRoom most store one middle) a b n m (Ok x)
+    → AddsOn most middle (one ∷ []) now b c m k result → AddsOn most store (one ∷ []) now a c n k result
+room_added {T} {U} most store middle now one a b c n m k x result checkpoint rest target p q = record {
+  works = works_then (KeepsStanding most store (one ∷ [])) (λ (_ : T). MakesRoom most store one middle) (KeepsStanding most middle (one ∷ []))
+      (λ (_ : U). Gathers most middle (one ∷ []) now) (KeepsStanding most store (one ∷ [])) (λ (_ : U). Gathers most store (one ∷ []) now) a b c n m k x
+      result (λ h g i e d f r. each_room most store middle one h g i checkpoint rest.keys e d f r)
+      (λ _ h g i e f. room_then most store middle now one h g i checkpoint rest e f) p q.works;
+  last = stops_then {T = U} a b (repo_view store.repo).keys (repo_view middle.repo).keys [] (one ∷ []) result p.ends rest.keys q.last;
+  held = held_target {T = U} Within most store now (one ∷ []) a c result target;
+}
+
+-- where there was no room for it
+pub room_refused : {T U : Type 0} (most : ℕ) (store middle now : Store) (one : Addition) (a b : Option Told) (n m : ℕ) (fault : CarryFault)
+    → IsNoChunk fault → is_target fault ≡ true
+    → Works (KeepsStanding most store (one ∷ [])) (λ (_ : T). MakesRoom most store one middle) a b n m (Err fault)
+    → AddsOn {T = U} most store (one ∷ []) now a b n m (Err fault)
+room_refused {T} {U} most store middle now one a b n m fault unbroken target p = record {
+  works = works_front (KeepsStanding most store (one ∷ [])) (λ (_ : T). MakesRoom most store one middle) (KeepsStanding most store (one ∷ []))
+      (λ (_ : U). Gathers most store (one ∷ []) now) a b n m fault (λ h g e. e) p;
+  last = stops_unbroken a (repo_view store.repo).keys (one ∷ []) fault unbroken;
+  held = held_target {T = U} Within most store now (one ∷ []) a b (Err fault) target;
+}
+
 -- ---- pieces that were added
 
 -- the same under another word for the checkpoint
 pub pieces_at : {T : Type 0} (most count : ℕ) (store now : Store) (more : List Addition) (a b : Option Told) (n m : ℕ) (result : Result T CarryFault)
-    → count ≡ most → Works (KeepsStanding count store more) (λ (_ : T). Gathers count store more now) a b n m result
-    → Works (KeepsStanding most store more) (λ (_ : T). Gathers most store more now) a b n m result
-pieces_at {T} most count store now more a b n m result same p =
-    subst (λ (held : ℕ). Works (KeepsStanding held store more) (λ (_ : T). Gathers held store more now) a b n m result) same p
+    → count ≡ most → AddsOn count store more now a b n m result → AddsOn most store more now a b n m result
+pieces_at {T} most count store now more a b n m result same p = subst (λ (held : ℕ). AddsOn held store more now a b n m result) same p
 
 -- pieces behind pieces
 pub pieces_then : {T U : Type 0} (most first second : ℕ) (store middle now : Store) (some more : List Addition) (a b c : Option Told) (n m k : ℕ) (x : T)
     (result : Result U CarryFault) → first ≡ most → second ≡ most → KeepsRest store middle → OnOk result (KeepsRest middle now)
-    → Works (KeepsStanding first store some) (λ (_ : T). Gathers first store some middle) a b n m (Ok x)
-    → Works (KeepsStanding second middle more) (λ (_ : U). Gathers second middle more now) b c m k result
-    → Works (KeepsStanding most store (some ++ more)) (λ (_ : U). Gathers most store (some ++ more) now) a c n k result
+    → AddsOn first store some middle a b n m (Ok x) → AddsOn second middle more now b c m k result
+    → AddsOn most store (some ++ more) now a c n k result
 pieces_then {T} {U} most first second store middle now some more a b c n m k x result is is_now rest rest_now p q =
     gathered_then {T = T} {U = U} most store middle now some more a b c n m k x result rest rest_now
     (pieces_at {T = T} most first store middle some a b n m (Ok x) is p) (pieces_at {T = U} most second middle now more b c m k result is_now q)

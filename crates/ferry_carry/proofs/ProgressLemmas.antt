@@ -41,12 +41,12 @@ use Rattle.ferry_carry.proofs.WorkLemmas.{works_known}
 use Rattle.ferry_carry.specs.Carrying.{CanBeNamed, HoldsApart, IsReadyToName, Origin, SaysIn, origin}
 use Rattle.ferry_carry.specs.Copied.{IsCopyOf, IsRead, adds_of, contents_of, copied_item, copied_stream, pieces_of, stream_block, stream_pieces}
 use Rattle.ferry_carry.specs.Copying.{IsReady}
-use Rattle.ferry_carry.specs.Gather.{Brings, Gathered, Gathers, HoldsContents, HoldsWithin, IsAmong, KeepsRest, KeepsStanding, NoCollision, chunk_of, chunks_of}
+use Rattle.ferry_carry.specs.Gather.{Gathered, Gathers, HoldsContents, HoldsWithin, IsAmong, KeepsRest, KeepsStanding, NoCollision, chunk_of, chunks_of}
 use Rattle.ferry_carry.specs.Listing.{ListsItems}
 use Rattle.ferry_carry.specs.Naming.{AddsUnder, copied_in, entry_for}
 use Rattle.ferry_carry.specs.Piece.{WritesOn}
 use Rattle.ferry_carry.specs.Progress.{CopiesAll, CopiesSoFar, IsAllCopied, IsCopiedSoFar, IsCopyFrom, WritesItems}
-use Rattle.ferry_carry.specs.Puts.{Addition, AreOf, ArePieces, Content, Kind, Stream, contents_in, put_bytes, put_count}
+use Rattle.ferry_carry.specs.Puts.{Addition, AreOf, ArePieces, Content, Kind, Stream, Within, contents_in, put_bytes, put_count}
 use Rattle.ferry_carry.specs.Step.{CopiesItem, CountsStep, EndsItems}
 use Rattle.ferry_carry.specs.Work.{Works}
 use Rattle.ferry_carry.specs.declared.copy.Copy.{Copy}
@@ -95,34 +95,30 @@ within_before counts store now h g fits fits_now keeps rest scope within id cont
     within id content (chunk_on counts store now h g fits fits_now keeps rest.keys id content chunk)
 
 -- contents that are there where none collide are so later
-held_on : (most : ℕ) (counts : Bool) (store now : Store) (added : List Addition) (contents : List (List ℕ)) (h g : History)
-    (fits : StoreFits counts store h) → Gathered most counts store added now h g fits → KeepsRest store now
-    → HoldsApart (files_now h) (repo_view store.repo) contents
-    → HoldsApart (files_now g) (repo_view now.repo) contents
-held_on most counts store now added contents h g fits end rest held scope apart all within =
+held_on : (most : ℕ) (counts : Bool) (store now : Store) (before added : List Addition) (contents : List (List ℕ)) (h g : History)
+    (fits : StoreFits counts store h) → Gathered Within most counts store added now h g fits → KeepsRest store now
+    → HoldsApart (files_now h) (repo_view store.repo) before contents
+    → HoldsApart (files_now g) (repo_view now.repo) before contents
+held_on most counts store now before added contents h g fits end rest held scope apart all within =
     contents_on counts store now h g fits end.fits_now end.moved.entries rest contents
     (held scope (subst (λ (k : Keys). NoCollision k scope) rest.keys apart) all
     (within_before counts store now h g fits end.fits_now end.moved.entries rest scope within))
 
 -- contents that were there, and behind a part of them those that were added
-held_more : (most : ℕ) (counts : Bool) (store now : Store) (added : List Addition) (first last some more : List (List ℕ)) (h g : History)
-    (fits : StoreFits counts store h) → contents_in added ≡ some ++ more → Gathered most counts store added now h g fits → KeepsRest store now
-    → HoldsApart (files_now h) (repo_view store.repo) (first ++ last)
-    → HoldsApart (files_now g) (repo_view now.repo) ((first ++ some) ++ (last ++ more))
-held_more most counts store now added first last some more h g fits adds end rest held scope apart all within =
+held_more : (most : ℕ) (counts : Bool) (store now : Store) (before added : List Addition) (first last some more : List (List ℕ)) (h g : History)
+    (fits : StoreFits counts store h) → contents_in added ≡ some ++ more → Gathered Within most counts store added now h g fits → KeepsRest store now
+    → HoldsApart (files_now h) (repo_view store.repo) before (first ++ last)
+    → HoldsApart (files_now g) (repo_view now.repo) (before ++ added) ((first ++ some) ++ (last ++ more))
+held_more most counts store now before added first last some more h g fits adds end rest held scope apart all within =
     let P : List ℕ → Type 0 = λ content.
     HoldsChunk (files_now g) (repo_view now.repo).log (repo_view now.repo).keys (content_id (repo_view now.repo).keys content) content in
-    let halves = all_front (IsAmong scope) (first ++ some) (last ++ more) all in
-    let front = all_front (IsAmong scope) first some halves.0 in
-    let back = all_front (IsAmong scope) last more halves.1 in
-    let old = held_on most counts store now added (first ++ last) h g fits end rest held scope apart
-    (all_both (IsAmong scope) first last front.0 back.0) within in
-    let brings : Brings (repo_view store.repo) (some ++ more) (repo_view now.repo) h g =
-    subst (λ (contents : List (List ℕ)). Brings (repo_view store.repo) contents (repo_view now.repo) h g) adds end.brings in
-    let new = (brings scope (subst (λ (k : Keys). NoCollision k scope) rest.keys apart) (all_both (IsAmong scope) some more front.1 back.1)
+    let halves = all_front (IsAmong scope) (contents_in before) (contents_in added)
+    (subst (AllByRecursion (IsAmong scope)) (contents_append before added) all) in
+    let old = held_on most counts store now before added (first ++ last) h g fits end rest held scope apart halves.0 within in
+    let new = (end.brings scope (subst (λ (k : Keys). NoCollision k scope) rest.keys apart) halves.1
     (within_before counts store now h g fits end.fits_now end.moved.entries rest scope within)).1 in
     let olds = all_front P first last old in
-    let news = all_front P some more new in
+    let news = all_front P some more (subst (HoldsContents (files_now g) (repo_view now.repo)) adds new) in
     all_both P (first ++ some) (last ++ more) (all_both P first some olds.0 news.0) (all_both P last more olds.1 news.1)
 
 -- ---- WritesItems
@@ -130,7 +126,7 @@ held_more most counts store now added first last some more h g fits adds end res
 -- one item more
 writes_more : (most : ℕ) (counts : Bool) (store now : Store) (h g : History) (fits : StoreFits counts store h) (copy copy_now : Copy)
     (wholes : List WholeItem) (whole : WholeItem) (added own spelled : List Addition)
-    → Gathered most counts store (own ++ spelled) now h g fits → KeepsRest store now → IsReady copy
+    → Gathered Within most counts store (own ++ spelled) now h g fits → KeepsRest store now → IsReady copy
     → copy_now.block ≡ copy.block → ArePieces Content (pieces_of copy.block whole.content) own → AreOf Stream spelled
     → WritesOn (repo_view store.repo).keys copy.stream.cutter copy.stream.chunks.items (item_text (copied_item (repo_view store.repo).keys copy.block whole))
     (contents_in spelled) copy_now.stream.cutter copy_now.stream.chunks.items → IsRead (copied_item (repo_view store.repo).keys copy.block whole)
@@ -166,22 +162,22 @@ writes_more most counts store now h g fits copy copy_now wholes whole added own 
     subst (λ (k : Keys). IsSo k copy_now.block) (sym rest.keys) (subst (IsSo keys) (sym same) (fed, (chunks_are, (reads, lists)))) in
     let contents : contents_in more ≡ pieces_of block whole.content ++ full =
     contents_append own spelled ∙ ap (λ (cs : List (List ℕ)). cs ++ full) own_is.0 in
-    let held : HoldsApart (files_now g) (repo_view now.repo) (contents_of block all ++ taken) =
-    subst (λ (cs : List (List ℕ)). HoldsApart (files_now g) (repo_view now.repo) (cs ++ taken)) (sym (contents_more block wholes whole))
-    (held_more most counts store now more (contents_of block wholes) writes.taken (pieces_of block whole.content) full h g fits contents end rest
+    let held : HoldsApart (files_now g) (repo_view now.repo) (added ++ more) (contents_of block all ++ taken) =
+    subst (λ (cs : List (List ℕ)). HoldsApart (files_now g) (repo_view now.repo) (added ++ more) (cs ++ taken)) (sym (contents_more block wholes whole))
+    (held_more most counts store now added more (contents_of block wholes) writes.taken (pieces_of block whole.content) full h g fits contents end rest
     writes.held) in
     record {
       taken = taken;
       fed = so.0;
       chunks = so.1.0;
       spelled = so.1.1.0;
-      held = subst (λ (b : ℕ). HoldsApart (files_now g) (repo_view now.repo) (contents_of b all ++ taken)) (sym same) held;
+      held = subst (λ (b : ℕ). HoldsApart (files_now g) (repo_view now.repo) (added ++ more) (contents_of b all ++ taken)) (sym same) held;
       lists = so.1.1.1;
     }
 
 -- the same items, where nothing of the stream has changed
 writes_on : (most : ℕ) (counts : Bool) (store now : Store) (more : List Addition) (h g : History) (fits : StoreFits counts store h) (copy copy_now : Copy)
-    (wholes : List WholeItem) (added : List Addition) → Gathered most counts store more now h g fits → KeepsRest store now
+    (wholes : List WholeItem) (added : List Addition) → Gathered Within most counts store more now h g fits → KeepsRest store now
     → copy_now.stream ≡ copy.stream → copy_now.block ≡ copy.block → WritesItems (files_now h) (repo_view store.repo) copy wholes added
     → WritesItems (files_now g) (repo_view now.repo) copy_now wholes added
 writes_on most counts store now more h g fits copy copy_now wholes added end rest stream same writes =
@@ -199,8 +195,8 @@ writes_on most counts store now more h g fits copy copy_now wholes added end res
       fed = so.0;
       chunks = so.1.0;
       spelled = so.1.1.0;
-      held = subst (λ (b : ℕ). HoldsApart (files_now g) (repo_view now.repo) (contents_of b wholes ++ taken)) (sym same)
-          (held_on most counts store now more (contents_of copy.block wholes ++ taken) h g fits end rest writes.held);
+      held = subst (λ (b : ℕ). HoldsApart (files_now g) (repo_view now.repo) added (contents_of b wholes ++ taken)) (sym same)
+          (held_on most counts store now added more (contents_of copy.block wholes ++ taken) h g fits end rest writes.held);
       lists = so.1.1.1;
     }
 
@@ -209,7 +205,7 @@ writes_on most counts store now more h g fits copy copy_now wholes added end res
 -- one item more was taken and written
 pub step_copied : (most : ℕ) (counts : Bool) (t : Told) (source : RepoState) (named : ArchiveRef) (store now : Store) (copy copy_now : Copy)
     (added more : List Addition) (h g : History) (fits : StoreFits counts store h) → FitsFiles (told_files t) source.log
-    → Gathered most counts store more now h g fits
+    → Gathered Within most counts store more now h g fits
     → KeepsRest store now → IsReady copy → copy_now.archive ≡ copy.archive → copy_now.block ≡ copy.block
     → CopiesItem (Some t) source (repo_view store.repo).keys copy more copy_now
     → CopiesSoFar (told_files t) source named (files_now h) (repo_view store.repo) copy added
@@ -241,14 +237,14 @@ step_copied most counts t source named store now copy copy_now added more h g fi
       come = wholes_more there source.log source.keys so.items so.wholes step.item whole so.come is.holds;
       writes = subst (λ (l : List Addition). WritesItems (files_now g) (repo_view now.repo) copy_now (so.wholes ++ whole ∷ []) (added ++ l)) (sym step.pieces)
           (writes_more most counts store now h g fits copy copy_now so.wholes whole added own spelled
-          (subst (λ (l : List Addition). Gathered most counts store l now h g fits) step.pieces end) rest ready same (is.pieces, step.of_content)
+          (subst (λ (l : List Addition). Gathered Within most counts store l now h g fits) step.pieces end) rest ready same (is.pieces, step.of_content)
           step.of_stream wrote read so.writes);
     }
 
 -- no item more is to come: all were written
 pub step_ended : (most : ℕ) (counts : Bool) (t : Told) (source : RepoState) (named : ArchiveRef) (store now : Store) (copy copy_now : Copy)
     (added more : List Addition) (h g : History) (fits : StoreFits counts store h) → archive_named named.name source.manifest.archives ≡ Some named
-    → Gathered most counts store more now h g fits → KeepsRest store now → copy_now.archive ≡ copy.archive → copy_now.block ≡ copy.block
+    → Gathered Within most counts store more now h g fits → KeepsRest store now → copy_now.archive ≡ copy.archive → copy_now.block ≡ copy.block
     → EndsItems (Some t) source copy more copy_now → CopiesSoFar (told_files t) source named (files_now h) (repo_view store.repo) copy added
     → CopiesAll (told_files t) source named (files_now g) (repo_view now.repo) copy_now added
 step_ended most counts t source named store now copy copy_now added more h g fits named_is end rest archive same step so =
@@ -444,12 +440,12 @@ stream_ids files repo copy wholes added ready writes =
 -- all that an archive is in a target is there, once what was left of its stream and its record were added
 pub ready_then : (most : ℕ) (counts : Bool) (there : Files) (from : Origin) (named : ArchiveRef) (store middle : Store) (copy : Copy)
     (added last more : List Addition) (id : List ℕ) (h g : History) (fits : StoreFits counts store h) → from.block ≡ copy.block → IsReady copy
-    → Gathered most counts store (last ++ more) middle h g fits → KeepsRest store middle
+    → Gathered Within most counts store (last ++ more) middle h g fits → KeepsRest store middle
     → ArePieces Stream (cut copy.stream.cutter.block copy.stream.cutter.piece) last
     → AddsUnder (repo_view store.repo).keys (copied_in (archive_view copy.archive) copy.block (copy.stream.chunks.items
     ++ chunks_of (repo_view store.repo).keys (cut copy.stream.cutter.block copy.stream.cutter.piece))) more id
     → CopiesAll there from.repo named (files_now h) (repo_view store.repo) copy added
-    → CanBeNamed there from (files_now g) (repo_view middle.repo) (entry_for named id)
+    → CanBeNamed there from (added ++ (last ++ more)) (files_now g) (repo_view middle.repo) (entry_for named id)
 ready_then most counts there from named store middle copy added last more id h g fits same ready end rest last_is is all =
     let keys = (repo_view store.repo).keys in
     let block = copy.block in
@@ -481,12 +477,13 @@ ready_then most counts there from named store middle copy added last more id h g
     let contents : contents_in (last ++ more) ≡ left ++ text ∷ [] =
     contents_append last more ∙ (ap (λ (cs : List (List ℕ)). cs ++ contents_in more) last_is.0
     ∙ ap (λ (l : List Addition). left ++ contents_in l) is.adds.more_is) in
-    let held : HoldsApart (files_now g) (repo_view middle.repo) (adds_of keys block wholes text) =
-    subst (HoldsApart (files_now g) (repo_view middle.repo)) adds
-    (held_more most counts store middle (last ++ more) (contents_of block wholes) writes.taken [] (left ++ text ∷ []) h g fits contents end rest
+    let all_added = added ++ (last ++ more) in
+    let held : HoldsApart (files_now g) (repo_view middle.repo) all_added (adds_of keys block wholes text) =
+    subst (HoldsApart (files_now g) (repo_view middle.repo) all_added) adds
+    (held_more most counts store middle added (last ++ more) (contents_of block wholes) writes.taken [] (left ++ text ∷ []) h g fits contents end rest
     writes.held) in
     let IsSo : Keys → ℕ → Type 0 = λ k b.
-    IsCopyOf k b wholes archive.fields text × HoldsApart (files_now g) (repo_view middle.repo) (adds_of k b wholes text) in
+    IsCopyOf k b wholes archive.fields text × HoldsApart (files_now g) (repo_view middle.repo) all_added (adds_of k b wholes text) in
     let so : IsSo (repo_view middle.repo).keys from.block =
     subst (λ (k : Keys). IsSo k from.block) (sym rest.keys) (subst (IsSo keys) (sym same) (copied, held)) in
     record {
@@ -506,11 +503,12 @@ pub readies : {T : Type 0} (from : Origin) (a b : Option Told) (named : ArchiveR
     → KeepsRest store middle → ArePieces Stream (cut copy.stream.cutter.block copy.stream.cutter.piece) last
     → AddsUnder (repo_view store.repo).keys (copied_in (archive_view copy.archive) copy.block (copy.stream.chunks.items
     ++ chunks_of (repo_view store.repo).keys (cut copy.stream.cutter.block copy.stream.cutter.piece))) more id
-    → IsAllCopied from named a store copy added → IfSome b (λ d. IsReadyToName from (told_files d) (repo_view middle.repo) (entry_for named id))
+    → IsAllCopied from named a store copy added
+    → IfSome b (λ d. IsReadyToName from (added ++ (last ++ more)) (told_files d) (repo_view middle.repo) (entry_for named id))
 readies {T} from a b named store middle copy added last more id n m x fits ready works rest last_is is all =
     let adds = last ++ more in
     let P : History → Type 0 = λ h. IfSome from.files (λ there. CopiesAll there from.repo named (files_now h) (repo_view store.repo) copy added) in
-    let R : History → Type 0 = λ h. IsReadyToName from (files_now h) (repo_view middle.repo) (entry_for named id) in
+    let R : History → Type 0 = λ h. IsReadyToName from (added ++ adds) (files_now h) (repo_view middle.repo) (entry_for named id) in
     works_known {T = T} (λ h. StoreFits false store h × P h) R (KeepsStanding from.most store adds) (λ (_ : T). Gathers from.most store adds middle) a b n m x
     (λ h g known gathers.
     IfSome_then from.files known.1

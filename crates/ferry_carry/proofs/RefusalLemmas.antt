@@ -21,6 +21,7 @@ use Rattle.ferry_repo.specs.Whole.{ContentsCome, RefusesJoined, RefusesWhole}
 use Rattle.ferry_store.specs.declared.store.Store.{Store}
 use Rattle.ferry_carry.proofs.ProgressLemmas.{any_told}
 use Rattle.ferry_carry.proofs.SourceLemmas.{leads_come, leads_then, refuses_content_here, refuses_copy}
+use Rattle.ferry_carry.specs.Adding.{IsNoChunk}
 use Rattle.ferry_carry.specs.Carrying.{Origin, origin}
 use Rattle.ferry_carry.specs.Copying.{TakesItem}
 use Rattle.ferry_carry.specs.Progress.{CopiesSoFar, IsCopiedSoFar}
@@ -168,3 +169,13 @@ item_refused told later heard_of source now cached block block_now most named st
     refuses = tt
 item_refused told later heard_of source now cached block block_now most named store copy added item after Record alike kept same fits taken named_is so
     refuses = absurd refuses
+
+-- a source whose next item doesn't come is no chunk of the target
+pub next_unbroken : (told : Option Told) (source : RepoState) (walk : WalkState) (fault : CarryFault) → RefusesNext told source walk fault → IsNoChunk fault
+next_unbroken told source walk (Source fault) refused = tt
+next_unbroken told source walk (Target refusal) refused = absurd refused
+next_unbroken told source walk (Taken name) refused = tt
+next_unbroken told source walk (NotFound name) refused = tt
+next_unbroken told source walk Pieces refused = tt
+next_unbroken told source walk Memory refused = tt
+next_unbroken told source walk Record refused = tt

@@ -1,12 +1,12 @@
 -- Lemmas on specs/Telling.antt: what was told at each moment, and what is told by bodies one after another.
 use Rattle.std.proofs.Common.{◌≡◌, ◌⊎◌, inl, inr, ℕ, zero, suc, Bool, true, false, if◌then◌else◌, cond, List, [], ◌∷◌, ◌++◌, Option, Some, None, Ok, Err}
 use Rattle.std.proofs.Common.{Result, refl, sym, ◌∙◌, ap, subst, arith, min, ◌^◌, ◌-◌}
-use Rattle.std.proofs.Common.{append_assoc, ◌↔◌, ◌≤◌, ◌<◌, ◌+◌, length, take, drop, get_or, IfSome, IsSome, OnOk}
+use Rattle.std.proofs.Common.{append_assoc, ◌↔◌, ◌≤◌, ◌<◌, ◌+◌, length, take, drop, get_or, IfErr, IfSome, IsSome, OnOk}
 use Rattle.std.proofs.lemmas.List.{append-nil, append_cancel_left, take-append-drop, take_all, take_more}
 use Rattle.std.proofs.lemmas.Slice.Eq.{bytes_eq-Decides}
 use Rattle.std.specs.List.{AllByRecursion}
 use Rattle.std.specs.Str.{bytes_eq}
-use Rattle.ferry_disk.proofs.MomentLemmas.{all_moments, moments_all, steps_end, steps_end_undone}
+use Rattle.ferry_disk.proofs.MomentLemmas.{all_moments, between_map, moments_all, steps_end, steps_end_undone}
 use Rattle.ferry_disk.specs.Act.{Step, TellOf, Act, History, with_act}
 use Rattle.ferry_disk.specs.Device.{Told}
 use Rattle.ferry_disk.specs.Files.{Files}
@@ -17,41 +17,51 @@ use Rattle.ferry_manifest.specs.declared.manifest.ArchiveRef.{ArchiveRef}
 use Rattle.ferry_next.proofs.PlaceLemmas.{with_named}
 use Rattle.ferry_blob.specs.Blob.{content_id}
 use Rattle.ferry_repo.specs.Archives.{archive_named}
-use Rattle.ferry_repo.specs.Opening.{repo_view}
+use Rattle.ferry_repo.specs.Opening.{RepoState, repo_view}
+use Rattle.ferry_repo.specs.declared.fault.RepoFault.{RepoFault}
 use Rattle.ferry_stops.proofs.TellLemmas.{line_told, lines-append}
 use Rattle.ferry_stops.specs.Tells.{TellsNothing, line_of, lines_of}
 use Rattle.ferry_store.proofs.SoundLemmas.{stands_now}
 use Rattle.ferry_store.proofs.StepLemmas.{moments_map, moments_then, step_moments}
 use Rattle.ferry_store.specs.Commit.{accepted_in}
-use Rattle.ferry_store.specs.State.{IsSound, IsStep, ShowsStanding}
+use Rattle.ferry_store.specs.State.{IsSound, IsStep, ShowsStanding, Written}
 use Rattle.ferry_store.specs.Store.{StoreFits}
+use Rattle.ferry_store.specs.declared.fault.StoreRefusal.TheVariants as Stores
 use Rattle.ferry_store.specs.declared.store.Store.{Store}
 use Rattle.ferry_write.specs.Script.{AllDone}
+use Rattle.ferry_carry.proofs.AddingLemmas.{stops_then, stops_unbroken}
 use Rattle.ferry_carry.proofs.GatherLemmas.{rest_here, sound_map, standing_from}
 use Rattle.ferry_carry.proofs.CauseLemmas.{not_there}
 use Rattle.ferry_carry.proofs.CutLemmas.{among_either, among_none, among_one}
 use Rattle.ferry_carry.proofs.FlightLemmas.{named_so}
-use Rattle.ferry_carry.proofs.GrowLemmas.{growing_here, growing_longer, grows_from, grows_here, grows_then, has_kept, on_from, on_then, on_wider}
+use Rattle.ferry_carry.proofs.GrowLemmas.{Follows, follows_allows, growing_here, growing_longer, grows_follows, grows_from, grows_here, grows_then, has_kept}
+use Rattle.ferry_carry.proofs.GrowLemmas.{on_from, on_then, on_wider, stands_on_at}
 use Rattle.ferry_carry.proofs.PutsLemmas.{bytes_append, count_append, front_all, front_of}
+use Rattle.ferry_carry.proofs.HeldLemmas.{grows_all, heard_apart, heard_map, heard_to, held_apart, held_at, held_then}
 use Rattle.ferry_carry.proofs.TellLemmas.{told_gathers, told_stands}
 use Rattle.ferry_carry.proofs.WholeLemmas.{among_all, among_behind, among_front}
 use Rattle.ferry_carry.proofs.WorkLemmas.{works_as, works_both, works_from, works_front, works_none, works_nothing, works_then}
 use Rattle.ferry_carry.specs.Accepting.{AreNextOf, IsNextOf}
+use Rattle.ferry_carry.specs.Adding.{HoldsAll, IsNoChunk, StopsLast}
 use Rattle.ferry_carry.specs.Carrying.{Origin}
 use Rattle.ferry_carry.specs.Chosen.{TellsLine}
 use Rattle.ferry_carry.specs.Counting.{CountsMore, CountsNames, CountsOf, IsTotalOf, TellsNew, nothing_carried}
-use Rattle.ferry_carry.specs.Fault.{target_failed}
-use Rattle.ferry_carry.specs.Flight.{BeginsDone, Carries, IsSettled, ListsDone}
+use Rattle.ferry_carry.specs.Fault.{IsOfSource, target_failed}
+use Rattle.ferry_carry.specs.Filling.{FillsAll, FillsFlight, FillsName, FillsNames}
+use Rattle.ferry_carry.specs.Flight.{BeginsDone, Carries, IsSettled, ListsDone, TakesAll}
 use Rattle.ferry_carry.specs.Gather.{IsAmong, StandsFrom}
 use Rattle.ferry_carry.specs.Grow.{AcceptsMore, Grows, IsNamedBy, KeepsGrowing, KeepsMost, StandsOn}
 use Rattle.ferry_carry.specs.Lines.{name_line, told_of, total_line}
 use Rattle.ferry_carry.specs.Listing.{BeginsName, BeginsNames, IsThere, ListsName, ListsNames, ListsOne}
 use Rattle.ferry_carry.specs.Naming.{entry_for}
-use Rattle.ferry_carry.specs.Puts.{Addition, Content, IsFront, Stream, put_bytes, put_count}
+use Rattle.ferry_carry.specs.Puts.{Addition, AtBegin, Border, Content, IsFront, Stream, border_behind, put_bytes, put_count}
+use Rattle.ferry_carry.specs.Refusals.{is_of_telling}
 use Rattle.ferry_carry.specs.Telling.{AreLines, BeginsAll, CarriesNames, IsReport, IsReported, KeepsReported, Reports, ReportsWhole, ShowsReport, TellsNames}
 use Rattle.ferry_carry.specs.Telling.{TellsWhole}
 use Rattle.ferry_carry.specs.Work.{Works}
 use Rattle.ferry_carry.specs.declared.fault.CarryFault.{CarryFault}
+use Rattle.ferry_carry.specs.declared.fault.CarryFault.TheVariants as Carry
+use Rattle.ferry_carry.specs.declared.flight.Flight.{Flight}
 use Rattle.ferry_carry.specs.declared.options.Carried.{Carried}
 
 -- ---- names that are there
@@ -408,6 +418,134 @@ all_then from store middle some others added begun (Some t) b extends keys end b
     begins_then from (repo_view store.repo).keys (accepted_in store) (accepted_in middle) some others added begun extends end.2.1.0.1
     (subst (λ (k : Keys). BeginsNames from k (accepted_in middle) [] others begun) keys at)
 
+-- ---- where the source refused one
+
+-- of more names
+fills_wider : (from : Origin) (keys : Keys) (accepted : ManifestText) (before names more : List (List ℕ)) (fault : RepoFault) (begun : List Addition)
+    → FillsNames from keys accepted before names fault begun → FillsNames from keys accepted before (names ++ more) fault begun
+fills_wider from keys accepted before [] more fault begun never = absurd never
+fills_wider from keys accepted before (name ∷ names) more fault begun (inl one) = inl one
+fills_wider from keys accepted before (name ∷ names) more fault begun (inr some) =
+    inr (
+      some.0,
+      (
+        some.1.0,
+        (
+          some.1.1.0,
+          (
+            some.1.1.1.0,
+            fills_wider from keys accepted (before ++ name ∷ []) names more fault some.1.0 some.1.1.1.1,
+          ),
+        ),
+      ),
+    )
+
+-- all of what is added for some names, and for others up to the fault
+fills_both : (from : Origin) (keys : Keys) (accepted : ManifestText) (before names others : List (List ℕ)) (fault : RepoFault) (added begun : List Addition)
+    → ListsNames from keys accepted before names added → FillsNames from keys accepted (before ++ names) others fault begun
+    → FillsNames from keys accepted before (names ++ others) fault (added ++ begun)
+fills_both from keys accepted before [] others fault added begun none q =
+    subst (λ (l : List Addition). FillsNames from keys accepted before others fault (l ++ begun)) (sym none)
+    (subst (λ (b : List (List ℕ)). FillsNames from keys accepted b others fault begun) (append-nil before) q)
+fills_both from keys accepted before (name ∷ names) others fault added begun p q =
+    let one = p.0 in
+    let rest = p.1.0 in
+    inr (
+      one,
+      (
+        rest ++ begun,
+        (
+          ap (λ (l : List Addition). l ++ begun) p.1.1.0 ∙ append_assoc one rest begun,
+          (
+            p.1.1.1.0,
+            fills_both from keys accepted (before ++ name ∷ []) names others fault rest begun p.1.1.1.1
+                (subst (λ (b : List (List ℕ)). FillsNames from keys accepted b others fault begun) (sym (append_assoc before (name ∷ []) names)) q),
+          ),
+        ),
+      ),
+    )
+
+-- behind names that came
+filled_behind : (from : Origin) (keys : Keys) (accepted middle : ManifestText) (some before : List (List ℕ)) (name : List ℕ) (fault : RepoFault)
+    (begun : List Addition) → Extends accepted some middle → FillsName from keys middle before name fault begun
+    → FillsName from keys accepted (some ++ before) name fault begun
+filled_behind from keys accepted middle some before name fault begun extends (inl is) =
+    inl ((there_behind accepted middle some before name extends).0 is.0, is.1)
+filled_behind from keys accepted middle some before name fault begun extends (inr is) =
+    inr (λ has. is.0 ((there_behind accepted middle some before name extends).1 has), is.1)
+
+fills_behind : (from : Origin) (keys : Keys) (accepted middle : ManifestText) (some before names : List (List ℕ)) (fault : RepoFault) (begun : List Addition)
+    → Extends accepted some middle → FillsNames from keys middle before names fault begun → FillsNames from keys accepted (some ++ before) names fault begun
+fills_behind from keys accepted middle some before [] fault begun extends never = never
+fills_behind from keys accepted middle some before (name ∷ names) fault begun extends (inl one) =
+    inl (filled_behind from keys accepted middle some before name fault begun extends one)
+fills_behind from keys accepted middle some before (name ∷ names) fault begun extends (inr p) =
+    inr (
+      p.0,
+      (
+        p.1.0,
+        (
+          p.1.1.0,
+          (
+            name_behind from keys accepted middle some before name p.0 extends p.1.1.1.0,
+            subst (λ (b : List (List ℕ)). FillsNames from keys accepted b names fault p.1.0) (sym (append_assoc some before (name ∷ [])))
+                (fills_behind from keys accepted middle some (before ++ name ∷ []) names fault p.1.0 extends p.1.1.1.1),
+          ),
+        ),
+      ),
+    )
+
+fills_then : (from : Origin) (keys : Keys) (accepted middle : ManifestText) (some others : List (List ℕ)) (fault : RepoFault) (added begun : List Addition)
+    → Extends accepted some middle → ListsNames from keys accepted [] some added → FillsNames from keys middle [] others fault begun
+    → FillsNames from keys accepted [] (some ++ others) fault (added ++ begun)
+fills_then from keys accepted middle some others fault added begun extends lists behind =
+    fills_both from keys accepted [] some others fault added begun lists
+    (subst (λ (b : List (List ℕ)). FillsNames from keys accepted b others fault begun) (append-nil some)
+    (fills_behind from keys accepted middle some [] others fault begun extends behind))
+
+-- of a body of which no fault is the source's
+filled_apart : {T : Type 0} (before : Option Told) (from : Origin) (store : Store) (names : List (List ℕ)) (begun : List Addition)
+    (result : Result T CarryFault) → IfErr result (λ fault. IsOfSource fault → ⊥) → IfErr result (λ fault. FillsAll before from store names fault begun)
+filled_apart {T} before from store names begun (Ok x) apart = tt
+filled_apart {T} before from store names begun (Err fault) apart =
+    heard_apart before fault (λ refusal. FillsNames from (repo_view store.repo).keys (accepted_in store) [] names refusal begun) apart
+
+-- the same where a target tells its files
+filled_one : (before : Option Told) (from : Origin) (store : Store) (name : List ℕ) (fault : CarryFault) (begun : List Addition)
+    → FillsFlight before from (repo_view store.repo).keys (accepted_in store) name fault begun → FillsAll before from store (name ∷ []) fault begun
+filled_one before from store name fault begun filled =
+    let keys = (repo_view store.repo).keys in
+    heard_map before fault (λ refusal. FillsName from keys (accepted_in store) [] name refusal begun)
+    (λ refusal. FillsNames from keys (accepted_in store) [] (name ∷ []) refusal begun) (λ refusal one. inl one) filled
+
+filled_wider : (before : Option Told) (from : Origin) (store : Store) (names more : List (List ℕ)) (fault : CarryFault) (begun : List Addition)
+    → FillsAll before from store names fault begun → FillsAll before from store (names ++ more) fault begun
+filled_wider before from store names more fault begun filled =
+    let keys = (repo_view store.repo).keys in
+    heard_map before fault (λ refusal. FillsNames from keys (accepted_in store) [] names refusal begun)
+    (λ refusal. FillsNames from keys (accepted_in store) [] (names ++ more) refusal begun)
+    (λ refusal fills. fills_wider from keys (accepted_in store) [] names more refusal begun fills) filled
+
+filled_then : (from : Origin) (store middle : Store) (some others : List (List ℕ)) (added begun : List Addition) (a b : Option Told) (fault : CarryFault)
+    → Extends (accepted_in store) some (accepted_in middle) → (repo_view middle.repo).keys ≡ (repo_view store.repo).keys
+    → Between a b (λ h g. AllDone h g × (CarriesNames from some added store middle h g × TellsNames (accepted_in store) some h g))
+    → FillsAll b from middle others fault begun → FillsAll a from store (some ++ others) fault (added ++ begun)
+filled_then from store middle some others added begun a b fault extends keys end behind =
+    heard_to b a fault (λ refusal. FillsNames from (repo_view middle.repo).keys (accepted_in middle) [] others refusal begun)
+    (λ refusal. FillsNames from (repo_view store.repo).keys (accepted_in store) [] (some ++ others) refusal (added ++ begun))
+    (λ refusal known. by a end refusal known) behind where
+      by : (o : Option Told)
+          → Between o b (λ h g. AllDone h g × (CarriesNames from some added store middle h g × TellsNames (accepted_in store) some h g))
+          → (refusal : RepoFault) → IfSome b (λ _. FillsNames from (repo_view middle.repo).keys (accepted_in middle) [] others refusal begun)
+          → IfSome o (λ _. FillsNames from (repo_view store.repo).keys (accepted_in store) [] (some ++ others) refusal (added ++ begun))
+      by None ends refusal known = tt
+      by (Some t) ends refusal known =
+          let at : FillsNames from (repo_view middle.repo).keys (accepted_in middle) [] others refusal begun =
+          subst (λ (o : Option Told). IfSome o (λ _. FillsNames from (repo_view middle.repo).keys (accepted_in middle) [] others refusal begun)) ends.1 known
+          in
+          fills_then from (repo_view store.repo).keys (accepted_in store) (accepted_in middle) some others refusal added begun extends ends.2.1.0.1
+          (subst (λ (k : Keys). FillsNames from k (accepted_in middle) [] others refusal begun) keys at)
+
 -- ---- numbers
 
 counts_up : (new : Bool) (copied more others : ℕ) → copied ≡ (if new then suc more else more)
@@ -687,39 +825,66 @@ reported_map P Q counts h g i step m =
     (λ k s. record { lines = s.lines; told = s.told; sound = sound_map (P s.lines) (Q s.lines) counts k (step s.lines) s.sound }) m
 
 -- a line is told, or isn't: what stands is what stood
-told_moments : (most : ℕ) (store : Store) (line : List ℕ) (h g : History) (counts : Bool) (fits : StoreFits counts store h) → IsStep (TellOf line) h g
-    → Moments (IsReported (λ lines image. ((lines ≡ []) ⊎ (lines ≡ line ∷ [])) × StandsFrom (repo_view store.repo).keys most [] fits.written image)
+told_moments : (at : Border) (most : ℕ) (store : Store) (line : List ℕ) (h g : History) (counts : Bool) (fits : StoreFits counts store h)
+    → IsStep (TellOf line) h g
+    → Moments (IsReported (λ lines image. ((lines ≡ []) ⊎ (lines ≡ line ∷ [])) × StandsFrom at (repo_view store.repo).keys most [] fits.written image)
     counts h) h g
-told_moments most store line h g counts fits is =
+told_moments at most store line h g counts fits is =
     step_moments (IsReported Show counts h) (TellOf line) h g (record {
       lines = [];
       told = sym (append-nil (lines_of h.acts));
-      sound = sound_map (ShowsStanding fits.written) (Show []) counts h (λ image shown. (inl refl, standing_from most [] counts store h fits image shown))
+      sound = sound_map (ShowsStanding fits.written) (Show []) counts h
+          (λ image shown. (inl refl, standing_from at most [] counts store h fits image shown))
           (stands_now counts store.session store.counter fits.written h fits.under_way);
     }) (λ done. record {
       lines = line ∷ [];
       told = line_told h line done;
       sound = sound_map (ShowsStanding fits.written) (Show (line ∷ [])) counts (with_act (TellOf line) done h)
-          (λ image shown. (inr refl, standing_from most [] counts store h fits image shown))
+          (λ image shown. (inr refl, standing_from at most [] counts store h fits image shown))
           (stands_now counts store.session store.counter fits.written (with_act (TellOf line) done h)
           (told_stands counts store fits.written line done h fits.under_way));
     }) is where
       Show : List (List ℕ) → Files → Type 0
-      Show lines image = ((lines ≡ []) ⊎ (lines ≡ line ∷ [])) × StandsFrom (repo_view store.repo).keys most [] fits.written image
+      Show lines image = ((lines ≡ []) ⊎ (lines ≡ line ∷ [])) × StandsFrom at (repo_view store.repo).keys most [] fits.written image
+
+-- ---- behind what was added earlier
+
+-- what was reported of entries behind these
+abbrev ShowsReportOn : List Addition → Origin → List (List ℕ) → List Addition → ManifestText → RepoState → Written → List (List ℕ) → Files → Type 0
+ShowsReportOn earlier from chosen within accepted repo written lines image =
+    (stands : StandsOn earlier from chosen within accepted repo written image) × IsReport accepted lines stands.done
+
+abbrev KeepsReportedOn : List Addition → Origin → List (List ℕ) → Store → List Addition → History → History → Type 0
+KeepsReportedOn earlier from chosen store within before now = (counts : Bool) (fits : StoreFits counts store before)
+    → Moments (IsReported (ShowsReportOn earlier from chosen within (accepted_in store) (repo_view store.repo) fits.written) counts before) before now
+
+-- what was reported behind nothing was reported behind these
+reported_follows : (earlier : List Addition) (from : Origin) (chosen : List (List ℕ)) (store : Store) (within : List Addition) (h g : History)
+    → Follows earlier store → KeepsReported from chosen store within h g → KeepsReportedOn earlier from chosen store within h g
+unfolding stands_on_at
+reported_follows earlier from chosen store within h g follows reported counts fits =
+    let accepted = accepted_in store in
+    let repo = repo_view store.repo in
+    reported_map (ShowsReport from chosen within accepted repo fits.written) (ShowsReportOn earlier from chosen within accepted repo fits.written) counts h h g
+    (λ lines image s. (
+      stands_on_at earlier from chosen within accepted repo fits.written image (follows_allows earlier counts store h fits follows) s.0,
+      s.1,
+    )) (reported counts fits)
 
 -- ---- bodies that told nothing
 
 pub reported_growing : (from : Origin) (chosen : List (List ℕ)) (store : Store) (within : List Addition) (h g : History)
-    → KeepsGrowing from chosen store within h g → KeepsReported from chosen store within h g
+    → KeepsGrowing [] from chosen store within h g → KeepsReported from chosen store within h g
 reported_growing from chosen store within h g growing counts fits =
     let accepted = accepted_in store in
     let repo = repo_view store.repo in
-    reported_none (StandsOn from chosen within accepted repo fits.written) (ShowsReport from chosen within accepted repo fits.written) counts h g
+    reported_none (StandsOn [] from chosen within accepted repo fits.written) (ShowsReport from chosen within accepted repo fits.written) counts h g
     (λ image stands. (stands, report_none accepted stands.done)) growing.0 (growing.1 counts fits)
 
 pub reported_here : (from : Origin) (chosen : List (List ℕ)) (store : Store) (within : List Addition) (h : History) → AcceptsMore store
     → KeepsReported from chosen store within h h
-reported_here from chosen store within h accepts = reported_growing from chosen store within h h (growing_here from chosen store within h accepts)
+reported_here from chosen store within h accepts =
+    reported_growing from chosen store within h h (growing_here [] from chosen store within h accepts)
 
 pub names_here : (accepted : ManifestText) (h : History) → TellsNames accepted [] h h
 names_here accepted h = ([], (sym (append-nil (lines_of h.acts)), tt))
@@ -733,13 +898,15 @@ reported_wider from some more store within all h g first reported counts fits =
     let accepted = accepted_in store in
     let repo = repo_view store.repo in
     reported_map (ShowsReport from some within accepted repo fits.written) (ShowsReport from (some ++ more) all accepted repo fits.written) counts h h g
-    (λ lines image s. (on_wider from some more within all accepted repo fits.written image first s.0, s.1)) (reported counts fits)
+    (λ lines image s. (on_wider [] from some more within all accepted repo fits.written image first s.0, s.1)) (reported counts fits)
 
-pub reported_then : (from : Origin) (some more : List (List ℕ)) (added others : List Addition) (store middle : Store) (h g i : History)
-    → IsSettled store → AcceptsMore middle → KeepsReported from some store added h g → AllDone h g → Grows from some added store middle h g
-    → TellsNames (accepted_in store) some h g → KeepsReported from more middle others g i → KeepsReported from (some ++ more) store (added ++ others) h i
+-- behind a body, from where it left them
+reported_behind_at : (from : Origin) (some more : List (List ℕ)) (added others : List Addition) (store middle : Store) (h g i : History)
+    → IsSettled store → AcceptsMore middle → KeepsReported from some store added h g → AllDone h g → Grows [] from some added store middle h g
+    → TellsNames (accepted_in store) some h g → KeepsReportedOn added from more middle others g i
+    → KeepsReported from (some ++ more) store (added ++ others) h i
 unfolding on_then
-reported_then from some more added others store middle h g i settled accepts before done grows told after counts fits =
+reported_behind_at from some more added others store middle h g i settled accepts before done grows told after counts fits =
     let first = grows counts fits in
     let accepted = accepted_in store in
     let between = accepted_in middle in
@@ -748,13 +915,21 @@ reported_then from some more added others store middle h g i settled accepts bef
     let all = added ++ others in
     moments_then (IsReported (ShowsReport from (some ++ more) all accepted repo fits.written) counts h) h g i
     (reported_wider from some more store added all h g (front_of added others) before counts fits) done
-    (reported_behind (ShowsReport from more others between next first.fits_now.written) (ShowsReport from (some ++ more) all accepted repo fits.written) counts
-    h g i told.0 told.1.0 (λ lines image s. (
-      on_then from some more added others accepted between repo next fits.written first.fits_now.written image first.most.keys first.most.names first.chunks
-          first.opening first.puts first.committed first.config first.carried first.cut first.only s.0,
+    (reported_behind (ShowsReportOn added from more others between next first.fits_now.written)
+    (ShowsReport from (some ++ more) all accepted repo fits.written) counts h g i told.0 told.1.0 (λ lines image s. (
+      on_then [] from some more added others accepted between repo next fits.written first.fits_now.written image first.most.keys first.most.names
+          first.chunks first.opening first.puts first.committed first.config first.carried first.cut first.only s.0,
       report_then accepted between told.0 lines some s.0.done (extends_by store middle some settled accepts first.most first.named first.only) told.1.1
           s.1,
     )) (after counts first.fits_now))
+
+pub reported_then : (from : Origin) (some more : List (List ℕ)) (added others : List Addition) (store middle : Store) (h g i : History)
+    → IsSettled store → AcceptsMore middle → Follows added middle → KeepsReported from some store added h g → AllDone h g
+    → Grows [] from some added store middle h g → TellsNames (accepted_in store) some h g → KeepsReported from more middle others g i
+    → KeepsReported from (some ++ more) store (added ++ others) h i
+reported_then from some more added others store middle h g i settled accepts follows before done grows told after =
+    reported_behind_at from some more added others store middle h g i settled accepts before done grows told
+    (reported_follows added from more middle others g i follows after)
 
 names_then : (accepted middle : ManifestText) (some more : List (List ℕ)) (h g i : History) → Extends accepted some middle → TellsNames accepted some h g
     → TellsNames middle more g i → TellsNames accepted (some ++ more) h i
@@ -769,7 +944,7 @@ names_then accepted middle some more h g i extends p q = (
 -- ---- a name is told behind the body that carried its archive
 
 reported_name : (from : Origin) (copied : Bool) (name : List ℕ) (added : List Addition) (store middle : Store) (h g i : History)
-    → KeepsGrowing from (name ∷ []) store added h g → AllDone h g → Grows from (name ∷ []) added store middle h g → AcceptsMore middle
+    → KeepsGrowing [] from (name ∷ []) store added h g → AllDone h g → Grows [] from (name ∷ []) added store middle h g → AcceptsMore middle
     → TellsNew (accepted_in store) [] name copied → IsStep (TellOf (name_line (told_of copied) name)) g i → KeepsReported from (name ∷ []) store added h i
 unfolding on_then
 reported_name from copied name added store middle h g i growing done grows accepts new is =
@@ -783,17 +958,18 @@ reported_name from copied name added store middle h g i growing done grows accep
           let repo = repo_view store.repo in
           let next = repo_view middle.repo in
           let now = first.fits_now.written in
+          let at = border_behind AtBegin added in
           let none : lines_of g.acts ≡ lines_of h.acts ++ [] = growing.0 ∙ sym (append-nil (lines_of h.acts)) in
           moments_then (IsReported (ShowsReport from (name ∷ []) (added ++ []) accepted repo fits.written) counts h) h g i
           (reported_growing from (name ∷ []) store (added ++ []) h g
-          (growing_longer from (name ∷ []) store added (added ++ []) h g (front_of added []) growing) counts fits) done
-          (reported_behind (λ lines image. ((lines ≡ []) ⊎ (lines ≡ line ∷ [])) × StandsFrom next.keys from.most [] now image)
+          (growing_longer [] from (name ∷ []) store added (added ++ []) h g (front_of added []) growing) counts fits) done
+          (reported_behind (λ lines image. ((lines ≡ []) ⊎ (lines ≡ line ∷ [])) × StandsFrom at next.keys from.most [] now image)
           (ShowsReport from (name ∷ []) (added ++ []) accepted repo fits.written) counts h g i [] none (λ lines image s.
-          let stands : StandsOn from [] [] between next now image = on_from from [] [] between counts middle g first.fits_now image accepts s.1 in (
-            on_then from (name ∷ []) [] added [] accepted between repo next fits.written now image first.most.keys first.most.names first.chunks
+          let stands : StandsOn added from [] [] between next now image = on_from added from [] [] between counts middle g first.fits_now image accepts s.1 in (
+            on_then [] from (name ∷ []) [] added [] accepted between repo next fits.written now image first.most.keys first.most.names first.chunks
                 first.opening first.puts first.committed first.config first.carried first.cut first.only stands,
             report_one accepted copied name lines stands.done new s.0,
-          )) (told_moments from.most middle line g i counts first.fits_now is))
+          )) (told_moments at from.most middle line g i counts first.fits_now is))
 
 told_name : (accepted : ManifestText) (copied : Bool) (name : List ℕ) (h g i : History) → TellsNew accepted [] name copied → TellsNothing h g
     → TellsLine (name_line (told_of copied) name) g i → TellsNames accepted (name ∷ []) h i
@@ -808,37 +984,43 @@ told_name accepted copied name h g i new untold tells = (
 )
 
 -- a line that is told keeps what was carried
-grows_told : (from : Origin) (some : List (List ℕ)) (added : List Addition) (store middle : Store) (line : List ℕ) (h g i : History)
-    → Grows from some added store middle h g → TellsLine line g i → Grows from some added store middle h i
-grows_told from some added store middle line h g i grows tells =
-    subst (λ (l : List (List ℕ)). Grows from l added store middle h i) (append-nil some)
-    (subst (λ (l : List Addition). Grows from (some ++ []) l store middle h i) (append-nil added)
-    (grows_then from some [] added [] store middle middle h g i grows
-    (grows_from from middle middle [] g i (rest_here middle) (told_gathers from.most middle line g i tells))))
+grows_told : (earlier : List Addition) (from : Origin) (some : List (List ℕ)) (added : List Addition) (store middle : Store) (line : List ℕ)
+    (h g i : History) → Grows earlier from some added store middle h g → TellsLine line g i → Grows earlier from some added store middle h i
+grows_told earlier from some added store middle line h g i grows tells =
+    let behind = earlier ++ added in
+    subst (λ (l : List (List ℕ)). Grows earlier from l added store middle h i) (append-nil some)
+    (subst (λ (l : List Addition). Grows earlier from (some ++ []) l store middle h i) (append-nil added)
+    (grows_then earlier from some [] added [] store middle middle h g i grows
+    (grows_from behind from middle middle [] g i (rest_here middle) (told_gathers (border_behind AtBegin behind) from.most middle line g i tells))))
 
 carries_told : (from : Origin) (some : List (List ℕ)) (added : List Addition) (store middle : Store) (line : List ℕ) (h g i : History)
     → CarriesNames from some added store middle h g → TellsLine line g i → CarriesNames from some added store middle h i
-carries_told from some added store middle line h g i carries tells = (grows_told from some added store middle line h g i carries.0 tells, carries.1)
+carries_told from some added store middle line h g i carries tells =
+    (grows_told [] from some added store middle line h g i carries.0 tells, carries.1)
 
 -- ---- the whole is told behind all
 
 reported_whole : (from : Origin) (carried : Carried) (names : List (List ℕ)) (added : List Addition) (store middle : Store) (h g i : History)
-    → IsSettled store → AcceptsMore middle → KeepsReported from names store added h g → AllDone h g → Grows from names added store middle h g
+    → IsSettled store → AcceptsMore middle → KeepsReported from names store added h g → AllDone h g → Grows [] from names added store middle h g
     → TellsNames (accepted_in store) names h g → IsStep (TellOf (total_line carried)) g i → KeepsReported from names store added h i
 reported_whole from carried names added store middle h g i settled accepts before done grows told is =
     subst (λ (l : List Addition). KeepsReported from names store l h i) (append-nil added)
     (subst (λ (l : List (List ℕ)). KeepsReported from l store (added ++ []) h i) (append-nil names)
-    (reported_then from names [] added [] store middle h g i settled accepts before done grows told last)) where
+    (reported_behind_at from names [] added [] store middle h g i settled accepts before done grows told last)) where
       line : List ℕ
       line = total_line carried
 
-      last : KeepsReported from [] middle [] g i
+      at : Border
+      at = border_behind AtBegin added
+
+      last : KeepsReportedOn added from [] middle [] g i
       last counts fits =
-          reported_map (λ lines image. ((lines ≡ []) ⊎ (lines ≡ line ∷ [])) × StandsFrom (repo_view middle.repo).keys from.most [] fits.written image)
-          (ShowsReport from [] [] (accepted_in middle) (repo_view middle.repo) fits.written) counts g g i (λ lines image s.
-          let stands : StandsOn from [] [] (accepted_in middle) (repo_view middle.repo) fits.written image =
-          on_from from [] [] (accepted_in middle) counts middle g fits image accepts s.1 in
-          (stands, report_whole (accepted_in middle) carried lines stands.done s.0)) (told_moments from.most middle line g i counts fits is)
+          reported_map
+          (λ lines image. ((lines ≡ []) ⊎ (lines ≡ line ∷ [])) × StandsFrom at (repo_view middle.repo).keys from.most [] fits.written image)
+          (ShowsReportOn added from [] [] (accepted_in middle) (repo_view middle.repo) fits.written) counts g g i (λ lines image s.
+          let stands : StandsOn added from [] [] (accepted_in middle) (repo_view middle.repo) fits.written image =
+          on_from added from [] [] (accepted_in middle) counts middle g fits image accepts s.1 in
+          (stands, report_whole (accepted_in middle) carried lines stands.done s.0)) (told_moments at from.most middle line g i counts fits is)
 
 told_whole : (accepted : ManifestText) (names : List (List ℕ)) (added : List Addition) (carried : Carried) (h g i : History)
     → IsTotalOf accepted names added carried → TellsNames accepted names h g → TellsLine (total_line carried) g i
@@ -867,48 +1049,86 @@ EndsNames from names added store now _ h g = CarriesNames from names added store
 abbrev EndsWhole : Origin → List (List ℕ) → List Addition → Store → Store → Carried → History → History → Type 0
 EndsWhole from names added store now carried h g = CarriesNames from names added store now h g × TellsWhole (accepted_in store) names added carried h g
 
+-- a line that isn't told is no chunk
+pub telling_unbroken : (fault : CarryFault) → is_of_telling fault ≡ true → IsNoChunk fault
+telling_unbroken (Carry.Source f) telling = tt
+telling_unbroken (Carry.Target (Stores.Repo f)) telling = absurd (let never : ⊥ = cc in never)
+telling_unbroken (Carry.Target (Stores.Write f)) telling = tt
+telling_unbroken (Carry.Target (Stores.Nonce f)) telling = tt
+telling_unbroken (Carry.Target Stores.Committed) telling = tt
+telling_unbroken (Carry.Target Stores.TooLarge) telling = tt
+telling_unbroken (Carry.Target Stores.Entropy) telling = tt
+telling_unbroken (Carry.Target Stores.Memory) telling = tt
+telling_unbroken (Carry.Taken name) telling = tt
+telling_unbroken (Carry.NotFound name) telling = tt
+telling_unbroken Carry.Pieces telling = tt
+telling_unbroken Carry.Memory telling = tt
+telling_unbroken Carry.Record telling = tt
+
 -- where no call of the target was made
-pub reports_none : (from : Origin) (store : Store) (carried : Carried) (a : Option Told) (n : ℕ) → AcceptsMore store → carried.transferred < 2 ^ 64
+reports_none : (from : Origin) (store : Store) (carried : Carried) (a : Option Told) (n : ℕ) → AcceptsMore store → carried.transferred < 2 ^ 64
     → carried.present < 2 ^ 64 → carried.chunks < 2 ^ 64 → carried.bytes < 2 ^ 128 → carried.meta < 2 ^ 64
     → Reports from [] store store carried carried a a n n (Ok tt)
 reports_none from store carried a n accepts transferred present chunks bytes meta = record {
   added = [];
   begins = all_nothing a from store [];
   works = works_none (KeepsReported from [] store []) (EndsNames {T = Unit {0}} from [] [] store store) a n tt
-      (λ h. reported_here from [] store [] h accepts) (λ h. ((grows_here from store h, refl), names_here (accepted_in store) h));
+      (λ h. reported_here from [] store [] h accepts) (λ h. ((grows_here [] from store h, refl), names_here (accepted_in store) h));
   counted = counts_none (accepted_in store) carried transferred present chunks bytes meta;
+  last = tt;
+  held = tt;
+  fills = tt;
 }
 
+-- and nothing was added
+pub reports_begin : (from : Origin) (store : Store) (carried : Carried) (a : Option Told) (n : ℕ) → AcceptsMore store → carried.transferred < 2 ^ 64
+    → carried.present < 2 ^ 64 → carried.chunks < 2 ^ 64 → carried.bytes < 2 ^ 128 → carried.meta < 2 ^ 64
+    → (p : Reports from [] store store carried carried a a n n (Ok tt)) × Follows p.added store
+unfolding reports_none
+reports_begin from store carried a n accepts transferred present chunks bytes meta =
+    (reports_none from store carried a n accepts transferred present chunks bytes meta, inl refl)
+
 pub reports_nothing : (from : Origin) (names : List (List ℕ)) (store now : Store) (carried after : Carried) (a : Option Told) (n : ℕ) (fault : CarryFault)
-    → AcceptsMore store → target_failed fault ≡ false → Reports from names store now carried after a a n n (Err fault)
-reports_nothing from names store now carried after a n fault accepts still = record {
+    → AcceptsMore store → target_failed fault ≡ false → IsNoChunk fault → (IsOfSource fault → ⊥)
+    → Reports from names store now carried after a a n n (Err fault)
+reports_nothing from names store now carried after a n fault accepts still unbroken apart = record {
   added = [];
   begins = all_nothing a from store names;
   works = works_nothing (KeepsReported from names store []) (EndsNames {T = Unit {0}} from names [] store now) a n fault still
       (λ h. reported_here from names store [] h accepts);
   counted = tt;
+  last = stops_unbroken a (repo_view store.repo).keys [] fault unbroken;
+  held = λ source. absurd (apart source);
+  fills = heard_apart a fault (λ refusal. FillsNames from (repo_view store.repo).keys (accepted_in store) [] names refusal []) apart;
 }
 
 pub whole_nothing : (from : Origin) (names : List (List ℕ)) (store now : Store) (a : Option Told) (n : ℕ) (fault : CarryFault)
-    → AcceptsMore store → target_failed fault ≡ false → ReportsWhole from names store now a a n n (Err fault)
-whole_nothing from names store now a n fault accepts still = record {
+    → AcceptsMore store → target_failed fault ≡ false → IsNoChunk fault → (IsOfSource fault → ⊥) → ReportsWhole from names store now a a n n (Err fault)
+whole_nothing from names store now a n fault accepts still unbroken apart = record {
   added = [];
   begins = all_nothing a from store names;
   works = works_nothing (KeepsReported from names store []) (EndsWhole from names [] store now) a n fault still
       (λ h. reported_here from names store [] h accepts);
+  last = stops_unbroken a (repo_view store.repo).keys [] fault unbroken;
+  held = λ source. absurd (apart source);
+  fills = heard_apart a fault (λ refusal. FillsNames from (repo_view store.repo).keys (accepted_in store) [] names refusal []) apart;
 }
 
 -- a fault of a body that told nothing, and of one that told
-pub reports_silent : {T : Type 0} (from : Origin) (name : List ℕ) (added : List Addition) (store now : Store) (carried after : Carried)
-    (a b : Option Told) (n m : ℕ) (fault : CarryFault) → BeginsDone a from (repo_view store.repo).keys (accepted_in store) name added
-    → Carries {T = T} from (name ∷ []) added store now a b n m (Err fault) → Reports from (name ∷ []) store now carried after a b n m (Err fault)
-reports_silent {T} from name added store now carried after a b n m fault begins p = record {
+pub reports_silent : (from : Origin) (name : List ℕ) (added : List Addition) (store now : Store) (flight : Flight) (carried after : Carried)
+    (a b : Option Told) (n m : ℕ) (fault : CarryFault) → TakesAll from name [] added store now flight a b n m (Err fault)
+    → Reports from (name ∷ []) store now carried after a b n m (Err fault)
+unfolding border_behind
+reports_silent from name added store now flight carried after a b n m fault p = record {
   added = added;
-  begins = all_one a from store name added begins;
-  works = works_front (KeepsGrowing from (name ∷ []) store added) (λ (_ : T). Grows from (name ∷ []) added store now)
+  begins = all_one a from store name added p.begins;
+  works = works_front (KeepsGrowing [] from (name ∷ []) store added) (λ (_ : Bool). Grows [] from (name ∷ []) added store now)
       (KeepsReported from (name ∷ []) store added) (EndsNames {T = Unit {0}} from (name ∷ []) added store now) a b n m fault
-      (λ h g e. reported_growing from (name ∷ []) store added h g e) p;
+      (λ h g e. reported_growing from (name ∷ []) store added h g e) p.carries;
   counted = tt;
+  last = p.last;
+  held = p.held;
+  fills = filled_one a from store name fault added p.fills;
 }
 
 pub whole_err : (from : Origin) (names : List (List ℕ)) (store now : Store) (carried after : Carried) (a b : Option Told) (n m : ℕ) (fault : CarryFault)
@@ -918,48 +1138,61 @@ whole_err from names store now carried after a b n m fault p = record {
   begins = p.begins;
   works = works_front (KeepsReported from names store p.added) (EndsNames {T = Unit {0}} from names p.added store now)
       (KeepsReported from names store p.added) (EndsWhole from names p.added store now) a b n m fault (λ h g e. e) p.works;
+  last = p.last;
+  held = p.held;
+  fills = p.fills;
 }
 
 -- a name that is told behind the body that carried its archive
 named_works : {T U : Type 0} (from : Origin) (copied : Bool) (name given : List ℕ) (added : List Addition) (store middle : Store)
     (a b c : Option Told) (n m k : ℕ) (x : T) (result : Result U CarryFault) → given ≡ name → AcceptsMore middle
     → TellsNew (accepted_in store) [] name copied → ListsDone a from (repo_view store.repo).keys name added copied
-    → Carries {T = T} from (name ∷ []) added store middle a b n m (Ok x)
+    → Carries {T = T} [] from (name ∷ []) added store middle a b n m (Ok x)
     → Works (IsStep (TellOf (name_line (told_of copied) given))) (λ (_ : U). TellsLine (name_line (told_of copied) given)) b c m k result
     → Works (KeepsReported from (name ∷ []) store added) (EndsNames {T = U} from (name ∷ []) added store middle) a c n k result
 named_works {T} {U} from copied name given added store middle a b c n m k x result is accepts new done p q =
     let line = name_line (told_of copied) name in
     let keys = (repo_view store.repo).keys in
     let accepted = accepted_in store in
-    works_then (KeepsGrowing from (name ∷ []) store added)
-    (λ (_ : T) h g. ListedAs from keys name added copied × (KeepsGrowing from (name ∷ []) store added h g × Grows from (name ∷ []) added store middle h g))
+    works_then (KeepsGrowing [] from (name ∷ []) store added)
+    (λ (_ : T) h g. ListedAs from keys name added copied
+    × (KeepsGrowing [] from (name ∷ []) store added h g × Grows [] from (name ∷ []) added store middle h g))
     (IsStep (TellOf line)) (λ (_ : U). TellsLine line) (KeepsReported from (name ∷ []) store added)
     (EndsNames {T = U} from (name ∷ []) added store middle) a b c n m k x result
     (λ h g i e d f r. reported_name from copied name added store middle h g i e d f.1.1 accepts new r)
     (λ _ h g i f r. (
-      (grows_told from (name ∷ []) added store middle line h g i f.1.1 r, lists_one from keys accepted name added copied new f.0),
+      (grows_told [] from (name ∷ []) added store middle line h g i f.1.1 r, lists_one from keys accepted name added copied new f.0),
       told_name accepted copied name h g i new f.1.0.0 r,
     ))
-    (works_from (λ _. ListedAs from keys name added copied) (KeepsGrowing from (name ∷ []) store added)
-    (λ (_ : T) h g. KeepsGrowing from (name ∷ []) store added h g × Grows from (name ∷ []) added store middle h g) a b n m x
+    (works_from (λ _. ListedAs from keys name added copied) (KeepsGrowing [] from (name ∷ []) store added)
+    (λ (_ : T) h g. KeepsGrowing [] from (name ∷ []) store added h g × Grows [] from (name ∷ []) added store middle h g) a b n m x
     (listed_as a from keys name added copied done)
-    (works_both (KeepsGrowing from (name ∷ []) store added) (λ (_ : T). Grows from (name ∷ []) added store middle) a b n m (Ok x) p))
+    (works_both (KeepsGrowing [] from (name ∷ []) store added) (λ (_ : T). Grows [] from (name ∷ []) added store middle) a b n m (Ok x) p))
     (subst (λ (l : List ℕ). Works (IsStep (TellOf (name_line (told_of copied) l))) (λ (_ : U). TellsLine (name_line (told_of copied) l)) b c m k result)
     is q)
+
+-- what no chunk refuses
+pub told_unbroken : {T : Type 0} (a : Option Told) (keys : Keys) (added : List Addition) (result : Result T CarryFault) → IfErr result IsNoChunk
+    → StopsLast a keys added result
+told_unbroken {T} a keys added (Ok x) unbroken = tt
+told_unbroken {T} a keys added (Err fault) unbroken = stops_unbroken a keys added fault unbroken
 
 pub reports_name : {T : Type 0} (from : Origin) (copied : Bool) (name given : List ℕ) (added : List Addition) (store middle : Store) (carried after : Carried)
     (a b c : Option Told) (n m k : ℕ) (x : T) (result : Result (Unit {0}) CarryFault) → given ≡ name → AcceptsMore middle
     → TellsNew (accepted_in store) [] name copied → ListsDone a from (repo_view store.repo).keys name added copied
     → BeginsDone a from (repo_view store.repo).keys (accepted_in store) name added
-    → OnOk result (CountsMore (accepted_in store) (name ∷ []) added carried after)
-    → Carries {T = T} from (name ∷ []) added store middle a b n m (Ok x)
+    → OnOk result (CountsMore (accepted_in store) (name ∷ []) added carried after) → IfErr result IsNoChunk → IfErr result (λ fault. IsOfSource fault → ⊥)
+    → Carries {T = T} [] from (name ∷ []) added store middle a b n m (Ok x)
     → Works (IsStep (TellOf (name_line (told_of copied) given))) (λ (_ : Unit {0}). TellsLine (name_line (told_of copied) given)) b c m k result
     → Reports from (name ∷ []) store middle carried after a c n k result
-reports_name {T} from copied name given added store middle carried after a b c n m k x result is accepts new done begins counted p q = record {
+reports_name {T} from copied name given added store middle carried after a b c n m k x result is accepts new done begins counted unbroken apart p q = record {
   added = added;
   begins = all_one a from store name added begins;
   works = named_works {T = T} {U = Unit {0}} from copied name given added store middle a b c n m k x result is accepts new done p q;
   counted = counted;
+  last = told_unbroken a (repo_view store.repo).keys added result unbroken;
+  held = held_apart {T = Unit {0}} AtBegin from.most store middle added a c result apart;
+  fills = filled_apart {T = Unit {0}} a from store (name ∷ []) added result apart;
 }
 
 -- the whole, behind all names
@@ -986,14 +1219,17 @@ reports_whole from carried names line store middle a b c n m k is settled accept
           )) p.works
           (works_as (IsStep (TellOf total)) (λ (_ : Unit {0}). TellsLine total) (IsStep (TellOf total)) Total b c m k tt carried (λ h g e. e)
           (λ h g e. (refl, e)) behind);
+      last = tt;
+      held = tt;
+      fills = tt;
     }
 
 pub whole_untold : (from : Origin) (before carried : Carried) (names : List (List ℕ)) (line : List ℕ) (store middle : Store)
     (a b c : Option Told) (n m k : ℕ) (fault : CarryFault) → line ≡ total_line carried → IsSettled store → AcceptsMore middle
     → Reports from names store middle before carried a b n m (Ok tt)
-    → Works (IsStep (TellOf line)) (λ (_ : Unit {0}). TellsLine line) b c m k (Err fault)
+    → IsNoChunk fault → (IsOfSource fault → ⊥) → Works (IsStep (TellOf line)) (λ (_ : Unit {0}). TellsLine line) b c m k (Err fault)
     → ReportsWhole from names store middle a c n k (Err fault)
-whole_untold from before carried names line store middle a b c n m k fault is settled accepts p q =
+whole_untold from before carried names line store middle a b c n m k fault is settled accepts p unbroken apart q =
     let total = total_line carried in
     let added = p.added in
     let behind = subst (λ (l : List ℕ). Works (IsStep (TellOf l)) (λ (_ : Unit {0}). TellsLine l) b c m k (Err fault)) is q in
@@ -1005,6 +1241,9 @@ whole_untold from before carried names line store middle a b c n m k fault is se
       added = added;
       begins = p.begins;
       works = record { each = first.each; end = tt; ends = first.ends; cause = first.cause };
+      last = stops_unbroken a (repo_view store.repo).keys added fault unbroken;
+      held = λ source. absurd (apart source);
+      fills = heard_apart a fault (λ refusal. FillsNames from (repo_view store.repo).keys (accepted_in store) [] names refusal added) apart;
     }
 
 -- what was reported of one source was reported of another that is the same, under a name that is the same
@@ -1023,13 +1262,32 @@ counted_then accepted middle some others added more carried between after (Ok x)
     counts_then accepted middle some others added more carried between after extends p q
 counted_then accepted middle some others added more carried between after (Err fault) extends p q = tt
 
+-- what was added for names, all of it
+names_all : (from : Origin) (names : List (List ℕ)) (added : List Addition) (store now : Store) (a b : Option Told) (n m : ℕ)
+    → Works (KeepsReported from names store added) (EndsNames {T = Unit {0}} from names added store now) a b n m (Ok tt)
+    → Between a b (HoldsAll AtBegin from.most store added now)
+unfolding border_behind
+names_all from names added store now a b n m p =
+    between_map a b (λ h g. AllDone h g × (CarriesNames from names added store now h g × TellsNames (accepted_in store) names h g))
+    (HoldsAll AtBegin from.most store added now) (λ h g e. grows_all [] (accepted_in store) from names added store now h g e.1.0.0) p.end
+
+-- and up to the fault of the source for others behind them
+filled_all : (from : Origin) (store middle : Store) (some others : List (List ℕ)) (added begun : List Addition) (a b : Option Told)
+    (result : Result (Unit {0}) CarryFault) → Extends (accepted_in store) some (accepted_in middle)
+    → (repo_view middle.repo).keys ≡ (repo_view store.repo).keys
+    → Between a b (λ h g. AllDone h g × (CarriesNames from some added store middle h g × TellsNames (accepted_in store) some h g))
+    → IfErr result (λ fault. FillsAll b from middle others fault begun) → IfErr result (λ fault. FillsAll a from store (some ++ others) fault (added ++ begun))
+filled_all from store middle some others added begun a b (Ok x) extends same end fills = tt
+filled_all from store middle some others added begun a b (Err fault) extends same end fills =
+    filled_then from store middle some others added begun a b fault extends same end fills
+
 -- more names behind some
 pub reports_then : (from : Origin) (some more : List (List ℕ)) (store middle now : Store) (carried between after : Carried) (a b c : Option Told)
     (n m k : ℕ) (result : Result (Unit {0}) CarryFault) → IsSettled store → AcceptsMore middle → IfSome a (λ t. StoreFits false store t.history)
     → Extends (accepted_in store) some (accepted_in middle) → (repo_view middle.repo).keys ≡ (repo_view store.repo).keys
-    → Reports from some store middle carried between a b n m (Ok tt) → Reports from more middle now between after b c m k result
-    → Reports from (some ++ more) store now carried after a c n k result
-reports_then from some more store middle now carried between after a b c n m k result settled accepts fits extends same p q =
+    → (p : Reports from some store middle carried between a b n m (Ok tt)) → Follows p.added middle
+    → Reports from more middle now between after b c m k result → Reports from (some ++ more) store now carried after a c n k result
+reports_then from some more store middle now carried between after a b c n m k result settled accepts fits extends same p follows q =
     let keys = (repo_view store.repo).keys in
     let accepted = accepted_in store in
     let first = accepted_in middle in
@@ -1042,16 +1300,23 @@ reports_then from some more store middle now carried between after a b c n m k r
       works = works_then (KeepsReported from some store added) (λ (_ : Unit {0}) h g. EndsNames {T = Unit {0}} from some added store middle tt h g)
           (KeepsReported from more middle others) (EndsNames {T = Unit {0}} from more others middle now) (KeepsReported from (some ++ more) store all)
           (EndsNames {T = Unit {0}} from (some ++ more) all store now) a b c n m k tt result
-          (λ h g i e d f r. reported_then from some more added others store middle h g i settled accepts e d f.0.0 f.1 r)
+          (λ h g i e d f r. reported_then from some more added others store middle h g i settled accepts follows e d f.0.0 f.1 r)
           (λ _ h g i e f. (
             (
-              grows_then from some more added others store middle now h g i e.0.0 f.0.0,
+              grows_then [] from some more added others store middle now h g i e.0.0
+                  (grows_follows added from more others middle now g i follows f.0.0),
               lists_then from keys accepted first some more added others extends e.0.1
                   (subst (λ (k : Keys). ListsNames from k first [] more others) same f.0.1),
             ),
             names_then accepted first some more h g i extends e.1 f.1,
           )) p.works q.works;
       counted = counted_then accepted first some more added others carried between after result extends p.counted q.counted;
+      last = stops_then {T = Unit {0}} a b keys (repo_view middle.repo).keys added others result p.works.ends same q.last;
+      held = held_then {T = Unit {0}} AtBegin from.most store middle now added others a b c result same
+          (names_all from some added store middle a b n m p.works)
+          (held_at {T = Unit {0}} AtBegin (border_behind AtBegin added) from.most middle now others b c result
+          (λ h counts fits. follows_allows added counts middle h fits follows) q.held);
+      fills = filled_all from store middle some more added others a b result extends same p.works.end q.fills;
     }
 
 -- one archive more of those that were chosen
@@ -1060,16 +1325,17 @@ pub reports_more : (from other : Origin) (names : List (List ℕ)) (place : ℕ)
     → place < length names → name ≡ get_or names place d → IsSettled store → AcceptsMore middle → IfSome a (λ t. StoreFits false store t.history)
     → AreNextOf given source (repo_view store.repo).keys (accepted_in store) (take place names) (accepted_in middle)
     → (repo_view middle.repo).keys ≡ (repo_view store.repo).keys
-    → Reports from (take place names) store middle carried between a b n m (Ok tt) → Reports other (name ∷ []) middle now between after b c m k result
+    → (p : Reports from (take place names) store middle carried between a b n m (Ok tt)) → Follows p.added middle
+    → Reports other (name ∷ []) middle now between after b c m k result
     → Reports from (take (place + 1) names) store now carried after a c n k result
 reports_more from other names place name d given source store middle now carried between after a b c n m k result is lt named settled accepts fits next same
-    p q =
+    p follows q =
     let some = take place names in
     let more : some ++ name ∷ [] ≡ take (place + 1) names =
     ap (λ (x : List ℕ). some ++ x ∷ []) named ∙ sym (take_more names place d lt) in
     reports_as from from (take (place + 1) names) (some ++ name ∷ []) store now carried after a c n k result refl more
     (reports_then from some (name ∷ []) store middle now carried between after a b c n m k result settled accepts fits
-    (extends_next given source (repo_view store.repo).keys (accepted_in store) (accepted_in middle) some next) same p
+    (extends_next given source (repo_view store.repo).keys (accepted_in store) (accepted_in middle) some next) same p follows
     (subst (λ (f : Origin). Reports f (name ∷ []) middle now between after b c m k result) is q))
 
 -- those that were told before a fault are a front of all
@@ -1086,6 +1352,9 @@ reports_front from names place store now carried after a b n m fault p =
           (KeepsReported from (some ++ rest) store p.added) (EndsNames {T = Unit {0}} from (some ++ rest) p.added store now) a b n m fault
           (λ h g e. reported_wider from some rest store p.added p.added h g (front_all p.added) e) p.works;
       counted = tt;
+      last = p.last;
+      held = p.held;
+      fills = filled_wider a from store some rest fault p.added p.fills;
     })
 
 -- all were told

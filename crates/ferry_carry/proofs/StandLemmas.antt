@@ -17,15 +17,15 @@ use Rattle.ferry_write.specs.Script.{AllDone}
 use Rattle.ferry_write.specs.declared.fault.WriteFault.TheVariants as Writes
 use Rattle.ferry_carry.proofs.FaultLemmas.{failed_target}
 use Rattle.ferry_carry.proofs.GatherLemmas.{add_stands, each_then}
-use Rattle.ferry_carry.proofs.GrowLemmas.{growing_by, growing_here, growing_then, standing_accepted}
+use Rattle.ferry_carry.proofs.GrowLemmas.{Follows, growing_by, growing_here, growing_then, standing_accepted}
 use Rattle.ferry_carry.proofs.ReportLemmas.{all_nothing, all_then, all_wider, extends_next, names_here, reported_growing, reported_here, reported_then}
 use Rattle.ferry_carry.specs.Accepting.{AreNextOf}
 use Rattle.ferry_carry.specs.Carrying.{Origin}
 use Rattle.ferry_carry.specs.Fault.{IsOfWork, target_fault}
 use Rattle.ferry_carry.specs.Flight.{IsSettled}
-use Rattle.ferry_carry.specs.Gather.{Gathers, KeepsStanding}
+use Rattle.ferry_carry.specs.Gather.{Gathers, KeepsStanding, KeepsStandingAt}
 use Rattle.ferry_carry.specs.Grow.{AcceptsMore, Grows, KeepsGrowing}
-use Rattle.ferry_carry.specs.Puts.{Addition}
+use Rattle.ferry_carry.specs.Puts.{Addition, AtBegin, Within, border_behind}
 use Rattle.ferry_carry.specs.Refusals.{is_of_telling}
 use Rattle.ferry_carry.specs.Telling.{BeginsAll, CarriesNames, KeepsReported, Reports, StopsBehind, StopsUnnamed, TellsNames}
 use Rattle.ferry_carry.specs.Work.{Works}
@@ -78,7 +78,7 @@ pub accepted_stands : (most : ℕ) (store middle : Store) (within : List Additio
     → Between a b (KeepsStanding most middle within) → Between a b (KeepsStanding most store within)
 accepted_stands most store middle within a b same standing =
     between_map a b (KeepsStanding most middle within) (KeepsStanding most store within)
-    (λ h g e. standing_accepted most store middle within h g same e) standing
+    (λ h g e. standing_accepted Within most store middle within h g same e) standing
 
 -- ---- behind contents that were added
 
@@ -93,16 +93,20 @@ stands_behind {T} most store middle added more a b c n m x keys p after =
 
 -- ---- behind turns of a flight
 
-pub growing_behind : (from : Origin) (most : ℕ) (added more : List Addition) (store middle : Store) (a b c : Option Told) → most ≡ from.most
-    → AcceptsMore middle → Between a b (KeepsGrowing from [] store added) → Between a b (λ h g. AllDone h g × Grows from [] added store middle h g)
-    → Between b c (KeepsStanding most middle more) → Between a c (KeepsGrowing from [] store (added ++ more))
-growing_behind from most added more store middle a b c same accepts before end after =
-    between_then a b c (λ h g. KeepsGrowing from [] store added h g × (AllDone h g × Grows from [] added store middle h g))
-    (KeepsStanding from.most middle more) (KeepsGrowing from [] store (added ++ more))
+pub growing_behind : (earlier : List Addition) (from : Origin) (most : ℕ) (added more : List Addition) (store middle : Store) (a b c : Option Told)
+    → most ≡ from.most → AcceptsMore middle → Between a b (KeepsGrowing earlier from [] store added)
+    → Between a b (λ h g. AllDone h g × Grows earlier from [] added store middle h g)
+    → Between b c (KeepsStandingAt (border_behind AtBegin (earlier ++ added)) most middle more)
+    → Between a c (KeepsGrowing earlier from [] store (added ++ more))
+growing_behind earlier from most added more store middle a b c same accepts before end after =
+    let at = border_behind AtBegin (earlier ++ added) in
+    between_then a b c (λ h g. KeepsGrowing earlier from [] store added h g × (AllDone h g × Grows earlier from [] added store middle h g))
+    (KeepsStandingAt at from.most middle more) (KeepsGrowing earlier from [] store (added ++ more))
     (λ h g i e f.
-    growing_then from [] [] added more store middle h g i e.0 e.1.0 e.1.1 (growing_by from [] (accepted_in middle) middle more g i accepts f))
-    (between_both a b (KeepsGrowing from [] store added) (λ h g. AllDone h g × Grows from [] added store middle h g) before end)
-    (subst (λ (l : ℕ). Between b c (KeepsStanding l middle more)) same after)
+    growing_then earlier from [] [] added more store middle h g i e.0 e.1.0 e.1.1
+    (growing_by (earlier ++ added) from [] (accepted_in middle) middle more g i accepts f))
+    (between_both a b (KeepsGrowing earlier from [] store added) (λ h g. AllDone h g × Grows earlier from [] added store middle h g) before end)
+    (subst (λ (l : ℕ). Between b c (KeepsStandingAt at l middle more)) same after)
 
 -- ---- behind archives that were told
 
@@ -121,8 +125,9 @@ pub stops_behind : (from other : Origin) (names some : List (List ℕ)) (name : 
     (source : ManifestText) (store middle : Store) (carried between : Carried) (a b c : Option Told) (n m : ℕ) → other ≡ from
     → names ≡ some ++ name ∷ rest → IsSettled store → AcceptsMore middle → (repo_view middle.repo).keys ≡ (repo_view store.repo).keys
     → AreNextOf given source (repo_view store.repo).keys (accepted_in store) some (accepted_in middle)
-    → Reports from some store middle carried between a b n m (Ok tt) → StopsUnnamed other name middle b c → StopsBehind from names store a c
-stops_behind from other names some name rest given source store middle carried between a b c n m is split settled accepts keys next p q =
+    → (p : Reports from some store middle carried between a b n m (Ok tt)) → Follows p.added middle → StopsUnnamed other name middle b c
+    → StopsBehind from names store a c
+stops_behind from other names some name rest given source store middle carried between a b c n m is split settled accepts keys next p follows q =
     let accepted = accepted_in store in
     let added = p.added in
     let stopped = subst (λ (o : Origin). StopsUnnamed o name middle b c) is q in
@@ -139,11 +144,11 @@ stops_behind from other names some name rest given source store middle carried b
       each = between_then a b c
           (λ h g. KeepsReported from some store added h g
           × (AllDone h g × (CarriesNames from some added store middle h g × TellsNames accepted some h g)))
-          (KeepsGrowing from [] middle others) (λ h g. KeepsReported from some store (added ++ others) h g × TellsNames accepted some h g)
+          (KeepsGrowing [] from [] middle others) (λ h g. KeepsReported from some store (added ++ others) h g × TellsNames accepted some h g)
           (λ h g i e f.
           let told = e.1.1.1 in (
             subst (λ (l : List (List ℕ)). KeepsReported from l store (added ++ others) h i) (append-nil some)
-                (reported_then from some [] added others store middle h g i settled accepts e.0 e.1.0 e.1.1.0.0 told
+                (reported_then from some [] added others store middle h g i settled accepts follows e.0 e.1.0 e.1.1.0.0 told
                 (reported_growing from [] middle others g i f)),
             (told.0, (f.0 ∙ told.1.0, told.1.1)),
           ))
@@ -157,5 +162,5 @@ pub unnamed_here : (from : Origin) (name : List ℕ) (store : Store) (a : Option
 unnamed_here from name store a accepts = record {
   added = [];
   begins = all_nothing a from store (name ∷ []);
-  each = here_each (KeepsGrowing from [] store []) a (λ h. growing_here from [] store [] h accepts);
+  each = here_each (KeepsGrowing [] from [] store []) a (λ h. growing_here [] from [] store [] h accepts);
 }

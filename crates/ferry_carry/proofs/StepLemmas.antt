@@ -16,19 +16,21 @@ use Rattle.ferry_repo.specs.Whole.{ContentsCome, HoldsJoined}
 use Rattle.ferry_repo.specs.declared.walk.Walk.{Walk}
 use Rattle.ferry_store.specs.Store.{StoreFits}
 use Rattle.ferry_store.specs.declared.store.Store.{Store}
+use Rattle.ferry_carry.proofs.FillingLemmas.{copied_filled}
 use Rattle.ferry_carry.proofs.ListingLemmas.{bytes_apart, copied_begun, count_apart, step_begun}
 use Rattle.ferry_carry.proofs.ProgressLemmas.{steps_copied, steps_ended}
 use Rattle.ferry_carry.proofs.PutsLemmas.{bytes_append, count_append}
 use Rattle.ferry_carry.specs.Carrying.{origin}
 use Rattle.ferry_carry.specs.Copied.{IsRead}
 use Rattle.ferry_carry.specs.Copying.{BeginsContent, CopiesContent, IsReady, TakesItem, WritesItem}
-use Rattle.ferry_carry.specs.Gather.{Gathers, KeepsRest, KeepsStanding}
+use Rattle.ferry_carry.specs.Adding.{AddsOn}
+use Rattle.ferry_carry.specs.Filling.{FillsOne, FillsStep, WhereHeard}
+use Rattle.ferry_carry.specs.Gather.{KeepsRest}
 use Rattle.ferry_carry.specs.Listing.{BeginsOne}
 use Rattle.ferry_carry.specs.Piece.{BeginsOn, CountsOn}
 use Rattle.ferry_carry.specs.Progress.{CopiesOn, IsCopiedSoFar}
 use Rattle.ferry_carry.specs.Puts.{Addition, AreOf, Content, Kind, Stream, contents_in, put_bytes, put_count}
 use Rattle.ferry_carry.specs.Step.{BeginsMore, CopiesItem, CountsStep, StepsOn}
-use Rattle.ferry_carry.specs.Work.{Works}
 use Rattle.ferry_carry.specs.declared.copy.Copy.{Copy}
 use Rattle.ferry_carry.specs.declared.fault.CarryFault.{CarryFault}
 use Rattle.ferry_carry.specs.declared.piece.PieceWriter.{PieceWriter}
@@ -205,18 +207,20 @@ step_counts copy next middle now contents spelled walked added wrote of of_strea
 abbrev pub StepIs : Option Told → RepoState → Copy → Copy → Store → Store → List Addition → Option Told → Option Told → ℕ → ℕ → Result Bool CarryFault
     → Type 0
 StepIs told source copy copy_now store now more a b n m result =
-    Works (KeepsStanding copy.contents.checkpoint store more) (λ _. Gathers copy.contents.checkpoint store more now) a b n m result
-    × (IfErr result (λ _. BeginsMore told source (repo_view store.repo).keys copy more)
+    AddsOn copy.contents.checkpoint store more now a b n m result
+    × (IfErr result (λ fault. BeginsMore told source (repo_view store.repo).keys copy more × FillsStep told source copy fault more)
     × IfOk result (StepsOn told source (repo_view store.repo).keys copy more copy_now))
 
 -- The same of an archive of which something was added before.
 abbrev pub CopiedIs : Option Told → RepoState → ArchiveRef → List Addition → Copy → Copy → Store → Store → List Addition → Option Told → Option Told
     → ℕ → ℕ → Result Bool CarryFault → Type 0
 CopiedIs told source named added copy copy_now store now more a b n m result =
-    Works (KeepsStanding copy.contents.checkpoint store more) (λ _. Gathers copy.contents.checkpoint store more now) a b n m result
+    AddsOn copy.contents.checkpoint store more now a b n m result
     × ((archive_named named.name source.manifest.archives ≡ Some named
     → IfSome a (λ _. BeginsOne (origin told source copy.block copy.contents.checkpoint) (repo_view store.repo).keys named.name (added ++ more)))
-    × IfOk result (CopiesOn (origin told source copy.block copy.contents.checkpoint) named b now copy_now added more))
+    × (IfErr result (λ fault. archive_named named.name source.manifest.archives ≡ Some named → WhereHeard a fault
+    (λ refusal. FillsOne (origin told source copy.block copy.contents.checkpoint) (repo_view store.repo).keys named.name refusal (added ++ more)))
+    × IfOk result (CopiesOn (origin told source copy.block copy.contents.checkpoint) named b now copy_now added more)))
 
 module _ (told a b : Option Told) (source : RepoState) (named : ArchiveRef) (store now : Store) (copy copy_now : Copy) (added more : List Addition)
     (n m : ℕ) (ready : IsReady copy)
@@ -228,8 +232,11 @@ module _ (told a b : Option Told) (source : RepoState) (named : ArchiveRef) (sto
   copied_refused (Err other) fault e p = (
     p.0,
     (
-      λ named_is. copied_begun told a source copy.block copy.contents.checkpoint named store copy added more ready named_is p.1.0 so,
-      tt,
+      λ named_is. copied_begun told a source copy.block copy.contents.checkpoint named store copy added more ready named_is p.1.0.0 so,
+      (
+        λ named_is. copied_filled told a source copy.block copy.contents.checkpoint named store copy added more other named_is p.1.0.1 so,
+        tt,
+      ),
     ),
   )
 
@@ -244,8 +251,11 @@ module _ (told a b : Option Told) (source : RepoState) (named : ArchiveRef) (sto
       λ named_is.
           copied_begun told a source copy.block copy.contents.checkpoint named store copy added more ready named_is
           (step_begun told source (repo_view store.repo).keys copy more copy_now true (omega (arith, ready.stream_room)) p.1.1) so,
-      steps_copied copy.contents.checkpoint told a b source cached named store now copy copy_now added more n m log_fits fits p.0 rest ready archive block
-          most p.1.1.0 p.1.1.1 so,
+      (
+        tt,
+        steps_copied copy.contents.checkpoint told a b source cached named store now copy copy_now added more n m log_fits fits p.0.works rest ready archive
+            block most p.1.1.0 p.1.1.1 so,
+      ),
     ),
   )
   copied_behind cached false log_fits fits rest archive block most p = (
@@ -255,10 +265,13 @@ module _ (told a b : Option Told) (source : RepoState) (named : ArchiveRef) (sto
           copied_begun told a source copy.block copy.contents.checkpoint named store copy added more ready named_is
           (step_begun told source (repo_view store.repo).keys copy more copy_now false (omega (arith, ready.stream_room)) p.1.1) so,
       (
-        p.1.1.none,
-        λ named_is.
-            steps_ended copy.contents.checkpoint told a b source named store now copy copy_now added more n m named_is fits p.0 rest archive block p.1.1
-            so,
+        tt,
+        (
+          p.1.1.none,
+          λ named_is.
+              steps_ended copy.contents.checkpoint told a b source named store now copy copy_now added more n m named_is fits p.0.works rest archive block
+              p.1.1 so,
+        ),
       ),
     ),
   )

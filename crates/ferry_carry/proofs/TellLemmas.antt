@@ -29,9 +29,11 @@ use Rattle.ferry_write.specs.Session.{KeepsPlain, rests_at}
 use Rattle.ferry_carry.proofs.GatherLemmas.{moved_here}
 use Rattle.ferry_carry.proofs.PutsLemmas.{adds_here, goes_same}
 use Rattle.ferry_carry.proofs.WorkLemmas.{works_known, works_nothing}
+use Rattle.ferry_carry.specs.Adding.{IsNoChunk}
 use Rattle.ferry_carry.specs.Chosen.{TellsLine}
 use Rattle.ferry_carry.specs.Fault.{target_failed, target_fault}
-use Rattle.ferry_carry.specs.Gather.{Gathered, Gathers, HoldsWithin}
+use Rattle.ferry_carry.specs.Gather.{Gathered, GathersAt, HoldsWithin}
+use Rattle.ferry_carry.specs.Puts.{Border}
 use Rattle.ferry_carry.specs.Work.{Works}
 use Rattle.ferry_carry.specs.declared.fault.CarryFault.{CarryFault}
 use Rattle.ferry_carry.specs.declared.fault.CarryFault.TheVariants.{NotFound, Memory}
@@ -87,17 +89,18 @@ told_fits counts store line h fits =
       manifest = fits.manifest;
       keeps = fits.keeps;
       pending = fits.pending;
+      chunks = fits.chunks;
       learnt = fits.learnt;
     }
 
-pub told_gathers : (most : ℕ) (store : Store) (line : List ℕ) (h g : History) → TellsLine line h g → Gathers most store [] store h g
+pub told_gathers : (at : Border) (most : ℕ) (store : Store) (line : List ℕ) (h g : History) → TellsLine line h g → GathersAt at most store [] store h g
 unfolding told_fits
-told_gathers most store line h g is counts fits =
-    subst (λ (k : History). Gathered most counts store [] store h k fits) (sym is) (record {
+told_gathers at most store line h g is counts fits =
+    subst (λ (k : History). Gathered at most counts store [] store h k fits) (sym is) (record {
       fits_now = told_fits counts store line h fits;
       moved = moved_here (repo_view store.repo).keys fits.written;
-      puts = adds_here (repo_view store.repo).keys most (entries_of fits.written);
-      committed = goes_same (repo_view store.repo).keys most [] fits.written;
+      puts = adds_here at (repo_view store.repo).keys most (entries_of fits.written);
+      committed = goes_same at (repo_view store.repo).keys most [] fits.written;
       brings = λ scope apart all within. (
         subst (λ (f : Files). HoldsWithin scope f (repo_view store.repo)) (sym (files_told line h)) within,
         tt,
@@ -149,3 +152,7 @@ tell_fits {T} store line a b n m x fits p =
 pub begin_still : (fault : CarryFault) (name : List ℕ) (P : Type 0) → (fault ≡ Memory) ⊎ ((fault ≡ NotFound name) × P) → target_failed fault ≡ false
 begin_still fault name P (inl e) = ap target_failed e
 begin_still fault name P (inr e) = ap target_failed e.0
+
+pub begin_unbroken : (fault : CarryFault) (name : List ℕ) (P : Type 0) → (fault ≡ Memory) ⊎ ((fault ≡ NotFound name) × P) → IsNoChunk fault
+begin_unbroken fault name P (inl e) = subst IsNoChunk (sym e) tt
+begin_unbroken fault name P (inr e) = subst IsNoChunk (sym e.0) tt

@@ -8,17 +8,21 @@ use Rattle.ferry_disk.specs.Moments.{Between}
 use Rattle.ferry_store.proofs.StepLemmas.{done_here, done_then, failed_then, here_each, known_end, known_then, rose_then}
 use Rattle.ferry_store.specs.State.{Did}
 use Rattle.ferry_store.specs.declared.fault.StoreRefusal.{StoreRefusal}
+use Rattle.ferry_repo.specs.Opening.{repo_view}
 use Rattle.ferry_stops.specs.Tells.{TellsNothing}
 use Rattle.ferry_write.specs.Script.{AllDone}
+use Rattle.ferry_carry.proofs.AddingLemmas.{held_gathered, held_here, held_then, stops_then, stops_unbroken}
 use Rattle.ferry_carry.proofs.FaultLemmas.{failed_target}
 use Rattle.ferry_carry.specs.Fault.{target_failed, target_fault}
 use Rattle.ferry_carry.proofs.GatherLemmas.{each_then, gathers_here, gathers_then, standing_wider, stands_here}
-use Rattle.ferry_carry.proofs.GrowLemmas.{growing_by, growing_here, growing_longer, growing_then, growing_wider, grows_from, grows_here, grows_then}
+use Rattle.ferry_carry.proofs.GrowLemmas.{Follows, growing_by, growing_follows, growing_here, growing_longer, growing_then, growing_wider, growing_within}
+use Rattle.ferry_carry.proofs.GrowLemmas.{grows_follows, grows_from, grows_here, grows_then, grows_within}
+use Rattle.ferry_carry.specs.Adding.{AddsOn, IsNoChunk}
 use Rattle.ferry_carry.specs.Carrying.{Origin}
 use Rattle.ferry_carry.specs.Grow.{AcceptsMore, Grows, KeepsGrowing}
 use Rattle.ferry_store.specs.Commit.{accepted_in}
-use Rattle.ferry_carry.specs.Gather.{Gathers, KeepsRest, KeepsStanding}
-use Rattle.ferry_carry.specs.Puts.{Addition, IsFront}
+use Rattle.ferry_carry.specs.Gather.{Gathers, GathersAt, KeepsRest, KeepsStanding, KeepsStandingAt}
+use Rattle.ferry_carry.specs.Puts.{Addition, AtBegin, IsFront, border_behind}
 use Rattle.ferry_carry.specs.Work.{Works}
 use Rattle.ferry_store.specs.Store.{StoreFits}
 use Rattle.ferry_store.specs.declared.store.Store.{Store}
@@ -148,133 +152,207 @@ works_from P E Q a b n m x known p = record {
 
 pub gathered_then : {T U : Type 0} (most : ℕ) (store middle now : Store) (some more : List Addition) (a b c : Option Told) (n m k : ℕ) (x : T)
     (result : Result U CarryFault)
-    → KeepsRest store middle → OnOk result (KeepsRest middle now)
-    → Works (KeepsStanding most store some) (λ (_ : T). Gathers most store some middle) a b n m (Ok x)
-    → Works (KeepsStanding most middle more) (λ (_ : U). Gathers most middle more now) b c m k result
-    → Works (KeepsStanding most store (some ++ more)) (λ (_ : U). Gathers most store (some ++ more) now) a c n k result
-gathered_then {T} {U} most store middle now some more a b c n m k x (Ok y) rest rest_now p q =
-    works_then (KeepsStanding most store some) (λ (_ : T). Gathers most store some middle) (KeepsStanding most middle more)
-    (λ (_ : U). Gathers most middle more now) (KeepsStanding most store (some ++ more)) (λ (_ : U). Gathers most store (some ++ more) now) a b c n m k x (Ok y)
-    (λ h g i e d f r. each_then most store middle some more h g i rest.keys e d f r)
-    (λ _ h g i e f. gathers_then most store middle now some more rest rest_now h g i e f) p q
+    → KeepsRest store middle → OnOk result (KeepsRest middle now) → AddsOn most store some middle a b n m (Ok x)
+    → AddsOn most middle more now b c m k result → AddsOn most store (some ++ more) now a c n k result
+gathered_then {T} {U} most store middle now some more a b c n m k x (Ok y) rest rest_now p q = record {
+  works = works_then (KeepsStanding most store some) (λ (_ : T). Gathers most store some middle) (KeepsStanding most middle more)
+      (λ (_ : U). Gathers most middle more now) (KeepsStanding most store (some ++ more)) (λ (_ : U). Gathers most store (some ++ more) now) a b c n m k x
+      (Ok y) (λ h g i e d f r. each_then most store middle some more h g i rest.keys e d f r)
+      (λ _ h g i e f. gathers_then most store middle now some more rest rest_now h g i e f) p.works q.works;
+  last = tt;
+  held = tt;
+}
 gathered_then {T} {U} most store middle now some more a b c n m k x (Err fault) rest rest_now p q =
     let first = works_then (KeepsStanding most store some) (λ (_ : T). Gathers most store some middle) (KeepsStanding most middle more)
     (λ (_ : U). Gathers most middle more now) (KeepsStanding most store (some ++ more))
     (λ (_ : U) (h : History) (g : History). Unit {0}) a b c n m k x (Err fault)
     (λ h g i e d f r. each_then most store middle some more h g i rest.keys e d f r)
-    (λ _ h g i e f. tt) p q in
-    record { each = first.each; end = tt; ends = first.ends; cause = first.cause }
+    (λ _ h g i e f. tt) p.works q.works in
+    record {
+      works = record { each = first.each; end = tt; ends = first.ends; cause = first.cause };
+      last = stops_then {T = U} a b (repo_view store.repo).keys (repo_view middle.repo).keys some more (Err fault) p.works.ends rest.keys q.last;
+      held = held_then {T = U} most store middle now some more a b c (Err fault) rest.keys p.works.end q.held;
+    }
 
-pub gathered_none : {T : Type 0} (most : ℕ) (store : Store) (a : Option Told) (n : ℕ) (x : T)
-    → Works (KeepsStanding most store []) (λ (_ : T). Gathers most store [] store) a a n n (Ok x)
-gathered_none {T} most store a n x =
-    works_none (KeepsStanding most store []) (λ (_ : T). Gathers most store [] store) a n x (λ h. stands_here most store [] h) (λ h. gathers_here most store h)
+pub gathered_none : {T : Type 0} (most : ℕ) (store : Store) (a : Option Told) (n : ℕ) (x : T) → AddsOn {T = T} most store [] store a a n n (Ok x)
+gathered_none {T} most store a n x = record {
+  works = works_none (KeepsStanding most store []) (λ (_ : T). Gathers most store [] store) a n x (λ h. stands_here most store [] h)
+      (λ h. gathers_here most store h);
+  last = tt;
+  held = tt;
+}
 
-pub gathered_nothing : {T : Type 0} (most : ℕ) (store now : Store) (added : List Addition) (a : Option Told) (n : ℕ) (fault : CarryFault)
-    → target_failed fault ≡ false → Works (KeepsStanding most store added) (λ (_ : T). Gathers most store added now) a a n n (Err fault)
-gathered_nothing {T} most store now added a n fault still =
-    works_nothing (KeepsStanding most store added) (λ (_ : T). Gathers most store added now) a n fault still (λ h. stands_here most store added h)
+pub gathered_nothing : {T : Type 0} (most : ℕ) (store : Store) (a : Option Told) (n : ℕ) (fault : CarryFault)
+    → target_failed fault ≡ false → IsNoChunk fault → AddsOn {T = T} most store [] store a a n n (Err fault)
+gathered_nothing {T} most store a n fault still unbroken = record {
+  works = works_nothing (KeepsStanding most store []) (λ (_ : T). Gathers most store [] store) a n fault still (λ h. stands_here most store [] h);
+  last = stops_unbroken a (repo_view store.repo).keys [] fault unbroken;
+  held = λ of. held_here most store a;
+}
 
--- the same of another value, and of a fault behind what was done
+-- the same of another value, and of a fault that is handed on
 pub gathered_as : {T U : Type 0} (most : ℕ) (store now : Store) (added : List Addition) (a b : Option Told) (n m : ℕ) (x : T) (y : U)
-    → Works (KeepsStanding most store added) (λ (_ : T). Gathers most store added now) a b n m (Ok x)
-    → Works (KeepsStanding most store added) (λ (_ : U). Gathers most store added now) a b n m (Ok y)
-gathered_as {T} {U} most store now added a b n m x y p =
-    works_as (KeepsStanding most store added) (λ (_ : T). Gathers most store added now) (KeepsStanding most store added)
-    (λ (_ : U). Gathers most store added now) a b n m x y (λ h g e. e) (λ h g e. e) p
+    → AddsOn most store added now a b n m (Ok x) → AddsOn most store added now a b n m (Ok y)
+gathered_as {T} {U} most store now added a b n m x y p = record {
+  works = works_as (KeepsStanding most store added) (λ (_ : T). Gathers most store added now) (KeepsStanding most store added)
+      (λ (_ : U). Gathers most store added now) a b n m x y (λ h g e. e) (λ h g e. e) p.works;
+  last = tt;
+  held = tt;
+}
 
-pub gathered_err : {T U : Type 0} (most : ℕ) (store now : Store) (added others : List Addition) (a b : Option Told) (n m : ℕ) (fault : CarryFault)
-    → IsFront added others → Works (KeepsStanding most store added) (λ (_ : T). Gathers most store added now) a b n m (Err fault)
-    → Works (KeepsStanding most store others) (λ (_ : U). Gathers most store others now) a b n m (Err fault)
-gathered_err {T} {U} most store now added others a b n m fault front p =
-    works_front (KeepsStanding most store added) (λ (_ : T). Gathers most store added now) (KeepsStanding most store others)
-    (λ (_ : U). Gathers most store others now) a b n m fault (λ h g e. standing_wider most store added others h g front e) p
+pub gathered_err : {T U : Type 0} (most : ℕ) (store now : Store) (added : List Addition) (a b : Option Told) (n m : ℕ) (fault : CarryFault)
+    → AddsOn {T = T} most store added now a b n m (Err fault) → AddsOn {T = U} most store added now a b n m (Err fault)
+gathered_err {T} {U} most store now added a b n m fault p = record {
+  works = works_front (KeepsStanding most store added) (λ (_ : T). Gathers most store added now) (KeepsStanding most store added)
+      (λ (_ : U). Gathers most store added now) a b n m fault (λ h g e. e) p.works;
+  last = p.last;
+  held = p.held;
+}
+
+-- a fault of no chunk behind what was done
+pub gathered_fault : {T U : Type 0} (most : ℕ) (store now : Store) (added : List Addition) (a b : Option Told) (n m : ℕ) (x : T) (fault : CarryFault)
+    → target_failed fault ≡ false → IsNoChunk fault → AddsOn {T = T} most store added now a b n m (Ok x)
+    → AddsOn {T = U} most store added now a b n m (Err fault)
+gathered_fault {T} {U} most store now added a b n m x fault still unbroken p = record {
+  works = record {
+    each = p.works.each;
+    end = tt;
+    ends = subst (λ (d : Bool). FailedWhere d a b) (sym still) p.works.ends;
+    cause = subst (λ (d : Bool). RoseWhere d n m) (sym still) p.works.cause;
+  };
+  last = stops_unbroken a (repo_view store.repo).keys added fault unbroken;
+  held = λ of. held_gathered most store now added a b p.works.end;
+}
 
 -- a store fits from body to body
 pub gathered_fits : {T : Type 0} (most : ℕ) (store now : Store) (added : List Addition) (a b : Option Told) (n m : ℕ) (x : T)
-    → IfSome a (λ t. StoreFits false store t.history) → Works (KeepsStanding most store added) (λ (_ : T). Gathers most store added now) a b n m (Ok x)
-    → IfSome b (λ t. StoreFits false now t.history)
+    → IfSome a (λ t. StoreFits false store t.history) → AddsOn most store added now a b n m (Ok x) → IfSome b (λ t. StoreFits false now t.history)
 gathered_fits {T} most store now added a b n m x fits p =
     works_known (λ h. StoreFits false store h) (λ h. StoreFits false now h) (KeepsStanding most store added) (λ (_ : T). Gathers most store added now) a b n m x
-    (λ h g f e. (e false f).fits_now) fits p
+    (λ h g f e. (e false f).fits_now) fits p.works
 
 -- ---- archives that come, one after another
 
 -- one body behind another, each of which carried archives
-pub carried_by_then : {T U : Type 0} (from : Origin) (some each : List (List ℕ)) (more : U → List (List ℕ)) (added others : List Addition)
+pub carried_by_then : {T U : Type 0} (earlier : List Addition) (from : Origin) (some each : List (List ℕ)) (more : U → List (List ℕ))
+    (added others : List Addition) (store middle now : Store) (a b c : Option Told) (n m k : ℕ) (x : T) (result : Result U CarryFault)
+    → Works (KeepsGrowing earlier from (some ++ each) store added) (λ (_ : T). Grows earlier from some added store middle) a b n m (Ok x)
+    → Works (KeepsGrowing (earlier ++ added) from each middle others) (λ (y : U). Grows (earlier ++ added) from (more y) others middle now) b c m k
+    result
+    → Works (KeepsGrowing earlier from (some ++ each) store (added ++ others)) (λ (y : U). Grows earlier from (some ++ more y) (added ++ others) store now)
+    a c n k result
+carried_by_then {T} {U} earlier from some each more added others store middle now a b c n m k x result p q =
+    works_then (KeepsGrowing earlier from (some ++ each) store added) (λ (_ : T). Grows earlier from some added store middle)
+    (KeepsGrowing (earlier ++ added) from each middle others) (λ (y : U). Grows (earlier ++ added) from (more y) others middle now)
+    (KeepsGrowing earlier from (some ++ each) store (added ++ others))
+    (λ (y : U). Grows earlier from (some ++ more y) (added ++ others) store now) a b c n m k x result
+    (λ h g i e d f r. growing_then earlier from some each added others store middle h g i e d f r)
+    (λ y h g i e f. grows_then earlier from some (more y) added others store middle now h g i e f) p q
+
+pub carried_then : {T U : Type 0} (earlier : List Addition) (from : Origin) (some more : List (List ℕ)) (added others : List Addition)
     (store middle now : Store) (a b c : Option Told) (n m k : ℕ) (x : T) (result : Result U CarryFault)
-    → Works (KeepsGrowing from (some ++ each) store added) (λ (_ : T). Grows from some added store middle) a b n m (Ok x)
-    → Works (KeepsGrowing from each middle others) (λ (y : U). Grows from (more y) others middle now) b c m k result
-    → Works (KeepsGrowing from (some ++ each) store (added ++ others)) (λ (y : U). Grows from (some ++ more y) (added ++ others) store now) a c n k result
-carried_by_then {T} {U} from some each more added others store middle now a b c n m k x result p q =
-    works_then (KeepsGrowing from (some ++ each) store added) (λ (_ : T). Grows from some added store middle) (KeepsGrowing from each middle others)
-    (λ (y : U). Grows from (more y) others middle now) (KeepsGrowing from (some ++ each) store (added ++ others))
-    (λ (y : U). Grows from (some ++ more y) (added ++ others) store now) a b c n m k x result
-    (λ h g i e d f r. growing_then from some each added others store middle h g i e d f r)
-    (λ y h g i e f. grows_then from some (more y) added others store middle now h g i e f) p q
+    → Works (KeepsGrowing earlier from (some ++ more) store added) (λ (_ : T). Grows earlier from some added store middle) a b n m (Ok x)
+    → Works (KeepsGrowing (earlier ++ added) from more middle others) (λ (_ : U). Grows (earlier ++ added) from more others middle now) b c m k
+    result
+    → Works (KeepsGrowing earlier from (some ++ more) store (added ++ others)) (λ (_ : U). Grows earlier from (some ++ more) (added ++ others) store now)
+    a c n k result
+carried_then {T} {U} earlier from some more added others store middle now a b c n m k x result p q =
+    carried_by_then {T = T} {U = U} earlier from some more (λ _. more) added others store middle now a b c n m k x result p q
 
-pub carried_then : {T U : Type 0} (from : Origin) (some more : List (List ℕ)) (added others : List Addition) (store middle now : Store)
-    (a b c : Option Told) (n m k : ℕ) (x : T) (result : Result U CarryFault)
-    → Works (KeepsGrowing from (some ++ more) store added) (λ (_ : T). Grows from some added store middle) a b n m (Ok x)
-    → Works (KeepsGrowing from more middle others) (λ (_ : U). Grows from more others middle now) b c m k result
-    → Works (KeepsGrowing from (some ++ more) store (added ++ others)) (λ (_ : U). Grows from (some ++ more) (added ++ others) store now) a c n k result
-carried_then {T} {U} from some more added others store middle now a b c n m k x result p q =
-    carried_by_then {T = T} {U = U} from some more (λ _. more) added others store middle now a b c n m k x result p q
+pub carried_none : {T : Type 0} (earlier : List Addition) (from : Origin) (chosen : List (List ℕ)) (store : Store) (a : Option Told) (n : ℕ) (x : T)
+    → AcceptsMore store → Works (KeepsGrowing earlier from chosen store []) (λ (_ : T). Grows earlier from [] [] store store) a a n n (Ok x)
+carried_none {T} earlier from chosen store a n x accepts =
+    works_none (KeepsGrowing earlier from chosen store []) (λ (_ : T). Grows earlier from [] [] store store) a n x
+    (λ h. growing_here earlier from chosen store [] h accepts) (λ h. grows_here earlier from store h)
 
-pub carried_none : {T : Type 0} (from : Origin) (chosen : List (List ℕ)) (store : Store) (a : Option Told) (n : ℕ) (x : T) → AcceptsMore store
-    → Works (KeepsGrowing from chosen store []) (λ (_ : T). Grows from [] [] store store) a a n n (Ok x)
-carried_none {T} from chosen store a n x accepts =
-    works_none (KeepsGrowing from chosen store []) (λ (_ : T). Grows from [] [] store store) a n x (λ h. growing_here from chosen store [] h accepts)
-    (λ h. grows_here from store h)
+pub carried_nothing : {T : Type 0} (earlier : List Addition) (from : Origin) (chosen others : List (List ℕ)) (added : List Addition) (store now : Store)
+    (a : Option Told) (n : ℕ) (fault : CarryFault) → AcceptsMore store → target_failed fault ≡ false
+    → Works (KeepsGrowing earlier from chosen store added) (λ (_ : T). Grows earlier from others added store now) a a n n (Err fault)
+carried_nothing {T} earlier from chosen others added store now a n fault accepts still =
+    works_nothing (KeepsGrowing earlier from chosen store added) (λ (_ : T). Grows earlier from others added store now) a n fault still
+    (λ h. growing_here earlier from chosen store added h accepts)
 
-pub carried_nothing : {T : Type 0} (from : Origin) (chosen others : List (List ℕ)) (added : List Addition) (store now : Store) (a : Option Told) (n : ℕ)
-    (fault : CarryFault) → AcceptsMore store → target_failed fault ≡ false
-    → Works (KeepsGrowing from chosen store added) (λ (_ : T). Grows from others added store now) a a n n (Err fault)
-carried_nothing {T} from chosen others added store now a n fault accepts still =
-    works_nothing (KeepsGrowing from chosen store added) (λ (_ : T). Grows from others added store now) a n fault still
-    (λ h. growing_here from chosen store added h accepts)
+pub carried_as : {T U : Type 0} (earlier : List Addition) (from : Origin) (chosen each : List (List ℕ)) (added : List Addition) (store now : Store)
+    (a b : Option Told) (n m : ℕ) (x : T) (y : U)
+    → Works (KeepsGrowing earlier from each store added) (λ (_ : T). Grows earlier from chosen added store now) a b n m (Ok x)
+    → Works (KeepsGrowing earlier from each store added) (λ (_ : U). Grows earlier from chosen added store now) a b n m (Ok y)
+carried_as {T} {U} earlier from chosen each added store now a b n m x y p =
+    works_as (KeepsGrowing earlier from each store added) (λ (_ : T). Grows earlier from chosen added store now) (KeepsGrowing earlier from each store added)
+    (λ (_ : U). Grows earlier from chosen added store now) a b n m x y (λ h g e. e) (λ h g e. e) p
 
-pub carried_as : {T U : Type 0} (from : Origin) (chosen each : List (List ℕ)) (added : List Addition) (store now : Store) (a b : Option Told) (n m : ℕ)
-    (x : T) (y : U) → Works (KeepsGrowing from each store added) (λ (_ : T). Grows from chosen added store now) a b n m (Ok x)
-    → Works (KeepsGrowing from each store added) (λ (_ : U). Grows from chosen added store now) a b n m (Ok y)
-carried_as {T} {U} from chosen each added store now a b n m x y p =
-    works_as (KeepsGrowing from each store added) (λ (_ : T). Grows from chosen added store now) (KeepsGrowing from each store added)
-    (λ (_ : U). Grows from chosen added store now) a b n m x y (λ h g e. e) (λ h g e. e) p
-
-pub carried_err : {T U : Type 0} (from : Origin) (each some others : List (List ℕ)) (added more : List Addition) (store now other : Store)
-    (a b : Option Told) (n m : ℕ) (fault : CarryFault)
-    → IsFront added more → Works (KeepsGrowing from each store added) (λ (_ : T). Grows from some added store now) a b n m (Err fault)
-    → Works (KeepsGrowing from each store more) (λ (_ : U). Grows from others more store other) a b n m (Err fault)
-carried_err {T} {U} from each some others added more store now other a b n m fault front p =
-    works_front (KeepsGrowing from each store added) (λ (_ : T). Grows from some added store now) (KeepsGrowing from each store more)
-    (λ (_ : U). Grows from others more store other) a b n m fault (λ h g e. growing_longer from each store added more h g front e) p
+pub carried_err : {T U : Type 0} (earlier : List Addition) (from : Origin) (each some others : List (List ℕ)) (added more : List Addition)
+    (store now other : Store) (a b : Option Told) (n m : ℕ) (fault : CarryFault)
+    → IsFront added more → Works (KeepsGrowing earlier from each store added) (λ (_ : T). Grows earlier from some added store now) a b n m (Err fault)
+    → Works (KeepsGrowing earlier from each store more) (λ (_ : U). Grows earlier from others more store other) a b n m (Err fault)
+carried_err {T} {U} earlier from each some others added more store now other a b n m fault front p =
+    works_front (KeepsGrowing earlier from each store added) (λ (_ : T). Grows earlier from some added store now) (KeepsGrowing earlier from each store more)
+    (λ (_ : U). Grows earlier from others more store other) a b n m fault (λ h g e. growing_longer earlier from each store added more h g front e) p
 
 -- of more chosen names
-pub carried_wider : {T : Type 0} (from : Origin) (each more chosen : List (List ℕ)) (added : List Addition) (store now : Store) (a b : Option Told)
-    (n m : ℕ) (result : Result T CarryFault) → Works (KeepsGrowing from each store added) (λ (_ : T). Grows from chosen added store now) a b n m result
-    → Works (KeepsGrowing from (each ++ more) store added) (λ (_ : T). Grows from chosen added store now) a b n m result
-carried_wider {T} from each more chosen added store now a b n m (Ok x) p =
-    works_as (KeepsGrowing from each store added) (λ (_ : T). Grows from chosen added store now) (KeepsGrowing from (each ++ more) store added)
-    (λ (_ : T). Grows from chosen added store now) a b n m x x (λ h g e. growing_wider from each more store added h g e) (λ h g e. e) p
-carried_wider {T} from each more chosen added store now a b n m (Err fault) p =
-    works_front (KeepsGrowing from each store added) (λ (_ : T). Grows from chosen added store now) (KeepsGrowing from (each ++ more) store added)
-    (λ (_ : T). Grows from chosen added store now) a b n m fault (λ h g e. growing_wider from each more store added h g e) p
+pub carried_wider : {T : Type 0} (earlier : List Addition) (from : Origin) (each more chosen : List (List ℕ)) (added : List Addition) (store now : Store)
+    (a b : Option Told) (n m : ℕ) (result : Result T CarryFault)
+    → Works (KeepsGrowing earlier from each store added) (λ (_ : T). Grows earlier from chosen added store now) a b n m result
+    → Works (KeepsGrowing earlier from (each ++ more) store added) (λ (_ : T). Grows earlier from chosen added store now) a b n m result
+carried_wider {T} earlier from each more chosen added store now a b n m (Ok x) p =
+    works_as (KeepsGrowing earlier from each store added) (λ (_ : T). Grows earlier from chosen added store now)
+    (KeepsGrowing earlier from (each ++ more) store added) (λ (_ : T). Grows earlier from chosen added store now) a b n m x x
+    (λ h g e. growing_wider earlier from each more store added h g e) (λ h g e. e) p
+carried_wider {T} earlier from each more chosen added store now a b n m (Err fault) p =
+    works_front (KeepsGrowing earlier from each store added) (λ (_ : T). Grows earlier from chosen added store now)
+    (KeepsGrowing earlier from (each ++ more) store added) (λ (_ : T). Grows earlier from chosen added store now) a b n m fault
+    (λ h g e. growing_wider earlier from each more store added h g e) p
 
 -- contents that were added
-pub carried_from : {T U : Type 0} (from : Origin) (chosen : List (List ℕ)) (store now : Store) (added : List Addition) (a b : Option Told) (n m : ℕ)
-    (x : T) (y : U) → AcceptsMore store → KeepsRest store now
-    → Works (KeepsStanding from.most store added) (λ (_ : T). Gathers from.most store added now) a b n m (Ok x)
-    → Works (KeepsGrowing from chosen store added) (λ (_ : U). Grows from [] added store now) a b n m (Ok y)
-carried_from {T} {U} from chosen store now added a b n m x y accepts rest p =
-    works_as (KeepsStanding from.most store added) (λ (_ : T). Gathers from.most store added now) (KeepsGrowing from chosen store added)
-    (λ (_ : U). Grows from [] added store now) a b n m x y
-    (λ h g e. growing_by from chosen (accepted_in store) store added h g accepts e) (λ h g e. grows_from from store now added h g rest e) p
+pub carried_from : {T U : Type 0} (earlier : List Addition) (from : Origin) (chosen : List (List ℕ)) (store now : Store) (added : List Addition)
+    (a b : Option Told) (n m : ℕ) (x : T) (y : U) → AcceptsMore store → KeepsRest store now
+    → AddsOn from.most store added now a b n m (Ok x)
+    → Works (KeepsGrowing earlier from chosen store added) (λ (_ : U). Grows earlier from [] added store now) a b n m (Ok y)
+carried_from {T} {U} earlier from chosen store now added a b n m x y accepts rest p =
+    works_as (KeepsStanding from.most store added) (λ (_ : T). Gathers from.most store added now) (KeepsGrowing earlier from chosen store added)
+    (λ (_ : U). Grows earlier from [] added store now) a b n m x y
+    (λ h g e. growing_within earlier from chosen store added h g accepts e) (λ h g e. grows_within earlier from store now added h g rest e) p.works
 
-pub carried_from_err : {T U : Type 0} (from : Origin) (chosen others : List (List ℕ)) (store now other : Store) (added more : List Addition)
-    (a b : Option Told) (n m : ℕ) (fault : CarryFault) → AcceptsMore store → IsFront added more
-    → Works (KeepsStanding from.most store added) (λ (_ : T). Gathers from.most store added now) a b n m (Err fault)
-    → Works (KeepsGrowing from chosen store more) (λ (_ : U). Grows from others more store other) a b n m (Err fault)
-carried_from_err {T} {U} from chosen others store now other added more a b n m fault accepts front p =
-    works_front (KeepsStanding from.most store added) (λ (_ : T). Gathers from.most store added now) (KeepsGrowing from chosen store more)
-    (λ (_ : U). Grows from others more store other) a b n m fault
-    (λ h g e. growing_by from chosen (accepted_in store) store more h g accepts (standing_wider from.most store added more h g front e)) p
+pub carried_from_err : {T U : Type 0} (earlier : List Addition) (from : Origin) (chosen others : List (List ℕ)) (store now other : Store)
+    (added more : List Addition) (a b : Option Told) (n m : ℕ) (fault : CarryFault) → AcceptsMore store → IsFront added more
+    → AddsOn {T = T} from.most store added now a b n m (Err fault)
+    → Works (KeepsGrowing earlier from chosen store more) (λ (_ : U). Grows earlier from others more store other) a b n m (Err fault)
+carried_from_err {T} {U} earlier from chosen others store now other added more a b n m fault accepts front p =
+    works_front (KeepsStanding from.most store added) (λ (_ : T). Gathers from.most store added now) (KeepsGrowing earlier from chosen store more)
+    (λ (_ : U). Grows earlier from others more store other) a b n m fault
+    (λ h g e. growing_within earlier from chosen store more h g accepts (standing_wider from.most store added more h g front e)) p.works
+
+-- the same at a border
+pub carried_gathered : {T U : Type 0} (earlier : List Addition) (from : Origin) (chosen : List (List ℕ)) (store now : Store) (added : List Addition)
+    (a b : Option Told) (n m : ℕ) (x : T) (y : U) → AcceptsMore store → KeepsRest store now
+    → Works (KeepsStandingAt (border_behind AtBegin earlier) from.most store added)
+    (λ (_ : T). GathersAt (border_behind AtBegin earlier) from.most store added now) a b n m (Ok x)
+    → Works (KeepsGrowing earlier from chosen store added) (λ (_ : U). Grows earlier from [] added store now) a b n m (Ok y)
+carried_gathered {T} {U} earlier from chosen store now added a b n m x y accepts rest p =
+    let at = border_behind AtBegin earlier in
+    works_as (KeepsStandingAt at from.most store added) (λ (_ : T). GathersAt at from.most store added now) (KeepsGrowing earlier from chosen store added)
+    (λ (_ : U). Grows earlier from [] added store now) a b n m x y
+    (λ h g e. growing_by earlier from chosen (accepted_in store) store added h g accepts e) (λ h g e. grows_from earlier from store now added h g rest e) p
+
+pub carried_gathered_err : {T U : Type 0} (earlier : List Addition) (from : Origin) (chosen others : List (List ℕ)) (store now other : Store)
+    (added : List Addition) (a b : Option Told) (n m : ℕ) (fault : CarryFault) → AcceptsMore store
+    → Works (KeepsStandingAt (border_behind AtBegin earlier) from.most store added)
+    (λ (_ : T). GathersAt (border_behind AtBegin earlier) from.most store added now) a b n m (Err fault)
+    → Works (KeepsGrowing earlier from chosen store added) (λ (_ : U). Grows earlier from others added store other) a b n m (Err fault)
+carried_gathered_err {T} {U} earlier from chosen others store now other added a b n m fault accepts p =
+    let at = border_behind AtBegin earlier in
+    works_front (KeepsStandingAt at from.most store added) (λ (_ : T). GathersAt at from.most store added now) (KeepsGrowing earlier from chosen store added)
+    (λ (_ : U). Grows earlier from others added store other) a b n m fault
+    (λ h g e. growing_by earlier from chosen (accepted_in store) store added h g accepts e) p
+
+-- behind what was added, where nothing is pending then
+pub carried_follows : {T : Type 0} (earlier : List Addition) (from : Origin) (each : List (List ℕ)) (more : T → List (List ℕ)) (added : List Addition)
+    (store now : Store) (a b : Option Told) (n m : ℕ) (result : Result T CarryFault) → Follows earlier store
+    → Works (KeepsGrowing [] from each store added) (λ (x : T). Grows [] from (more x) added store now) a b n m result
+    → Works (KeepsGrowing earlier from each store added) (λ (x : T). Grows earlier from (more x) added store now) a b n m result
+carried_follows {T} earlier from each more added store now a b n m (Ok x) follows p =
+    works_as (KeepsGrowing [] from each store added) (λ (y : T). Grows [] from (more y) added store now) (KeepsGrowing earlier from each store added)
+    (λ (y : T). Grows earlier from (more y) added store now) a b n m x x (λ h g e. growing_follows earlier from each store added h g follows e)
+    (λ h g e. grows_follows earlier from (more x) added store now h g follows e) p
+carried_follows {T} earlier from each more added store now a b n m (Err fault) follows p =
+    works_front (KeepsGrowing [] from each store added) (λ (y : T). Grows [] from (more y) added store now) (KeepsGrowing earlier from each store added)
+    (λ (y : T). Grows earlier from (more y) added store now) a b n m fault (λ h g e. growing_follows earlier from each store added h g follows e) p

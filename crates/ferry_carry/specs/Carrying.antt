@@ -19,6 +19,7 @@ use Rattle.ferry_segment.specs.Entry.{LogEntry}
 use Rattle.ferry_store.specs.Standing.{live_in}
 use Rattle.ferry_carry.specs.Copied.{IsCopyOf, adds_of}
 use Rattle.ferry_carry.specs.Gather.{HoldsContents, HoldsWithin, IsAmong, NoCollision}
+use Rattle.ferry_carry.specs.Puts.{Addition, contents_in}
 
 -- ---- a source
 
@@ -57,9 +58,16 @@ LivesWithin scope keys entries = (id blob content : List ℕ) → id ≢ zero_id
 abbrev pub IsRecordText : Keys → List ℕ → WholeArchive → Type 0
 IsRecordText keys text whole = (record_is : ArchiveText) × ((archive_of keys text ≡ Ok record_is) × (record_is.fields ≡ whole.fields))
 
--- The archive of a name is whole in a source. By these entries it is whole in the target, and says the same, where no contents collide among those
--- that it is there and those that are live.
-pub record CarriesOver (there : Files) (from : Origin) (keys : Keys) (entries : List LogEntry) (archives : List ArchiveRef) (name : List ℕ) : Type 0 where
+-- Behind entries these were added. No contents collide among those that were added and those that were live.
+pub record IsApart (scope : List (List ℕ)) (keys : Keys) (base : List LogEntry) (more : List Addition) : Type 0 where
+  pub one : NoCollision keys scope
+  pub added : AllByRecursion (IsAmong scope) (contents_in more)
+  pub live : LivesWithin scope keys base
+
+-- The archive of a name is whole in a source. By these entries it is whole in the target, and says the same, where no contents collide among those that were
+-- added and those that were live by the entries behind which they were.
+pub record CarriesOver (there : Files) (from : Origin) (added : List Addition) (base : List LogEntry) (keys : Keys) (entries : List LogEntry)
+    (archives : List ArchiveRef) (name : List ℕ) : Type 0 where
   pub whole : WholeArchive
   pub source : SaysIn there from.repo name whole
   pub entry : ArchiveRef
@@ -67,12 +75,11 @@ pub record CarriesOver (there : Files) (from : Origin) (keys : Keys) (entries : 
   pub text : List ℕ
   pub id : entry.id ≡ content_id keys text
   pub record_is : IsRecordText keys text whole
-  pub target : (scope : List (List ℕ)) → NoCollision keys scope → AllByRecursion (IsAmong scope) (adds_of keys from.block whole.items text)
-      → LivesWithin scope keys entries → IsWholeBy entries keys archives name whole
+  pub target : (scope : List (List ℕ)) → IsApart scope keys base added → IsWholeBy entries keys archives name whole
 
 -- The same of a source that tells its files.
-abbrev pub IsCarried : Origin → Keys → List LogEntry → List ArchiveRef → List ℕ → Type 0
-IsCarried from keys entries archives name = IfSome from.files (λ there. CarriesOver there from keys entries archives name)
+abbrev pub IsCarried : Origin → List Addition → List LogEntry → Keys → List LogEntry → List ArchiveRef → List ℕ → Type 0
+IsCarried from added base keys entries archives name = IfSome from.files (λ there. CarriesOver there from added base keys entries archives name)
 
 -- ---- how it is cut
 
@@ -98,21 +105,21 @@ AreCut accepted from keys archives names = (name : List ℕ) → IsAmong names n
 
 -- ---- an archive that can be named
 
--- Each of these contents is there, where none collide among them and those that are live.
-abbrev pub HoldsApart : Files → RepoState → List (List ℕ) → Type 0
-HoldsApart files repo contents = (scope : List (List ℕ)) → NoCollision repo.keys scope → AllByRecursion (IsAmong scope) contents
+-- Each of these contents is there, where none collide among those that were added and those that are live.
+abbrev pub HoldsApart : Files → RepoState → List Addition → List (List ℕ) → Type 0
+HoldsApart files repo added contents = (scope : List (List ℕ)) → NoCollision repo.keys scope → AllByRecursion (IsAmong scope) (contents_in added)
     → HoldsWithin scope files repo → HoldsContents files repo contents
 
--- An archive of a source is whole there, and all that it is in a target is there: the entry is that of its record.
-pub record CanBeNamed (there : Files) (from : Origin) (files : Files) (repo : RepoState) (entry : ArchiveRef) : Type 0 where
+-- An archive of a source is whole there, and all that it is in a target is there, with these added: the entry is that of its record.
+pub record CanBeNamed (there : Files) (from : Origin) (added : List Addition) (files : Files) (repo : RepoState) (entry : ArchiveRef) : Type 0 where
   pub whole : WholeArchive
   pub source : SaysIn there from.repo entry.name whole
   pub time : whole.time ≡ entry.time
   pub text : List ℕ
   pub id : entry.id ≡ content_id repo.keys text
   pub copy : IsCopyOf repo.keys from.block whole.items whole.fields text
-  pub held : HoldsApart files repo (adds_of repo.keys from.block whole.items text)
+  pub held : HoldsApart files repo added (adds_of repo.keys from.block whole.items text)
 
 -- The same of a source that tells its files.
-abbrev pub IsReadyToName : Origin → Files → RepoState → ArchiveRef → Type 0
-IsReadyToName from files repo entry = IfSome from.files (λ there. CanBeNamed there from files repo entry)
+abbrev pub IsReadyToName : Origin → List Addition → Files → RepoState → ArchiveRef → Type 0
+IsReadyToName from added files repo entry = IfSome from.files (λ there. CanBeNamed there from added files repo entry)

@@ -52,6 +52,11 @@ abbrev pub random_failed : CarryFault → Bool
 random_failed (Target refusal) = entropy_failed refusal
 random_failed fault = false
 
+-- A fault is one of the source.
+abbrev pub IsOfSource : CarryFault → Type 0
+IsOfSource (Source fault) = Unit {0}
+IsOfSource fault = ⊥
+
 -- A refusal is of what was asked for, or a limit: no device failed, and memory wasn't refused.
 pub record IsOfWork (fault : CarryFault) : Type 0 where
   pub shelf : shelf_failed fault ≡ false

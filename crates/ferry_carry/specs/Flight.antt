@@ -12,15 +12,17 @@ use Rattle.ferry_repo.specs.Walk.{FitsWalk, walk_view}
 use Rattle.ferry_repo.specs.Whole.{WholeArchive}
 use Rattle.ferry_store.specs.Commit.{accepted_in}
 use Rattle.ferry_store.specs.declared.store.Store.{Store}
+use Rattle.ferry_carry.specs.Adding.{HoldsRefused, StopsLast}
 use Rattle.ferry_carry.specs.Carrying.{IsReadyToName, Origin, SaysIn, origin}
 use Rattle.ferry_carry.specs.Copying.{IsReady}
 use Rattle.ferry_carry.specs.Counting.{CountsOf, nothing_carried}
 use Rattle.ferry_carry.specs.Fault.{IsOfWork}
-use Rattle.ferry_carry.specs.Gather.{KeepsStanding}
+use Rattle.ferry_carry.specs.Filling.{FillsFlight}
+use Rattle.ferry_carry.specs.Gather.{KeepsStanding, KeepsStandingAt}
 use Rattle.ferry_carry.specs.Grow.{Grows, GrowsBy, IsNamedBy, KeepsGrowing, KeepsGrowingBy, KeepsNames}
 use Rattle.ferry_carry.specs.Listing.{BeginsName, BeginsOne, ListsOne}
 use Rattle.ferry_carry.specs.Progress.{IsCopiedSoFar}
-use Rattle.ferry_carry.specs.Puts.{Addition, IsCheckpoint}
+use Rattle.ferry_carry.specs.Puts.{Addition, AtBegin, AtEnd, Border, IsCheckpoint, border_behind}
 use Rattle.ferry_carry.specs.Work.{Works}
 use Rattle.ferry_carry.specs.declared.fault.CarryFault.{CarryFault}
 use Rattle.ferry_carry.specs.declared.flight.Flight.{Flight}
@@ -69,15 +71,16 @@ carried_by Named name = name ∷ []
 carried_by Present name = name ∷ []
 
 -- What a turn of a flight did of the archive of a name, and what it added.
-abbrev pub Flies : Origin → List ℕ → List Addition → Store → Store → Option Told → Option Told → ℕ → ℕ → Result Turn CarryFault → Type 0
-Flies from name more store store_now before now count after result =
-    Works (KeepsGrowing from (name ∷ []) store more) (λ turn. Grows from (carried_by turn name) more store store_now) before now count after result
+abbrev pub Flies : List Addition → Origin → List ℕ → List Addition → Store → Store → Option Told → Option Told → ℕ → ℕ → Result Turn CarryFault → Type 0
+Flies earlier from name more store store_now before now count after result =
+    Works (KeepsGrowing earlier from (name ∷ []) store more) (λ turn. Grows earlier from (carried_by turn name) more store store_now) before now count
+    after result
 
 -- What was done of the archives of names, one after another, and what was added for them.
-abbrev pub Carries : {T : Type 0} → Origin → List (List ℕ) → List Addition → Store → Store → Option Told → Option Told → ℕ → ℕ
+abbrev pub Carries : {T : Type 0} → List Addition → Origin → List (List ℕ) → List Addition → Store → Store → Option Told → Option Told → ℕ → ℕ
     → Result T CarryFault → Type 0
-Carries from chosen added store store_now before now count after result =
-    Works (KeepsGrowing from chosen store added) (λ _. Grows from chosen added store store_now) before now count after result
+Carries earlier from chosen added store store_now before now count after result =
+    Works (KeepsGrowing earlier from chosen store added) (λ _. Grows earlier from chosen added store store_now) before now count after result
 
 -- What was added for an archive once it is done: all of it where it was copied and the target told its files, and nothing where it was there.
 abbrev pub ListsDone : Option Told → Origin → Keys → List ℕ → List Addition → Bool → Type 0
@@ -99,33 +102,40 @@ TurnLists told source heard store flight before from keys added more Present =
     ListsDone before from keys flight.named.name (added ++ more) false × CountsOf (added ++ more) flight.put
 
 -- Where a turn takes a further item, or is refused but for a device that failed and want of memory, nothing is named.
-abbrev pub TurnStands : ℕ → Store → List Addition → Option Told → Option Told → Result Turn CarryFault → Type 0
-TurnStands most store more before now (Ok More) = Between before now (KeepsStanding most store more)
-TurnStands most store more before now (Ok turn) = Unit {0}
-TurnStands most store more before now (Err fault) = IsOfWork fault → Between before now (KeepsStanding most store more)
+abbrev pub TurnStands : Border → ℕ → Store → List Addition → Option Told → Option Told → Result Turn CarryFault → Type 0
+TurnStands at most store more before now (Ok More) = Between before now (KeepsStandingAt at most store more)
+TurnStands at most store more before now (Ok turn) = Unit {0}
+TurnStands at most store more before now (Err fault) = IsOfWork fault → Between before now (KeepsStandingAt at most store more)
 
 -- What a turn did of the archive of a name and added behind what was added before; the source and the flight are those behind it.
 pub record TakesTurn (told : Option Told) (source : RepoState) (from : Origin) (name : List ℕ) (added more : List Addition) (store store_now : Store)
     (flight : Flight) (before now : Option Told) (count after : ℕ) (result : Result Turn CarryFault) : Type 0 where
-  pub flies : Flies from name more store store_now before now count after result
+  pub flies : Flies added from name more store store_now before now count after result
   pub begins : BeginsDone before from (repo_view store.repo).keys (accepted_in store) name (added ++ more)
-  pub stands : TurnStands from.most store more before now result
+  pub stands : TurnStands (border_behind AtBegin added) from.most store more before now result
+  pub last : StopsLast before (repo_view store.repo).keys more result
+  pub held : HoldsRefused (border_behind AtBegin added) from.most store more store_now before now result
+  pub fills : IfErr result (λ fault. FillsFlight before from (repo_view store.repo).keys (accepted_in store) name fault (added ++ more))
   pub lists : IfOk result (TurnLists told source now store_now flight before from (repo_view store.repo).keys added more)
 
 -- What a flight did up to its end: it answers whether the archive was copied.
 pub record TakesAll (from : Origin) (name : List ℕ) (added more : List Addition) (store store_now : Store) (flight : Flight) (before now : Option Told)
     (count after : ℕ) (result : Result Bool CarryFault) : Type 0 where
-  pub carries : Carries from (name ∷ []) more store store_now before now count after result
+  pub carries : Carries added from (name ∷ []) more store store_now before now count after result
   pub begins : BeginsDone before from (repo_view store.repo).keys (accepted_in store) name (added ++ more)
-  pub stands : IfErr result (λ fault. IsOfWork fault → Between before now (KeepsGrowing from [] store more))
+  pub stands : IfErr result (λ fault. IsOfWork fault → Between before now (KeepsGrowing added from [] store more))
+  pub last : StopsLast before (repo_view store.repo).keys more result
+  pub held : HoldsRefused (border_behind AtBegin added) from.most store more store_now before now result
+  pub fills : IfErr result (λ fault. FillsFlight before from (repo_view store.repo).keys (accepted_in store) name fault (added ++ more))
   pub lists : IfOk result (λ copied. ListsDone before from (repo_view store.repo).keys name (added ++ more) copied × CountsOf (added ++ more) flight.put)
 
 -- What the end of an archive did, all of whose items were copied, and what it added behind what was added before.
 pub record EndsCopy (from : Origin) (name : List ℕ) (added more : List Addition) (store store_now : Store) (before now : Option Told) (count after : ℕ)
     (result : Result Carried CarryFault) : Type 0 where
-  pub carries : Carries from (name ∷ []) more store store_now before now count after result
+  pub carries : Carries added from (name ∷ []) more store store_now before now count after result
   pub begins : IfSome before (λ _. BeginsOne from (repo_view store.repo).keys name (added ++ more))
   pub stands : IfErr result (λ fault. IsOfWork fault → Between before now (KeepsStanding from.most store more))
+  pub last : StopsLast before (repo_view store.repo).keys more result
   pub lists : IfOk result (λ put. ListsDone before from (repo_view store.repo).keys name (added ++ more) true × CountsOf (added ++ more) put)
 
 -- The archive of a name is whole in the source and in the target, and says the same in both, where they tell their files.
@@ -139,11 +149,11 @@ pub record AcceptsOne (accepted : ManifestText) (store : Store) (entry : Archive
   pub only : IsNamedBy accepted (entry.name ∷ []) (accepted_in store)
   pub there : archive_named entry.name (accepted_in store).archives ≡ Some entry
 
--- What a body did that commits the archive of this entry, all of which is there in the target.
+-- What a body did that commits the archive of this entry, all of which is there in the target, behind its record.
 abbrev pub NamesArchive : ManifestText → ArchiveRef → Store → Store → Option Told → Option Told → ℕ → ℕ → Result (Unit {0}) CarryFault → Type 0
-NamesArchive accepted entry store store_now before now count after result = (from : Origin)
-    → IfSome before (λ t. IsReadyToName from (told_files t) (repo_view store.repo) entry)
-    → Works (KeepsGrowingBy accepted from (entry.name ∷ []) store []) (λ _. GrowsBy accepted from (entry.name ∷ []) [] store store_now)
+NamesArchive accepted entry store store_now before now count after result = (from : Origin) (earlier : List Addition)
+    → border_behind AtBegin earlier ≡ AtEnd → IfSome before (λ t. IsReadyToName from earlier (told_files t) (repo_view store.repo) entry)
+    → Works (KeepsGrowingBy earlier accepted from (entry.name ∷ []) store []) (λ _. GrowsBy earlier accepted from (entry.name ∷ []) [] store store_now)
     before now count after result
 
 -- Where a store accepted an archive of this name, it has committed it.

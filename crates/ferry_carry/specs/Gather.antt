@@ -1,5 +1,5 @@
 -- What a store is after contents were added, with commits between: each of them is there, and nothing that was live has changed.
-use Rattle.std.specs.Prelude.{◌≡◌, ◌≢◌, ◌⊎◌, ℕ, ◌+◌, Bool, List, length, map, slice_get, Some}
+use Rattle.std.specs.Prelude.{◌≡◌, ◌≢◌, ◌⊎◌, ℕ, ◌+◌, Bool, List, [], length, map, slice_get, Some}
 use Rattle.std.specs.List.{AllByRecursion}
 use Rattle.ferry_base.specs.Limits.{zero_id}
 use Rattle.ferry_blob.specs.Blob.{OpensTo, content_id}
@@ -18,7 +18,7 @@ use Rattle.ferry_store.specs.Standing.{Keeps, committed_of, entries_of, live_in}
 use Rattle.ferry_store.specs.State.{IsSound, Written}
 use Rattle.ferry_store.specs.Store.{StoreFits}
 use Rattle.ferry_store.specs.declared.store.Store.{Store}
-use Rattle.ferry_carry.specs.Puts.{Addition, AddsAll, GoesOn, contents_in}
+use Rattle.ferry_carry.specs.Puts.{Addition, AddsAll, Border, ComesBefore, GoesOn, Within, contents_in}
 
 -- ---- contents
 
@@ -69,37 +69,61 @@ pub record Moved (keys : Keys) (written written_now : Written) : Type 0 where
 
 -- Committed are entries by which all is live that was, and what is new opens, with the settings as they were: the manifest too is the one that was.
 -- They are those that were, or go on from what was written, with the first of these added.
-pub record StandsFrom (keys : Keys) (most : ℕ) (within : List Addition) (written : Written) (image : Files) : Type 0 where
+pub record StandsFrom (at : Border) (keys : Keys) (most : ℕ) (within : List Addition) (written : Written) (image : Files) : Type 0 where
   pub entries : List LogEntry
   pub shown : Shows image (Some entries)
   pub keeps : Keeps (committed_of written) entries
   pub opening : BringsOpening keys (entries_of written) entries
-  pub puts : GoesOn keys most within written entries
+  pub puts : GoesOn at keys most within written entries
   pub config : image.config ≡ written.config
 
 -- At each moment each stop shows so, and no counter block serves two blobs.
-abbrev pub EachStands : ℕ → Store → List Addition → History → History → Type 0
-EachStands most store within before now = (counts : Bool) (fits : StoreFits counts store before)
-    → Moments (IsSound (StandsFrom (repo_view store.repo).keys most within fits.written) counts) before now
+abbrev pub EachStands : Border → ℕ → Store → List Addition → History → History → Type 0
+EachStands at most store within before now = (counts : Bool) (fits : StoreFits counts store before)
+    → Moments (IsSound (StandsFrom at (repo_view store.repo).keys most within fits.written) counts) before now
 
 -- The same where no line was told.
+abbrev pub KeepsStandingAt : Border → ℕ → Store → List Addition → History → History → Type 0
+KeepsStandingAt at most store within before now = TellsNothing before now × EachStands at most store within before now
+
+-- The same within an archive.
 abbrev pub KeepsStanding : ℕ → Store → List Addition → History → History → Type 0
-KeepsStanding most store within before now = TellsNothing before now × EachStands most store within before now
+KeepsStanding most store within before now = KeepsStandingAt Within most store within before now
 
 -- ---- what was added
 
 -- A store fits with these added, of which no more than `most` are pending.
-pub record Gathered (most : ℕ) (counts : Bool) (store : Store) (added : List Addition) (store_now : Store) (before now : History)
+pub record Gathered (at : Border) (most : ℕ) (counts : Bool) (store : Store) (added : List Addition) (store_now : Store) (before now : History)
     (fits : StoreFits counts store before) : Type 0 where
   pub fits_now : StoreFits counts store_now now
   pub moved : Moved (repo_view store.repo).keys fits.written fits_now.written
-  pub puts : AddsAll (repo_view store.repo).keys most (entries_of fits.written) added (entries_of fits_now.written)
-  pub committed : GoesOn (repo_view store.repo).keys most added fits.written (committed_of fits_now.written)
+  pub puts : AddsAll at (repo_view store.repo).keys most (entries_of fits.written) added (entries_of fits_now.written)
+  pub committed : GoesOn at (repo_view store.repo).keys most added fits.written (committed_of fits_now.written)
   pub brings : Brings (repo_view store.repo) (contents_in added) (repo_view store_now.repo) before now
 
+abbrev pub GathersAt : Border → ℕ → Store → List Addition → Store → History → History → Type 0
+GathersAt at most store added store_now before now = (counts : Bool) (fits : StoreFits counts store before)
+    → Gathered at most counts store added store_now before now fits
+
+-- The same within an archive.
 abbrev pub Gathers : ℕ → Store → List Addition → Store → History → History → Type 0
-Gathers most store added store_now before now = (counts : Bool) (fits : StoreFits counts store before)
-    → Gathered most counts store added store_now before now fits
+Gathers most store added store_now before now = GathersAt Within most store added store_now before now
+
+-- ---- a checkpoint
+
+-- A store fits behind what comes before a content.
+pub record MadeRoom (most : ℕ) (counts : Bool) (store : Store) (one : Addition) (store_now : Store) (before now : History)
+    (fits : StoreFits counts store before) : Type 0 where
+  pub fits_now : StoreFits counts store_now now
+  pub moved : Moved (repo_view store.repo).keys fits.written fits_now.written
+  pub comes : ComesBefore (repo_view store.repo).keys most (entries_of fits.written) one (entries_of fits_now.written)
+  pub committed : (committed_of fits_now.written ≡ committed_of fits.written)
+      ⊎ ComesBefore (repo_view store.repo).keys most (entries_of fits.written) one (committed_of fits_now.written)
+  pub brings : Brings (repo_view store.repo) [] (repo_view store_now.repo) before now
+
+abbrev pub MakesRoom : ℕ → Store → Addition → Store → History → History → Type 0
+MakesRoom most store one store_now before now = (counts : Bool) (fits : StoreFits counts store before)
+    → MadeRoom most counts store one store_now before now fits
 
 -- Its repository has the settings, the secrets and the manifest that it had, and what was accepted is the same.
 pub record KeepsRest (store store_now : Store) : Type 0 where

@@ -19,7 +19,7 @@ use Rattle.ferry_store.specs.Store.{StoreFits}
 use Rattle.ferry_store.specs.declared.store.Store.{Store}
 use Rattle.ferry_carry.specs.Carrying.{AreCut, IsCarried, Origin}
 use Rattle.ferry_carry.specs.Gather.{BringsOpening, IsAmong}
-use Rattle.ferry_carry.specs.Puts.{Addition, AddsAll, GoesOn}
+use Rattle.ferry_carry.specs.Puts.{Addition, AddsAll, AtBegin, GoesOn, border_behind}
 
 -- Each chunk that is live by these entries is live by those, with the same blob.
 abbrev pub KeepsChunks : List LogEntry → List LogEntry → Type 0
@@ -43,59 +43,60 @@ IsNamedBy accepted done manifest = (name : List ℕ) (entry : ArchiveRef) → ar
 
 -- Committed are entries that keep each chunk and bring only such as open, and a manifest that keeps each archive, with the settings as they were. Of
 -- the chosen names those of a front were carried, those that were not accepted are cut so, and beside what was accepted no other is named. The entries are
--- those that were, or go on from what was written, with the first of these added.
-pub record StandsOn (from : Origin) (chosen : List (List ℕ)) (within : List Addition) (accepted : ManifestText) (repo : RepoState) (written : Written)
-    (image : Files) : Type 0 where
+-- those that were, or go on from what was written, with the first of these added, behind others that were added earlier.
+pub record StandsOn (earlier : List Addition) (from : Origin) (chosen : List (List ℕ)) (within : List Addition) (accepted : ManifestText) (repo : RepoState)
+    (written : Written) (image : Files) : Type 0 where
   pub entries : List LogEntry
   pub manifest : ManifestText
   pub shown : Shows image (Some entries)
   pub chunks : KeepsChunks (committed_of written) entries
   pub opening : BringsOpening repo.keys (entries_of written) entries
-  pub puts : GoesOn repo.keys from.most within written entries
+  pub puts : GoesOn (border_behind AtBegin earlier) repo.keys from.most within written entries
   pub holds : HoldsManifest (with_manifest repo manifest) entries
   pub names : KeepsNames repo.manifest manifest
   pub config : image.config ≡ written.config
   pub done : List (List ℕ)
   pub rest : List (List ℕ)
   pub front : chosen ≡ done ++ rest
-  pub carried : AllByRecursion (IsCarried from repo.keys entries manifest.archives) done
+  pub carried : AllByRecursion (IsCarried from (earlier ++ within) (entries_of written) repo.keys entries manifest.archives) done
   pub cut : AreCut accepted from repo.keys manifest.archives done
   pub only : IsNamedBy accepted done manifest
 
 -- At each moment each stop shows so, and no counter block serves two blobs.
-abbrev pub EachGrowsBy : ManifestText → Origin → List (List ℕ) → Store → List Addition → History → History → Type 0
-EachGrowsBy accepted from chosen store within before now = (counts : Bool) (fits : StoreFits counts store before)
-    → Moments (IsSound (StandsOn from chosen within accepted (repo_view store.repo) fits.written) counts) before now
+abbrev pub EachGrowsBy : List Addition → ManifestText → Origin → List (List ℕ) → Store → List Addition → History → History → Type 0
+EachGrowsBy earlier accepted from chosen store within before now = (counts : Bool) (fits : StoreFits counts store before)
+    → Moments (IsSound (StandsOn earlier from chosen within accepted (repo_view store.repo) fits.written) counts) before now
 
 -- The same where no line was told.
-abbrev pub KeepsGrowingBy : ManifestText → Origin → List (List ℕ) → Store → List Addition → History → History → Type 0
-KeepsGrowingBy accepted from chosen store within before now = TellsNothing before now × EachGrowsBy accepted from chosen store within before now
+abbrev pub KeepsGrowingBy : List Addition → ManifestText → Origin → List (List ℕ) → Store → List Addition → History → History → Type 0
+KeepsGrowingBy earlier accepted from chosen store within before now = TellsNothing before now × EachGrowsBy earlier accepted from chosen store within before now
 
-abbrev pub KeepsGrowing : Origin → List (List ℕ) → Store → List Addition → History → History → Type 0
-KeepsGrowing from chosen store = KeepsGrowingBy (accepted_in store) from chosen store
+abbrev pub KeepsGrowing : List Addition → Origin → List (List ℕ) → Store → List Addition → History → History → Type 0
+KeepsGrowing earlier from chosen store = KeepsGrowingBy earlier (accepted_in store) from chosen store
 
--- A store fits in which each chunk and each archive is kept, with these added. All chosen names were carried, and beside what was accepted no other is.
-pub record Grown (accepted : ManifestText) (from : Origin) (chosen : List (List ℕ)) (added : List Addition) (counts : Bool) (store store_now : Store)
-    (before now : History) (fits : StoreFits counts store before) : Type 0 where
+-- A store fits in which each chunk and each archive is kept, with these added behind others. All chosen names were carried, and beside what was accepted no
+-- other is.
+pub record Grown (earlier : List Addition) (accepted : ManifestText) (from : Origin) (chosen : List (List ℕ)) (added : List Addition) (counts : Bool)
+    (store store_now : Store) (before now : History) (fits : StoreFits counts store before) : Type 0 where
   pub fits_now : StoreFits counts store_now now
   pub chunks : KeepsChunks (committed_of fits.written) (committed_of fits_now.written)
   pub opening : BringsOpening (repo_view store.repo).keys (entries_of fits.written) (entries_of fits_now.written)
-  pub puts : AddsAll (repo_view store.repo).keys from.most (entries_of fits.written) added (entries_of fits_now.written)
-  pub committed : GoesOn (repo_view store.repo).keys from.most added fits.written (committed_of fits_now.written)
+  pub puts : AddsAll (border_behind AtBegin earlier) (repo_view store.repo).keys from.most (entries_of fits.written) added (entries_of fits_now.written)
+  pub committed : GoesOn (border_behind AtBegin earlier) (repo_view store.repo).keys from.most added fits.written (committed_of fits_now.written)
   pub config : fits_now.written.config ≡ fits.written.config
   pub most : KeepsMost store store_now
-  pub carried : AllByRecursion (IsCarried from (repo_view store_now.repo).keys (committed_of fits_now.written)
-      (repo_view store_now.repo).manifest.archives) chosen
+  pub carried : AllByRecursion (IsCarried from (earlier ++ added) (entries_of fits.written) (repo_view store_now.repo).keys
+      (committed_of fits_now.written) (repo_view store_now.repo).manifest.archives) chosen
   pub cut : AreCut accepted from (repo_view store_now.repo).keys (repo_view store_now.repo).manifest.archives chosen
   pub named : AllByRecursion (λ (name : List ℕ). IsSome (archive_named name (repo_view store_now.repo).manifest.archives)) chosen
   pub only : IsNamedBy accepted chosen (accepted_in store_now)
 
-abbrev pub GrowsBy : ManifestText → Origin → List (List ℕ) → List Addition → Store → Store → History → History → Type 0
-GrowsBy accepted from chosen added store store_now before now = (counts : Bool) (fits : StoreFits counts store before)
-    → Grown accepted from chosen added counts store store_now before now fits
+abbrev pub GrowsBy : List Addition → ManifestText → Origin → List (List ℕ) → List Addition → Store → Store → History → History → Type 0
+GrowsBy earlier accepted from chosen added store store_now before now = (counts : Bool) (fits : StoreFits counts store before)
+    → Grown earlier accepted from chosen added counts store store_now before now fits
 
-abbrev pub Grows : Origin → List (List ℕ) → List Addition → Store → Store → History → History → Type 0
-Grows from chosen added store = GrowsBy (accepted_in store) from chosen added store
+abbrev pub Grows : List Addition → Origin → List (List ℕ) → List Addition → Store → Store → History → History → Type 0
+Grows earlier from chosen added store = GrowsBy earlier (accepted_in store) from chosen added store
 
 -- What a store accepted has each archive of its manifest.
 abbrev pub AcceptsMore : Store → Type 0

@@ -2,6 +2,7 @@ pub mod Puts
 pub mod Gather
 pub mod Fault
 pub mod Work
+pub mod Adding
 pub mod Lines
 pub mod Time
 pub mod Piece
@@ -16,6 +17,7 @@ pub mod Carrying
 pub mod Progress
 pub mod Telling
 pub mod Listing
+pub mod Filling
 pub mod Counting
 pub mod Accepting
 pub mod Refusals

@@ -26,7 +26,7 @@ pub record WritesItems (files : Files) (repo : RepoState) (copy : Copy) (wholes 
   pub fed : IsFed stream_block (copied_stream repo.keys copy.block wholes) taken copy.stream.cutter.piece
   pub chunks : copy.stream.chunks.items ≡ chunks_of repo.keys taken
   pub spelled : AllByRecursion (λ (whole : WholeItem). IsRead (copied_item repo.keys copy.block whole)) wholes
-  pub held : HoldsApart files repo (contents_of copy.block wholes ++ taken)
+  pub held : HoldsApart files repo added (contents_of copy.block wholes ++ taken)
   pub lists : ListsItems repo.keys copy.block [] wholes added copy.stream.cutter.piece
 
 -- These items were taken of the source's archive, with their contents they are these, and they are written.

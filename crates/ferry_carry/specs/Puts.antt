@@ -1,5 +1,5 @@
--- Which contents are put: of those that are added one after another, those whose ids aren't live by what stands.
-use Rattle.std.specs.Prelude.{◌≡◌, ◌⊎◌, ◌<◌, ◌≤◌, ◌+◌, ◌++◌, ◌&&◌, ℕ, suc, Bool, true, false, if◌then◌else◌, List, [], ◌∷◌, length, map, IsSome}
+-- Which contents are put: of those that are added one after another, those whose ids aren't live by what stands; and where a commit comes between them.
+use Rattle.std.specs.Prelude.{◌≡◌, ◌≢◌, ◌⊎◌, ◌<◌, ◌≤◌, ◌+◌, ◌++◌, ◌&&◌, ℕ, suc, Bool, true, false, if◌then◌else◌, List, [], ◌∷◌, length, map, IsSome}
 use Rattle.std.specs.List.{AllByRecursion}
 use Rattle.std.specs.Str.{bytes_eq}
 use Rattle.ferry_base.specs.Limits.{zero_id}
@@ -104,19 +104,77 @@ IsAddedBehind keys most front one after = ((one.put ≡ false) × (IsLiveIn fron
     ⊎ ((one.put ≡ true) × ((blob : List ℕ) × (IsPutBehind keys most front one blob
     × (after ≡ front ++ PutEntry (content_id keys one.content) blob ∷ []))))
 
--- An entry puts no chunk: it is a commit, or puts a manifest.
-abbrev pub PutsNone : LogEntry → Type 0
-PutsNone CommitEntry = Unit {0}
-PutsNone (PutEntry id blob) = id ≡ zero_id
-PutsNone (DeleteEntry id) = ⊥
+-- ---- where a commit comes
 
--- Behind these entries, with commits and manifests between, these were added one after another, and nothing else.
-abbrev pub AddsAll : Keys → ℕ → List LogEntry → List Addition → List LogEntry → Type 0
-AddsAll keys most before [] after = (others : List LogEntry) × (AllByRecursion PutsNone others × (after ≡ before ++ others))
-AddsAll keys most before (one ∷ rest) after = (others : List LogEntry) × (AllByRecursion PutsNone others
-    × ((middle : List LogEntry) × (IsAddedBehind keys most (before ++ others) one middle × AddsAll keys most middle rest after)))
+-- where entries stand: within an archive, behind the record of one, or at the begin of a transfer
+pub data Border : Type 0 where
+  Within : Border
+  AtEnd : Border
+  AtBegin : Border
+
+-- where they stand behind a content of a kind
+abbrev pub border_of : Kind → Border
+border_of Content = Within
+border_of Stream = Within
+border_of Record = AtEnd
+
+-- where they stand behind these
+unfoldable pub border_behind : Border → List Addition → Border
+border_behind at [] = at
+border_behind at (one ∷ rest) = border_behind (border_of one.kind) rest
+
+-- the entries of manifests, each of which is committed
+abbrev pub manifests_committed : List (List ℕ) → List LogEntry
+manifests_committed [] = []
+manifests_committed (blob ∷ rest) = PutEntry zero_id blob ∷ (CommitEntry ∷ manifests_committed rest)
+
+-- What may come in front of what is added next: within an archive nothing; behind the record of one manifests, each of which is committed; at the begin a
+-- commit, where something was pending then.
+abbrev pub MayCome : Border → List LogEntry → List LogEntry → Type 0
+MayCome Within before others = others ≡ []
+MayCome AtEnd before others = (blobs : List (List ℕ)) × (others ≡ manifests_committed blobs)
+MayCome AtBegin before others = (others ≡ []) ⊎ ((pending_in before ≢ 0) × (others ≡ CommitEntry ∷ []))
+
+-- whether it is a piece, and no record
+abbrev pub is_piece : Kind → Bool
+is_piece Content = true
+is_piece Stream = true
+is_piece Record = false
+
+-- Behind these entries a checkpoint comes before a piece: as many are pending as may be, and the piece is to be put.
+pub record IsFull (keys : Keys) (most : ℕ) (front : List LogEntry) (one : Addition) : Type 0 where
+  pub piece : is_piece one.kind ≡ true
+  pub full : pending_in front ≡ most
+  pub new : IsLiveIn front (content_id keys one.content) → ⊥
+
+-- Before a content comes nothing, or a checkpoint.
+abbrev pub ComesBefore : Keys → ℕ → List LogEntry → Addition → List LogEntry → Type 0
+ComesBefore keys most front one after = (after ≡ front) ⊎ (IsFull keys most front one × (after ≡ front ++ CommitEntry ∷ []))
+
+-- The same before the first of these, and nothing where there are none.
+abbrev pub ComesBeforeNext : Keys → ℕ → List LogEntry → List Addition → List LogEntry → Type 0
+ComesBeforeNext keys most front [] after = after ≡ front
+ComesBeforeNext keys most front (one ∷ rest) after = ComesBefore keys most front one after
+
+-- ---- what was added
+
+-- Behind these entries, which stand there, these were added one after another, and nothing else: a commit comes only before a piece where as many are pending
+-- as may be, with the manifest behind the record of an archive, and, where something was pending then, at the begin.
+abbrev pub AddsAll : Border → Keys → ℕ → List LogEntry → List Addition → List LogEntry → Type 0
+AddsAll at keys most before [] after = (others : List LogEntry) × (MayCome at before others × (after ≡ before ++ others))
+AddsAll at keys most before (one ∷ rest) after = (others : List LogEntry) × (MayCome at before others × ((front : List LogEntry)
+    × (ComesBefore keys most (before ++ others) one front × ((middle : List LogEntry)
+    × (IsAddedBehind keys most front one middle × AddsAll (border_of one.kind) keys most middle rest after)))))
+
+-- The first of these were added so, and perhaps a checkpoint came before the next.
+pub record AddsFirst (at : Border) (keys : Keys) (most : ℕ) (before : List LogEntry) (all : List Addition) (after : List LogEntry) : Type 0 where
+  pub added : List Addition
+  pub rest : List Addition
+  pub split : all ≡ added ++ rest
+  pub front : List LogEntry
+  pub adds : AddsAll at keys most before added front
+  pub next : ComesBeforeNext keys most front rest after
 
 -- Committed is what was, or what goes on from all that was written, with the first of these added.
-abbrev pub GoesOn : Keys → ℕ → List Addition → Written → List LogEntry → Type 0
-GoesOn keys most within written entries = (entries ≡ committed_of written)
-    ⊎ ((added : List Addition) × (IsFront added within × AddsAll keys most (entries_of written) added entries))
+abbrev pub GoesOn : Border → Keys → ℕ → List Addition → Written → List LogEntry → Type 0
+GoesOn at keys most within written entries = (entries ≡ committed_of written) ⊎ AddsFirst at keys most (entries_of written) within entries

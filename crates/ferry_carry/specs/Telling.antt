@@ -1,5 +1,5 @@
 -- What a transfer tells while archives come: a name is told only once each stop shows it carried.
-use Rattle.std.specs.Prelude.{◌≡◌, ◌++◌, ℕ, Bool, List, [], ◌∷◌, Option, Result, IfSome, OnOk}
+use Rattle.std.specs.Prelude.{◌≡◌, ◌++◌, ℕ, Bool, List, [], ◌∷◌, Option, Result, IfErr, IfSome, OnOk}
 use Rattle.ferry_disk.specs.Act.{History}
 use Rattle.ferry_disk.specs.Device.{Told}
 use Rattle.ferry_disk.specs.Files.{Files}
@@ -11,11 +11,13 @@ use Rattle.ferry_store.specs.Commit.{accepted_in}
 use Rattle.ferry_store.specs.State.{IsSound, Written}
 use Rattle.ferry_store.specs.Store.{StoreFits}
 use Rattle.ferry_store.specs.declared.store.Store.{Store}
+use Rattle.ferry_carry.specs.Adding.{HoldsRefused, StopsLast}
 use Rattle.ferry_carry.specs.Carrying.{Origin}
 use Rattle.ferry_carry.specs.Counting.{CountsMore, IsTotalOf, TellsNew}
+use Rattle.ferry_carry.specs.Filling.{FillsAll}
 use Rattle.ferry_carry.specs.Grow.{Grows, KeepsGrowing, StandsOn}
 use Rattle.ferry_carry.specs.Listing.{BeginsNames, ListsNames}
-use Rattle.ferry_carry.specs.Puts.{Addition}
+use Rattle.ferry_carry.specs.Puts.{Addition, AtBegin}
 use Rattle.ferry_carry.specs.Lines.{name_line, told_of, total_line}
 use Rattle.ferry_carry.specs.Work.{Works}
 use Rattle.ferry_carry.specs.declared.fault.CarryFault.{CarryFault}
@@ -62,7 +64,7 @@ pub record IsReported (Show : List (List ℕ) → Files → Type 0) (counts : Bo
 -- Of the chosen names those of a front were carried, and of these a front was told.
 abbrev pub ShowsReport : Origin → List (List ℕ) → List Addition → ManifestText → RepoState → Written → List (List ℕ) → Files → Type 0
 ShowsReport from chosen within accepted repo written lines image =
-    (stands : StandsOn from chosen within accepted repo written image) × IsReport accepted lines stands.done
+    (stands : StandsOn [] from chosen within accepted repo written image) × IsReport accepted lines stands.done
 
 -- At each moment each stop shows so.
 abbrev pub KeepsReported : Origin → List (List ℕ) → Store → List Addition → History → History → Type 0
@@ -83,7 +85,7 @@ TellsWhole accepted names added carried before now = IsTotalOf accepted names ad
 
 -- These names were carried, and what was added is all that is added for them.
 abbrev pub CarriesNames : Origin → List (List ℕ) → List Addition → Store → Store → History → History → Type 0
-CarriesNames from chosen added store store_now before now = Grows from chosen added store store_now before now
+CarriesNames from chosen added store store_now before now = Grows [] from chosen added store store_now before now
     × ListsNames from (repo_view store.repo).keys (accepted_in store) [] chosen added
 
 -- What was added for these names, as far as it came, where the target tells its files.
@@ -98,6 +100,9 @@ pub record Reports (from : Origin) (chosen : List (List ℕ)) (store store_now :
   pub works : Works (KeepsReported from chosen store added)
       (λ _ h g. CarriesNames from chosen added store store_now h g × TellsNames (accepted_in store) chosen h g) before now count after result
   pub counted : OnOk result (CountsMore (accepted_in store) chosen added carried carried_now)
+  pub last : StopsLast before (repo_view store.repo).keys added result
+  pub held : HoldsRefused AtBegin from.most store added store_now before now result
+  pub fills : IfErr result (λ fault. FillsAll before from store chosen fault added)
 
 -- The same from the begin on, and behind them the whole was told.
 pub record ReportsWhole (from : Origin) (chosen : List (List ℕ)) (store store_now : Store) (before now : Option Told) (count after : ℕ)
@@ -107,6 +112,9 @@ pub record ReportsWhole (from : Origin) (chosen : List (List ℕ)) (store store_
   pub works : Works (KeepsReported from chosen store added)
       (λ carried h g. CarriesNames from chosen added store store_now h g × TellsWhole (accepted_in store) chosen added carried h g)
       before now count after result
+  pub last : StopsLast before (repo_view store.repo).keys added result
+  pub held : HoldsRefused AtBegin from.most store added store_now before now result
+  pub fills : IfErr result (λ fault. FillsAll before from store chosen fault added)
 
 -- ---- where it is refused
 
@@ -123,4 +131,4 @@ pub record StopsBehind (from : Origin) (names : List (List ℕ)) (store : Store)
 pub record StopsUnnamed (from : Origin) (name : List ℕ) (store : Store) (before now : Option Told) : Type 0 where
   pub added : List Addition
   pub begins : BeginsAll before from store (name ∷ []) added
-  pub each : Between before now (KeepsGrowing from [] store added)
+  pub each : Between before now (KeepsGrowing [] from [] store added)

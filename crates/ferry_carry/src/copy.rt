@@ -1,12 +1,14 @@
 //! An archive that the target lacks.
 ghost use Rattle.std.specs.Prelude.{◌≡◌, ◌≤◌, ◌<◌, ◌^◌, ◌-◌, ◌++◌, [], List, Some, None, Ok, true, false, length, min, IfErr, IfOk, IfSome, OnOk};
 ghost use Rattle.ferry_disk.specs.Device.{HasCause, KeepsTold, told_files};
+ghost use Rattle.ferry_carry.specs.Adding.{AddsOn};
 ghost use Rattle.ferry_carry.specs.Carrying.{origin};
 ghost use Rattle.ferry_carry.specs.Copied.{IsRead};
 ghost use Rattle.ferry_carry.specs.Copying.{BeginsChunk, BeginsContent, BeginsContents, CopiesContent, IsReady, TakesItem};
 ghost use Rattle.ferry_carry.specs.Copying.{WritesContent, WritesContents, WritesItem};
-ghost use Rattle.ferry_carry.specs.Fault.{random_failed, shelf_failed, target_failed};
-ghost use Rattle.ferry_carry.specs.Gather.{Gathers, KeepsRest, KeepsStanding};
+ghost use Rattle.ferry_carry.specs.Fault.{IsOfSource, random_failed, shelf_failed, target_failed};
+ghost use Rattle.ferry_carry.specs.Filling.{FillsChunks, FillsContent, FillsOne, FillsStep, WhereHeard, WhereSource};
+ghost use Rattle.ferry_carry.specs.Gather.{KeepsRest};
 ghost use Rattle.ferry_carry.specs.Listing.{BeginsOne};
 ghost use Rattle.ferry_carry.specs.Progress.{CopiesOn, IsCopiedSoFar};
 ghost use Rattle.ferry_carry.specs.Piece.{BeginsOn, CountsOn};
@@ -14,7 +16,6 @@ ghost use Rattle.ferry_carry.specs.Puts.{Addition, AreOf, Content, IsCheckpoint,
 ghost use Rattle.ferry_carry.specs.Refusals.{RefusesBegin, RefusesContents, RefusesCopying, RefusesNext, RefusesStep, RefusesText, RefusesWriting, StopsPieces};
 ghost use Rattle.ferry_carry.specs.Refusals.{is_target, total_size};
 ghost use Rattle.ferry_carry.specs.Step.{BeginsMore, StepsOn};
-ghost use Rattle.ferry_carry.specs.Work.{Works};
 ghost use Rattle.ferry_item.specs.Item.{is_healed, item_view};
 ghost use Rattle.ferry_item.specs.Writing.{IsPackable as IsPackableItem, field_pairs, item_text};
 ghost use Rattle.ferry_manifest.specs.Record.Text.{archive_of, archive_view};
@@ -113,22 +114,24 @@ impl Copy {
         requires pending { store.old.pending ≤ self.old.contents.checkpoint }
         requires unspent { IsUnspent store.old }
         requires fits { IfSome (D.told depot.old) (λ t. StoreFits false store.old t.history) }
-        ensures steps { (more : List Addition) × (Works (KeepsStanding self.old.contents.checkpoint store.old more)
-            (λ _. Gathers self.old.contents.checkpoint store.old more store.new)
+        ensures steps { (more : List Addition) × (AddsOn self.old.contents.checkpoint store.old more store.new
             (D.told depot.old) (D.told depot.new) (D.faults depot.old) (D.faults depot.new) result
-            × (IfErr result (λ _. BeginsMore (S.told shelf.old) (repo_view source.old) (repo_view store.old.repo).keys self.old more)
+            × (IfErr result (λ fault. BeginsMore (S.told shelf.old) (repo_view source.old) (repo_view store.old.repo).keys self.old more
+            × FillsStep (S.told shelf.old) (repo_view source.old) self.old fault more)
             × IfOk result (StepsOn (S.told shelf.old) (repo_view source.old) (repo_view store.old.repo).keys self.old more self.new))) }
         ensures copied { (named : ArchiveRef) (added : List Addition)
             → IsCopiedSoFar (origin (S.told shelf.old) (repo_view source.old) self.old.block self.old.contents.checkpoint) named
             (D.told depot.old) store.old self.old added
-            → (more : List Addition) × (Works (KeepsStanding self.old.contents.checkpoint store.old more)
-            (λ _. Gathers self.old.contents.checkpoint store.old more store.new)
+            → (more : List Addition) × (AddsOn self.old.contents.checkpoint store.old more store.new
             (D.told depot.old) (D.told depot.new) (D.faults depot.old) (D.faults depot.new) result
             × ((archive_named named.name (repo_view source.old).manifest.archives ≡ Some named → IfSome (D.told depot.old) (λ _.
             BeginsOne (origin (S.told shelf.old) (repo_view source.old) self.old.block self.old.contents.checkpoint) (repo_view store.old.repo).keys
             named.name (added ++ more)))
+            × (IfErr result (λ fault. archive_named named.name (repo_view source.old).manifest.archives ≡ Some named → WhereHeard (D.told depot.old) fault
+            (λ refusal. FillsOne (origin (S.told shelf.old) (repo_view source.old) self.old.block self.old.contents.checkpoint)
+            (repo_view store.old.repo).keys named.name refusal (added ++ more)))
             × IfOk result (CopiesOn (origin (S.told shelf.old) (repo_view source.old) self.old.block self.old.contents.checkpoint) named
-            (D.told depot.new) store.new self.new added more))) }
+            (D.told depot.new) store.new self.new added more)))) }
         ensures refused { (named : ArchiveRef) (added : List Addition) → archive_named named.name (repo_view source.old).manifest.archives ≡ Some named
             → IsCopiedSoFar (origin (S.told shelf.old) (repo_view source.old) self.old.block self.old.contents.checkpoint) named
             (D.told depot.old) store.old self.old added
@@ -204,8 +207,7 @@ impl Copy {
         requires pending { store.old.pending ≤ self.old.stream.checkpoint }
         requires unspent { IsUnspent store.old }
         requires fits { IfSome (D.told depot.old) (λ t. StoreFits false store.old t.history) }
-        ensures written { (more : List Addition) × (Works (KeepsStanding self.old.stream.checkpoint store.old more)
-            (λ _. Gathers self.old.stream.checkpoint store.old more store.new)
+        ensures written { (more : List Addition) × (AddsOn self.old.stream.checkpoint store.old more store.new
             (D.told depot.old) (D.told depot.new) (D.faults depot.old) (D.faults depot.new) result
             × (AreOf Stream more × (BeginsOn self.old.stream.cutter (item_text (item_view item.now)) (contents_in more)
             × OnOk result (WritesItem (repo_view store.old.repo).keys self.old.stream.cutter self.old.stream.chunks.items (item_view item.now)
@@ -241,12 +243,13 @@ impl Copy {
         requires pending { store.old.pending ≤ self.old.contents.checkpoint }
         requires unspent { IsUnspent store.old }
         requires fits { IfSome (D.told depot.old) (λ t. StoreFits false store.old t.history) }
-        ensures copied { (more : List Addition) × (Works (KeepsStanding self.old.contents.checkpoint store.old more)
-            (λ _. Gathers self.old.contents.checkpoint store.old more store.new)
+        ensures copied { (more : List Addition) × (AddsOn self.old.contents.checkpoint store.old more store.new
             (D.told depot.old) (D.told depot.new) (D.faults depot.old) (D.faults depot.new) result
             × (AreOf Content more × (BeginsContent (S.told shelf.old) (repo_view source.old) self.old.block chunks.now (contents_in more)
+            × ((IfErr result (λ fault. WhereSource (S.told shelf.old) fault (λ there refusal.
+            FillsContent there (repo_view source.old) self.old.block chunks.now refusal (contents_in more))))
             × (IfOk result (CopiesContent (S.told shelf.old) (repo_view source.old) self.old.block (repo_view store.old.repo).keys chunks.now
-            (contents_in more)) × OnOk result (CountsOn Content self.old.contents more self.new.contents))))) }
+            (contents_in more)) × OnOk result (CountsOn Content self.old.contents more self.new.contents)))))) }
         ensures refused { IfErr result (RefusesCopying (S.told shelf.old) (repo_view source.old) self.old.block chunks.now) }
         ensures ready { OnOk result (IsReady self.new) }
         ensures others { OnOk result (self.new ≡ record self.old { contents = self.new.contents }) }
@@ -287,12 +290,13 @@ impl Copy {
         requires pending { store.old.pending ≤ self.old.contents.checkpoint }
         requires unspent { IsUnspent store.old }
         requires fits { IfSome (D.told depot.old) (λ t. StoreFits false store.old t.history) }
-        ensures copied { (more : List Addition) × (Works (KeepsStanding self.old.contents.checkpoint store.old more)
-            (λ _. Gathers self.old.contents.checkpoint store.old more store.new)
+        ensures copied { (more : List Addition) × (AddsOn self.old.contents.checkpoint store.old more store.new
             (D.told depot.old) (D.told depot.new) (D.faults depot.old) (D.faults depot.new) result
             × (AreOf Content more × (BeginsContent (S.told shelf.old) (repo_view source.old) self.old.block (Some chunks.now) (contents_in more)
+            × ((IfErr result (λ fault. WhereSource (S.told shelf.old) fault (λ there refusal.
+            FillsContent there (repo_view source.old) self.old.block (Some chunks.now) refusal (contents_in more))))
             × (IfOk result (λ copied. CopiesContent (S.told shelf.old) (repo_view source.old) self.old.block (repo_view store.old.repo).keys
-            (Some chunks.now) (contents_in more) (Some copied)) × OnOk result (CountsOn Content self.old.contents more self.new.contents))))) }
+            (Some chunks.now) (contents_in more) (Some copied)) × OnOk result (CountsOn Content self.old.contents more self.new.contents)))))) }
         ensures refused { IfErr result (RefusesCopying (S.told shelf.old) (repo_view source.old) self.old.block (Some chunks.now)) }
         ensures ready { OnOk result (IsReady self.new) }
         ensures others { OnOk result (self.new ≡ record self.old { contents = self.new.contents }) }
@@ -336,12 +340,13 @@ fn write_contents<S: Shelf, D: Depot>(
     requires pending { store.old.pending ≤ writer.old.checkpoint }
     requires unspent { IsUnspent store.old }
     requires fits { IfSome (D.told depot.old) (λ t. StoreFits false store.old t.history) }
-    ensures written { (more : List Addition) × (Works (KeepsStanding writer.old.checkpoint store.old more)
-        (λ _. Gathers writer.old.checkpoint store.old more store.new)
+    ensures written { (more : List Addition) × (AddsOn writer.old.checkpoint store.old more store.new
         (D.told depot.old) (D.told depot.new) (D.faults depot.old) (D.faults depot.new) result
         × (AreOf Content more × (BeginsContents (S.told shelf.old) (repo_view source.old) chunks.now writer.old.cutter (contents_in more)
+        × ((IfErr result (λ fault. WhereSource (S.told shelf.old) fault (λ there refusal.
+        FillsChunks there (repo_view source.old) chunks.now writer.old.cutter refusal (contents_in more))))
         × OnOk result (WritesContents (S.told shelf.old) (repo_view source.old) (repo_view store.old.repo).keys chunks.now writer.old.cutter
-        writer.old.chunks.items (contents_in more) writer.new.cutter writer.new.chunks.items × CountsOn Content writer.old more writer.new)))) }
+        writer.old.chunks.items (contents_in more) writer.new.cutter writer.new.chunks.items × CountsOn Content writer.old more writer.new))))) }
     ensures refused { IfErr result (RefusesContents (S.told shelf.old) (repo_view source.old) chunks.now) }
     ensures checkpoint { OnOk result (writer.new.checkpoint ≡ writer.old.checkpoint) }
     ensures pending { OnOk result (store.new.pending ≤ writer.old.checkpoint) }
@@ -380,12 +385,12 @@ fn write_content<S: Shelf, D: Depot>(
     requires pending { store.old.pending ≤ writer.old.checkpoint }
     requires unspent { IsUnspent store.old }
     requires fits { IfSome (D.told depot.old) (λ t. StoreFits false store.old t.history) }
-    ensures written { (more : List Addition) × (Works (KeepsStanding writer.old.checkpoint store.old more)
-        (λ _. Gathers writer.old.checkpoint store.old more store.new)
+    ensures written { (more : List Addition) × (AddsOn writer.old.checkpoint store.old more store.new
         (D.told depot.old) (D.told depot.new) (D.faults depot.old) (D.faults depot.new) result
         × (AreOf Content more × (BeginsChunk (S.told shelf.old) (repo_view source.old) chunk.now writer.old.cutter (contents_in more)
+        × ((IfErr result (λ fault. IsOfSource fault → more ≡ []))
         × OnOk result (WritesContent (S.told shelf.old) (repo_view source.old) (repo_view store.old.repo).keys chunk.now writer.old.cutter
-        writer.old.chunks.items (contents_in more) writer.new.cutter writer.new.chunks.items × CountsOn Content writer.old more writer.new)))) }
+        writer.old.chunks.items (contents_in more) writer.new.cutter writer.new.chunks.items × CountsOn Content writer.old more writer.new))))) }
     ensures refused { IfErr result (RefusesWriting (S.told shelf.old) (repo_view source.old) chunk.now) }
     ensures checkpoint { OnOk result (writer.new.checkpoint ≡ writer.old.checkpoint) }
     ensures pending { OnOk result (store.new.pending ≤ writer.old.checkpoint) }

@@ -1,15 +1,16 @@
 //! One archive, item by item.
 ghost use Rattle.std.specs.Prelude.{◌≡◌, ◌≢◌, ◌≤◌, ◌⊎◌, ℕ, List, Option, None, Ok, [], true, false, IfErr, IfOk, IfSome, IsSome, OnOk};
 ghost use Rattle.ferry_blob.specs.Blob.{content_id};
+ghost use Rattle.ferry_carry.specs.Adding.{AddsOn, IsNoChunk};
 ghost use Rattle.ferry_carry.specs.Fault.{random_failed, shelf_failed};
 ghost use Rattle.ferry_carry.specs.Counting.{nothing_carried};
 ghost use Rattle.ferry_carry.specs.Flight.{AreRight, FlightFits, FlightStands, IsCommitted, IsSame, IsSettled, ReadsStore, TakesTurn, flown_from};
 ghost use Rattle.ferry_carry.specs.Carrying.{origin};
 ghost use Rattle.ferry_carry.specs.Copying.{IsReady};
-ghost use Rattle.ferry_carry.specs.Gather.{Gathers, KeepsRest, KeepsStanding};
+ghost use Rattle.ferry_carry.specs.Gather.{GathersAt, KeepsRest, KeepsStandingAt};
 ghost use Rattle.ferry_carry.specs.Grow.{AcceptsMore, KeepsMost};
 ghost use Rattle.ferry_carry.specs.Progress.{IsCopiedSoFar};
-ghost use Rattle.ferry_carry.specs.Puts.{Addition};
+ghost use Rattle.ferry_carry.specs.Puts.{Addition, AtBegin};
 ghost use Rattle.ferry_carry.specs.Refusals.{DiffersThere, IsLimited, RefusesComparing, RefusesName, StopsPieces, is_target, named_next};
 ghost use Rattle.ferry_carry.specs.Work.{Works};
 ghost use Rattle.ferry_compare.specs.Compare.{Differ, FitsTold, comparison_view};
@@ -369,7 +370,7 @@ impl Flight {
         requires fits { IfSome (D.told depot.old) (λ t. StoreFits false store.old t.history) }
         requires flight { FlightStands (repo_view source.old) self.now }
         requires there { IsSome (archive_named self.now.named.name (repo_view store.old.repo).manifest.archives) }
-        ensures works { (most : ℕ) → Works (KeepsStanding most store.old []) (λ _. Gathers most store.old [] store.new)
+        ensures works { (most : ℕ) → AddsOn most store.old [] store.new
             (D.told depot.old) (D.told depot.new) (D.faults depot.old) (D.faults depot.new) result }
         ensures read { ReadsStore store.old store.new }
         ensures comparison { IfOk result (λ comparison. FitsTold (S.told shelf.new) (repo_view source.new) (D.told depot.new) (repo_view store.new.repo)
@@ -402,7 +403,7 @@ fn compare_item<S: Shelf, D: Depot>(
     requires source_fits { IfSome (S.told shelf.old) (λ t. FitsRepo (told_files t) (repo_view source.old) (cached_in source.old)) }
     requires fits { IfSome (D.told depot.old) (λ t. StoreFits false store.old t.history) }
     requires comparison { FitsTold (S.told shelf.old) (repo_view source.old) (D.told depot.old) (repo_view store.old.repo) (comparison_view comparison.old) }
-    ensures works { (most : ℕ) → Works (KeepsStanding most store.old []) (λ _. Gathers most store.old [] store.new)
+    ensures works { (most : ℕ) → AddsOn most store.old [] store.new
         (D.told depot.old) (D.told depot.new) (D.faults depot.old) (D.faults depot.new) result }
     ensures read { ReadsStore store.old store.new }
     ensures comparison { result ≡ Ok Compared.More → FitsTold (S.told shelf.new) (repo_view source.new) (D.told depot.new) (repo_view store.new.repo)
@@ -431,8 +432,9 @@ fn compare_item<S: Shelf, D: Depot>(
 fn present<D: Depot>(store: &mut Store, depot: &mut D) -> Result<Turn, CarryFault>
     requires unspent { IsUnspent store.old }
     requires fits { IfSome (D.told depot.old) (λ t. StoreFits false store.old t.history) }
-    ensures works { (most : ℕ) → Works (KeepsStanding most store.old []) (λ _. Gathers most store.old [] store.new)
+    ensures works { (most : ℕ) → Works (KeepsStandingAt AtBegin most store.old []) (λ _. GathersAt AtBegin most store.old [] store.new)
         (D.told depot.old) (D.told depot.new) (D.faults depot.old) (D.faults depot.new) result }
+    ensures unbroken { IfErr result (IsNoChunk) }
     ensures present { IfOk result (λ turn. turn ≡ Turn.Present) }
     ensures pending { OnOk result (store.new.pending ≡ 0) }
     ensures rest { OnOk result (KeepsRest store.old store.new) }

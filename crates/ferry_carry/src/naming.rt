@@ -2,9 +2,10 @@
 ghost use Rattle.std.specs.Prelude.{◌≡◌, ◌≤◌, ◌∷◌, ◌++◌, [], ℕ, Bool, List, Option, None, Ok, true, false, length, map, IfErr, IfOk, IfSome, OnOk};
 ghost use Rattle.ferry_base.specs.Limits.{content_limit};
 ghost use Rattle.ferry_blob.specs.Blob.{content_id};
+ghost use Rattle.ferry_carry.specs.Adding.{AddsOn, IsNoChunk};
 ghost use Rattle.ferry_carry.specs.Copying.{IsReady};
 ghost use Rattle.ferry_carry.specs.Fault.{IsOfWork, random_failed, shelf_failed, target_failed};
-ghost use Rattle.ferry_carry.specs.Gather.{Gathers, KeepsRest, KeepsStanding, chunks_of};
+ghost use Rattle.ferry_carry.specs.Gather.{KeepsRest, KeepsStanding, chunks_of};
 ghost use Rattle.ferry_carry.specs.Carrying.{Origin};
 ghost use Rattle.ferry_carry.specs.Flight.{AcceptsOne, EndsCopy, NamesArchive};
 ghost use Rattle.ferry_carry.specs.Grow.{AcceptsMore, KeepsMost};
@@ -14,7 +15,6 @@ ghost use Rattle.ferry_carry.specs.Puts.{Addition, ArePieces, IsCheckpoint, Reco
 ghost use Rattle.ferry_carry.specs.Naming.{AddsUnder, BeginsRecord, copied_archive, copied_in, entry_for, fixed_params};
 ghost use Rattle.ferry_carry.specs.Refusals.{IsLimited, LimitsManifest, RefusesEnd, RefusesRecordText, StopsPieces, StopsTarget, is_target, named_next};
 ghost use Rattle.ferry_msgpack.specs.View.{value_view};
-ghost use Rattle.ferry_carry.specs.Work.{Works};
 ghost use Rattle.ferry_disk.specs.Device.{HasCause, Told};
 ghost use Rattle.ferry_disk.specs.Moments.{Between};
 ghost use Rattle.ferry_mac.specs.declared.keys.Keys.{Keys};
@@ -102,6 +102,7 @@ fn record_text(
     ensures small { IfOk result (λ text. length text.items ≤ content_limit) }
     ensures refused { IfErr result (RefusesRecordText keys.now (archive_view archive.now)) }
     ensures stops { IfErr result (λ fault. (now : Option Told) (secrets : Keys) → StopsPieces now secrets fault) }
+    ensures unbroken { IfErr result (IsNoChunk) }
     ensures shelf { IfErr result (λ fault. shelf_failed fault ≡ false) }
     ensures still { IfErr result (λ fault. target_failed fault ≡ false) }
     ensures drawn { IfErr result (λ fault. random_failed fault ≡ false) }
@@ -126,6 +127,7 @@ fn tagged_record<E: Entropy>(
     ensures small { IfOk result (λ text. length text.items ≤ content_limit) }
     ensures refused { IfErr result (RefusesRecordText keys.now (archive_view archive.now)) }
     ensures stops { IfErr result (λ fault. (now : Option Told) (secrets : Keys) → StopsPieces now secrets fault) }
+    ensures unbroken { IfErr result (IsNoChunk) }
     ensures shelf { IfErr result (λ fault. shelf_failed fault ≡ false) }
     ensures still { IfErr result (λ fault. target_failed fault ≡ false) }
     ensures entropy { HasCause random_failed (E.faults entropy.old) (E.faults entropy.new) result }
@@ -141,8 +143,7 @@ fn add_record<D: Depot>(store: &mut Store, depot: &mut D, text: &[u8]) -> Result
     requires unspent { IsUnspent store.old }
     requires fits { IfSome (D.told depot.old) (λ t. StoreFits false store.old t.history) }
     ensures works { (put : Bool) × ((most : ℕ) → IsCheckpoint most → store.old.pending ≤ most
-        → Works (KeepsStanding most store.old (addition Record text.now put ∷ []))
-        (λ _. Gathers most store.old (addition Record text.now put ∷ []) store.new)
+        → AddsOn most store.old (addition Record text.now put ∷ []) store.new
         (D.told depot.old) (D.told depot.new) (D.faults depot.old) (D.faults depot.new) result) }
     ensures id { IfOk result (λ id. id ≡ content_id (repo_view store.old.repo).keys text.now) }
     ensures rest { OnOk result (KeepsRest store.old store.new) }
@@ -179,7 +180,7 @@ fn put_record<D: Depot, E: Entropy>(
     requires unspent { IsUnspent store.old }
     requires fits { IfSome (D.told depot.old) (λ t. StoreFits false store.old t.history) }
     ensures put { (more : List Addition) × (((most : ℕ) → IsCheckpoint most → store.old.pending ≤ most
-        → Works (KeepsStanding most store.old more) (λ _. Gathers most store.old more store.new)
+        → AddsOn most store.old more store.new
         (D.told depot.old) (D.told depot.new) (D.faults depot.old) (D.faults depot.new) result)
         × (BeginsRecord (repo_view store.old.repo).keys (archive_view archive.now) more
         × IfOk result (AddsUnder (repo_view store.old.repo).keys (archive_view archive.now) more))) }
@@ -209,7 +210,7 @@ fn put_copied<D: Depot, E: Entropy>(
     requires unspent { IsUnspent store.old }
     requires fits { IfSome (D.told depot.old) (λ t. StoreFits false store.old t.history) }
     ensures put { (more : List Addition) × (((most : ℕ) → IsCheckpoint most → store.old.pending ≤ most
-        → Works (KeepsStanding most store.old more) (λ _. Gathers most store.old more store.new)
+        → AddsOn most store.old more store.new
         (D.told depot.old) (D.told depot.new) (D.faults depot.old) (D.faults depot.new) result)
         × (BeginsRecord (repo_view store.old.repo).keys (copied_in (archive_view archive) block pieces.now) more
         × IfOk result (AddsUnder (repo_view store.old.repo).keys (copied_in (archive_view archive) block pieces.now) more))) }
@@ -244,8 +245,7 @@ fn end_stream<D: Depot, E: Entropy>(
     requires pending { store.old.pending ≤ stream.old.checkpoint }
     requires unspent { IsUnspent store.old }
     requires fits { IfSome (D.told depot.old) (λ t. StoreFits false store.old t.history) }
-    ensures ended { (last : List Addition) × ((more : List Addition) × (Works (KeepsStanding stream.old.checkpoint store.old (last ++ more))
-        (λ _. Gathers stream.old.checkpoint store.old (last ++ more) store.new)
+    ensures ended { (last : List Addition) × ((more : List Addition) × (AddsOn stream.old.checkpoint store.old (last ++ more) store.new
         (D.told depot.old) (D.told depot.new) (D.faults depot.old) (D.faults depot.new) result
         × (ArePieces Stream (cut stream.old.cutter.block stream.old.cutter.piece) last
         × (BeginsRecord (repo_view store.old.repo).keys (copied_in (archive_view archive) block (stream.old.chunks.items
@@ -302,6 +302,7 @@ fn name_record<D: Depot, E: Entropy>(
     ensures entropy { HasCause random_failed (E.faults entropy.old) (E.faults entropy.new) result }
     ensures target { IfErr result (λ fault. is_target fault ≡ true) }
     ensures shelf { IfErr result (λ fault. shelf_failed fault ≡ false) }
+    ensures unbroken { IfErr result (IsNoChunk) }
 {
     let entry = entry_of(alloc, named, id)?;
     let time = time_for(
@@ -396,6 +397,7 @@ fn commit_named<D: Depot, E: Entropy>(
     ensures entropy { HasCause random_failed (E.faults entropy.old) (E.faults entropy.new) result }
     ensures target { IfErr result (λ fault. is_target fault ≡ true) }
     ensures shelf { IfErr result (λ fault. shelf_failed fault ≡ false) }
+    ensures unbroken { IfErr result (IsNoChunk) }
 {
     store.name_archive(entry, source.manifest().item_keys.as_slice())?;
     commit(store, depot, entropy, timestamp)
@@ -430,6 +432,7 @@ fn commit<D: Depot, E: Entropy>(
     ensures entropy { HasCause random_failed (E.faults entropy.old) (E.faults entropy.new) result }
     ensures target { IfErr result (λ fault. is_target fault ≡ true) }
     ensures shelf { IfErr result (λ fault. shelf_failed fault ≡ false) }
+    ensures unbroken { IfErr result (IsNoChunk) }
 {
     store.commit(depot, entropy, timestamp)?;
     Ok(())

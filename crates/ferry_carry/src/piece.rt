@@ -3,16 +3,19 @@ ghost use Rattle.std.specs.Prelude.{◌≡◌, ◌≤◌, ◌<◌, ◌↔◌, �
 ghost use Rattle.std.specs.Prelude.{IfErr, IfOk, IfSome, IsTrue, OnOk};
 ghost use Rattle.ferry_base.specs.Limits.{content_limit};
 ghost use Rattle.ferry_blob.specs.Blob.{content_id};
+ghost use Rattle.ferry_carry.specs.Adding.{AddsOn, IsNoChunk};
 ghost use Rattle.ferry_carry.specs.Fault.{random_failed, shelf_failed};
-ghost use Rattle.ferry_carry.specs.Gather.{Gathers, KeepsRest, KeepsStanding, chunk_of, chunks_of};
+ghost use Rattle.ferry_carry.specs.Gather.{KeepsRest, KeepsStanding, MakesRoom, chunk_of, chunks_of};
 ghost use Rattle.ferry_carry.specs.Piece.{BeginsOn, CountsOn, HasRoom, WritesOn};
-ghost use Rattle.ferry_carry.specs.Puts.{Addition, AreOf, ArePieces, IsCheckpoint, Kind, addition, contents_in};
+ghost use Rattle.ferry_carry.specs.Puts.{Addition, AreOf, ArePieces, IsCheckpoint, Kind, addition, contents_in, is_piece};
 ghost use Rattle.ferry_carry.specs.Refusals.{StopsPieces, is_target};
 ghost use Rattle.ferry_carry.specs.Work.{Works};
 ghost use Rattle.ferry_rechunk.specs.Cut.{cut};
 ghost use Rattle.ferry_repo.specs.Opening.{repo_view};
-ghost use Rattle.ferry_store.specs.Adding.{id_under, pending_after};
+ghost use Rattle.ferry_stops.specs.Tells.{TellsNothing};
+ghost use Rattle.ferry_store.specs.Adding.{Checkpoints, id_under, pending_after};
 ghost use Rattle.ferry_store.specs.Content.{IsNew};
+ghost use Rattle.ferry_store.specs.State.{CommitsSound};
 ghost use Rattle.ferry_store.specs.Store.{IsUnspent, StoreFits};
 
 use crate::fault::CarryFault;
@@ -38,9 +41,8 @@ fn add_piece<D: Depot>(
     requires pending { store.old.pending ≤ checkpoint }
     requires unspent { IsUnspent store.old }
     requires fits { IfSome (D.told depot.old) (λ t. StoreFits false store.old t.history) }
-    ensures works { (kind : Kind) (put : Bool) → IfOk result (λ added. put ≡ added.new)
-        → Works (KeepsStanding checkpoint store.old (addition kind piece.now put ∷ []))
-        (λ _. Gathers checkpoint store.old (addition kind piece.now put ∷ []) store.new)
+    ensures works { (kind : Kind) (put : Bool) → is_piece kind ≡ true → IfOk result (λ added. put ≡ added.new)
+        → AddsOn checkpoint store.old (addition kind piece.now put ∷ []) store.new
         (D.told depot.old) (D.told depot.new) (D.faults depot.old) (D.faults depot.new) result }
     ensures id { IfOk result (λ added. added.id ≡ content_id (repo_view store.old.repo).keys piece.now) }
     ensures pending { OnOk result (store.new.pending ≤ checkpoint) }
@@ -67,8 +69,10 @@ fn make_room<D: Depot>(
     requires pending { store.old.pending ≤ checkpoint }
     requires unspent { IsUnspent store.old }
     requires fits { IfSome (D.told depot.old) (λ t. StoreFits false store.old t.history) }
-    ensures works { Works (KeepsStanding checkpoint store.old []) (λ _. Gathers checkpoint store.old [] store.new)
+    ensures works { (one : Addition) → one.content ≡ piece.now → is_piece one.kind ≡ true
+        → Works (KeepsStanding checkpoint store.old (one ∷ [])) (λ _. MakesRoom checkpoint store.old one store.new)
         (D.told depot.old) (D.told depot.new) (D.faults depot.old) (D.faults depot.new) result }
+    ensures unbroken { IfErr result (IsNoChunk) }
     ensures pending { OnOk result (store.new.pending ≤ checkpoint) }
     ensures room { OnOk result (IsNew (repo_view store.new.repo) (id_under store.new piece.now) → store.new.pending < checkpoint) }
     ensures rest { OnOk result (KeepsRest store.old store.new) }
@@ -90,8 +94,10 @@ fn make_room<D: Depot>(
 pub(crate) fn commit_pieces<D: Depot>(store: &mut Store, depot: &mut D) -> Result<(), CarryFault>
     requires unspent { IsUnspent store.old }
     requires fits { IfSome (D.told depot.old) (λ t. StoreFits false store.old t.history) }
-    ensures works { (most : ℕ) → Works (KeepsStanding most store.old []) (λ _. Gathers most store.old [] store.new)
+    ensures works { Works (λ h g. TellsNothing h g × CommitsSound store.old.session store.old.counter h g) (λ _. Checkpoints store.old store.new)
         (D.told depot.old) (D.told depot.new) (D.faults depot.old) (D.faults depot.new) result }
+    ensures unbroken { IfErr result (IsNoChunk) }
+    ensures repo { OnOk result (store.new.repo ≡ store.old.repo) }
     ensures rest { OnOk result (KeepsRest store.old store.new) }
     ensures pending { OnOk result (store.new.pending ≡ 0) }
     ensures fits { OnOk result (IfSome (D.told depot.new) (λ t. StoreFits false store.new t.history)) }
@@ -116,8 +122,7 @@ pub(crate) fn add<D: Depot>(
     requires unspent { IsUnspent store.old }
     requires fits { IfSome (D.told depot.old) (λ t. StoreFits false store.old t.history) }
     ensures works { (most : ℕ) (kind : Kind) (put : Bool) → IfOk result (λ added. put ≡ added.new) → HasRoom most kind content.now store.old
-        → Works (KeepsStanding most store.old (addition kind content.now put ∷ []))
-        (λ _. Gathers most store.old (addition kind content.now put ∷ []) store.new)
+        → AddsOn most store.old (addition kind content.now put ∷ []) store.new
         (D.told depot.old) (D.told depot.new) (D.faults depot.old) (D.faults depot.new) result }
     ensures pending { IfOk result (λ added. store.new.pending ≡ pending_after store.old.pending added.new) }
     ensures new { IfOk result (λ added. IsTrue added.new ↔ IsNew (repo_view store.old.repo) (id_under store.old content.now)) }
@@ -191,8 +196,7 @@ impl PieceWriter {
         requires pending { store.old.pending ≤ self.old.checkpoint }
         requires unspent { IsUnspent store.old }
         requires fits { IfSome (D.told depot.old) (λ t. StoreFits false store.old t.history) }
-        ensures written { (kind : Kind) → (more : List Addition) × (Works (KeepsStanding self.old.checkpoint store.old more)
-            (λ _. Gathers self.old.checkpoint store.old more store.new)
+        ensures written { (kind : Kind) → is_piece kind ≡ true → (more : List Addition) × (AddsOn self.old.checkpoint store.old more store.new
             (D.told depot.old) (D.told depot.new) (D.faults depot.old) (D.faults depot.new) result
             × (AreOf kind more × (BeginsOn self.old.cutter bytes.now (contents_in more)
             × OnOk result (WritesOn (repo_view store.old.repo).keys self.old.cutter self.old.chunks.items bytes.now (contents_in more)
@@ -233,8 +237,7 @@ impl PieceWriter {
         requires pending { store.old.pending ≤ self.old.checkpoint }
         requires unspent { IsUnspent store.old }
         requires fits { IfSome (D.told depot.old) (λ t. StoreFits false store.old t.history) }
-        ensures works { (kind : Kind) → (more : List Addition) × (Works (KeepsStanding self.old.checkpoint store.old more)
-            (λ _. Gathers self.old.checkpoint store.old more store.new)
+        ensures works { (kind : Kind) → is_piece kind ≡ true → (more : List Addition) × (AddsOn self.old.checkpoint store.old more store.new
             (D.told depot.old) (D.told depot.new) (D.faults depot.old) (D.faults depot.new) result
             × (ArePieces kind (cut self.old.cutter.block self.old.cutter.piece) more × OnOk result (CountsOn kind self.old more self.new))) }
         ensures chunks { IfOk result (λ chunks. chunks.items
@@ -264,8 +267,7 @@ impl PieceWriter {
         requires pending { store.old.pending ≤ self.old.checkpoint }
         requires unspent { IsUnspent store.old }
         requires fits { IfSome (D.told depot.old) (λ t. StoreFits false store.old t.history) }
-        ensures works { (kind : Kind) → (more : List Addition) × (Works (KeepsStanding self.old.checkpoint store.old more)
-            (λ _. Gathers self.old.checkpoint store.old more store.new)
+        ensures works { (kind : Kind) → is_piece kind ≡ true → (more : List Addition) × (AddsOn self.old.checkpoint store.old more store.new
             (D.told depot.old) (D.told depot.new) (D.faults depot.old) (D.faults depot.new) result
             × (ArePieces kind (cut self.old.cutter.block self.old.cutter.piece) more × OnOk result (CountsOn kind self.old more self.new))) }
         ensures chunks { OnOk result (self.new.chunks.items
@@ -299,8 +301,8 @@ impl PieceWriter {
         requires pending { store.old.pending ≤ self.old.checkpoint }
         requires unspent { IsUnspent store.old }
         requires fits { IfSome (D.told depot.old) (λ t. StoreFits false store.old t.history) }
-        ensures works { (put : Bool) × ((kind : Kind) → Works (KeepsStanding self.old.checkpoint store.old (addition kind self.old.cutter.piece put ∷ []))
-            (λ _. Gathers self.old.checkpoint store.old (addition kind self.old.cutter.piece put ∷ []) store.new)
+        ensures works { (put : Bool) × ((kind : Kind) → is_piece kind ≡ true
+            → AddsOn self.old.checkpoint store.old (addition kind self.old.cutter.piece put ∷ []) store.new
             (D.told depot.old) (D.told depot.new) (D.faults depot.old) (D.faults depot.new) result
             × OnOk result (CountsOn kind self.old (addition kind self.old.cutter.piece put ∷ []) self.new)) }
         ensures chunks { OnOk result (self.new.chunks.items ≡ self.old.chunks.items

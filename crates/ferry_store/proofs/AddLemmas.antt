@@ -38,10 +38,11 @@ use Rattle.ferry_store.specs.Content.{HasPut, IsNew, IsThere, Learns, blob_for, 
 use Rattle.ferry_store.specs.Fault.{depot_failed}
 use Rattle.ferry_store.specs.Standing.{CommitsManifest, HoldsLive, entries_of}
 use Rattle.ferry_store.specs.State.{Did, HasPlaced, KeepsSound, Written, with_entry}
-use Rattle.ferry_store.specs.Store.{IsKnown, StoreFits}
+use Rattle.ferry_store.specs.Store.{IsKnown, IsOfChunk, StoreFits}
 use Rattle.ferry_store.specs.declared.content.Added.{Added}
 use Rattle.ferry_store.specs.declared.fault.StoreRefusal.{StoreRefusal}
 use Rattle.ferry_store.specs.declared.store.Store.{Store}
+use Rattle.ferry_write.proofs.StandLemmas.{all-append}
 use Rattle.ferry_write.specs.Script.{AllDone}
 use Rattle.ferry_write.specs.Room.{behind}
 use Rattle.ferry_write.specs.Session.{Stays}
@@ -135,6 +136,7 @@ opened_added store repo opened content id h same noted there repo_fits counts fi
     manifest = subst (λ (r : RepoState). CommitsManifest r fits.written.committed) (sym same) fits.manifest;
     keeps = fits.keeps;
     pending = fits.pending;
+    chunks = fits.chunks;
     learnt = subst (λ (r : RepoState). AllLearnt fits.written r.log) (sym same) fits.learnt;
   },
   refl,
@@ -222,6 +224,7 @@ put_added store repo session counter pending content h g chunk missing cached af
         keeps = keeps_more fits.written id blob
             (missing_unlive (files_now h) before.log (entries_of fits.written) id chunk missing fits.holds) fits.keeps;
         pending = counted ∙ pending_more store.pending fits.written (entry_of store content) fits.pending;
+        chunks = all-append IsOfChunk fits.written.pending (entry_of store content ∷ []) fits.chunks (chunk, tt);
         learnt = subst (λ (r : RepoState). AllLearnt (with_entry fits.written (PutEntry id blob)) r.log) (sym put.learnt)
             (learnt_put fits.written before.log id blob place fits.learnt);
       },

@@ -93,6 +93,7 @@ checkpointed store session h g is takes stays counts fits =
         manifest = manifest_later repo fits.written fits.keeps fits.manifest;
         keeps = keeps_nil (entries_committed fits.written);
         pending = refl;
+        chunks = tt;
         learnt = learnt_nil (all_committed fits.written) repo.log refl;
       },
       refl,

@@ -172,6 +172,7 @@ store_opened secret store h g opens empty begins clears after none uncounted cou
         };
         keeps = keeps_nil entries;
         pending = uncounted;
+        chunks = tt;
         learnt = learnt_nil (found (Some entries) (files_now h)) repo.log refl;
       };
       found_is = refl;

@@ -245,6 +245,7 @@ store_committed store repo session counter blob manifest h g view cached done co
             (record { entries = entries_committed next; is = refl; holds = done.holds fits.written });
         keeps = keeps_nil (entries_committed next);
         pending = refl;
+        chunks = tt;
         learnt = learnt_nil (all_committed next) (repo_view repo).log refl;
       },
       refl,

@@ -157,6 +157,7 @@ store_fits secret iterations timestamp bytes store h g none made opens empty uno
       manifest = record { entries = entries; is = refl; holds = opened_manifest files secret repo entries opens shows };
       keeps = keeps_nil entries;
       pending = uncounted;
+      chunks = tt;
       learnt = learnt_nil (first_written made.basis.config blob) repo.log refl;
     }
 

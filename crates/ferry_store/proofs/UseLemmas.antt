@@ -50,5 +50,6 @@ fits_named store now (Some t) same fits =
       manifest = fits.manifest;
       keeps = fits.keeps;
       pending = fits.pending;
+      chunks = fits.chunks;
       learnt = fits.learnt;
     })

@@ -2,6 +2,7 @@
 use Rattle.std.specs.Prelude.{◌≡◌, ◌≢◌, ◌⊎◌, ◌<◌, ◌-◌, ◌^◌, ℕ, Bool, true, false, List, [], Some, IsSome, length, min}
 use Rattle.std.specs.BTreeSet.{contains}
 use Rattle.std.specs.FinMap.{get}
+use Rattle.std.specs.List.{AllByRecursion}
 use Rattle.ferry_base.specs.Limits.{zero_id}
 use Rattle.ferry_disk.specs.Act.{History, files_now}
 use Rattle.ferry_disk.specs.Files.{Files, file_at}
@@ -16,7 +17,7 @@ use Rattle.ferry_repo.specs.declared.fault.RepoFault.TheVariants as Repos
 use Rattle.ferry_repo.specs.declared.secret.Secret.{Secret}
 use Rattle.ferry_stops.specs.Blobs.{AllTraced}
 use Rattle.ferry_stops.specs.Chance.{EachStop}
-use Rattle.ferry_segment.specs.Entry.{LogEntry}
+use Rattle.ferry_segment.specs.Entry.{LogEntry, PutEntry, DeleteEntry, CommitEntry}
 use Rattle.ferry_stops.specs.Counters.{IsKept, IsNonce}
 use Rattle.ferry_stops.specs.Entries.{Shows}
 use Rattle.ferry_store.specs.Content.{IsThere}
@@ -36,10 +37,16 @@ use Rattle.ferry_write.specs.declared.fault.WriteFault.TheVariants as Writes
 abbrev pub IsKnown : Store → List ℕ → Type 0
 IsKnown store id = (id ≡ zero_id) ⊎ (IsSome (get (repo_view store.repo).log.learnt id) ⊎ (contains key_cmp store.opened id ≡ true))
 
+-- An entry puts a chunk or deletes one.
+abbrev pub IsOfChunk : LogEntry → Type 0
+IsOfChunk (PutEntry id blob) = id ≢ zero_id
+IsOfChunk (DeleteEntry id) = id ≢ zero_id
+IsOfChunk CommitEntry = ⊥
+
 -- A store fits what its depot told: what was written stands, the repository fits the files and is that of a commit below those of the session,
 -- and each chunk that the store knows is there. The repository's chunks are those of the entries that are written, what is committed holds its
--- manifest, and what was put since keeps all that is live, is learnt, and is counted, up to the largest number of 64 bits. With `counts` each
--- counter block that was taken is below the store's counter.
+-- manifest, and what was put since is of chunks alone, keeps all that is live, is learnt, and is counted, up to the largest number of 64 bits. With
+-- `counts` each counter block that was taken is below the store's counter.
 pub record StoreFits (counts : Bool) (store : Store) (history : History) : Type 0 where
   pub written : Written
   pub under_way : IsUnderWay counts store.session store.counter written history
@@ -50,6 +57,7 @@ pub record StoreFits (counts : Bool) (store : Store) (history : History) : Type 
   pub manifest : CommitsManifest (repo_view store.repo) written.committed
   pub keeps : Keeps (committed_of written) (entries_of written)
   pub pending : store.pending ≡ min (length written.pending) (2 ^ 64 - 1)
+  pub chunks : AllByRecursion IsOfChunk written.pending
   pub learnt : (id blob : List ℕ) → id ≢ zero_id → live_in id (entries_of written) ≡ Some blob
       → (live_in id (committed_of written) ≡ Some blob) ⊎ IsSome (get (repo_view store.repo).log.learnt id)
 

@@ -1,9 +1,10 @@
 -- Lemmas on specs/Rerun.antt: what a stop of a transfer leaves meets the conditions of the transfer again.
 use Rattle.std.proofs.Common.{◌≡◌, ◌⊎◌, ◌↔◌, inl, inr, ℕ, true, false, List, [], ◌∷◌, ◌++◌, Option, Some, None, refl, sym, ◌∙◌, subst, IfSome, IsSome}
 use Rattle.std.specs.List.{AllByRecursion}
-use Rattle.ferry_carry.proofs.WholeLemmas.{among_all, among_front}
+use Rattle.ferry_carry.proofs.WholeLemmas.{among_all, among_front, each_to}
 use Rattle.ferry_carry.specs.Gather.{IsAmong}
 use Rattle.ferry_carry.specs.Grow.{IsNamedBy, KeepsNames}
+use Rattle.ferry_carry.specs.Puts.{Addition}
 use Rattle.ferry_disk.specs.Act.{History}
 use Rattle.ferry_disk.specs.Files.{Files}
 use Rattle.ferry_disk.specs.Image.{ImageOf}
@@ -15,20 +16,18 @@ use Rattle.ferry_repo.specs.Archives.{archive_named}
 use Rattle.ferry_repo.specs.Opening.{RepoState, OpensFilesTo}
 use Rattle.ferry_repo.specs.Whole.{HasWhole, WholeArchive}
 use Rattle.ferry_stops.specs.Counters.{IsNonce}
-use Rattle.ferry_top.specs.Rerun.{AreLeftInTurn, EachApart, EachChosen, HasNumber, IsAbsentOrEqual, IsEqualThere, IsNamedOrChosen, KeepsNonce, LacksName}
-use Rattle.ferry_top.specs.Rerun.{MeetsConditions, NoneCollideIn}
-use Rattle.ferry_top.specs.Transfer.{Arrives, IsChosenFront, KeepsArchives, Request, chosen_of}
+use Rattle.ferry_top.specs.Rerun.{AreLeftInTurn, EachChosen, HasNumber, IsAbsentOrEqual, IsEqualThere, IsNamedOrChosen, KeepsNonce, LacksName}
+use Rattle.ferry_top.specs.Rerun.{MeetsConditions}
+use Rattle.ferry_top.specs.Transfer.{Arrives, IsChosenFront, KeepsArchives, NoneCollide, Request, chosen_of}
 
 -- ---- what arrived is equal
 
-pub each_equal : (request : Request) (source image : Files) (repo : RepoState) (done : List (List ℕ))
-    → (arrived : AllByRecursion (Arrives request source image repo) done) → EachApart request source image repo done arrived
+pub each_equal : (request : Request) (source start image : Files) (begun : List Addition) (repo : RepoState) (done : List (List ℕ))
+    → AllByRecursion (Arrives request source start image begun repo) done → NoneCollide request start begun
     → AllByRecursion (IsEqualThere request source image) done
-each_equal request source image repo [] arrived apart = tt
-each_equal request source image repo (name ∷ done) arrived apart =
-    let a = arrived.0 in
-    let scope = apart.0 in
-    ((a.whole, (a.whole_there, a.there scope.0 scope.1.0 scope.1.1.0 scope.1.1.1)), each_equal request source image repo done arrived.1 apart.1)
+each_equal request source start image begun repo done arrived apart =
+    each_to (Arrives request source start image begun repo) (IsEqualThere request source image) done
+    (λ name a. (a.whole, (a.whole_there, a.there apart))) arrived
 
 -- ---- the chosen names
 
@@ -52,16 +51,16 @@ name_again request source start image before repo done name wholes only equal (i
 name_again request source start image before repo done name wholes only equal (inr is) = inr (is.0, (is.1.0, wholes is.0 is.1.1))
 
 -- and so is each chosen name, or equal
-pub chosen_again : (request : Request) (start image : Files) (before repo : RepoState) (done : List (List ℕ))
+pub chosen_again : (request : Request) (start image : Files) (before repo : RepoState) (begun : List Addition) (done : List (List ℕ))
     → ((name : List ℕ) (whole : WholeArchive) → HasWhole start request.secrets.target name whole → HasWhole image request.secrets.target name whole)
     → IsNamedBy before.manifest done repo.manifest → (told : Option Files)
-    → (arrived : IfSome told (λ source. AllByRecursion (Arrives request source image repo) done)) → NoneCollideIn request image repo done told arrived
+    → IfSome told (λ source. AllByRecursion (Arrives request source start image begun repo) done) → NoneCollide request start begun
     → EachChosen request told (λ source name. IsAbsentOrEqual request source start before name)
     → EachChosen request told (λ source name. IsAbsentOrEqual request source image repo name)
-chosen_again request start image before repo done wholes only None arrived apart chosen = tt
-chosen_again request start image before repo done wholes only (Some source) arrived apart chosen = λ from opens name among.
-    name_again request source start image before repo done name (wholes name) only (each_equal request source image repo done arrived apart)
-    (chosen from opens name among)
+chosen_again request start image before repo begun done wholes only None arrived apart chosen = tt
+chosen_again request start image before repo begun done wholes only (Some source) arrived apart chosen = λ from opens name among.
+    name_again request source start image before repo done name (wholes name) only
+    (each_equal request source start image begun repo done arrived apart) (chosen from opens name among)
 
 -- ---- the number
 
@@ -94,7 +93,7 @@ number_again start image keeps has =
 -- what a stop leaves of a transfer meets the conditions that its start met
 pub meets_again : (request : Request) (start image : Files) (before : RepoState) (lines : List (List ℕ))
     → OpensFilesTo start request.secrets.target before → (keeps : KeepsArchives request start before.manifest lines image)
-    → NoneCollideIn request image keeps.repo keeps.done request.source keeps.arrived → KeepsNonce start image
+    → NoneCollide request start keeps.begun → KeepsNonce start image
     → MeetsConditions request start → MeetsConditions request image
 meets_again request start image before lines opens keeps apart nonce meets =
     let same = one_repo start request.secrets.target meets.repo before meets.opens opens in
@@ -104,7 +103,8 @@ meets_again request start image before lines opens keeps apart nonce meets =
       repo = keeps.repo;
       opens = keeps.opens;
       nonce = number_again start image nonce meets.nonce;
-      chosen = chosen_again request start image before keeps.repo keeps.done keeps.wholes keeps.only request.source keeps.arrived apart chosen;
+      chosen = chosen_again request start image before keeps.repo keeps.begun keeps.done keeps.wholes keeps.only request.source keeps.arrived apart
+          chosen;
     }
 
 -- and so does each of those that stops and reruns leave in turn

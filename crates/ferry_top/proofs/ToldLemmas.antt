@@ -173,7 +173,8 @@ module _ (secrets : Secrets) (options : Options) (names : List (List ℕ)) (sour
 
   -- what stands of a front of the names stands of all of them
   abbrev wider : (some more : List (List ℕ)) (within : List Addition) (accepted : ManifestText) (repo : RepoState) (written : Written) (image : Files)
-      → chosen ≡ some ++ more → StandsOn from some within accepted repo written image → StandsOn from chosen within accepted repo written image
+      → chosen ≡ some ++ more → StandsOn [] from some within accepted repo written image
+      → StandsOn [] from chosen within accepted repo written image
   wider some more within accepted repo written image split stands = record {
     entries = stands.entries;
     manifest = stands.manifest;

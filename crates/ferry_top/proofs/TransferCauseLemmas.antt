@@ -7,12 +7,15 @@ use Rattle.ferry_blob.specs.Blob.{OpensTo}
 use Rattle.ferry_blob.specs.declared.fault.BlobFault.{BlobFault}
 use Rattle.ferry_carry.proofs.WholeLemmas.{among_next, whole_kept}
 use Rattle.ferry_carry.specs.Accepting.{AreNextOf, LimitsNames}
+use Rattle.ferry_carry.specs.Adding.{IsOfLast}
 use Rattle.ferry_carry.specs.Carrying.{SaysIn, origin}
 use Rattle.ferry_carry.specs.Chosen.{IsMissingName}
 use Rattle.ferry_carry.specs.Fault.{source_fault, target_fault}
 use Rattle.ferry_carry.specs.Gather.{IsAmong}
+use Rattle.ferry_carry.specs.Listing.{BeginsNames}
+use Rattle.ferry_carry.specs.Puts.{Addition}
 use Rattle.ferry_carry.specs.Refusals.{HasLargeRecord, HasLongItem, RefusesBehind, RefusesName, RefusesNames, is_of_telling}
-use Rattle.ferry_carry.specs.Telling.{AreLines, TellsNames}
+use Rattle.ferry_carry.specs.Telling.{AreLines, BeginsAll, TellsNames}
 use Rattle.ferry_carry.specs.declared.fault.CarryFault.{CarryFault}
 use Rattle.ferry_carry.specs.declared.fault.CarryFault.TheVariants as Carry
 use Rattle.ferry_carry.specs.declared.options.Options.{Options}
@@ -50,11 +53,11 @@ use Rattle.ferry_store.specs.declared.store.Store.{Store as TheStore}
 use Rattle.ferry_top.proofs.LeftLemmas.{now_left}
 use Rattle.ferry_top.proofs.RerunLemmas.{chosen_again, number_again}
 use Rattle.ferry_top.proofs.TransferLemmas.{untold_yet}
-use Rattle.ferry_top.specs.Rerun.{EachChosen, HasNumber, IsAbsentOrEqual, KeepsNonce, LacksName, NoneCollideIn}
+use Rattle.ferry_top.specs.Rerun.{EachChosen, HasNumber, IsAbsentOrEqual, KeepsNonce, LacksName}
 use Rattle.ferry_top.specs.Status.{carry_status, repo_status, store_status, target_status}
-use Rattle.ferry_top.specs.Transfer.{KeepsArchives, Request, TransferEach, TransferLeaves, asked, chosen_of, from_source}
-use Rattle.ferry_top.specs.TransferCauses.{EndsDone, HasLargeTarget, IsDoneUnless, IsFirstMissing, IsOfChosen, IsReadyFor, IsRefusedSo, IsTaken, RefusesAsked}
-use Rattle.ferry_top.specs.TransferCauses.{RefusesSource, RefusesTransfer, StopsWriting, WhereRead}
+use Rattle.ferry_top.specs.Transfer.{KeepsArchives, NoneCollide, Request, TransferEach, TransferLeaves, asked, chosen_of, from_source}
+use Rattle.ferry_top.specs.TransferCauses.{EndsDone, HasLargeTarget, IsDoneUnless, IsFirstMissing, IsOfAdded, IsOfChosen, IsReadyFor, IsRefusedSo, IsTaken}
+use Rattle.ferry_top.specs.TransferCauses.{RefusesAsked, RefusesSource, RefusesTransfer, StopsWriting, WhereRead}
 use Rattle.ferry_top.specs.declared.status.Secrets.{Secrets}
 use Rattle.ferry_top.specs.declared.status.Status.{Status}
 use Rattle.ferry_top.specs.declared.status.Status.TheVariants as Statuses
@@ -118,48 +121,51 @@ module _ (secret : Secret) (now : TheStore) (h : History) (repo : RepoState) (fi
 
 -- ---- the target
 
--- a live chunk that breaks a rule at the end was live at the begin
+-- a live chunk that breaks a rule at the end was live at the begin, and its id is that of a content that is added
 stops_writing : (request : Request) (source start image : Files) (before : RepoState) (lines : List (List ℕ))
     → OpensFilesTo start request.secrets.target before → KeepsArchives request start before.manifest lines image → (refusal : StoreRefusal)
-    → (refusal ≡ Store.TooLarge → HasLargeTarget request source start lines) → StopsAt image before.keys refusal
-    → StopsWriting request source start lines image refusal
-stops_writing request source start image before lines opens keeps (Store.Repo (Repos.Blob id fault)) large breaks =
+    → (refusal ≡ Store.TooLarge → HasLargeTarget request source start lines)
+    → ((id : List ℕ) (fault : BlobFault) → refusal ≡ Store.Repo (Repos.Blob id fault) → IsOfAdded request source start id)
+    → StopsAt image before.keys refusal → StopsWriting request source start lines image refusal
+stops_writing request source start image before lines opens keeps (Store.Repo (Repos.Blob id fault)) large last breaks =
     so (keeps.opening before opens id breaks.blob breaks.chunk
     ((state_live image keeps.repo.log breaks.entries keeps.opens.opens.unlocks.reads breaks.shown id breaks.blob).1 breaks.live))
   where
     so : HasBlob start before.log id breaks.blob ⊎ ((content : List ℕ) × OpensTo before.keys id breaks.blob content)
         → StopsWriting request source start lines image (Store.Repo (Repos.Blob id fault))
-    so (inl has) =
-        record { repo = before; opens = opens; holds = (breaks.chunk, record { blob = breaks.blob; has = has; breaks = breaks.breaks }) }
+    so (inl has) = (
+      record { repo = before; opens = opens; holds = (breaks.chunk, record { blob = breaks.blob; has = has; breaks = breaks.breaks }) },
+      last id fault refl,
+    )
     so (inr opens_to) =
         absurd (let e : None ≡ Some fault = sym (opens_no_fault before.keys id breaks.blob opens_to.0 opens_to.1) ∙ breaks.breaks in
         let no : ⊥ = cc in no)
-stops_writing request source start image before lines opens keeps (Store.Repo Repos.NoCommit) large never = absurd never
-stops_writing request source start image before lines opens keeps (Store.Repo (Repos.Damaged segment at)) large never = absurd never
-stops_writing request source start image before lines opens keeps (Store.Repo (Repos.Config fault)) large never = absurd never
-stops_writing request source start image before lines opens keeps (Store.Repo (Repos.Key fault)) large never = absurd never
-stops_writing request source start image before lines opens keeps (Store.Repo (Repos.Missing id)) large never = absurd never
-stops_writing request source start image before lines opens keeps (Store.Repo (Repos.Manifest fault)) large never = absurd never
-stops_writing request source start image before lines opens keeps (Store.Repo (Repos.Archive id fault)) large never = absurd never
-stops_writing request source start image before lines opens keeps (Store.Repo (Repos.Item id fault)) large never = absurd never
-stops_writing request source start image before lines opens keeps (Store.Repo (Repos.Size id)) large never = absurd never
-stops_writing request source start image before lines opens keeps (Store.Repo (Repos.KeyFile fault)) large never = absurd never
-stops_writing request source start image before lines opens keeps (Store.Repo (Repos.Other file config)) large never = absurd never
-stops_writing request source start image before lines opens keeps (Store.Repo Repos.NoKey) large never = absurd never
-stops_writing request source start image before lines opens keeps (Store.Repo Repos.Device) large is = tt
-stops_writing request source start image before lines opens keeps (Store.Repo Repos.Memory) large never = absurd never
-stops_writing request source start image before lines opens keeps (Store.Write Writes.Numbers) large is = is
-stops_writing request source start image before lines opens keeps (Store.Write Writes.Device) large is = tt
-stops_writing request source start image before lines opens keeps (Store.Write Writes.Memory) large is = tt
-stops_writing request source start image before lines opens keeps (Store.Nonce Nonces.Exhausted) large is = is
-stops_writing request source start image before lines opens keeps (Store.Nonce Nonces.Device) large is = tt
-stops_writing request source start image before lines opens keeps (Store.Nonce Nonces.Missing) large never = absurd never
-stops_writing request source start image before lines opens keeps (Store.Nonce Nonces.Text) large never = absurd never
-stops_writing request source start image before lines opens keeps (Store.Nonce Nonces.Memory) large never = absurd never
-stops_writing request source start image before lines opens keeps Store.Committed large never = absurd never
-stops_writing request source start image before lines opens keeps Store.TooLarge large is = large refl
-stops_writing request source start image before lines opens keeps Store.Entropy large is = tt
-stops_writing request source start image before lines opens keeps Store.Memory large is = tt
+stops_writing request source start image before lines opens keeps (Store.Repo Repos.NoCommit) large last never = absurd never
+stops_writing request source start image before lines opens keeps (Store.Repo (Repos.Damaged segment at)) large last never = absurd never
+stops_writing request source start image before lines opens keeps (Store.Repo (Repos.Config fault)) large last never = absurd never
+stops_writing request source start image before lines opens keeps (Store.Repo (Repos.Key fault)) large last never = absurd never
+stops_writing request source start image before lines opens keeps (Store.Repo (Repos.Missing id)) large last never = absurd never
+stops_writing request source start image before lines opens keeps (Store.Repo (Repos.Manifest fault)) large last never = absurd never
+stops_writing request source start image before lines opens keeps (Store.Repo (Repos.Archive id fault)) large last never = absurd never
+stops_writing request source start image before lines opens keeps (Store.Repo (Repos.Item id fault)) large last never = absurd never
+stops_writing request source start image before lines opens keeps (Store.Repo (Repos.Size id)) large last never = absurd never
+stops_writing request source start image before lines opens keeps (Store.Repo (Repos.KeyFile fault)) large last never = absurd never
+stops_writing request source start image before lines opens keeps (Store.Repo (Repos.Other file config)) large last never = absurd never
+stops_writing request source start image before lines opens keeps (Store.Repo Repos.NoKey) large last never = absurd never
+stops_writing request source start image before lines opens keeps (Store.Repo Repos.Device) large last is = tt
+stops_writing request source start image before lines opens keeps (Store.Repo Repos.Memory) large last never = absurd never
+stops_writing request source start image before lines opens keeps (Store.Write Writes.Numbers) large last is = is
+stops_writing request source start image before lines opens keeps (Store.Write Writes.Device) large last is = tt
+stops_writing request source start image before lines opens keeps (Store.Write Writes.Memory) large last is = tt
+stops_writing request source start image before lines opens keeps (Store.Nonce Nonces.Exhausted) large last is = is
+stops_writing request source start image before lines opens keeps (Store.Nonce Nonces.Device) large last is = tt
+stops_writing request source start image before lines opens keeps (Store.Nonce Nonces.Missing) large last never = absurd never
+stops_writing request source start image before lines opens keeps (Store.Nonce Nonces.Text) large last never = absurd never
+stops_writing request source start image before lines opens keeps (Store.Nonce Nonces.Memory) large last never = absurd never
+stops_writing request source start image before lines opens keeps Store.Committed large last never = absurd never
+stops_writing request source start image before lines opens keeps Store.TooLarge large last is = large refl
+stops_writing request source start image before lines opens keeps Store.Entropy large last is = tt
+stops_writing request source start image before lines opens keeps Store.Memory large last is = tt
 
 -- ---- causes
 
@@ -230,13 +236,39 @@ module _ (secrets : Secrets) (options : Options) (names : List (List ℕ)) (sour
     };
   }
 
+  -- what was added for the chosen names, as far as it came
+  abbrev Begins : List Addition → Type 0
+  Begins added = BeginsNames (origin (Some t) source options.block options.checkpoint) (repo_view store.repo).keys (accepted_in store) [] chosen added
+
+  -- the last of it has this id
+  last_added : (added : List Addition) → Begins added → (id : List ℕ) (fault : BlobFault)
+      → IsOfLast (repo_view store.repo).keys added (Carry.Target (Store.Repo (Repos.Blob id fault))) → IsOfAdded asks (told_files t) (told_files a) id
+  last_added added begins id fault last =
+      let from = origin (Some t) source options.block options.checkpoint in
+      let keys = (repo_view store.repo).keys in
+      record {
+        repo = source;
+        opens = source_opens;
+        target = repo_view store.repo;
+        target_opens = opens;
+        front = last.0;
+        one = last.1.0;
+        begins = subst (BeginsNames from keys (repo_view store.repo).manifest [] (chosen_of names source.manifest)) last.1.1.0
+            (subst (λ (m : ManifestText). BeginsNames from keys m [] (chosen_of names source.manifest) added) accepts
+            (subst (λ (l : List (List ℕ)). BeginsNames from keys (accepted_in store) [] l added) chosen_is begins));
+        id_is = last.1.1.1;
+      }
+
   -- the target isn't written
-  target_told : Keeps → (refusal : StoreRefusal) → (Carry.Target refusal ≡ Carry.Target Store.TooLarge → Limited)
+  target_told : Keeps → (added : List Addition) → Begins added → (refusal : StoreRefusal)
+      → IsOfLast (repo_view store.repo).keys added (Carry.Target refusal) → (Carry.Target refusal ≡ Carry.Target Store.TooLarge → Limited)
       → StopsAt (told_files d) (repo_view store.repo).keys refusal
       → StopsWriting asks (told_files t) (told_files a) (lines_of d.history.acts) (told_files d) refusal
-  target_told keeps refusal limit stops =
+  target_told keeps added begins refusal last limit stops =
       stops_writing asks (told_files t) (told_files a) (told_files d) (repo_view store.repo) (lines_of d.history.acts) opens keeps refusal
-      (λ is. large_there (limit (ap Carry.Target is))) stops
+      (λ is. large_there (limit (ap Carry.Target is)))
+      (λ id fault is.
+      last_added added begins id fault (subst (λ (r : StoreRefusal). IsOfLast (repo_view store.repo).keys added (Carry.Target r)) is last)) stops
 
   -- a fault that isn't that of a line
   told_line : (X : Type 0) (fault : CarryFault) → is_of_telling fault ≡ false → is_of_telling fault ≡ true → X
@@ -273,38 +305,39 @@ module _ (secrets : Secrets) (options : Options) (names : List (List ℕ)) (sour
         differs = λ had. differs.target_is (says_held secrets.target now d.history keeps.repo at.fits keeps.opens unlocks name differs.whole had);
       }
 
-  refused_told : Keeps → (fault : CarryFault) → (fault ≡ Carry.Target Store.TooLarge → Limited)
+  refused_told : Keeps → (added : List Addition) → Begins added → (fault : CarryFault) → IsOfLast (repo_view store.repo).keys added fault
+      → (fault ≡ Carry.Target Store.TooLarge → Limited)
       → RefusesNames (origin (Some t) source options.block options.checkpoint) (Some b) store (Some d) now chosen fault
       → RefusesTransfer asks (told_files t) (told_files a) (lines_of d.history.acts) (told_files d) fault
-  refused_told keeps (Carry.Source fault) limit (inl refused) = λ of_files.
+  refused_told keeps added begins (Carry.Source fault) last limit (inl refused) = λ of_files.
       inr (of_chosen (Carry.Source fault) (λ repo target name. RefusesWhole (told_files t) repo.log repo.keys repo.manifest.archives name fault) refused
       (refused.refused of_files))
-  refused_told keeps (Carry.Source fault) limit (inr untold) = told_line _ (Carry.Source fault) refl untold.0
-  refused_told keeps (Carry.Target refusal) limit (inl refused) =
+  refused_told keeps added begins (Carry.Source fault) last limit (inr untold) = told_line _ (Carry.Source fault) refl untold.0
+  refused_told keeps added begins (Carry.Target refusal) last limit (inl refused) =
       inr (
-        target_told keeps refusal limit refused.refused,
+        target_told keeps added begins refusal last limit refused.refused,
         λ still. of_chosen (Carry.Target refusal) (λ repo target name. Unit {0}) refused tt,
       )
-  refused_told keeps (Carry.Target refusal) limit (inr untold) =
-      inr (target_told keeps refusal limit untold.1, λ still. told_line _ (Carry.Target refusal) still untold.0)
-  refused_told keeps (Carry.Taken name) limit (inl refused) = taken_there name keeps refused (sym refused.refused.0)
-  refused_told keeps (Carry.Taken name) limit (inr untold) = told_line _ (Carry.Taken name) refl untold.0
-  refused_told keeps (Carry.NotFound name) limit refused = record {
+  refused_told keeps added begins (Carry.Target refusal) last limit (inr untold) =
+      inr (target_told keeps added begins refusal last limit untold.1, λ still. told_line _ (Carry.Target refusal) still untold.0)
+  refused_told keeps added begins (Carry.Taken name) last limit (inl refused) = taken_there name keeps refused (sym refused.refused.0)
+  refused_told keeps added begins (Carry.Taken name) last limit (inr untold) = told_line _ (Carry.Taken name) refl untold.0
+  refused_told keeps added begins (Carry.NotFound name) last limit refused = record {
     repo = source;
     opens = source_opens;
     place = refused.0;
     missing = subst (λ (l : List (List ℕ)). IsMissingName source.manifest l refused.0) chosen_is refused.1.0;
     name_is = subst (λ (l : List (List ℕ)). slice_get l refused.0 ≡ Some name) chosen_is refused.1.1;
   }
-  refused_told keeps Carry.Pieces limit (inl refused) =
+  refused_told keeps added begins Carry.Pieces last limit (inl refused) =
       of_chosen Carry.Pieces (λ repo target name. LacksName target.manifest name × HasLongItem (told_files t) (from_source asks (told_files t) repo) name)
       refused refused.refused
-  refused_told keeps Carry.Pieces limit (inr untold) = told_line _ Carry.Pieces refl untold.0
-  refused_told keeps Carry.Memory limit refused = tt
-  refused_told keeps Carry.Record limit (inl refused) =
+  refused_told keeps added begins Carry.Pieces last limit (inr untold) = told_line _ Carry.Pieces refl untold.0
+  refused_told keeps added begins Carry.Memory last limit refused = tt
+  refused_told keeps added begins Carry.Record last limit (inl refused) =
       of_chosen Carry.Record (λ repo target name. LacksName target.manifest name
       × HasLargeRecord (told_files t) (from_source asks (told_files t) repo) target.keys name) refused refused.refused
-  refused_told keeps Carry.Record limit (inr untold) = told_line _ Carry.Record refl untold.0
+  refused_told keeps added begins Carry.Record last limit (inr untold) = told_line _ Carry.Record refl untold.0
 
 -- a transfer that was refused while archives came
 pub names_refused : (secrets : Secrets) (options : Options) (names : List (List ℕ)) (source : RepoState) (told a b d : Option Told) (chosen : List (List ℕ))
@@ -313,20 +346,22 @@ pub names_refused : (secrets : Secrets) (options : Options) (names : List (List 
     → Between a b TellsNothing → Between a d (TransferEach (asked secrets options names told)) → (fault : CarryFault)
     → (fault ≡ Carry.Target Store.TooLarge → IfSome b (λ x. IfSome d (λ y. LimitsNames options.timestamp source.manifest (repo_view store.repo).keys
     (accepted_in store) chosen (λ done. TellsNames (accepted_in store) done x.history y.history))))
+    → (added : List Addition) × (BeginsAll b (origin told source options.block options.checkpoint) store chosen added
+    × IfSome b (λ _. IsOfLast (repo_view store.repo).keys added fault))
     → RefusesNames (origin told source options.block options.checkpoint) b store d now chosen fault → RefusesAsked (asked secrets options names told) a d fault
-names_refused secrets options names source None a b d chosen store now from chosen_is opens accepts untold each fault limit refused = tt
-names_refused secrets options names source (Some t) None b d chosen store now from chosen_is opens accepts untold each fault limit refused = tt
-names_refused secrets options names source (Some t) (Some a) b None chosen store now from chosen_is opens accepts untold each fault limit refused = tt
-names_refused secrets options names source (Some t) (Some a) None (Some d) chosen store now from chosen_is opens accepts untold each fault limit refused =
+names_refused secrets options names source None a b d chosen store now from is opens accepts untold each fault limit last refused = tt
+names_refused secrets options names source (Some t) None b d chosen store now from is opens accepts untold each fault limit last refused = tt
+names_refused secrets options names source (Some t) (Some a) b None chosen store now from is opens accepts untold each fault limit last refused = tt
+names_refused secrets options names source (Some t) (Some a) None (Some d) chosen store now from is opens accepts untold each fault limit last refused =
     absurd (let e : None ≡ Some untold.0 = untold.1 in let no : ⊥ = cc in no)
-names_refused secrets options names source (Some t) (Some a) (Some b) (Some d) chosen store now from chosen_is opens accepts untold each fault limit refused =
+names_refused secrets options names source (Some t) (Some a) (Some b) (Some d) chosen store now from is opens accepts untold each fault limit last refused =
     λ begun.
     let same : each.0 ≡ d = (let e : Some d ≡ Some each.0 = each.1 in cc) in
     let first : untold.0 ≡ b = (let e : Some b ≡ Some untold.0 = untold.1 in cc) in
     let left = left_of (asked secrets options names (Some t)) a.history d.history
     (subst (λ (x : Told). TransferEach (asked secrets options names (Some t)) a.history x.history) same each.2) begun (repo_view store.repo) opens in
-    refused_told secrets options names source t a b d chosen store now from chosen_is opens begun
-    (subst (λ (x : Told). TellsNothing a.history x.history) first untold.2) accepts left fault limit refused
+    refused_told secrets options names source t a b d chosen store now from is opens begun
+    (subst (λ (x : Told). TellsNothing a.history x.history) first untold.2) accepts left last.0 last.1.0 fault last.1.1 limit refused
 
 -- where files are read
 where_read : (source : Option Files) (before now : Option Told) (P : Files → Files → List (List ℕ) → Files → Type 0)
@@ -490,12 +525,12 @@ module _ (request : Request) (source start image : Files) (lines : List (List �
   begun_ends Store.Entropy refused = tt
   begun_ends Store.Memory refused = tt
 
-  -- what is live in it opens
+  -- what is live in it under the id of a content that is added opens
   live_ready : (id : List ℕ) (fault : BlobFault) → StopsWriting request source start lines image (Store.Repo (Repos.Blob id fault)) → ⊥
   live_ready id fault stops =
-      let same = one_repo start request.secrets.target stops.repo ready.repo stops.opens ready.opens in
-      let breaks = subst (λ (r : RepoState). BreaksObject start r.log r.keys id fault) same stops.holds.1 in
-      let opens_to = ready.live id breaks.blob stops.holds.0 breaks.has in
+      let same = one_repo start request.secrets.target stops.0.repo ready.repo stops.0.opens ready.opens in
+      let breaks = subst (λ (r : RepoState). BreaksObject start r.log r.keys id fault) same stops.0.holds.1 in
+      let opens_to = ready.live id breaks.blob stops.0.holds.0 stops.1 breaks.has in
       let e : None ≡ Some fault = sym (opens_no_fault ready.repo.keys id breaks.blob opens_to.0 opens_to.1) ∙ breaks.breaks in
       let no : ⊥ = cc in no
 
@@ -554,11 +589,12 @@ module _ (request : Request) (source start image : Files) (lines : List (List �
 
   -- it finds again in what is left
   chosen_left : request.source ≡ Some source → (keeps : KeepsArchives request start ready.repo.manifest lines image)
-      → NoneCollideIn request image keeps.repo keeps.done request.source keeps.arrived
+      → NoneCollide request start keeps.begun
       → EachChosen request (Some source) (λ files name. IsAbsentOrEqual request files image keeps.repo name)
   chosen_left told keeps apart =
       subst (λ (o : Option Files). EachChosen request o (λ files name. IsAbsentOrEqual request files image keeps.repo name)) told
-      (chosen_again request start image ready.repo keeps.repo keeps.done keeps.wholes keeps.only request.source keeps.arrived apart (chosen_ready told))
+      (chosen_again request start image ready.repo keeps.repo keeps.begun keeps.done keeps.wholes keeps.only request.source keeps.arrived apart
+      (chosen_ready told))
 
   equal_there : (name : List ℕ) → IsTaken request source start lines image name → (repo : RepoState) → OpensFilesTo image request.secrets.target repo
       → EachChosen request (Some source) (λ files other. IsAbsentOrEqual request files image repo other) → ⊥
@@ -583,7 +619,7 @@ module _ (request : Request) (source start image : Files) (lines : List (List �
           taken.differs (subst (HasWhole image request.secrets.target name) one is.1.1)
 
   refused_ends : (keeps : KeepsArchives request start ready.repo.manifest lines image)
-      → NoneCollideIn request image keeps.repo keeps.done request.source keeps.arrived → request.source ≡ Some source → (fault : CarryFault)
+      → NoneCollide request start keeps.begun → request.source ≡ Some source → (fault : CarryFault)
       → RefusesTransfer request source start lines image fault → IsDoneUnless request source start lines image (carry_status fault)
   refused_ends keeps apart told (Carry.Source fault) refused = source_ends fault refused
   refused_ends keeps apart told (Carry.Target refusal) (inl refused) = begun_ends refusal refused
@@ -645,11 +681,14 @@ one_keys secret file a b p q =
     let same : one ≡ other = cc in
     p.keys_are ∙ (ap (λ (u : UnlockedText). u.text.key.keys) same ∙ sym q.keys_are)
 
--- what a transfer asks, it finds again in what it left
+-- what a transfer asks, it finds again in what it left, where each chunk opens that was live at the start and whose id is that of a content that is added
+-- to what is left
 pub ready_again : (request : Request) (source start image : Files) (lines : List (List ℕ)) → request.source ≡ Some source
     → (ready : IsReadyFor request source start) → (keeps : KeepsArchives request start ready.repo.manifest lines image)
-    → NoneCollideIn request image keeps.repo keeps.done request.source keeps.arrived → KeepsNonce start image → IsReadyFor request source image
-ready_again request source start image lines told ready keeps apart nonce = record {
+    → NoneCollide request start keeps.begun → KeepsNonce start image
+    → ((id blob : List ℕ) → id ≢ zero_id → IsOfAdded request source image id → HasBlob start ready.repo.log id blob
+    → (content : List ℕ) × OpensTo ready.repo.keys id blob content) → IsReadyFor request source image
+ready_again request source start image lines told ready keeps apart nonce opened = record {
   from = ready.from;
   source_opens = ready.source_opens;
   whole = ready.whole;
@@ -673,13 +712,14 @@ ready_again request source start image lines told ready keeps apart nonce = reco
       (opened_unlocks start request.secrets.target ready.repo ready.opens)) (opened_unlocks image request.secrets.target keeps.repo keeps.opens)
 
   opens_there : (id blob : List ℕ) → HasBlob start ready.repo.log id blob ⊎ ((content : List ℕ) × OpensTo ready.repo.keys id blob content)
-      → id ≢ zero_id → (content : List ℕ) × OpensTo keeps.repo.keys id blob content
-  opens_there id blob (inl has) apart_from =
-      let o = ready.live id blob apart_from has in (o.0, subst (λ k. OpensTo k id blob o.0) keys o.1)
-  opens_there id blob (inr o) apart_from = (o.0, subst (λ k. OpensTo k id blob o.0) keys o.1)
+      → id ≢ zero_id → IsOfAdded request source image id → (content : List ℕ) × OpensTo keeps.repo.keys id blob content
+  opens_there id blob (inl has) chunk added =
+      let o = opened id blob chunk added has in (o.0, subst (λ k. OpensTo k id blob o.0) keys o.1)
+  opens_there id blob (inr o) chunk added = (o.0, subst (λ k. OpensTo k id blob o.0) keys o.1)
 
-  live : (id blob : List ℕ) → id ≢ zero_id → HasBlob image keeps.repo.log id blob → (content : List ℕ) × OpensTo keeps.repo.keys id blob content
-  live id blob chunk has = opens_there id blob (keeps.opening ready.repo ready.opens id blob chunk has) chunk
+  live : (id blob : List ℕ) → id ≢ zero_id → IsOfAdded request source image id → HasBlob image keeps.repo.log id blob
+      → (content : List ℕ) × OpensTo keeps.repo.keys id blob content
+  live id blob chunk added has = opens_there id blob (keeps.opening ready.repo ready.opens id blob chunk has) chunk added
 
 -- ---- an example
 
@@ -702,6 +742,6 @@ ready_first request source start from source_opens whole new text number nonce s
   nonce = nonce;
   number = number;
   spelled = spelled;
-  live = λ id blob chunk has. absurd (chunk (new.alone id has.place has.placed));
+  live = λ id blob chunk added has. absurd (chunk (new.alone id has.place has.placed));
   chosen = λ name among. inl (ap (archive_named name) new.no_archives ∙ none_named name);
 }

@@ -4,16 +4,16 @@ use Rattle.std.proofs.Common.{Err, is_some, ◌-◌, ◌^◌, length, min, unwra
 use Rattle.std.proofs.lemmas.List.{append-nil}
 use Rattle.std.specs.List.{AllByRecursion}
 use Rattle.ferry_blob.specs.Blob.{OpensTo as OpensBlob}
-use Rattle.ferry_carry.proofs.PutsLemmas.{adds_here, front_none}
+use Rattle.ferry_carry.proofs.PutsLemmas.{adds_at, allows_settled, first_at, first_none, shown_none as none_pending_shown}
 use Rattle.ferry_carry.proofs.ReportLemmas.{report_none, untold_moments, whole_report}
 use Rattle.ferry_carry.proofs.WholeLemmas.{each_to, whole_kept}
 use Rattle.ferry_carry.proofs.WorkLemmas.{between_known, works_both, works_err, works_nothing, works_ok, works_then}
 use Rattle.ferry_carry.specs.Listing.{BeginsName, BeginsNames, IsThere, ListsNames}
 use Rattle.ferry_carry.specs.declared.options.Carried.{Carried}
-use Rattle.ferry_carry.specs.Carrying.{AreCut, CarriesOver, IsCarried, Origin, origin}
-use Rattle.ferry_carry.specs.Gather.{BringsOpening}
+use Rattle.ferry_carry.specs.Carrying.{AreCut, CarriesOver, IsApart, IsCarried, Origin, origin}
+use Rattle.ferry_carry.specs.Gather.{BringsOpening, HoldsWithin, NoCollision}
 use Rattle.ferry_carry.specs.Grow.{Grown, IsNamedBy, KeepsChunks, KeepsNames, StandsOn}
-use Rattle.ferry_carry.specs.Puts.{Addition, AddsAll, GoesOn, IsFront}
+use Rattle.ferry_carry.specs.Puts.{Addition, AddsAll, AddsFirst, AtBegin, Border, GoesOn, Within, border_behind}
 use Rattle.ferry_carry.specs.Telling.{BeginsAll, CarriesNames, IsReport, IsReported, KeepsReported, ReportsWhole, ShowsReport, TellsWhole}
 use Rattle.ferry_carry.specs.Lines.{total_line}
 use Rattle.ferry_carry.specs.Work.{Works}
@@ -58,8 +58,9 @@ use Rattle.ferry_store.specs.State.{Did, ShowsStanding, Written, found}
 use Rattle.ferry_store.specs.Store.{OpenEach, OpenFits, OpensFound, StoreFits}
 use Rattle.ferry_store.specs.declared.fault.StoreRefusal.{StoreRefusal}
 use Rattle.ferry_store.specs.declared.store.Store.{Store}
-use Rattle.ferry_top.specs.Transfer.{AddsBehind, AreCutThere, Arrives, BeginsChosen, BringsWhatOpens, IsBegun, IsChosen, IsChosenFront, KeepsArchives}
-use Rattle.ferry_top.specs.Transfer.{ListsChosen, Request, TransferEach, TransferEnds, TransferShows, asked, chosen_of, from_source}
+use Rattle.ferry_top.specs.Transfer.{AddsAllBehind, AddsBehind, AreCutThere, Arrives, BeginsChosen, BringsWhatOpens, IsBegun, IsChosen, IsChosenFront}
+use Rattle.ferry_top.specs.Transfer.{KeepsArchives, ListsChosen, NoneCollide, Request, TransferEach, TransferEnds, TransferShows, asked, chosen_of}
+use Rattle.ferry_top.specs.Transfer.{from_source}
 use Rattle.ferry_top.specs.declared.status.Secrets.{Secrets}
 use Rattle.ferry_write.proofs.LawLemmas.{fits_now}
 use Rattle.ferry_write.specs.Room.{behind}
@@ -114,43 +115,58 @@ brings_opening request start image repo next committed entries log opens shown o
 
 -- ---- what is put
 
--- what stands goes on from what was there
-adds_shown : (request : Request) (start image : Files) (repo : RepoState) (committed entries : List LogEntry) (added : List Addition)
-    → OpensFilesTo start request.secrets.target repo → Shows start (Some committed) → Shows image (Some entries)
-    → AddsAll repo.keys request.checkpoint committed added entries → AddsBehind request start image added
-adds_shown request start image repo committed entries added opens shown shown_now adds before other others shown_then =
+-- where nothing was added before, entries stand at the begin of a transfer
+at_begin : border_behind AtBegin [] ≡ AtBegin
+unfolding border_behind
+at_begin = refl
+
+-- what holds of the repository and the entries that files had holds of whatever they open to and show
+behind_shown : (secret : Secret) (start image : Files) (repo : RepoState) (committed entries : List LogEntry)
+    (Adds : RepoState → List LogEntry → List LogEntry → Type 0) → OpensFilesTo start secret repo → Shows start (Some committed)
+    → Shows image (Some entries) → Adds repo committed entries → (before : RepoState) → OpensFilesTo start secret before → (others : List LogEntry)
+    → Shows start (Some others) → (after : List LogEntry) × (Shows image (Some after) × Adds before others after)
+behind_shown secret start image repo committed entries Adds opens shown shown_now adds before other others shown_then =
     let both : Some committed ≡ Some others = one_shown start (Some committed) (Some others) shown shown_then in
     let same : committed ≡ others = cc in (
       entries,
       (
         shown_now,
-        subst (λ (front : List LogEntry). AddsAll before.keys request.checkpoint front added entries) same
-            (subst (λ (r : RepoState). AddsAll r.keys request.checkpoint committed added entries)
-            (one_repo start request.secrets.target repo before opens other) adds),
+        subst (λ (front : List LogEntry). Adds before front entries) same
+            (subst (λ (r : RepoState). Adds r committed entries) (one_repo start secret repo before opens other) adds),
       ),
     )
+
+-- what stands goes on from what was there, where nothing is pending
+adds_shown : (request : Request) (start image : Files) (repo : RepoState) (committed entries : List LogEntry) (all : List Addition)
+    → OpensFilesTo start request.secrets.target repo → Shows start (Some committed) → Shows image (Some entries)
+    → AddsFirst AtBegin repo.keys request.checkpoint committed all entries → AddsBehind request start image all
+adds_shown request start image repo committed entries all opens shown shown_now first =
+    behind_shown request.secrets.target start image repo committed entries
+    (λ (r : RepoState) (front after : List LogEntry). AddsFirst Within r.keys request.checkpoint front all after) opens shown shown_now
+    (first_at AtBegin Within repo.keys request.checkpoint committed all entries
+    (allows_settled Within committed (none_pending_shown start committed shown)) first)
+
+-- the same with all of them
+all_shown : (request : Request) (start image : Files) (repo : RepoState) (committed entries : List LogEntry) (added : List Addition)
+    → OpensFilesTo start request.secrets.target repo → Shows start (Some committed) → Shows image (Some entries)
+    → AddsAll AtBegin repo.keys request.checkpoint committed added entries → AddsAllBehind request start image added
+all_shown request start image repo committed entries added opens shown shown_now adds =
+    behind_shown request.secrets.target start image repo committed entries
+    (λ (r : RepoState) (front after : List LogEntry). AddsAll Within r.keys request.checkpoint front added after) opens shown shown_now
+    (adds_at AtBegin Within repo.keys request.checkpoint committed added entries
+    (allows_settled Within committed (none_pending_shown start committed shown)) adds)
 
 -- entries that go on from what was written, where nothing was pending
 adds_on : (request : Request) (start image : Files) (repo : RepoState) (within : List Addition) (written : Written) (committed entries : List LogEntry)
     → OpensFilesTo start request.secrets.target repo → Shows start (Some committed) → Shows image (Some entries) → committed_of written ≡ committed
-    → entries_of written ≡ committed → GoesOn repo.keys request.checkpoint within written entries
-    → (added : List Addition) × (AddsBehind request start image added × IsFront added within)
-adds_on request start image repo within written committed entries opens shown shown_now same all (inl is) = (
-  [],
-  (
-    adds_shown request start image repo committed entries [] opens shown shown_now
-        (subst (AddsAll repo.keys request.checkpoint committed []) (sym (is ∙ same)) (adds_here repo.keys request.checkpoint committed)),
-    front_none within,
-  ),
-)
-adds_on request start image repo within written committed entries opens shown shown_now same all (inr adds) = (
-  adds.0,
-  (
-    adds_shown request start image repo committed entries adds.0 opens shown shown_now
-        (subst (λ (front : List LogEntry). AddsAll repo.keys request.checkpoint front adds.0 entries) all adds.1.1),
-    adds.1.0,
-  ),
-)
+    → entries_of written ≡ committed → GoesOn AtBegin repo.keys request.checkpoint within written entries → AddsBehind request start image within
+adds_on request start image repo within written committed entries opens shown shown_now same all (inl is) =
+    adds_shown request start image repo committed entries within opens shown shown_now
+    (subst (AddsFirst AtBegin repo.keys request.checkpoint committed within) (sym (is ∙ same))
+    (first_none AtBegin repo.keys request.checkpoint committed within))
+adds_on request start image repo within written committed entries opens shown shown_now same all (inr first) =
+    adds_shown request start image repo committed entries within opens shown shown_now
+    (subst (λ (front : List LogEntry). AddsFirst AtBegin repo.keys request.checkpoint front within entries) all first)
 
 -- nothing is the begin of what is added for names
 names_begin : (from : Origin) (before : RepoState) (accepted : ManifestText) (names : List (List ℕ)) → BeginsNames from before.keys accepted [] names []
@@ -165,13 +181,8 @@ names_begin from before accepted (name ∷ names) = inl (by_there (archive_named
 
 none_begun : (request : Request) (before : RepoState) (source : Option Files) → IfSome source (BeginsChosen request before [])
 none_begun request before None = tt
-none_begun request before (Some files) = λ repo opens. (
-  [],
-  (
-    front_none [],
-    names_begin (from_source request files repo) before before.manifest (chosen_of request.names repo.manifest),
-  ),
-)
+none_begun request before (Some files) = λ repo opens.
+    names_begin (from_source request files repo) before before.manifest (chosen_of request.names repo.manifest)
 
 -- where a store counts nothing as pending, what was written is committed
 none_pending : (store : Store) (h : History) (fits : StoreFits false store h) → store.pending ≡ 0 → entries_of fits.written ≡ committed_of fits.written
@@ -186,10 +197,10 @@ front_here : (request : Request) (source : Option Files) → IfSome source (IsCh
 front_here request None = tt
 front_here request (Some files) = λ repo opens. (chosen_of request.names repo.manifest, refl)
 
-none_arrived : (request : Request) (image : Files) (repo : RepoState) (source : Option Files)
-    → IfSome source (λ files. AllByRecursion (Arrives request files image repo) [])
-none_arrived request image repo None = tt
-none_arrived request image repo (Some files) = tt
+none_arrived : (request : Request) (start image : Files) (begun : List Addition) (repo : RepoState) (source : Option Files)
+    → IfSome source (λ files. AllByRecursion (Arrives request files start image begun repo) [])
+none_arrived request start image begun repo None = tt
+none_arrived request start image begun repo (Some files) = tt
 
 none_cut : (request : Request) (before : ManifestText) (repo : RepoState) (source : Option Files)
     → IfSome source (AreCutThere request before repo [])
@@ -213,18 +224,15 @@ shown_keeps request start image repo committed opens shown standing =
       wholes = whole_in start image secret repo committed committed repo.manifest live opens shown (λ id blob apart e. e) (λ name entry is. is);
       done = [];
       front = front_here request request.source;
-      arrived = none_arrived request image (record repo { log = live.log }) request.source;
+      begun = [];
+      adds = adds_shown request start image repo committed committed [] opens shown standing.0
+          (first_none AtBegin repo.keys request.checkpoint committed []);
+      begins = λ before other. none_begun request before request.source;
+      arrived = none_arrived request start image [] (record repo { log = live.log }) request.source;
       cut = none_cut request repo.manifest (record repo { log = live.log }) request.source;
       only = λ name entry is. inl is;
       opening = brings_opening request start image repo repo committed committed live.log opens shown (λ id blob apart e. inl e)
           (λ id blob has. (live.blobs id blob).0 has);
-      adds = (
-        [],
-        (
-          adds_shown request start image repo committed committed [] opens shown standing.0 (adds_here repo.keys request.checkpoint committed),
-          λ before other. none_begun request before request.source,
-        ),
-      );
       told = report_none repo.manifest [];
     }
 
@@ -242,12 +250,36 @@ shown_none request start image repo committed opens shown standing = refl
 abbrev HasAll : Files → LogState → List LogEntry → Type 0
 HasAll files log entries = (id blob : List ℕ) → HasBlob files log id blob ↔ (live_in id entries ≡ Some blob)
 
-arrives : (request : Request) (there image : Files) (source next : RepoState) (entries : List LogEntry) (log : LogState) (name : List ℕ)
-    → OpensFilesTo there request.secrets.source source → OpensFilesTo image request.secrets.target (record next { log = log })
-    → HasAll image log entries
-    → CarriesOver there (from_source request there source) next.keys entries next.manifest.archives name
-    → Arrives request there image (record next { log = log }) name
-arrives request there image source next entries log name source_opens opens blobs c = record {
+-- No contents collide among these and those that are live by these entries, where none do among these and those that were live at the start.
+abbrev StaysApart : Request → Files → List Addition → RepoState → List LogEntry → Type 0
+StaysApart request start added repo base = (none : NoneCollide request start added) → IsApart none.scope repo.keys base added
+
+-- what is live by the entries that files show is live in the files
+apart_shown : (request : Request) (start : Files) (repo : RepoState) (committed : List LogEntry) (added : List Addition)
+    → OpensFilesTo start request.secrets.target repo → Shows start (Some committed) → StaysApart request start added repo committed
+apart_shown request start repo committed added opens shown none =
+    let same : none.repo ≡ repo = one_repo start request.secrets.target none.repo repo none.opens opens in
+    let live : HoldsWithin none.scope start repo = subst (HoldsWithin none.scope start) same none.live in
+    record {
+      one = subst (λ (r : RepoState). NoCollision r.keys none.scope) same none.apart;
+      added = none.among;
+      live = λ id blob content chunk is_live opens_to.
+          live id content (record {
+            chunk = chunk;
+            object = record {
+              blob = blob;
+              has = (state_live start repo.log committed opens.opens.unlocks.reads shown id blob).1 is_live;
+              opens = opens_to;
+            };
+          });
+    }
+
+arrives : (request : Request) (there start image : Files) (source next : RepoState) (within : List Addition) (base entries : List LogEntry)
+    (log : LogState) (name : List ℕ) → OpensFilesTo there request.secrets.source source
+    → OpensFilesTo image request.secrets.target (record next { log = log }) → HasAll image log entries → StaysApart request start within next base
+    → CarriesOver there (from_source request there source) within base next.keys entries next.manifest.archives name
+    → Arrives request there start image within (record next { log = log }) name
+arrives request there start image source next within base entries log name source_opens opens blobs apart c = record {
   whole = c.whole;
   whole_there = record { repo = source; opens = source_opens; is = c.source };
   entry = c.entry;
@@ -255,14 +287,11 @@ arrives request there image source next entries log name source_opens opens blob
   text = c.text;
   id = c.id;
   record_is = c.record_is;
-  there = λ scope apart adds within.
+  there = λ none.
       record {
         repo = record next { log = log };
         opens = opens;
-        is = c.target scope apart adds
-            (λ id blob content chunk live object.
-            within id content (record { chunk = chunk; object = record { blob = blob; has = (blobs id blob).1 live; opens = object } }))
-            image log (λ id blob chunk live. (blobs id blob).1 live);
+        is = c.target none.scope (apart none) image log (λ id blob chunk live. (blobs id blob).1 live);
       };
 }
 
@@ -298,34 +327,35 @@ module _ (secrets : Secrets) (options : Options) (names : List (List ℕ)) (sour
         ),
       )
 
-  -- what was added for the names that were chosen is the first of what is
-  begun_of : (told : Option Told) (chosen : List (List ℕ)) (accepted : ManifestText) (start : Files) (repo : RepoState) (within added : List Addition)
+  -- what is added for the names that were chosen, as far as it came
+  begun_of : (told : Option Told) (chosen : List (List ℕ)) (accepted : ManifestText) (start : Files) (repo : RepoState) (within : List Addition)
       → SourceOpens told → chosen ≡ chosen_of names source.manifest → accepted ≡ repo.manifest → OpensFilesTo start secrets.target repo
-      → BeginsNames (origin told source options.block options.checkpoint) repo.keys accepted [] chosen within → IsFront added within
-      → IsBegun (asked secrets options names told) start added
-  begun_of None chosen accepted start repo within added source_opens chosen_is accepted_is opens begins front before other = tt
-  begun_of (Some t) chosen accepted start repo within added source_opens chosen_is accepted_is opens begins front before other = λ next next_opens.
+      → BeginsNames (origin told source options.block options.checkpoint) repo.keys accepted [] chosen within
+      → IsBegun (asked secrets options names told) start within
+  begun_of None chosen accepted start repo within source_opens chosen_is accepted_is opens begins before other = tt
+  begun_of (Some t) chosen accepted start repo within source_opens chosen_is accepted_is opens begins before other = λ next next_opens.
       let request = asked secrets options names (Some t) in
       let Begins : RepoState → RepoState → Type 0 = λ from_repo target.
       BeginsNames (from_source request (told_files t) from_repo) target.keys target.manifest [] (chosen_of names from_repo.manifest) within in
       let here : Begins source repo =
       subst (λ (all : List (List ℕ)). BeginsNames (from_source request (told_files t) source) repo.keys repo.manifest [] all within) chosen_is
       (subst (λ (m : ManifestText). BeginsNames (from_source request (told_files t) source) repo.keys m [] chosen within) accepted_is begins) in
-      let there : Begins source before = subst (Begins source) (one_repo start secrets.target repo before opens other) here in (
-        within,
-        (front, subst (λ (r : RepoState). Begins r before) (one_repo (told_files t) secrets.source source next source_opens next_opens) there),
-      )
+      let there : Begins source before = subst (Begins source) (one_repo start secrets.target repo before opens other) here in
+      subst (λ (r : RepoState). Begins r before) (one_repo (told_files t) secrets.source source next source_opens next_opens) there
 
-  all_arrived : (told : Option Told) (image : Files) (next : RepoState) (entries : List LogEntry) (log : LogState) (done : List (List ℕ)) → SourceOpens told
-      → OpensFilesTo image secrets.target (record next { log = log }) → HasAll image log entries
-      → AllByRecursion (IsCarried (origin told source options.block options.checkpoint) next.keys entries next.manifest.archives) done
+  all_arrived : (told : Option Told) (start image : Files) (next : RepoState) (within : List Addition) (base entries : List LogEntry) (log : LogState)
+      (done : List (List ℕ)) → SourceOpens told → OpensFilesTo image secrets.target (record next { log = log }) → HasAll image log entries
+      → StaysApart (asked secrets options names told) start within next base
+      → AllByRecursion (IsCarried (origin told source options.block options.checkpoint) within base next.keys entries next.manifest.archives) done
       → IfSome (asked secrets options names told).source
-      (λ files. AllByRecursion (Arrives (asked secrets options names told) files image (record next { log = log })) done)
-  all_arrived None image next entries log done source_opens opens blobs carried = tt
-  all_arrived (Some t) image next entries log done source_opens opens blobs carried =
-      each_to (IsCarried (origin (Some t) source options.block options.checkpoint) next.keys entries next.manifest.archives)
-      (Arrives (asked secrets options names (Some t)) (told_files t) image (record next { log = log })) done
-      (λ name c. arrives (asked secrets options names (Some t)) (told_files t) image source next entries log name source_opens opens blobs c) carried
+      (λ files. AllByRecursion (Arrives (asked secrets options names told) files start image within (record next { log = log })) done)
+  all_arrived None start image next within base entries log done source_opens opens blobs apart carried = tt
+  all_arrived (Some t) start image next within base entries log done source_opens opens blobs apart carried =
+      each_to (IsCarried (origin (Some t) source options.block options.checkpoint) within base next.keys entries next.manifest.archives)
+      (Arrives (asked secrets options names (Some t)) (told_files t) start image within (record next { log = log })) done
+      (λ name c.
+      arrives (asked secrets options names (Some t)) (told_files t) start image source next within base entries log name source_opens opens blobs apart c)
+      carried
 
   all_cut : (told : Option Told) (accepted before : ManifestText) (next : RepoState) (log : LogState) (done : List (List ℕ)) → SourceOpens told
       → accepted ≡ before → AreCut accepted (origin told source options.block options.checkpoint) next.keys next.manifest.archives done
@@ -349,19 +379,18 @@ module _ (secrets : Secrets) (options : Options) (names : List (List ℕ)) (sour
       → OpensFilesTo start secrets.target repo → Shows start (Some committed) → committed_of written ≡ committed → entries_of written ≡ committed
       → written.config ≡ start.config → (lines : List (List ℕ))
       → BeginsNames (origin told source options.block options.checkpoint) repo.keys accepted [] chosen within
-      → (stands : StandsOn (origin told source options.block options.checkpoint) chosen within accepted repo written image)
+      → (stands : StandsOn [] (origin told source options.block options.checkpoint) chosen within accepted repo written image)
       → IsReport accepted lines stands.done
       → (keeps : KeepsArchives (asked secrets options names told) start repo.manifest lines image) × (keeps.done ≡ stands.done)
   stands_keeps told chosen within accepted start image repo written committed source_opens chosen_is accepted_is opens shown same all config lines begins
       stands report =
       let secret = secrets.target in
+      let asks = asked secrets options names told in
       let next = with_manifest repo stands.manifest in
       let unlocks : UnlocksSettings secret image.config repo.config repo.keys =
       subst (λ (c : Option (List ℕ)). UnlocksSettings secret c repo.config repo.keys) (sym (stands.config ∙ config)) (opened_unlocks start secret repo opens)
       in
       let live = opens_live secret image next stands.entries stands.shown unlocks stands.holds in
-      let adds = adds_on (asked secrets options names told) start image repo within written committed stands.entries opens shown stands.shown same all
-      stands.puts in
       let chunks : KeepsChunks committed stands.entries = subst (λ (c : List LogEntry). KeepsChunks c stands.entries) same stands.chunks in (
         record {
           repo = record next { log = live.log };
@@ -371,18 +400,16 @@ module _ (secrets : Secrets) (options : Options) (names : List (List ℕ)) (sour
           wholes = whole_in start image secret repo committed stands.entries stands.manifest live opens shown chunks stands.names;
           done = stands.done;
           front = front_of told stands.done stands.rest source_opens (sym chosen_is ∙ stands.front);
-          arrived = all_arrived told image next stands.entries live.log stands.done source_opens live.opens live.blobs stands.carried;
+          begun = within;
+          adds = adds_on asks start image repo within written committed stands.entries opens shown stands.shown same all
+              (subst (λ (b : Border). GoesOn b repo.keys options.checkpoint within written stands.entries) at_begin stands.puts);
+          begins = begun_of told chosen accepted start repo within source_opens chosen_is accepted_is opens begins;
+          arrived = all_arrived told start image next within (entries_of written) stands.entries live.log stands.done source_opens live.opens live.blobs
+              (subst (StaysApart asks start within repo) (sym all) (apart_shown asks start repo committed within opens shown)) stands.carried;
           cut = all_cut told accepted repo.manifest next live.log stands.done source_opens accepted_is stands.cut;
           only = subst (λ (m : ManifestText). IsNamedBy m stands.done stands.manifest) accepted_is stands.only;
-          opening = brings_opening (asked secrets options names told) start image repo next committed stands.entries live.log opens shown
+          opening = brings_opening asks start image repo next committed stands.entries live.log opens shown
               (subst (λ (c : List LogEntry). BringsOpening repo.keys c stands.entries) all stands.opening) (λ id blob has. (live.blobs id blob).0 has);
-          adds = (
-            adds.0,
-            (
-              adds.1.0,
-              begun_of told chosen accepted start repo within adds.0 source_opens chosen_is accepted_is opens begins adds.1.1,
-            ),
-          );
           told = subst (λ (m : ManifestText). IsReport m lines stands.done) accepted_is report;
         },
         refl,
@@ -421,8 +448,9 @@ sound_kept from chosen within accepted repo h k written reported =
 
 -- what is committed in a store into which the archives came stands, with all of them
 grown_stands : (from : Origin) (chosen : List (List ℕ)) (added : List Addition) (accepted : ManifestText) (store now : Store) (h g : History)
-    (fits : StoreFits false store h) → accepted_in now ≡ (repo_view now.repo).manifest → (grown : Grown accepted from chosen added false store now h g fits)
-    → (stands : StandsOn from chosen added accepted (repo_view store.repo) fits.written (files_now g)) × ((stands.done ≡ chosen)
+    (fits : StoreFits false store h) → accepted_in now ≡ (repo_view now.repo).manifest
+    → (grown : Grown [] accepted from chosen added false store now h g fits)
+    → (stands : StandsOn [] from chosen added accepted (repo_view store.repo) fits.written (files_now g)) × ((stands.done ≡ chosen)
     × (committed_of grown.fits_now.written ≡ stands.entries))
 grown_stands from chosen added accepted store now h g fits settled grown =
     let fits_then = grown.fits_now in
@@ -443,15 +471,17 @@ grown_stands from chosen added accepted store now h g fits settled grown =
         chunks = subst (λ (c : List LogEntry). KeepsChunks (committed_of fits.written) c) entries_are grown.chunks;
         opening = λ id blob apart live. grown.opening id blob apart
             (fits_then.keeps id blob (subst (λ (c : List LogEntry). live_in id c ≡ Some blob) (sym entries_are) live));
-        puts = subst (GoesOn (repo_view store.repo).keys from.most added fits.written) entries_are grown.committed;
+        puts = subst (GoesOn (border_behind AtBegin []) (repo_view store.repo).keys from.most added fits.written) entries_are grown.committed;
         holds = commits.holds;
         names = grown.most.names;
         config = config ∙ grown.config;
         done = chosen;
         rest = [];
         front = sym (append-nil chosen);
-        carried = subst (λ (c : List LogEntry). AllByRecursion (IsCarried from (repo_view store.repo).keys c manifest.archives) chosen) entries_are
-            (subst (λ k. AllByRecursion (IsCarried from k (committed_of after) manifest.archives) chosen) grown.most.keys grown.carried);
+        carried = subst (λ (c : List LogEntry). AllByRecursion
+            (IsCarried from added (entries_of fits.written) (repo_view store.repo).keys c manifest.archives) chosen) entries_are
+            (subst (λ k. AllByRecursion (IsCarried from added (entries_of fits.written) k (committed_of after) manifest.archives) chosen)
+            grown.most.keys grown.carried);
         cut = subst (λ k. AreCut accepted from k manifest.archives chosen) grown.most.keys grown.cut;
         only = subst (λ (m : ManifestText). IsNamedBy accepted chosen m) settled grown.only;
       },
@@ -476,7 +506,7 @@ module _ (secrets : Secrets) (options : Options) (names : List (List ℕ)) (sour
   -- what stands behind the opening keeps the archives
   pub stands_opened : (store : Store) (within : List Addition) (h g : History) (lines : List (List ℕ)) (image : Files) → IsSettled store
       → OpensFilesTo (files_now h) secrets.target (repo_view store.repo) → IsBegin store within
-      → (o : OpensFound false store h g) → (stands : StandsOn from chosen within (accepted_in store) (repo_view store.repo) o.fits.written image)
+      → (o : OpensFound false store h g) → (stands : StandsOn [] from chosen within (accepted_in store) (repo_view store.repo) o.fits.written image)
       → IsReport (accepted_in store) lines stands.done
       → (keeps : KeepsArchives request (files_now h) (repo_view store.repo).manifest lines image) × (keeps.done ≡ stands.done)
   stands_opened store within h g lines image settled opens begins o stands report =
@@ -562,9 +592,11 @@ module _ (secrets : Secrets) (options : Options) (names : List (List ℕ)) (sour
         carried = carried;
         told_all = subst (λ (m : ManifestText). TellsWhole m kept.0.done added carried h i) settled
             (subst (λ (l : List (List ℕ)). TellsWhole (accepted_in store) l added carried h i) (sym (kept.1 ∙ stands.1.0)) whole);
-        adds = adds_shown request (files_now h) (files_now i) (repo_view store.repo) o.committed stands.0.entries added opens o.shown stands.0.shown
-            (subst (AddsAll keys options.checkpoint o.committed added) entries
-            (subst (λ (front : List LogEntry). AddsAll keys options.checkpoint front added (entries_of grown.fits_now.written)) written grown.puts));
+        adds = all_shown request (files_now h) (files_now i) (repo_view store.repo) o.committed stands.0.entries added opens o.shown stands.0.shown
+            (subst (AddsAll AtBegin keys options.checkpoint o.committed added) entries
+            (subst (λ (front : List LogEntry). AddsAll AtBegin keys options.checkpoint front added (entries_of grown.fits_now.written)) written
+            (subst (λ (b : Border). AddsAll b keys options.checkpoint (entries_of o.fits.written) added (entries_of grown.fits_now.written)) at_begin
+            grown.puts)));
         lists = all_listed secrets options names source told chosen (accepted_in store) (repo_view store.repo) added source_opens chosen_is settled
             carries.1;
       }

@@ -20,8 +20,8 @@ use Rattle.ferry_store.proofs.StandingLemmas.{opened_unlocks}
 use Rattle.ferry_store.specs.Standing.{UnlocksSettings}
 use Rattle.ferry_top.proofs.RerunLemmas.{each_equal}
 use Rattle.ferry_top.proofs.TransferCauseLemmas.{one_keys}
-use Rattle.ferry_top.specs.Rerun.{IsEqualThere, NoneCollideIn}
-use Rattle.ferry_top.specs.Transfer.{Arrives, KeepsArchives, Request}
+use Rattle.ferry_top.specs.Rerun.{IsEqualThere}
+use Rattle.ferry_top.specs.Transfer.{Arrives, KeepsArchives, NoneCollide, Request}
 
 -- ---- chunks
 
@@ -100,7 +100,7 @@ some_named name (Some entry) archives is some = (entry, is)
 pub verifies_again : (request : Request) (source start image : Files) (before : RepoState) (lines : List (List ℕ)) → request.source ≡ Some source
     → OpensFilesTo start request.secrets.target before → FilesVerify start request.secrets.target
     → (keeps : KeepsArchives request start before.manifest lines image)
-    → NoneCollideIn request image keeps.repo keeps.done request.source keeps.arrived → FilesVerify image request.secrets.target
+    → NoneCollide request start keeps.begun → FilesVerify image request.secrets.target
 verifies_again request source start image before lines told opens verify keeps apart = record {
   repo = keeps.repo;
   opens = keeps.opens;
@@ -120,13 +120,13 @@ verifies_again request source start image before lines told opens verify keeps a
       (subst (λ (c : Option (List ℕ)). UnlocksSettings request.secrets.target c before.config before.keys) (sym keeps.config)
       (opened_unlocks start request.secrets.target before opens)) (opened_unlocks image request.secrets.target keeps.repo keeps.opens)
 
-  each : (at : Option Files) (arrived : IfSome at (λ files. AllByRecursion (Arrives request files image keeps.repo) keeps.done))
-      → NoneCollideIn request image keeps.repo keeps.done at arrived → at ≡ Some source → AllByRecursion (IsEqualThere request source image) keeps.done
-  each None arrived none is = absurd (let never : ⊥ = cc in never)
-  each (Some files) arrived none is =
+  each : (at : Option Files) → IfSome at (λ files. AllByRecursion (Arrives request files start image keeps.begun keeps.repo) keeps.done)
+      → at ≡ Some source → AllByRecursion (IsEqualThere request source image) keeps.done
+  each None arrived is = absurd (let never : ⊥ = cc in never)
+  each (Some files) arrived is =
       let same : files ≡ source = cc in
       subst (λ (f : Files). AllByRecursion (IsEqualThere request f image) keeps.done) same
-      (each_equal request files image keeps.repo keeps.done arrived none)
+      (each_equal request files start image keeps.begun keeps.repo keeps.done arrived apart)
 
   equal : AllByRecursion (IsEqualThere request source image) keeps.done
-  equal = each request.source keeps.arrived apart told
+  equal = each request.source keeps.arrived told

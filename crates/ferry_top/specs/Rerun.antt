@@ -1,8 +1,6 @@
 -- A transfer that is run again: what it asks of the archives of its target, and what the stops of earlier runs left.
 use Rattle.std.specs.Prelude.{◌≡◌, ◌⊎◌, ℕ, List, [], ◌∷◌, Option, Some, None, IfSome, IsSome}
-use Rattle.std.specs.List.{AllByRecursion}
-use Rattle.ferry_carry.specs.Copied.{adds_of}
-use Rattle.ferry_carry.specs.Gather.{HoldsWithin, IsAmong, NoCollision}
+use Rattle.ferry_carry.specs.Gather.{IsAmong}
 use Rattle.ferry_disk.specs.Files.{Files, file_at}
 use Rattle.ferry_disk.specs.declared.name.Name.TheVariants.{Nonce as NonceFile}
 use Rattle.ferry_manifest.specs.Manifest.Text.{ManifestText}
@@ -12,7 +10,7 @@ use Rattle.ferry_repo.specs.Opening.{RepoState, OpensFilesTo}
 use Rattle.ferry_repo.specs.Whole.{HasWhole, WholeArchive}
 use Rattle.ferry_nonce.specs.Counter.{HasAtLeast}
 use Rattle.ferry_stops.specs.Counters.{IsNonce, SpellsNumber}
-use Rattle.ferry_top.specs.Transfer.{Arrives, KeepsArchives, Request, chosen_of}
+use Rattle.ferry_top.specs.Transfer.{KeepsArchives, NoneCollide, Request, chosen_of}
 
 -- ---- what is asked of a target
 
@@ -52,26 +50,6 @@ pub record MeetsConditions (request : Request) (image : Files) : Type 0 where
   pub nonce : HasNumber image
   pub chosen : EachChosen request request.source (λ source name. IsAbsentOrEqual request source image repo name)
 
--- ---- what is assumed of what a stop leaves
-
--- No contents collide among those that an archive is in a target and those that are live there.
-abbrev pub NoneCollide : (request : Request) (source image : Files) (repo : RepoState) (name : List ℕ) → Arrives request source image repo name → Type 0
-NoneCollide request source image repo name arrived = (scope : List (List ℕ)) × (NoCollision repo.keys scope
-    × (AllByRecursion (IsAmong scope) (adds_of repo.keys request.block arrived.whole.items arrived.text) × HoldsWithin scope image repo))
-
--- The same of each of the archives that arrived.
-abbrev pub EachApart : (request : Request) (source image : Files) (repo : RepoState) (done : List (List ℕ))
-    → AllByRecursion (Arrives request source image repo) done → Type 0
-EachApart request source image repo [] arrived = Unit {0}
-EachApart request source image repo (name ∷ done) arrived =
-    NoneCollide request source image repo name arrived.0 × EachApart request source image repo done arrived.1
-
--- The same, where the source tells its files.
-abbrev pub NoneCollideIn : (request : Request) (image : Files) (repo : RepoState) (done : List (List ℕ)) (told : Option Files)
-    → IfSome told (λ source. AllByRecursion (Arrives request source image repo) done) → Type 0
-NoneCollideIn request image repo done None arrived = Unit {0}
-NoneCollideIn request image repo done (Some source) arrived = EachApart request source image repo done arrived
-
 -- ---- names
 
 -- An archive of a manifest has the name, or the name is one of those that are chosen of a source with this manifest.
@@ -88,7 +66,7 @@ pub record IsLeftBy (request : Request) (start image : Files) : Type 0 where
   pub lines : List (List ℕ)
   pub keeps : KeepsArchives request start before.manifest lines image
   pub nonce : KeepsNonce start image
-  pub apart : NoneCollideIn request image keeps.repo keeps.done request.source keeps.arrived
+  pub apart : NoneCollide request start keeps.begun
 
 -- Each of these files was left by a transfer that began with the files before it, the first by one that began with the start.
 abbrev pub AreLeftInTurn : Request → Files → List Files → Type 0

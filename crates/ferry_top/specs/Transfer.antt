@@ -4,11 +4,11 @@ use Rattle.std.specs.List.{AllByRecursion}
 use Rattle.ferry_base.specs.Limits.{zero_id}
 use Rattle.ferry_blob.specs.Blob.{OpensTo, content_id}
 use Rattle.ferry_carry.specs.Carrying.{IsRecordText, Origin}
-use Rattle.ferry_carry.specs.Copied.{IsCopyOf, adds_of}
+use Rattle.ferry_carry.specs.Copied.{IsCopyOf}
 use Rattle.ferry_carry.specs.Gather.{HoldsWithin, IsAmong, NoCollision}
 use Rattle.ferry_carry.specs.Grow.{IsNamedBy, KeepsNames}
 use Rattle.ferry_carry.specs.Listing.{BeginsNames, ListsNames}
-use Rattle.ferry_carry.specs.Puts.{Addition, AddsAll, IsFront}
+use Rattle.ferry_carry.specs.Puts.{Addition, AddsAll, AddsFirst, Within, contents_in}
 use Rattle.ferry_carry.specs.Telling.{AreLines, IsReport, TellsWhole}
 use Rattle.ferry_carry.specs.declared.options.Carried.{Carried}
 use Rattle.ferry_carry.specs.declared.options.Options.{Options}
@@ -63,9 +63,18 @@ from_source request source repo = record { files = Some source; repo = repo; blo
 
 -- ---- what is there
 
--- The archive of a name is whole in the source. In the target it is whole and says the same, where no contents collide among those that it is there
--- and those that are live there.
-pub record Arrives (request : Request) (source image : Files) (repo : RepoState) (name : List ℕ) : Type 0 where
+-- No contents collide among those that were added and those that were live in the files that a target began with.
+pub record NoneCollide (request : Request) (start : Files) (added : List Addition) : Type 0 where
+  pub repo : RepoState
+  pub opens : OpensFilesTo start request.secrets.target repo
+  pub scope : List (List ℕ)
+  pub apart : NoCollision repo.keys scope
+  pub among : AllByRecursion (IsAmong scope) (contents_in added)
+  pub live : HoldsWithin scope start repo
+
+-- The archive of a name is whole in the source. In the target it is whole and says the same, where no contents collide among those that were added and those
+-- that were live at the start.
+pub record Arrives (request : Request) (source start image : Files) (added : List Addition) (repo : RepoState) (name : List ℕ) : Type 0 where
   pub whole : WholeArchive
   pub whole_there : HasWhole source request.secrets.source name whole
   pub entry : ArchiveRef
@@ -73,9 +82,7 @@ pub record Arrives (request : Request) (source image : Files) (repo : RepoState)
   pub text : List ℕ
   pub id : entry.id ≡ content_id repo.keys text
   pub record_is : IsRecordText repo.keys text whole
-  pub there : (scope : List (List ℕ)) → NoCollision repo.keys scope
-      → AllByRecursion (IsAmong scope) (adds_of repo.keys request.block whole.items text) → HoldsWithin scope image repo
-      → HasWhole image request.secrets.target name whole
+  pub there : NoneCollide request start added → HasWhole image request.secrets.target name whole
 
 -- The archive of a name is whole in the source. In the target its entry has the id of a record with its fields, and with the ids of the pieces of its stream,
 -- which spells its items with the chunks of their contents, cut.
@@ -98,21 +105,28 @@ abbrev pub BringsWhatOpens : Request → Files → Files → RepoState → Type 
 BringsWhatOpens request start image repo = (before : RepoState) → OpensFilesTo start request.secrets.target before → (id blob : List ℕ) → id ≢ zero_id
     → HasBlob image repo.log id blob → HasBlob start before.log id blob ⊎ ((content : List ℕ) × OpensTo before.keys id blob content)
 
--- Behind the entries that these files showed, these additions were made one after another, and nothing else but commits and manifests: what was live isn't put
--- again, nothing is put twice, and no more are pending than may be.
+-- Behind the entries that these files showed, the first of these additions were made one after another, and nothing else: what was live isn't put again,
+-- nothing is put twice, no more are pending than may be, and a commit comes only before a piece where so many are, and with the manifest behind the record of
+-- an archive.
 abbrev pub AddsBehind : Request → Files → Files → List Addition → Type 0
-AddsBehind request start image added = (before : RepoState) → OpensFilesTo start request.secrets.target before → (entries : List LogEntry)
-    → Shows start (Some entries) → (after : List LogEntry) × (Shows image (Some after) × AddsAll before.keys request.checkpoint entries added after)
+AddsBehind request start image all = (before : RepoState) → OpensFilesTo start request.secrets.target before → (entries : List LogEntry)
+    → Shows start (Some entries) → (after : List LogEntry)
+    × (Shows image (Some after) × AddsFirst Within before.keys request.checkpoint entries all after)
 
--- Where the source's files open, these are the first of what is added for the chosen names to a target that opened so, as far as it came.
+-- The same with all of them.
+abbrev pub AddsAllBehind : Request → Files → Files → List Addition → Type 0
+AddsAllBehind request start image added = (before : RepoState) → OpensFilesTo start request.secrets.target before → (entries : List LogEntry)
+    → Shows start (Some entries) → (after : List LogEntry)
+    × (Shows image (Some after) × AddsAll Within before.keys request.checkpoint entries added after)
+
+-- Where the source's files open, these are what is added for the chosen names to a target that opened so, as far as it came.
 abbrev pub BeginsChosen : Request → RepoState → List Addition → Files → Type 0
-BeginsChosen request before added files = (repo : RepoState) → OpensFilesTo files request.secrets.source repo → (begun : List Addition)
-    × (IsFront added begun
-    × BeginsNames (from_source request files repo) before.keys before.manifest [] (chosen_of request.names repo.manifest) begun)
+BeginsChosen request before begun files = (repo : RepoState) → OpensFilesTo files request.secrets.source repo
+    → BeginsNames (from_source request files repo) before.keys before.manifest [] (chosen_of request.names repo.manifest) begun
 
 abbrev pub IsBegun : Request → Files → List Addition → Type 0
-IsBegun request start added =
-    (before : RepoState) → OpensFilesTo start request.secrets.target before → IfSome request.source (BeginsChosen request before added)
+IsBegun request start begun =
+    (before : RepoState) → OpensFilesTo start request.secrets.target before → IfSome request.source (BeginsChosen request before begun)
 
 -- Where the source's files open, these names are a front of those that are chosen.
 abbrev pub IsChosenFront : Request → List (List ℕ) → Files → Type 0
@@ -132,11 +146,13 @@ pub record KeepsArchives (request : Request) (start : Files) (before : ManifestT
       → HasWhole image request.secrets.target name whole
   pub done : List (List ℕ)
   pub front : IfSome request.source (IsChosenFront request done)
-  pub arrived : IfSome request.source (λ files. AllByRecursion (Arrives request files image repo) done)
+  pub begun : List Addition
+  pub adds : AddsBehind request start image begun
+  pub begins : IsBegun request start begun
+  pub arrived : IfSome request.source (λ files. AllByRecursion (Arrives request files start image begun repo) done)
   pub cut : IfSome request.source (AreCutThere request before repo done)
   pub only : IsNamedBy before done repo.manifest
   pub opening : BringsWhatOpens request start image repo
-  pub adds : (added : List Addition) × (AddsBehind request start image added × IsBegun request start added)
   pub told : IsReport before lines done
 
 -- ---- each stop
@@ -173,7 +189,7 @@ pub record HasTransferred (request : Request) (before now : History) : Type 0 wh
   pub added : List Addition
   pub carried : Carried
   pub told_all : TellsWhole repo.manifest keeps.done added carried before now
-  pub adds : AddsBehind request (files_now before) (files_now now) added
+  pub adds : AddsAllBehind request (files_now before) (files_now now) added
   pub lists : IfSome request.source (ListsChosen request repo added)
 
 -- The same of a run that had made no act.

@@ -1,10 +1,12 @@
 -- Why a transfer isn't done, by the files of both repositories, and where it is done.
 use Rattle.std.specs.Prelude.{◌≡◌, ◌≢◌, ◌⊎◌, ◌++◌, ℕ, false, List, [], ◌∷◌, Option, Some, IfSome, IsSome, slice_get}
 use Rattle.ferry_base.specs.Limits.{zero_id}
-use Rattle.ferry_blob.specs.Blob.{OpensTo}
+use Rattle.ferry_blob.specs.Blob.{OpensTo, content_id}
 use Rattle.ferry_carry.specs.Chosen.{IsMissingName}
 use Rattle.ferry_carry.specs.Gather.{IsAmong}
 use Rattle.ferry_carry.specs.Accepting.{LimitsNames}
+use Rattle.ferry_carry.specs.Listing.{BeginsNames}
+use Rattle.ferry_carry.specs.Puts.{Addition}
 use Rattle.ferry_carry.specs.Refusals.{HasLargeRecord, HasLongItem, is_of_telling}
 use Rattle.ferry_carry.specs.Telling.{AreLines}
 use Rattle.ferry_carry.specs.declared.fault.CarryFault.{CarryFault}
@@ -26,9 +28,9 @@ use Rattle.ferry_store.specs.Causes.{HasFewBlocks, HasLastSegment}
 use Rattle.ferry_store.specs.Store.{RefusesOpen}
 use Rattle.ferry_store.specs.declared.fault.StoreRefusal.{StoreRefusal}
 use Rattle.ferry_store.specs.declared.fault.StoreRefusal.TheVariants as Store
-use Rattle.ferry_top.specs.Rerun.{IsAbsentOrEqual, LacksName, NoneCollideIn}
+use Rattle.ferry_top.specs.Rerun.{IsAbsentOrEqual, LacksName}
 use Rattle.ferry_top.specs.Status.{carry_status}
-use Rattle.ferry_top.specs.Transfer.{KeepsArchives, Request, chosen_of, from_source}
+use Rattle.ferry_top.specs.Transfer.{KeepsArchives, NoneCollide, Request, chosen_of, from_source}
 use Rattle.ferry_top.specs.declared.status.Limit.{Limit}
 use Rattle.ferry_top.specs.declared.status.Limit.TheVariants as Limits
 use Rattle.ferry_top.specs.declared.status.Status.{Status}
@@ -71,6 +73,17 @@ pub record IsOfTarget (request : Request) (files : Files) (Holds : RepoState →
   pub opens : OpensFilesTo files request.secrets.target repo
   pub holds : Holds repo
 
+-- The source's files open, and the target's at the begin, and this is the id of a content that is added for the chosen names.
+pub record IsOfAdded (request : Request) (source start : Files) (id : List ℕ) : Type 0 where
+  pub repo : RepoState
+  pub opens : OpensFilesTo source request.secrets.source repo
+  pub target : RepoState
+  pub target_opens : OpensFilesTo start request.secrets.target target
+  pub front : List Addition
+  pub one : Addition
+  pub begins : BeginsNames (from_source request source repo) target.keys target.manifest [] (chosen_of request.names repo.manifest) (front ++ one ∷ [])
+  pub id_is : id ≡ content_id target.keys one.content
+
 -- The target's manifest, behind archives that these lines tell, and nothing else, is too large with the next of the chosen names.
 pub record HasLargeTarget (request : Request) (source start : Files) (lines : List (List ℕ)) : Type 0 where
   pub repo : RepoState
@@ -80,11 +93,11 @@ pub record HasLargeTarget (request : Request) (source start : Files) (lines : Li
   pub limits : LimitsNames request.timestamp repo.manifest target.keys target.manifest (chosen_of request.names repo.manifest)
       (AreLines target.manifest [] lines)
 
--- Why the target isn't written: a chunk that is live in it breaks a rule, it has few counter blocks left at the end, or the numbers of segments are used
--- up then; or its manifest is too large, a device failed, or memory was refused.
+-- Why the target isn't written: a chunk that is live in it, and whose id is that of a content that is added, breaks a rule, it has few counter blocks left at
+-- the end, or the numbers of segments are used up then; or its manifest is too large, a device failed, or memory was refused.
 abbrev pub StopsWriting : Request → Files → Files → List (List ℕ) → Files → StoreRefusal → Type 0
 StopsWriting request source start lines image (Store.Repo (Repos.Blob id fault)) =
-    IsOfTarget request start (λ repo. (id ≢ zero_id) × BreaksObject start repo.log repo.keys id fault)
+    IsOfTarget request start (λ repo. (id ≢ zero_id) × BreaksObject start repo.log repo.keys id fault) × IsOfAdded request source start id
 StopsWriting request source start lines image (Store.Repo Repos.Device) = Unit {0}
 StopsWriting request source start lines image (Store.Repo fault) = ⊥
 StopsWriting request source start lines image (Store.Write Writes.Numbers) = HasLastSegment image
@@ -171,7 +184,7 @@ pub record IsRefusedSo (request : Request) (before now : Option Told) (status : 
 -- ---- where a transfer is done
 
 -- What a transfer asks of its source and its target: the source's files open, and each chosen archive is whole there; the target's open, with a number in
--- the file `nonce`, and with no live chunk that doesn't open, and each chosen name is absent there or its archive is equal.
+-- the file `nonce`, each live chunk opens whose id is that of a content that is added, and each chosen name is absent there or its archive is equal.
 pub record IsReadyFor (request : Request) (source start : Files) : Type 0 where
   pub from : RepoState
   pub source_opens : OpensFilesTo source request.secrets.source from
@@ -183,7 +196,8 @@ pub record IsReadyFor (request : Request) (source start : Files) : Type 0 where
   pub nonce : file_at start NonceFile ≡ Some text
   pub number : ℕ
   pub spelled : SpellsNumber text number
-  pub live : (id blob : List ℕ) → id ≢ zero_id → HasBlob start repo.log id blob → (content : List ℕ) × OpensTo repo.keys id blob content
+  pub live : (id blob : List ℕ) → id ≢ zero_id → IsOfAdded request source start id → HasBlob start repo.log id blob
+      → (content : List ℕ) × OpensTo repo.keys id blob content
   pub chosen : (name : List ℕ) → IsAmong (chosen_of request.names from.manifest) name → IsAbsentOrEqual request source start repo name
 
 -- a limit that is met
@@ -204,11 +218,11 @@ IsDoneUnless request source start lines image Statuses.EntropyDevice = Unit {0}
 IsDoneUnless request source start lines image (Statuses.Limit limit) = MeetsLimit request source start lines image limit
 IsDoneUnless request source start lines image status = ⊥
 
--- Where what is asked is there, and no contents collide among those of each archive that arrived and those that are live at the end, a transfer is done
+-- Where what is asked is there, and no contents collide among those that were added and those that were live in the target at its begin, a transfer is done
 -- unless that.
 abbrev pub EndsDone : Request → Option Told → Option Told → Status → Type 0
 EndsDone request before now status = IfSome request.source (λ source. IfSome before (λ b. IfSome now (λ t. b.history.acts ≡ []
     → (ready : IsReadyFor request source (told_files b))
     → (keeps : KeepsArchives request (told_files b) ready.repo.manifest (lines_of t.history.acts) (told_files t))
-    → NoneCollideIn request (told_files t) keeps.repo keeps.done request.source keeps.arrived
+    → NoneCollide request (told_files b) keeps.begun
     → IsDoneUnless request source (told_files b) (lines_of t.history.acts) (told_files t) status)))

@@ -1,6 +1,8 @@
 //! Laws of what `run` says, each the contract of a function with nothing to do.
-ghost use Rattle.std.specs.Prelude.{◌≡◌, ◌↔◌, List, [], ℕ, Some};
+ghost use Rattle.std.specs.Prelude.{◌≡◌, ◌≢◌, ◌↔◌, List, [], ℕ, Some};
 ghost use Rattle.std.specs.List.{AllByRecursion};
+ghost use Rattle.ferry_base.specs.Limits.{zero_id};
+ghost use Rattle.ferry_blob.specs.Blob.{OpensTo};
 ghost use Rattle.ferry_carry.specs.Gather.{IsAmong};
 ghost use Rattle.ferry_check.specs.Verify.{FilesVerify};
 ghost use Rattle.ferry_disk.specs.Device.{Told, told_files};
@@ -9,15 +11,16 @@ ghost use Rattle.ferry_disk.specs.Files.{Files, file_at};
 ghost use Rattle.ferry_disk.specs.Image.{ImageOf};
 ghost use Rattle.ferry_nonce.specs.Counter.{KeepsNumbers};
 ghost use Rattle.ferry_disk.specs.declared.name.Name.TheVariants.{Nonce};
+ghost use Rattle.ferry_repo.specs.Objects.{HasBlob};
 ghost use Rattle.ferry_repo.specs.Opening.{OpensFilesTo, RepoState};
 ghost use Rattle.ferry_repo.specs.declared.secret.Secret.{Secret};
 ghost use Rattle.ferry_repo.specs.Whole.{HasWhole, WholeArchive};
 ghost use Rattle.ferry_stops.specs.Counters.{SpellsNumber};
 ghost use Rattle.ferry_store.specs.New.{OpensNew};
 ghost use Rattle.ferry_top.specs.Init.{IsFault, IsReady, IsRefused};
-ghost use Rattle.ferry_top.specs.Rerun.{AreLeftInTurn, EachChosen, HasNumber, IsNamedOrChosen, KeepsNonce, LacksName, MeetsConditions, NoneCollideIn};
-ghost use Rattle.ferry_top.specs.Transfer.{KeepsArchives, Request, chosen_of};
-ghost use Rattle.ferry_top.specs.TransferCauses.{IsReadyFor};
+ghost use Rattle.ferry_top.specs.Rerun.{AreLeftInTurn, EachChosen, HasNumber, IsNamedOrChosen, KeepsNonce, LacksName, MeetsConditions};
+ghost use Rattle.ferry_top.specs.Transfer.{KeepsArchives, NoneCollide, Request, chosen_of};
+ghost use Rattle.ferry_top.specs.TransferCauses.{IsOfAdded, IsReadyFor};
 ghost use Rattle.ferry_top.specs.declared.status.Status.{Status as TheStatus};
 
 /// Where nothing is committed, the key file reads and opens where there is one, `nonce` has a number, and no limit is met, `init` is refused by
@@ -30,10 +33,10 @@ pub fn init_laws()
 /// What a transfer asks of its target, it finds again in what it left at a stop, with the same words and the same source: the files open, the file
 /// `nonce` has a number, and each chosen name is absent there or equal.
 pub fn transfer_laws()
-    // This needs that no contents collide among those of each archive that arrived and those that are live in what the stop left.
+    // This needs that no contents collide among those that were added and those that were live at the start.
     ensures rerun { (request : Request) (start image : Files) (before : RepoState) (lines : List (List ℕ))
         → OpensFilesTo start request.secrets.target before → (keeps : KeepsArchives request start before.manifest lines image)
-        → NoneCollideIn request image keeps.repo keeps.done request.source keeps.arrived → KeepsNonce start image
+        → NoneCollide request start keeps.begun → KeepsNonce start image
         → MeetsConditions request start → MeetsConditions request image }
     // What a run keeps of the number that it began with, each stop shows, chance or none.
     ensures nonce { (moment : History) (image : Files) → KeepsNumbers moment → ImageOf moment image → KeepsNonce moment.start image }
@@ -45,16 +48,18 @@ pub fn transfer_laws()
         → request.source ≡ Some source → OpensFilesTo source request.secrets.source from
         → (keeps : KeepsArchives request start before.manifest lines image) (name : List ℕ)
         → IsNamedOrChosen request from.manifest keeps.repo.manifest name ↔ IsNamedOrChosen request from.manifest before.manifest name }
-    // The same of all that a transfer asks so that it is done.
+    // The same of all that a transfer asks so that it is done, where each chunk opens that was live at the start and whose id is that of a content that is
+    // added to what is left.
     ensures ready { (request : Request) (source start image : Files) (lines : List (List ℕ)) → request.source ≡ Some source
         → (ready : IsReadyFor request source start) → (keeps : KeepsArchives request start ready.repo.manifest lines image)
-        → NoneCollideIn request image keeps.repo keeps.done request.source keeps.arrived → KeepsNonce start image
-        → IsReadyFor request source image }
+        → NoneCollide request start keeps.begun → KeepsNonce start image
+        → ((id blob : List ℕ) → id ≢ zero_id → IsOfAdded request source image id → HasBlob start ready.repo.log id blob
+        → (content : List ℕ) × OpensTo ready.repo.keys id blob content) → IsReadyFor request source image }
     // Where the source tells its files, what is left verifies where the start did.
     ensures verifies { (request : Request) (source start image : Files) (before : RepoState) (lines : List (List ℕ)) → request.source ≡ Some source
         → OpensFilesTo start request.secrets.target before → FilesVerify start request.secrets.target
         → (keeps : KeepsArchives request start before.manifest lines image)
-        → NoneCollideIn request image keeps.repo keeps.done request.source keeps.arrived → FilesVerify image request.secrets.target }
+        → NoneCollide request start keeps.begun → FilesVerify image request.secrets.target }
     // A target that opens, with a number in the file `nonce`, and lacks each chosen name meets the conditions.
     ensures first { (request : Request) (start : Files) (repo : RepoState) → OpensFilesTo start request.secrets.target repo → HasNumber start
         → EachChosen request request.source (λ source name. LacksName repo.manifest name) → MeetsConditions request start }

@@ -2,7 +2,8 @@ use Rattle.std.proofs.Common.{rules, ◌≡◌, None, Ok, Result, IfErr, IfSome,
 use Rattle.ferry_carry.proofs.AcceptingLemmas.{telling_small}
 use Rattle.ferry_carry.proofs.CauseLemmas.{line_refused, names_refused, none_missing, not_there}
 use Rattle.ferry_carry.proofs.GrowLemmas.{accepts_on}
-use Rattle.ferry_carry.proofs.ReportLemmas.{reports_whole, whole_err, whole_nothing, whole_untold}
+use Rattle.ferry_carry.proofs.AddingLemmas.{target_apart}
+use Rattle.ferry_carry.proofs.ReportLemmas.{reports_whole, telling_unbroken, whole_err, whole_nothing, whole_untold}
 use Rattle.ferry_carry.proofs.WorkLemmas.{err_is}
 use Rattle.ferry_carry.proofs.chosen.carry.Goals as goal
 use Rattle.ferry_carry.specs.Accepting.{LimitsNames}
@@ -28,7 +29,7 @@ returns-in_err-name-clause-works g c =
     let n = g.D.Shelf.faults c.args.depot.now in
     let from = origin (g.S.Shelf.told c.args.shelf.now) (repo_view c.args.source.now) c.args.options.now.block c.args.options.now.checkpoint in
     err_is c.from_residual.result Memory (λ (r : Result Carried CarryFault). ReportsWhole from names store store a a n n r) c.from_residual.ensures.1
-    (whole_nothing from names store store a n Memory (accepts_on store store c.requires.settled) refl)
+    (whole_nothing from names store store a n Memory (accepts_on store store c.requires.settled) refl tt (λ source. source))
 
 pub returns-in-Some-clause-works : goal.returns-in-Some-clause-works
 returns-in-Some-clause-works g c =
@@ -37,6 +38,7 @@ returns-in-Some-clause-works g c =
     whole_nothing
     (origin (g.S.Shelf.told c.args.shelf.now) (repo_view c.args.source.now) c.args.options.now.block c.args.options.now.checkpoint) names store store
     (g.D.Shelf.told c.args.depot.now) (g.D.Shelf.faults c.args.depot.now) (NotFound c.new.result) (accepts_on store store c.requires.settled) refl
+    tt (λ source. source)
 
 pub returns-in_err-carry_all-clause-works : goal.returns-in_err-carry_all-clause-works
 returns-in_err-carry_all-clause-works g c =
@@ -73,7 +75,7 @@ returns-in_err-tell-clause-works g c =
     err_is c.from_residual-in_err-tell.result fault (λ (r : Result Carried CarryFault). ReportsWhole from names store now a d n k r)
     c.from_residual-in_err-tell.ensures.1
     (whole_untold from c.nothing-carried.result carried names line store now a b d n m k fault is c.requires.settled (accepts_on now now ensures.settled)
-    ensures.works c.in_err-tell.ensures.works)
+    ensures.works (telling_unbroken fault c.in_err-tell.ensures.telling) (target_apart fault c.in_err-tell.ensures.target) c.in_err-tell.ensures.works)
 
 pub returns-clause-works : goal.returns-clause-works
 returns-clause-works g c =

@@ -1,9 +1,9 @@
-use Rattle.std.proofs.Common.{◌≡◌, ◌<◌, ◌≤◌, ◌+◌, ℕ, List, Result, Ok, Err, length, take, drop, get_or, refl, ◌∙◌, ap, subst, arith, IfErr, IfSome}
+use Rattle.std.proofs.Common.{◌≡◌, ◌<◌, ◌≤◌, ◌+◌, ℕ, List, Result, Ok, Err, length, take, drop, get_or, refl, ◌∙◌, ap, subst, arith, IfErr, IfSome, inr}
 use Rattle.std.proofs.lemmas.List.{take_all}
 use Rattle.ferry_carry.proofs.AcceptingLemmas.{next_at, one_large}
 use Rattle.ferry_carry.proofs.FlyLemmas.{origin_kept}
 use Rattle.ferry_carry.proofs.GrowLemmas.{accepts_on, most_here, most_then}
-use Rattle.ferry_carry.proofs.ReportLemmas.{reports_all, reports_front, reports_more, reports_none}
+use Rattle.ferry_carry.proofs.ReportLemmas.{reports_all, reports_begin, reports_front, reports_more}
 use Rattle.ferry_carry.proofs.WorkLemmas.{err_is}
 use Rattle.ferry_carry.proofs.chosen.carry_all.Goals as goal
 use Rattle.ferry_carry.specs.Accepting.{AreNextOf, HasLargeNext, LimitsNames}
@@ -36,7 +36,7 @@ loop-place-init g c = record {
   ended = λ none. none;
   most = most_here c.args.store.now;
   next = refl;
-  works = reports_none
+  works = reports_begin
       (origin (g.S.Shelf.told c.args.shelf.now) (repo_view c.args.source.now) c.args.options.now.block c.args.options.now.checkpoint)
       c.args.store.now c.args.carried.now (g.D.Shelf.told c.args.depot.now) (g.D.Shelf.faults c.args.depot.now)
       (accepts_on c.args.store.now c.args.store.now c.requires.settled) (omega arith) (omega arith) (omega arith) (omega arith) (omega arith);
@@ -73,13 +73,16 @@ loop-place-preserved g c =
       next = next_at c.args.options.now.timestamp source.manifest after.manifest (repo_view store.repo).keys (repo_view c.loop-place.store.repo).keys
           c.args.names.now c.loop-place.place name _ (accepted_in store) (accepted_in c.loop-place.store) (accepted_in now)
           (ap (λ (r : RepoState). r.manifest) invariant.repo) invariant.most.keys lt named invariant.next ensures.next;
-      works = reports_more (origin told source block most) (origin later after block most) c.args.names.now c.loop-place.place name _
-          c.args.options.now.timestamp source.manifest store c.loop-place.store now c.args.carried.now c.loop-place.carried c.carry_one.new.carried
-          (g.D.Shelf.told c.args.depot.now) (g.D.Shelf.told c.loop-place.depot) (g.D.Shelf.told c.carry_one.new.depot)
-          (g.D.Shelf.faults c.args.depot.now) (g.D.Shelf.faults c.loop-place.depot) (g.D.Shelf.faults c.carry_one.new.depot) (Ok tt)
-          (origin_kept told later source after block block most most invariant.alike invariant.repo refl refl) lt named c.requires.settled
-          (accepts_on c.loop-place.store c.loop-place.store invariant.settled) c.requires.fits invariant.next invariant.most.keys invariant.works
-          ensures.works;
+      works = (
+        reports_more (origin told source block most) (origin later after block most) c.args.names.now c.loop-place.place name _
+            c.args.options.now.timestamp source.manifest store c.loop-place.store now c.args.carried.now c.loop-place.carried c.carry_one.new.carried
+            (g.D.Shelf.told c.args.depot.now) (g.D.Shelf.told c.loop-place.depot) (g.D.Shelf.told c.carry_one.new.depot)
+            (g.D.Shelf.faults c.args.depot.now) (g.D.Shelf.faults c.loop-place.depot) (g.D.Shelf.faults c.carry_one.new.depot) (Ok tt)
+            (origin_kept told later source after block block most most invariant.alike invariant.repo refl refl) lt named c.requires.settled
+            (accepts_on c.loop-place.store c.loop-place.store invariant.settled) c.requires.fits invariant.next invariant.most.keys invariant.works.0
+            invariant.works.1 ensures.works,
+        inr ensures.pending,
+      );
     }
 
 pub returns-in_err-carry_one-clause-works : goal.returns-in_err-carry_one-clause-works
@@ -112,7 +115,7 @@ returns-in_err-carry_one-clause-works g c =
     now carried c.loop-place.carried last a (g.D.Shelf.told c.loop-place.depot) d n (g.D.Shelf.faults c.loop-place.depot) k (Err fault)
     (origin_kept told later source after block block most most invariant.alike invariant.repo refl refl) lt
     named c.requires.settled (accepts_on c.loop-place.store c.loop-place.store invariant.settled) c.requires.fits invariant.next invariant.most.keys
-    invariant.works c.in_err-carry_one.ensures.works))
+    invariant.works.0 invariant.works.1 c.in_err-carry_one.ensures.works))
 
 pub returns-clause-works : goal.returns-clause-works
 returns-clause-works g c =
@@ -122,7 +125,7 @@ returns-clause-works g c =
     reports_all
     (origin (g.S.Shelf.told c.args.shelf.now) (repo_view c.args.source.now) c.args.options.now.block c.args.options.now.checkpoint) names
     c.loop-place.place c.args.store.now c.loop-place.store c.args.carried.now c.loop-place.carried (g.D.Shelf.told c.args.depot.now)
-    (g.D.Shelf.told c.loop-place.depot) (g.D.Shelf.faults c.args.depot.now) (g.D.Shelf.faults c.loop-place.depot) le invariant.works
+    (g.D.Shelf.told c.loop-place.depot) (g.D.Shelf.faults c.args.depot.now) (g.D.Shelf.faults c.loop-place.depot) le invariant.works.0
 
 pub returns-in_err-carry_one-clause-refused : goal.returns-in_err-carry_one-clause-refused
 returns-in_err-carry_one-clause-refused g c =
@@ -146,13 +149,13 @@ returns-in_err-carry_one-clause-refused g c =
     let from = origin told source block most in
     let accepted = accepted_in store in
     let done = take c.loop-place.place names in
-    let told_all = between_map a b (λ h g. AllDone h g × (CarriesNames from done invariant.works.added store c.loop-place.store h g
-    × TellsNames accepted done h g)) (TellsNames accepted done) (λ h g e. e.1.1) invariant.works.works.end in
+    let told_all = between_map a b (λ h g. AllDone h g × (CarriesNames from done invariant.works.0.added store c.loop-place.store h g
+    × TellsNames accepted done h g)) (TellsNames accepted done) (λ h g e. e.1.1) invariant.works.0.works.end in
     err_is c.from_residual.result fault (λ (r : Result (Unit {0}) CarryFault). IfErr r (RefusesOne from a store d now names)) c.from_residual.ensures.1
     (one_refused from a d store now names done name (drop (c.loop-place.place + 1) names) fault (split_at names c.loop-place.place name _ lt named)
     (λ still. told_still accepted done a b d told_all (c.in_err-carry_one.ensures.untold still))
     (name_refused {T = Unit {0}} from (origin later after block most) a b d _ store c.loop-place.store now name name (Err fault)
-    (origin_kept told later source after block block most most invariant.alike invariant.repo refl refl) refl invariant.works.works.each invariant.most
+    (origin_kept told later source after block block most most invariant.alike invariant.repo refl refl) refl invariant.works.0.works.each invariant.most
     c.in_err-carry_one.ensures.refused))
 
 pub returns-clause-next : goal.returns-clause-next
@@ -184,8 +187,8 @@ returns-in_err-carry_one-clause-limit g c =
     let from = origin (g.S.Shelf.told c.args.shelf.now) source block c.args.options.now.checkpoint in
     let accepted = accepted_in store in
     let done = take c.loop-place.place names in
-    let told_all = between_map a b (λ h g. AllDone h g × (CarriesNames from done invariant.works.added store c.loop-place.store h g
-    × TellsNames accepted done h g)) (TellsNames accepted done) (λ h g e. e.1.1) invariant.works.works.end in
+    let told_all = between_map a b (λ h g. AllDone h g × (CarriesNames from done invariant.works.0.added store c.loop-place.store h g
+    × TellsNames accepted done h g)) (TellsNames accepted done) (λ h g e. e.1.1) invariant.works.0.works.end in
     err_is c.from_residual.result fault
     (λ (r : Result (Unit {0}) CarryFault). IfErr r (λ (f : CarryFault). f ≡ Target TooLarge
     → IfSome a (λ b. IfSome d (λ t. LimitsNames given source.manifest keys accepted names (λ told. TellsNames accepted told b.history t.history)))))
@@ -224,5 +227,5 @@ returns-in_err-carry_one-clause-stands g c =
     (λ work. stops_behind from (origin later after block most) names (take place names) name (drop (place + 1) names) c.args.options.now.timestamp
     source.manifest store middle c.args.carried.now c.loop-place.carried a b d (g.D.Shelf.faults c.args.depot.now) (g.D.Shelf.faults c.loop-place.depot)
     (origin_kept told later source after block block most most invariant.alike invariant.repo refl refl) (split_at names place name _ lt named)
-    c.requires.settled (accepts_on middle middle invariant.settled) invariant.most.keys invariant.next invariant.works
-    (c.in_err-carry_one.ensures.stands work))
+    c.requires.settled (accepts_on middle middle invariant.settled) invariant.most.keys invariant.next invariant.works.0
+    invariant.works.1 (c.in_err-carry_one.ensures.stands work))

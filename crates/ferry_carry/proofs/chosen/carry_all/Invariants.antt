@@ -1,4 +1,5 @@
 use Rattle.std.proofs.Common.{◌≡◌, ◌≤◌, false, Ok, IfSome, take}
+use Rattle.ferry_carry.proofs.GrowLemmas.{Follows}
 use Rattle.ferry_carry.proofs.chosen.carry_all.Given as goal
 use Rattle.ferry_carry.specs.Accepting.{AreNextOf}
 use Rattle.ferry_carry.specs.Carrying.{origin}
@@ -28,7 +29,7 @@ invariant-loop-place g l = record {
   most : KeepsMost l.fn.store l.store;
   next : AreNextOf l.fn.options.timestamp (repo_view l.fn.source).manifest (repo_view l.fn.store.repo).keys (accepted_in l.fn.store)
       (take l.place l.names) (accepted_in l.store);
-  works : Reports (origin (g.S.Shelf.told l.fn.shelf) (repo_view l.fn.source) l.fn.options.block l.fn.options.checkpoint) (take l.place l.names)
+  works : (before : Reports (origin (g.S.Shelf.told l.fn.shelf) (repo_view l.fn.source) l.fn.options.block l.fn.options.checkpoint) (take l.place l.names)
       l.fn.store l.store l.fn.carried l.carried (g.D.Shelf.told l.fn.depot) (g.D.Shelf.told l.depot) (g.D.Shelf.faults l.fn.depot)
-      (g.D.Shelf.faults l.depot) (Ok tt);
+      (g.D.Shelf.faults l.depot) (Ok tt)) × Follows before.added l.store;
 }

@@ -1,12 +1,13 @@
-use Rattle.std.proofs.Common.{◌≡◌, List, [], ◌∷◌, ◌++◌, Bool, false, Result, Ok, Err, IfErr, subst, sym, IfSome}
+use Rattle.std.proofs.Common.{◌≡◌, [], ◌∷◌, Bool, false, Result, Ok, Err, IfErr, subst, sym, IfSome}
 use Rattle.ferry_carry.proofs.AcceptingLemmas.{telling_small}
+use Rattle.ferry_carry.proofs.FlyLemmas.{takes_begin}
 use Rattle.ferry_carry.proofs.GrowLemmas.{accepts_on}
-use Rattle.ferry_carry.proofs.ReportLemmas.{all_one, counts_one, reports_name, reports_silent}
+use Rattle.ferry_carry.proofs.AddingLemmas.{target_apart}
+use Rattle.ferry_carry.proofs.ReportLemmas.{all_one, counts_one, reports_name, reports_silent, telling_unbroken}
 use Rattle.ferry_carry.proofs.WorkLemmas.{err_is}
 use Rattle.ferry_carry.proofs.chosen.carry_flight.Goals as goal
-use Rattle.ferry_carry.specs.Flight.{BeginsDone, ListsDone, flown_from}
+use Rattle.ferry_carry.specs.Flight.{flown_from}
 use Rattle.ferry_carry.specs.Grow.{KeepsGrowing}
-use Rattle.ferry_carry.specs.Puts.{Addition}
 use Rattle.ferry_carry.specs.Refusals.{is_of_telling}
 use Rattle.ferry_carry.specs.Accepting.{HasLargeNext}
 use Rattle.ferry_carry.specs.Telling.{Reports, StopsUnnamed}
@@ -35,10 +36,9 @@ returns-in_err-named-clause-works g c =
     let carried = c.args.carried.now in
     let fault = c.in_err-named.field-0.0 in
     let flown = c.in_err-named.ensures.works c.requires.flight.0 in
-    let begins = subst (λ (l : List Addition). BeginsDone a from (repo_view store.repo).keys (accepted_in store) name (l ++ flown.0)) c.requires.flight.1
-    flown.1.begins in
     err_is c.from_residual.result fault (λ (r : Result (Unit {0}) CarryFault). Reports from (name ∷ []) store now carried carried a b n m r)
-    c.from_residual.ensures.1 (reports_silent {T = Bool} from name flown.0 store now carried carried a b n m fault begins flown.1.carries)
+    c.from_residual.ensures.1 (reports_silent from name flown.0 store now _ carried carried a b n m fault
+    (takes_begin from name _ flown.0 store now c.fly.new.flight a b n m (Err fault) c.requires.flight.1 flown.1))
 
 pub returns-in_err-tell_name-clause-works : goal.returns-in_err-tell_name-clause-works
 returns-in_err-tell_name-clause-works g c =
@@ -57,14 +57,12 @@ returns-in_err-tell_name-clause-works g c =
     let ensures = c.in_ok-named.ensures in
     let named = c.in_ok-named.named in
     let flown = ensures.works c.requires.flight.0 in
-    let keys = (repo_view store.repo).keys in
-    let none = c.requires.flight.1 in
-    let begins = subst (λ (l : List Addition). BeginsDone a from keys (accepted_in store) name (l ++ flown.0)) none flown.1.begins in
-    let done = subst (λ (l : List Addition). ListsDone a from keys name (l ++ flown.0) named) none flown.1.lists.0 in
+    let all = takes_begin from name _ flown.0 store now c.fly.new.flight a b n m (Ok named) c.requires.flight.1 flown.1 in
     err_is c.from_residual-in_err-tell_name.result fault
     (λ (r : Result (Unit {0}) CarryFault). Reports from (name ∷ []) store now carried carried a d n k r) c.from_residual-in_err-tell_name.ensures.1
     (reports_name {T = Bool} from named name c.args.name.now flown.0 store now carried carried a b d n m k named (Err fault) c.requires.called
-    (accepts_on now now ensures.settled) ensures.word done begins tt flown.1.carries c.in_err-tell_name.ensures.works)
+    (accepts_on now now ensures.settled) ensures.word all.lists.0 all.begins tt (telling_unbroken fault c.in_err-tell_name.ensures.telling)
+    (target_apart fault c.in_err-tell_name.ensures.target) all.carries c.in_err-tell_name.ensures.works)
 
 pub returns-clause-works : goal.returns-clause-works
 returns-clause-works g c =
@@ -83,17 +81,13 @@ returns-clause-works g c =
     let ensures = c.in_ok-named.ensures in
     let named = c.in_ok-named.named in
     let flown = ensures.works c.requires.flight.0 in
-    let keys = (repo_view store.repo).keys in
-    let none = c.requires.flight.1 in
-    let begins = subst (λ (l : List Addition). BeginsDone a from keys (accepted_in store) name (l ++ flown.0)) none flown.1.begins in
-    let done = subst (λ (l : List Addition). ListsDone a from keys name (l ++ flown.0) named) none flown.1.lists.0 in
-    let counts = subst (λ (l : List Addition). CountsOf (l ++ flown.0) c.fly.new.flight.put) none flown.1.lists.1 in
+    let all = takes_begin from name _ flown.0 store now c.fly.new.flight a b n m (Ok named) c.requires.flight.1 flown.1 in
     let put : c.put.result ≡ c.fly.new.flight.put = c.put.ensures in
     let counted = c.count.ensures in
     reports_name {T = Bool} from named name c.args.name.now flown.0 store now carried after a b d n m k named (Ok tt) c.requires.called
-    (accepts_on now now ensures.settled) ensures.word done begins
-    (counts_one (accepted_in store) name flown.0 named c.put.result carried after ensures.word (subst (CountsOf flown.0) (sym put) counts)
-    counted.transferred counted.present counted.chunks counted.bytes counted.meta) flown.1.carries c.in_ok-tell_name.ensures.works
+    (accepts_on now now ensures.settled) ensures.word all.lists.0 all.begins
+    (counts_one (accepted_in store) name flown.0 named c.put.result carried after ensures.word (subst (CountsOf flown.0) (sym put) all.lists.1)
+    counted.transferred counted.present counted.chunks counted.bytes counted.meta) tt tt all.carries c.in_ok-tell_name.ensures.works
 
 pub returns-in_err-named-clause-untold : goal.returns-in_err-named-clause-untold
 returns-in_err-named-clause-untold g c =
@@ -104,7 +98,8 @@ returns-in_err-named-clause-untold g c =
     let flown = c.in_err-named.ensures.works c.requires.flight.0 in
     err_is c.from_residual.result fault
     (λ (r : Result (Unit {0}) CarryFault). IfErr r (λ (f : CarryFault). is_of_telling f ≡ false → Between a b TellsNothing)) c.from_residual.ensures.1
-    (λ still. between_map a b (KeepsGrowing from (c.args.flight.now.named.name ∷ []) c.args.store.now flown.0) TellsNothing (λ h g e. e.0)
+    (λ still. between_map a b
+    (KeepsGrowing c.requires.flight.0.added from (c.args.flight.now.named.name ∷ []) c.args.store.now flown.0) TellsNothing (λ h g e. e.0)
     flown.1.carries.each)
 
 pub returns-in_err-tell_name-clause-untold : goal.returns-in_err-tell_name-clause-untold
@@ -133,17 +128,23 @@ returns-in_err-tell_name-clause-limit g c =
 pub returns-in_err-named-clause-stands : goal.returns-in_err-named-clause-stands
 returns-in_err-named-clause-stands g c =
     let store = c.args.store.now in
+    let now = c.fly.new.store in
     let a = g.D.Shelf.told c.args.depot.now in
     let b = g.D.Shelf.told c.fly.new.depot in
+    let n = g.D.Shelf.faults c.args.depot.now in
+    let m = g.D.Shelf.faults c.fly.new.depot in
     let from = flown_from (g.S.Shelf.told c.args.shelf.now) (repo_view c.args.source.now) c.args.flight.now in
     let name = c.args.flight.now.named.name in
     let fault = c.in_err-named.field-0.0 in
     let flown = c.in_err-named.ensures.works c.requires.flight.0 in
-    let begins = subst (λ (l : List Addition). BeginsDone a from (repo_view store.repo).keys (accepted_in store) name (l ++ flown.0)) c.requires.flight.1
-    flown.1.begins in
+    let all = takes_begin from name _ flown.0 store now c.fly.new.flight a b n m (Err fault) c.requires.flight.1 flown.1 in
     err_is c.from_residual.result fault (λ (r : Result (Unit {0}) CarryFault). IfErr r (λ (f : CarryFault). IsOfWork f → StopsUnnamed from name store a b))
     c.from_residual.ensures.1
-    (λ work. record { added = flown.0; begins = all_one a from store name flown.0 begins; each = flown.1.stands work })
+    (λ work. record {
+      added = flown.0;
+      begins = all_one a from store name flown.0 all.begins;
+      each = all.stands work;
+    })
 
 pub returns-in_err-tell_name-clause-stands : goal.returns-in_err-tell_name-clause-stands
 returns-in_err-tell_name-clause-stands g c =

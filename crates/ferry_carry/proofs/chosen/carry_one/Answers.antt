@@ -1,8 +1,9 @@
 use Rattle.std.proofs.Common.{◌≡◌, [], ◌∷◌, ℕ, List, false, Result, ap, IfErr, IfSome, OnOk, refl, subst, sym}
 use Rattle.ferry_carry.proofs.AcceptingLemmas.{begin_small}
 use Rattle.ferry_carry.proofs.GrowLemmas.{accepts_on}
+use Rattle.ferry_carry.proofs.HeldLemmas.{begin_apart}
 use Rattle.ferry_carry.proofs.ReportLemmas.{reports_as, reports_nothing}
-use Rattle.ferry_carry.proofs.TellLemmas.{begin_still}
+use Rattle.ferry_carry.proofs.TellLemmas.{begin_unbroken, begin_still}
 use Rattle.ferry_carry.proofs.WorkLemmas.{err_is}
 use Rattle.ferry_carry.proofs.chosen.carry_one.Goals as goal
 use Rattle.ferry_carry.specs.Accepting.{HasLargeNext, IsNextOf}
@@ -33,7 +34,8 @@ returns-in_err-flight-clause-works g c =
     let fault = c.in_err-flight.field-0.0 in
     err_is c.from_residual.result fault (λ (r : Result (Unit {0}) CarryFault). Reports from names store store carried carried a a n n r)
     c.from_residual.ensures.1 (reports_nothing from names store store carried carried a n fault (accepts_on store store c.requires.settled)
-    (begin_still fault c.args.name.now _ c.in_err-flight.ensures.refused))
+    (begin_still fault c.args.name.now _ c.in_err-flight.ensures.refused) (begin_unbroken fault c.args.name.now _ c.in_err-flight.ensures.refused)
+    (begin_apart fault c.args.name.now _ c.in_err-flight.ensures.refused))
 
 pub carry_flight-requires-clause-flight : goal.carry_flight-requires-clause-flight
 carry_flight-requires-clause-flight g c =

@@ -1,14 +1,14 @@
-use Rattle.std.proofs.Common.{ℕ, List, [], inl, inr, Result, OnOk, IfSome, refl, sym, subst}
+use Rattle.std.proofs.Common.{◌≡◌, ℕ, List, [], inl, inr, Result, IfErr, OnOk, IfSome, refl, sym, subst}
+use Rattle.ferry_carry.proofs.AddingLemmas.{none_refused, source_unbroken}
 use Rattle.ferry_carry.proofs.FaultLemmas.{source_still}
 use Rattle.ferry_carry.proofs.PieceLemmas.{ok_to}
 use Rattle.ferry_carry.proofs.WorkLemmas.{err_is, gathered_nothing}
 use Rattle.ferry_carry.proofs.copy.write_content.Goals as goal
+use Rattle.ferry_carry.specs.Adding.{AddsOn}
 use Rattle.ferry_carry.specs.Copying.{BeginsChunk, WritesContent}
-use Rattle.ferry_carry.specs.Fault.{source_fault}
-use Rattle.ferry_carry.specs.Gather.{Gathers, KeepsStanding}
+use Rattle.ferry_carry.specs.Fault.{IsOfSource, source_fault}
 use Rattle.ferry_carry.specs.Piece.{CountsOn, WritesOn}
-use Rattle.ferry_carry.specs.Puts.{AreOf, Content, contents_in}
-use Rattle.ferry_carry.specs.Work.{Works}
+use Rattle.ferry_carry.specs.Puts.{Addition, AreOf, Content, contents_in}
 use Rattle.ferry_carry.specs.declared.fault.CarryFault.{CarryFault}
 use Rattle.ferry_disk.specs.Device.{told_files}
 use Rattle.ferry_repo.specs.Archives.{HoldsContent}
@@ -22,19 +22,23 @@ returns-in_err-content-clause-written g c =
     let writer = c.args.writer.now in
     let told = g.S.Shelf.told c.args.shelf.now in
     let source = repo_view c.args.source.now in
-    let fault = c.in_err-content.field-0.0 in (
+    let fault = c.in_err-content.field-0.0 in
+    let none : List Addition = [] in (
       [],
       err_is c.from_residual.result (source_fault fault)
-          (λ (r : Result (Unit {0}) CarryFault). Works (KeepsStanding writer.checkpoint store []) (λ _. Gathers writer.checkpoint store [] store) a a n n r
+          (λ (r : Result (Unit {0}) CarryFault). AddsOn writer.checkpoint store [] store a a n n r
           × (AreOf Content [] × (BeginsChunk told source c.args.chunk.now writer.cutter []
+          × ((IfErr r (λ f. IsOfSource f → none ≡ []))
           × OnOk r (WritesContent told source (repo_view store.repo).keys c.args.chunk.now
-          writer.cutter writer.chunks.items [] writer.cutter writer.chunks.items × CountsOn Content writer [] writer)))) c.from_residual.ensures.1
-          (gathered_nothing {T = Unit {0}} writer.checkpoint store store [] a n (source_fault fault) (source_still fault), (tt, (inl refl, tt))),
+          writer.cutter writer.chunks.items [] writer.cutter writer.chunks.items × CountsOn Content writer [] writer))))) c.from_residual.ensures.1 (
+            gathered_nothing {T = Unit {0}} writer.checkpoint store a n (source_fault fault) (source_still fault) (source_unbroken fault),
+            (tt, (inl refl, (λ of. refl, tt))),
+          ),
     )
 
 pub returns-clause-written : goal.returns-clause-written
 returns-clause-written g c =
-    let wrote = c.write.ensures.written Content in
+    let wrote = c.write.ensures.written Content refl in
     let more = wrote.0 in
     let writer = c.args.writer.now in
     let writer_now = c.write.new.self in
@@ -53,11 +57,14 @@ returns-clause-written g c =
           wrote.1.1.0,
           (
             inr (content, (comes, wrote.1.1.1.0)),
-            ok_to {T = Unit {0}} (WritesOn keys writer.cutter writer.chunks.items content (contents_in more) writer_now.cutter writer_now.chunks.items
-                × CountsOn Content writer more writer_now)
-                (WritesContent told source keys ref writer.cutter writer.chunks.items (contents_in more) writer_now.cutter writer_now.chunks.items
-                × CountsOn Content writer more writer_now) c.write.result
-                (λ writes. (record { content = content; comes = comes; writes = writes.0 }, writes.1)) wrote.1.1.1.1,
+            (
+              none_refused {T = Unit {0}} (more ≡ []) c.write.result c.write.ensures.target,
+              ok_to {T = Unit {0}} (WritesOn keys writer.cutter writer.chunks.items content (contents_in more) writer_now.cutter writer_now.chunks.items
+                  × CountsOn Content writer more writer_now)
+                  (WritesContent told source keys ref writer.cutter writer.chunks.items (contents_in more) writer_now.cutter writer_now.chunks.items
+                  × CountsOn Content writer more writer_now) c.write.result
+                  (λ writes. (record { content = content; comes = comes; writes = writes.0 }, writes.1)) wrote.1.1.1.1,
+            ),
           ),
         ),
       ),

@@ -1,17 +1,18 @@
-use Rattle.std.proofs.Common.{◌≤◌, ◌<◌, ◌+◌, ◌++◌, ℕ, List, [], Result, Ok, Err, IfErr, OnOk, length, take, refl, sym, ◌∙◌, subst, arith}
+use Rattle.std.proofs.Common.{◌≤◌, ◌<◌, ◌+◌, ◌++◌, ℕ, List, [], Result, Ok, Err, IfErr, OnOk, length, take, refl, sym, ◌∙◌, ap, subst, arith}
 use Rattle.ferry_carry.proofs.CopyLemmas.{contents_all, contents_behind, contents_full, contents_written, nothing_written}
+use Rattle.ferry_carry.proofs.FillingLemmas.{chunks_filled}
 use Rattle.ferry_carry.proofs.GatherLemmas.{rest_here, rest_then}
 use Rattle.ferry_carry.proofs.PieceLemmas.{counts_none, counts_then, pieces_then}
 use Rattle.ferry_carry.proofs.PutsLemmas.{contents_append, of_append}
 use Rattle.ferry_carry.proofs.RefusalLemmas.{contents_refused}
 use Rattle.ferry_carry.proofs.WorkLemmas.{err_is, gathered_none}
 use Rattle.ferry_carry.proofs.copy.write_contents.Goals as goal
+use Rattle.ferry_carry.specs.Adding.{AddsOn}
 use Rattle.ferry_carry.specs.Copying.{BeginsContents, WritesContents}
-use Rattle.ferry_carry.specs.Gather.{Gathers, KeepsStanding}
+use Rattle.ferry_carry.specs.Filling.{FillsChunks, WhereSource}
 use Rattle.ferry_carry.specs.Piece.{CountsOn}
 use Rattle.ferry_carry.specs.Puts.{AreOf, Content, contents_in}
 use Rattle.ferry_carry.specs.Refusals.{RefusesContents}
-use Rattle.ferry_carry.specs.Work.{Works}
 use Rattle.ferry_carry.specs.declared.fault.CarryFault.{CarryFault}
 use Rattle.ferry_repo.specs.Opening.{repo_view}
 
@@ -67,10 +68,11 @@ returns-in_err-write_content-clause-written g c =
     let fault = c.in_err-write_content.field-0.0 in (
       more,
       err_is c.from_residual.result fault
-          (λ (r : Result (Unit {0}) CarryFault). Works (KeepsStanding most store more) (λ _. Gathers most store more now) a b n m r
+          (λ (r : Result (Unit {0}) CarryFault). AddsOn most store more now a b n m r
           × (AreOf Content more × (BeginsContents told source chunks writer.cutter (contents_in more)
+          × ((IfErr r (λ f. WhereSource told f (λ there refusal. FillsChunks there source chunks writer.cutter refusal (contents_in more))))
           × OnOk r (WritesContents told source (repo_view store.repo).keys chunks writer.cutter writer.chunks.items (contents_in more) writer_now.cutter
-          writer_now.chunks.items × CountsOn Content writer more writer_now)))) c.from_residual.ensures.1 (
+          writer_now.chunks.items × CountsOn Content writer more writer_now))))) c.from_residual.ensures.1 (
             pieces_then {T = Unit {0}} {U = Unit {0}} most most c.loop-place.writer.checkpoint store c.loop-place.store now so.0 next.0 a
                 (g.D.Shelf.told c.loop-place.depot) b n
                 (g.D.Shelf.faults c.loop-place.depot) m tt (Err fault) refl c.loop-place.invariant.checkpoint c.loop-place.invariant.rest tt so.1.0
@@ -83,7 +85,15 @@ returns-in_err-write_content-clause-written g c =
                     c.loop-place.place _ writer.cutter c.loop-place.writer.cutter writer.chunks.items c.loop-place.writer.chunks.items
                     (contents_in so.0) (contents_in next.0) c.loop-place.invariant.alike c.loop-place.invariant.repo lt c.requires.room so.1.1.1.0
                     next.1.1.1.0),
-                tt,
+                (
+                  subst (λ (ps : List (List ℕ)).
+                      WhereSource told fault (λ there refusal. FillsChunks there source chunks writer.cutter refusal ps)) (sym (contents_append so.0 next.0))
+                      (chunks_filled told (g.S.Shelf.told c.loop-place.shelf) source (repo_view c.loop-place.source) (repo_view store.repo).keys chunks
+                      c.loop-place.place _ writer.cutter c.loop-place.writer.cutter writer.chunks.items c.loop-place.writer.chunks.items
+                      (contents_in so.0) (contents_in next.0) fault c.loop-place.invariant.alike c.loop-place.invariant.repo lt c.requires.room
+                      so.1.1.1.0 (λ of. ap contents_in (next.1.1.1.1.0 of)) c.in_err-write_content.ensures.refused),
+                  tt,
+                ),
               ),
             ),
           ),
@@ -104,8 +114,8 @@ loop-place-preserved g c =
     let keys = (repo_view store.repo).keys in
     let lt : c.loop-place.place < length c.args.chunks.now = omega arith in
     record {
-      room = next.1.1.1.1.0.writes.room;
-      block = next.1.1.1.1.0.writes.block ∙ invariant.block;
+      room = next.1.1.1.1.1.0.writes.room;
+      block = next.1.1.1.1.1.0.writes.block ∙ invariant.block;
       checkpoint = c.in_ok-write_content.ensures.checkpoint ∙ invariant.checkpoint;
       pending = subst (λ (count : ℕ). now.pending ≤ count) invariant.checkpoint c.in_ok-write_content.ensures.pending;
       unspent = c.in_ok-write_content.ensures.unspent;
@@ -131,8 +141,8 @@ loop-place-preserved g c =
                   (contents_written told (g.S.Shelf.told c.loop-place.shelf) source (repo_view c.loop-place.source) keys (repo_view middle.repo).keys
                   c.args.chunks.now c.loop-place.place _ writer.cutter c.loop-place.writer.cutter writer_now.cutter writer.chunks.items
                   c.loop-place.writer.chunks.items writer_now.chunks.items (contents_in so.0) (contents_in next.0) invariant.alike invariant.repo
-                  invariant.rest.keys lt so.1.1.1.0 next.1.1.1.1.0),
-              counts_then Content writer c.loop-place.writer writer_now so.0 next.0 so.1.1.1.1 next.1.1.1.1.1,
+                  invariant.rest.keys lt so.1.1.1.0 next.1.1.1.1.1.0),
+              counts_then Content writer c.loop-place.writer writer_now so.0 next.0 so.1.1.1.1 next.1.1.1.1.1.1,
             ),
           ),
         ),
@@ -158,7 +168,7 @@ returns-clause-written g c =
           (
             contents_full told source keys chunks writer.cutter writer_now.cutter writer.chunks.items writer_now.chunks.items (contents_in so.0)
                 c.requires.room all,
-            (all, so.1.1.1.1),
+            (tt, (all, so.1.1.1.1)),
           ),
         ),
       ),

@@ -1,10 +1,10 @@
 use Rattle.std.proofs.Common.{◌≡◌, ◌≤◌, ◌<◌, false, List, Ok, IfSome, length, take}
 use Rattle.ferry_carry.proofs.copy.write_contents.Given as goal
+use Rattle.ferry_carry.specs.Adding.{AddsOn}
 use Rattle.ferry_carry.specs.Copying.{WritesContents}
-use Rattle.ferry_carry.specs.Gather.{Gathers, KeepsRest, KeepsStanding}
+use Rattle.ferry_carry.specs.Gather.{KeepsRest}
 use Rattle.ferry_carry.specs.Piece.{CountsOn}
 use Rattle.ferry_carry.specs.Puts.{Addition, AreOf, Content, contents_in}
-use Rattle.ferry_carry.specs.Work.{Works}
 use Rattle.ferry_disk.specs.Device.{heard, told_files}
 use Rattle.ferry_repo.specs.Opening.{FitsRepo, cached_in, repo_view}
 use Rattle.ferry_store.specs.Store.{IsUnspent, StoreFits}
@@ -23,8 +23,7 @@ invariant-loop-place g l = record {
   repo : repo_view l.source ≡ repo_view l.fn.source;
   alike : heard (g.S.Shelf.told l.shelf) ≡ heard (g.S.Shelf.told l.fn.shelf);
   faults : g.S.Shelf.faults l.shelf ≡ g.S.Shelf.faults l.fn.shelf;
-  written : (more : List Addition) × (Works {T = Unit {0}} (KeepsStanding l.fn.writer.checkpoint l.fn.store more)
-      (λ _. Gathers l.fn.writer.checkpoint l.fn.store more l.store)
+  written : (more : List Addition) × (AddsOn {T = Unit {0}} l.fn.writer.checkpoint l.fn.store more l.store
       (g.D.Shelf.told l.fn.depot) (g.D.Shelf.told l.depot) (g.D.Shelf.faults l.fn.depot) (g.D.Shelf.faults l.depot) (Ok tt)
       × (AreOf Content more × (WritesContents (g.S.Shelf.told l.fn.shelf) (repo_view l.fn.source) (repo_view l.fn.store.repo).keys (take l.place l.chunks)
       l.fn.writer.cutter l.fn.writer.chunks.items (contents_in more) l.writer.cutter l.writer.chunks.items

@@ -2,9 +2,8 @@ use Rattle.std.proofs.Common.{◌≡◌, [], ◌∙◌, Ok, Result, ap, subst}
 use Rattle.ferry_carry.proofs.FlightLemmas.{fits_read, same_read, works_read, works_unread}
 use Rattle.ferry_carry.proofs.WorkLemmas.{err_is}
 use Rattle.ferry_carry.proofs.flight.compare_item.Goals as goal
+use Rattle.ferry_carry.specs.Adding.{AddsOn}
 use Rattle.ferry_carry.specs.Fault.{compare_fault}
-use Rattle.ferry_carry.specs.Gather.{Gathers, KeepsStanding}
-use Rattle.ferry_carry.specs.Work.{Works}
 use Rattle.ferry_carry.specs.declared.fault.CarryFault.{CarryFault}
 use Rattle.ferry_compare.specs.Compare.{AreEqual, comparison_view, Differ}
 use Rattle.ferry_compare.specs.declared.comparison.Compared.{Compared}
@@ -23,8 +22,9 @@ returns-in_err-compared-clause-works g c most =
     let now : Store = record store { repo = c.step.new.target } in
     let fault = c.in_err-compared.field-0.0 in
     err_is c.from_residual.result (compare_fault fault)
-    (λ (r : Result Compared CarryFault). Works (KeepsStanding most store []) (λ _. Gathers most store [] now) a b n m r) c.from_residual.ensures.1
-    (works_unread {U = Compared} Compared most store now a b n m fault c.in_err-compared.ensures.target_same c.in_err-compared.ensures.target_cause)
+    (λ (r : Result Compared CarryFault). AddsOn most store [] now a b n m r) c.from_residual.ensures.1
+    (works_unread {U = Compared} Compared most store c.step.new.target a b n m fault (c.step.ensures.target_kept ∙ ap repo_view c.repo.ensures.repo)
+    c.in_err-compared.ensures.target_same c.in_err-compared.ensures.target_cause c.in_err-compared.ensures.refused_target c.step.ensures.target_fits)
 
 pub returns-in_err-compared-clause-fits : goal.returns-in_err-compared-clause-fits
 returns-in_err-compared-clause-fits g c =

@@ -1,8 +1,9 @@
-use Rattle.std.proofs.Common.{[], Result}
-use Rattle.ferry_carry.proofs.PutsLemmas.{front_all}
-use Rattle.ferry_carry.proofs.WorkLemmas.{err_is, gathered_as, gathered_err, gathered_none}
+use Rattle.std.proofs.Common.{rules, ◌≢◌, [], Result}
+use Rattle.ferry_carry.proofs.FlyLemmas.{nothing_pending, pending_committed, pending_uncommitted}
+use Rattle.ferry_carry.proofs.WorkLemmas.{err_is}
 use Rattle.ferry_carry.proofs.flight.present.Goals as goal
-use Rattle.ferry_carry.specs.Gather.{Gathers, KeepsStanding}
+use Rattle.ferry_carry.specs.Gather.{GathersAt, KeepsStandingAt}
+use Rattle.ferry_carry.specs.Puts.{AtBegin}
 use Rattle.ferry_carry.specs.Work.{Works}
 use Rattle.ferry_carry.specs.declared.fault.CarryFault.{CarryFault}
 use Rattle.ferry_carry.specs.declared.flight.Turn.{Turn}
@@ -10,7 +11,7 @@ use Rattle.ferry_carry.specs.declared.flight.Turn.TheVariants.{Present}
 
 pub returns-then-pending-eq0-clause-works : goal.returns-then-pending-eq0-clause-works
 returns-then-pending-eq0-clause-works g c =
-    λ most. gathered_none {T = Turn} most c.args.store.now (g.D.Shelf.told c.args.depot.now) (g.D.Shelf.faults c.args.depot.now) Present
+    λ most. nothing_pending {T = Turn} most c.args.store.now (g.D.Shelf.told c.args.depot.now) (g.D.Shelf.faults c.args.depot.now) Present
 
 pub returns-in_err-commit_pieces-clause-works : goal.returns-in_err-commit_pieces-clause-works
 returns-in_err-commit_pieces-clause-works g c =
@@ -22,13 +23,17 @@ returns-in_err-commit_pieces-clause-works g c =
     let n = g.D.Shelf.faults c.args.depot.now in
     let m = g.D.Shelf.faults c.commit_pieces.new.depot in
     let fault = c.in_err-commit_pieces.field-0.0 in
-    err_is c.from_residual.result fault (λ (r : Result Turn CarryFault). Works (KeepsStanding most store []) (λ _. Gathers most store [] now) a b n m r)
+    let some : store.pending ≢ 0 = search rules in
+    err_is c.from_residual.result fault
+    (λ (r : Result Turn CarryFault). Works (KeepsStandingAt AtBegin most store []) (λ (_ : Turn). GathersAt AtBegin most store [] now) a b n m r)
     c.from_residual.ensures.1
-    (gathered_err {T = Unit {0}} {U = Turn} most store now [] [] a b n m fault (front_all []) (c.in_err-commit_pieces.ensures.works most))
+    (pending_uncommitted {T = Unit {0}} {U = Turn} most store now a b n m fault some c.in_err-commit_pieces.ensures.works)
 
 pub returns-clause-works : goal.returns-clause-works
 returns-clause-works g c =
     λ most.
-    gathered_as {T = Unit {0}} {U = Turn} most c.args.store.now c.commit_pieces.new.store [] (g.D.Shelf.told c.args.depot.now)
+    let store = c.args.store.now in
+    let some : store.pending ≢ 0 = search rules in
+    pending_committed {T = Unit {0}} {U = Turn} most store c.commit_pieces.new.store (g.D.Shelf.told c.args.depot.now)
     (g.D.Shelf.told c.commit_pieces.new.depot) (g.D.Shelf.faults c.args.depot.now) (g.D.Shelf.faults c.commit_pieces.new.depot) tt Present
-    (c.in_ok-commit_pieces.ensures.works most)
+    c.in_ok-commit_pieces.ensures.repo some c.in_ok-commit_pieces.ensures.works

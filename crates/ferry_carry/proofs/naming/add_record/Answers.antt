@@ -1,11 +1,9 @@
 use Rattle.std.proofs.Common.{false, List, ℕ, [], ◌∷◌, Result, refl, arith}
-use Rattle.ferry_carry.proofs.PutsLemmas.{front_all}
 use Rattle.ferry_carry.proofs.WorkLemmas.{err_is, gathered_as, gathered_err}
 use Rattle.ferry_carry.proofs.naming.add_record.Goals as goal
-use Rattle.ferry_carry.specs.Gather.{Gathers, KeepsStanding}
+use Rattle.ferry_carry.specs.Adding.{AddsOn}
 use Rattle.ferry_carry.specs.Piece.{HasRoom}
 use Rattle.ferry_carry.specs.Puts.{Record, addition}
-use Rattle.ferry_carry.specs.Work.{Works}
 use Rattle.ferry_carry.specs.declared.fault.CarryFault.{CarryFault}
 use Rattle.ferry_store.specs.declared.content.Added.{Added}
 
@@ -23,10 +21,8 @@ returns-in_err-added-clause-works g c = (
       let m = g.D.Shelf.faults c.add.new.depot in
       let fault = c.in_err-added.field-0.0 in
       let room : HasRoom most Record text store = record { checkpoint = checkpoint; room = λ new. omega (arith, pending) } in
-      err_is c.from_residual.result fault
-      (λ (r : Result (List ℕ) CarryFault). Works (KeepsStanding most store more) (λ _. Gathers most store more now) a b n m r) c.from_residual.ensures.1
-      (gathered_err {T = Added} {U = List ℕ} most store now more more a b n m fault (front_all more)
-      (c.in_err-added.ensures.works most Record false tt room)),
+      err_is c.from_residual.result fault (λ (r : Result (List ℕ) CarryFault). AddsOn most store more now a b n m r) c.from_residual.ensures.1
+      (gathered_err {T = Added} {U = List ℕ} most store now more a b n m fault (c.in_err-added.ensures.works most Record false tt room)),
 )
 
 pub returns-clause-works : goal.returns-clause-works

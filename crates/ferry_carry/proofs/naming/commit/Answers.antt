@@ -15,6 +15,8 @@ use Rattle.ferry_store.specs.Commit.{CommitsEntry, accepted_in, manifest_entry}
 use Rattle.ferry_store.specs.Content.{blob_for}
 use Rattle.ferry_store.specs.Standing.{with_manifest}
 use Rattle.ferry_carry.proofs.StandLemmas.{StandsAll, commit_stands}
+use Rattle.ferry_carry.proofs.AddingLemmas.{manifest_unbroken}
+use Rattle.ferry_carry.specs.Adding.{IsNoChunk}
 
 pub returns-in_err-commit-clause-works : goal.returns-in_err-commit-clause-works
 returns-in_err-commit-clause-works g c accepted named one =
@@ -85,3 +87,10 @@ returns-in_err-commit-clause-stands g c =
     let refusal = c.in_err-commit.field-0.0 in
     err_is c.from_residual.result (target_fault refusal) (λ (r : Result (Unit {0}) CarryFault). IfErr r (StandsAll store a b)) c.from_residual.ensures.1
     (commit_stands store a b refusal c.commit.ensures.untold c.in_err-commit.ensures.keeps)
+
+pub returns-in_err-commit-clause-unbroken : goal.returns-in_err-commit-clause-unbroken
+returns-in_err-commit-clause-unbroken g c =
+    let made = c.in_err-commit.ensures.committed in
+    let refusal = c.in_err-commit.field-0.0 in
+    err_is c.from_residual.result (target_fault refusal) (λ (r : Result (Unit {0}) CarryFault). IfErr r IsNoChunk) c.from_residual.ensures.1
+    (manifest_unbroken c.args.store.now _ refusal made.1.3)

@@ -1,10 +1,11 @@
-use Rattle.std.proofs.Common.{ℕ, List, [], ◌∷◌, ◌++◌, Result, Ok, Err, IfErr, sym, ◌∙◌, subst, ap}
+use Rattle.std.proofs.Common.{◌≡◌, ℕ, List, [], ◌∷◌, ◌++◌, Result, Ok, Err, IfErr, sym, ◌∙◌, subst, ap}
 use Rattle.std.proofs.lemmas.List.{append-nil}
+use Rattle.ferry_carry.proofs.AddingLemmas.{stops_unbroken}
 use Rattle.ferry_carry.proofs.AcceptingLemmas.{record_named}
 use Rattle.ferry_carry.proofs.GrowLemmas.{most_from, most_then}
 use Rattle.ferry_carry.proofs.FlightLemmas.{rest_accepts, rest_packable}
 use Rattle.ferry_carry.proofs.FaultLemmas.{stops_of_pieces}
-use Rattle.ferry_carry.proofs.NamingLemmas.{begins_done, counts_done, lists_done, pieces_limit, record_limit, unnamed_rest}
+use Rattle.ferry_carry.proofs.NamingLemmas.{begins_done, behind_record, counts_done, lists_done, pieces_limit, record_limit, unnamed_rest}
 use Rattle.ferry_carry.proofs.PieceLemmas.{pieces_at}
 use Rattle.ferry_carry.proofs.ProgressLemmas.{readies}
 use Rattle.ferry_carry.proofs.PutsLemmas.{front_all}
@@ -12,7 +13,7 @@ use Rattle.ferry_carry.proofs.WorkLemmas.{carried_as, carried_err, carried_from,
 use Rattle.ferry_carry.proofs.naming.end_copy.Goals as goal
 use Rattle.ferry_carry.specs.Flight.{Carries, EndsCopy}
 use Rattle.ferry_carry.specs.Naming.{copied_in}
-use Rattle.ferry_carry.specs.Puts.{Addition}
+use Rattle.ferry_carry.specs.Puts.{Addition, AtBegin, AtEnd, border_behind}
 use Rattle.ferry_carry.specs.declared.fault.CarryFault.{CarryFault}
 use Rattle.ferry_carry.specs.declared.options.Carried.{Carried}
 use Rattle.ferry_carry.proofs.CauseLemmas.{record_refused}
@@ -44,10 +45,11 @@ returns-in_err-id-clause-works g c =
       more,
       err_is c.from_residual.result fault (λ (r : Result Carried CarryFault). EndsCopy from named.name added more store now a b n m r)
           c.from_residual.ensures.1 (record {
-            carries = carried_from_err {T = List ℕ} {U = Carried} from chosen chosen store now now more more a b n m fault c.requires.accepts
+            carries = carried_from_err {T = List ℕ} {U = Carried} added from chosen chosen store now now more more a b n m fault c.requires.accepts
                 (front_all more) works;
             begins = begins_done from named a store copy added ended.0 ended.1.0 c.requires.ready ended.1.1.1.0 ended.1.1.1.1.0 all;
-            stands = λ _. works.each;
+            stands = λ _. works.works.each;
+            last = works.last;
             lists = tt;
           }),
     )
@@ -85,21 +87,25 @@ returns-in_err-name_record-clause-works g c =
     let more = ended.0 ++ ended.1.0 in
     let works = pieces_at {T = List ℕ} from.most copy.stream.checkpoint store middle more a b n m (Ok id) (c.requires.ready.same ∙ sym all.0.most)
     ended.1.1.0 in
-    let ready = readies {T = List ℕ} from a b named store middle copy added ended.0 ended.1.0 id n m id c.requires.fits c.requires.ready works rest
+    let ready = readies {T = List ℕ} from a b named store middle copy added ended.0 ended.1.0 id n m id c.requires.fits c.requires.ready works.works rest
     ended.1.1.1.0 under all in
-    let carried = carried_then {T = Unit {0}} {U = Unit {0}} from [] chosen more [] store middle now a b z n m k tt (Err fault)
-    (carried_from {T = List ℕ} {U = Unit {0}} from chosen store middle more a b n m id tt c.requires.accepts rest works)
-    (c.in_err-name_record.ensures.works from ready) in (
+    let archive = copied_in (archive_view copy.archive) copy.block (copy.stream.chunks.items
+    ++ chunks_of (repo_view store.repo).keys (cut copy.stream.cutter.block copy.stream.cutter.piece)) in
+    let behind : border_behind AtBegin (added ++ more) ≡ AtEnd = behind_record (repo_view store.repo).keys archive added ended.0 ended.1.0 under.adds in
+    let carried = carried_then {T = Unit {0}} {U = Unit {0}} added from [] chosen more [] store middle now a b z n m k tt (Err fault)
+    (carried_from {T = List ℕ} {U = Unit {0}} added from chosen store middle more a b n m id tt c.requires.accepts rest works)
+    (c.in_err-name_record.ensures.works from (added ++ more) behind ready) in (
       more,
       err_is c.from_residual-in_err-name_record.result fault (λ (r : Result Carried CarryFault). EndsCopy from named.name added more store now a z n k r)
           c.from_residual-in_err-name_record.ensures.1 (record {
-            carries = carried_err {T = Unit {0}} {U = Carried} from chosen chosen chosen (more ++ []) more store now now a z n k fault
+            carries = carried_err {T = Unit {0}} {U = Carried} added from chosen chosen chosen (more ++ []) more store now now a z n k fault
                 ([], sym (append-nil more) ∙ sym (append-nil (more ++ []))) carried;
             begins = begins_done from named a store copy added ended.0 ended.1.0 c.requires.ready ended.1.1.1.0 ended.1.1.1.1.0 all;
             stands = λ work.
                 subst (λ (l : List Addition). Between a z (KeepsStanding from.most store l)) (append-nil more)
-                (stands_behind {T = List ℕ} from.most store middle more [] a b z n m id rest.keys works
+                (stands_behind {T = List ℕ} from.most store middle more [] a b z n m id rest.keys works.works
                 (c.in_err-name_record.ensures.stands work from.most));
+            last = stops_unbroken a (repo_view store.repo).keys more fault c.in_err-name_record.ensures.unbroken;
             lists = tt;
           }),
     )
@@ -131,17 +137,19 @@ returns-clause-works g c =
     ++ chunks_of keys (cut copy.stream.cutter.block copy.stream.cutter.piece)) in
     let works = pieces_at {T = List ℕ} from.most copy.stream.checkpoint store middle more a b n m (Ok id) (c.requires.ready.same ∙ sym all.0.most)
     ended.1.1.0 in
-    let ready = readies {T = List ℕ} from a b named store middle copy added last ended.1.0 id n m id c.requires.fits c.requires.ready works rest
+    let ready = readies {T = List ℕ} from a b named store middle copy added last ended.1.0 id n m id c.requires.fits c.requires.ready works.works rest
     ended.1.1.1.0 under all in
-    let carried = carried_then {T = Unit {0}} {U = Unit {0}} from [] chosen more [] store middle now a b z n m k tt (Ok tt)
-    (carried_from {T = List ℕ} {U = Unit {0}} from chosen store middle more a b n m id tt c.requires.accepts rest works)
-    (c.in_ok-name_record.ensures.works from ready) in (
+    let behind : border_behind AtBegin (added ++ more) ≡ AtEnd = behind_record keys archive added last ended.1.0 under.adds in
+    let carried = carried_then {T = Unit {0}} {U = Unit {0}} added from [] chosen more [] store middle now a b z n m k tt (Ok tt)
+    (carried_from {T = List ℕ} {U = Unit {0}} added from chosen store middle more a b n m id tt c.requires.accepts rest works)
+    (c.in_ok-name_record.ensures.works from (added ++ more) behind ready) in (
       more,
       record {
-        carries = subst (λ (l : List Addition). Carries {T = Carried} from chosen l store now a z n k (Ok put)) (append-nil more)
-            (carried_as {T = Unit {0}} {U = Carried} from chosen chosen (more ++ []) store now a z n k tt put carried);
+        carries = subst (λ (l : List Addition). Carries {T = Carried} added from chosen l store now a z n k (Ok put)) (append-nil more)
+            (carried_as {T = Unit {0}} {U = Carried} added from chosen chosen (more ++ []) store now a z n k tt put carried);
         begins = begins_done from named a store copy added last ended.1.0 c.requires.ready ended.1.1.1.0 ended.1.1.1.1.0 all;
         stands = tt;
+        last = tt;
         lists = (
           lists_done from named a store copy added last ended.1.0 c.requires.ready ended.1.1.1.0 under.adds all,
           counts_done from copy c.end_stream.new.stream added last ended.1.0 keys archive put all.0 ended.1.1.1.0.1 ended.1.1.1.1.1.1 under.adds

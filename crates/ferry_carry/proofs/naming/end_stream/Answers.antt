@@ -1,13 +1,13 @@
-use Rattle.std.proofs.Common.{ℕ, inl, List, [], ◌++◌, Result, IfOk, OnOk, Vec, Global, refl, ◌∙◌}
+use Rattle.std.proofs.Common.{ℕ, inl, List, [], ◌++◌, Result, Err, IfOk, OnOk, Vec, Global, refl, sym, ◌∙◌, subst}
+use Rattle.std.proofs.lemmas.List.{append-nil}
 use Rattle.ferry_carry.proofs.NamingLemmas.{on_any, record_as}
-use Rattle.ferry_carry.proofs.PutsLemmas.{front_of}
 use Rattle.ferry_carry.proofs.WorkLemmas.{err_is, gathered_err, gathered_then}
 use Rattle.ferry_carry.proofs.naming.end_stream.Goals as goal
-use Rattle.ferry_carry.specs.Gather.{Gathers, KeepsStanding, chunks_of}
+use Rattle.ferry_carry.specs.Adding.{AddsOn}
+use Rattle.ferry_carry.specs.Gather.{chunks_of}
 use Rattle.ferry_carry.specs.Naming.{AddsUnder, BeginsRecord, copied_in}
 use Rattle.ferry_carry.specs.Piece.{CountsOn}
-use Rattle.ferry_carry.specs.Puts.{ArePieces, Stream}
-use Rattle.ferry_carry.specs.Work.{Works}
+use Rattle.ferry_carry.specs.Puts.{Addition, ArePieces, Stream}
 use Rattle.ferry_carry.specs.declared.fault.CarryFault.{CarryFault}
 use Rattle.ferry_item.specs.declared.item.ChunkRef.{ChunkRef}
 use Rattle.ferry_manifest.specs.Record.Text.{archive_view}
@@ -28,17 +28,18 @@ returns-in_err-pieces-clause-ended g c =
     let n = g.D.Shelf.faults c.args.depot.now in
     let m = g.D.Shelf.faults c.finish.new.depot in
     let fault = c.in_err-pieces.field-0.0 in
-    let finished = c.in_err-pieces.ensures.works Stream in
+    let finished = c.in_err-pieces.ensures.works Stream refl in
     let last = finished.0 in (
       last,
       (
         [],
         err_is c.from_residual.result fault
-            (λ (r : Result (List ℕ) CarryFault). Works (KeepsStanding most store (last ++ [])) (λ _. Gathers most store (last ++ []) now) a b n m r
+            (λ (r : Result (List ℕ) CarryFault). AddsOn most store (last ++ []) now a b n m r
             × (ArePieces Stream left last × (BeginsRecord keys archive []
             × (IfOk r (AddsUnder keys archive []) × OnOk r (CountsOn Stream stream last c.finish.new.self)))))
             c.from_residual.ensures.1 (
-              gathered_err {T = Vec ChunkRef Global} {U = List ℕ} most store now last (last ++ []) a b n m fault (front_of last []) finished.1.0,
+              subst (λ (l : List Addition). AddsOn {T = List ℕ} most store l now a b n m (Err fault)) (sym (append-nil last))
+                  (gathered_err {T = Vec ChunkRef Global} {U = List ℕ} most store now last a b n m fault finished.1.0),
               (finished.1.1.0, (inl refl, (tt, tt))),
             ),
       ),
@@ -53,7 +54,7 @@ returns-clause-ended g c =
     let stream = c.args.stream.now in
     let most = stream.checkpoint in
     let left = cut stream.cutter.block stream.cutter.piece in
-    let finished = c.in_ok-pieces.ensures.works Stream in
+    let finished = c.in_ok-pieces.ensures.works Stream refl in
     let put = c.put_copied.ensures.put in
     let said = record_as c.put_copied.result keys (repo_view middle.repo).keys (archive_view c.args.archive) c.args.block
     (stream.chunks.items ++ chunks_of keys left) c.deref.result.now put.0 c.in_ok-pieces.ensures.rest.keys

@@ -2,9 +2,8 @@ use Rattle.std.proofs.Common.{ℕ, inl, List, [], Result, IfOk, refl, subst}
 use Rattle.ferry_carry.proofs.NamingLemmas.{RecordIs}
 use Rattle.ferry_carry.proofs.WorkLemmas.{err_is, gathered_nothing}
 use Rattle.ferry_carry.proofs.naming.put_copied.Goals as goal
-use Rattle.ferry_carry.specs.Gather.{Gathers, KeepsStanding}
+use Rattle.ferry_carry.specs.Adding.{AddsOn}
 use Rattle.ferry_carry.specs.Naming.{AddsUnder, copied_in}
-use Rattle.ferry_carry.specs.Work.{Works}
 use Rattle.ferry_carry.specs.declared.fault.CarryFault.{CarryFault}
 use Rattle.ferry_carry.specs.declared.fault.CarryFault.TheVariants.{Memory}
 use Rattle.ferry_manifest.specs.Record.Text.{ArchiveText, archive_view}
@@ -20,8 +19,8 @@ returns-in_err-copied-clause-put g c =
       (
         λ most checkpoint pending.
             err_is c.from_residual.result Memory
-            (λ (r : Result (List ℕ) CarryFault). Works (KeepsStanding most store []) (λ _. Gathers most store [] store) a a n n r)
-            c.from_residual.ensures.1 (gathered_nothing {T = List ℕ} most store store [] a n Memory refl),
+            (λ (r : Result (List ℕ) CarryFault). AddsOn most store [] store a a n n r) c.from_residual.ensures.1
+            (gathered_nothing {T = List ℕ} most store a n Memory refl tt),
         (
           inl refl,
           err_is c.from_residual.result Memory (λ (r : Result (List ℕ) CarryFault). IfOk r (AddsUnder (repo_view store.repo).keys archive []))

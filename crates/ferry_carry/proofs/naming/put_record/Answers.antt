@@ -2,11 +2,10 @@ use Rattle.std.proofs.Common.{ℕ, inl, List, [], ◌∷◌, Result, IfErr, IfOk
 use Rattle.ferry_carry.proofs.NamingLemmas.{record_put}
 use Rattle.ferry_carry.proofs.WorkLemmas.{err_is, gathered_nothing}
 use Rattle.ferry_carry.proofs.naming.put_record.Goals as goal
-use Rattle.ferry_carry.specs.Gather.{Gathers, KeepsStanding}
+use Rattle.ferry_carry.specs.Adding.{AddsOn}
 use Rattle.ferry_carry.specs.Naming.{AddsUnder}
 use Rattle.ferry_carry.specs.Puts.{Record, addition}
 use Rattle.ferry_carry.specs.Refusals.{StopsPieces}
-use Rattle.ferry_carry.specs.Work.{Works}
 use Rattle.ferry_carry.specs.declared.fault.CarryFault.{CarryFault}
 use Rattle.ferry_manifest.specs.Record.Text.{archive_view}
 use Rattle.ferry_repo.specs.Opening.{repo_view}
@@ -21,9 +20,8 @@ returns-in_err-text-clause-put g c =
       [],
       (
         λ most checkpoint pending.
-            err_is c.from_residual.result fault
-            (λ (r : Result (List ℕ) CarryFault). Works (KeepsStanding most store []) (λ _. Gathers most store [] store) a a n n r)
-            c.from_residual.ensures.1 (gathered_nothing {T = List ℕ} most store store [] a n fault c.in_err-text.ensures.still),
+            err_is c.from_residual.result fault (λ (r : Result (List ℕ) CarryFault). AddsOn most store [] store a a n n r) c.from_residual.ensures.1
+            (gathered_nothing {T = List ℕ} most store a n fault c.in_err-text.ensures.still c.in_err-text.ensures.unbroken),
         (
           inl refl,
           err_is c.from_residual.result fault (λ (r : Result (List ℕ) CarryFault). IfOk r (AddsUnder keys (archive_view c.args.archive.now) []))

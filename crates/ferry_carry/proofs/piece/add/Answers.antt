@@ -1,17 +1,18 @@
-use Rattle.std.proofs.Common.{◌≢◌, ◌∷◌, [], Result, IfErr}
+use Rattle.std.proofs.Common.{◌≢◌, ◌∷◌, [], Result, Err, IfErr, refl}
 use Rattle.std.proofs.lemmas.Option.{IfSome_then}
 use Rattle.ferry_disk.specs.Device.{told_files}
 use Rattle.ferry_store.specs.Fault.{depot_failed}
 use Rattle.ferry_store.specs.declared.fault.StoreRefusal.TheVariants.{TooLarge}
-use Rattle.ferry_carry.proofs.FaultLemmas.{adds_small, pieces_stop, told_behind}
+use Rattle.ferry_carry.proofs.AddingLemmas.{adds_last, held_target}
+use Rattle.ferry_carry.proofs.FaultLemmas.{adds_small, pieces_stop, target_is, told_behind}
 use Rattle.ferry_carry.proofs.GatherLemmas.{AddedSo, add_gathers, add_stands, added_fits}
 use Rattle.ferry_carry.proofs.WorkLemmas.{err_is, works_err, works_ok}
 use Rattle.ferry_carry.proofs.piece.add.Goals as goal
+use Rattle.ferry_carry.specs.Adding.{AddsOn}
 use Rattle.ferry_carry.specs.Fault.{target_fault}
 use Rattle.ferry_carry.specs.Gather.{Gathers, KeepsStanding}
-use Rattle.ferry_carry.specs.Puts.{addition}
+use Rattle.ferry_carry.specs.Puts.{Within, addition}
 use Rattle.ferry_carry.specs.Refusals.{StopsPieces}
-use Rattle.ferry_carry.specs.Work.{Works}
 use Rattle.ferry_carry.specs.declared.fault.CarryFault.{CarryFault}
 use Rattle.ferry_repo.specs.Opening.{repo_view}
 use Rattle.ferry_store.specs.Adding.{Adds}
@@ -29,11 +30,13 @@ returns-in_err-added-clause-works g c most kind put is room =
     let content = c.args.content.now in
     let one = addition kind content put in
     let refusal = c.in_err-added.field-0.0 in
-    err_is c.from_residual.result (target_fault refusal)
-    (λ (r : Result Added CarryFault). Works (KeepsStanding most store (one ∷ [])) (λ _. Gathers most store (one ∷ []) now) a b n m r) c.from_residual.ensures.1
-    (works_err {T = Added} (KeepsSound store.session store.counter) (Adds store content now) (KeepsStanding most store (one ∷ []))
-    (λ _. Gathers most store (one ∷ []) now)
-    a b n m refusal (add_stands most store (one ∷ [])) c.add.ensures.untold c.in_err-added.ensures.did)
+    err_is c.from_residual.result (target_fault refusal) (λ (r : Result Added CarryFault). AddsOn most store (one ∷ []) now a b n m r)
+    c.from_residual.ensures.1 (record {
+      works = works_err {T = Added} (KeepsSound store.session store.counter) (Adds store content now) (KeepsStanding most store (one ∷ []))
+          (λ _. Gathers most store (one ∷ []) now) a b n m refusal (add_stands most store (one ∷ [])) c.add.ensures.untold c.in_err-added.ensures.did;
+      last = IfSome_then a c.in_err-added.ensures.refused (λ t r. adds_last store content one (told_files t) refusal refl r);
+      held = held_target {T = Added} Within most store now (one ∷ []) a b (Err (target_fault refusal)) (target_is refusal);
+    })
 
 pub returns-clause-works : goal.returns-clause-works
 returns-clause-works g c most kind put is room =
@@ -54,10 +57,14 @@ returns-clause-works g c most kind put is room =
       opens = c.in_ok-added.ensures.opens;
       accepted = c.add.ensures.accepted;
     } in
-    works_ok (KeepsSound store.session store.counter) (Adds store content now) (KeepsStanding most store (one ∷ []))
-    (λ _. Gathers most store (one ∷ []) now) a b n m added added
-    (add_stands most store (one ∷ [])) (λ h k adds. add_gathers most store now kind content put added h k is room so adds) c.add.ensures.untold
-    c.in_ok-added.ensures.did
+    record {
+      works = works_ok (KeepsSound store.session store.counter) (Adds store content now) (KeepsStanding most store (one ∷ []))
+          (λ _. Gathers most store (one ∷ []) now) a b n m added added
+          (add_stands most store (one ∷ [])) (λ h k adds. add_gathers most store now kind content put added h k is room so adds) c.add.ensures.untold
+          c.in_ok-added.ensures.did;
+      last = tt;
+      held = tt;
+    }
 
 pub returns-clause-fits : goal.returns-clause-fits
 returns-clause-fits g c =

@@ -132,7 +132,8 @@ returns-in_err-carry-clause-refused g c =
     c.from_residual-in_err-carry.ensures.1
     (names_refused c.args.secrets.now c.args.options.now c.args.names.now (repo_view c.args.repo.now) told a b d c.deref-2.result.now store
     c.carry.new.store c.requires.source_opens chosen_is c.in_ok-store.ensures.opened accepts c.open.ensures.untold works.each fault
-    c.in_err-carry.ensures.limit c.in_err-carry.ensures.refused)
+    c.in_err-carry.ensures.limit
+    (c.in_err-carry.ensures.works.added, (c.in_err-carry.ensures.works.begins, c.in_err-carry.ensures.works.last)) c.in_err-carry.ensures.refused)
 
 pub returns-in_err-chosen-clause-only_told : goal.returns-in_err-chosen-clause-only_told
 returns-in_err-chosen-clause-only_told g c =

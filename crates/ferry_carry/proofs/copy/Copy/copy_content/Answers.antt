@@ -1,14 +1,15 @@
-use Rattle.std.proofs.Common.{◌≡◌, ◌≤◌, ◌++◌, ℕ, List, [], inl, Some, Result, Ok, Err, IfOk, OnOk, length, refl, sym, ◌∙◌, ap, subst, arith}
-use Rattle.ferry_carry.proofs.CopyLemmas.{contents_begun, contents_from, content_copied, content_whole, gathered_fault}
+use Rattle.std.proofs.Common.{◌≡◌, ◌≤◌, ◌++◌, ℕ, List, [], inl, Some, Result, Ok, Err, IfErr, IfOk, OnOk, length, refl, sym, ◌∙◌, ap, subst, arith}
+use Rattle.ferry_carry.proofs.CopyLemmas.{contents_begun, contents_from, content_copied, content_whole}
+use Rattle.ferry_carry.proofs.FillingLemmas.{filled_from, where_target}
 use Rattle.ferry_carry.proofs.PieceLemmas.{counts_then, pieces_then}
-use Rattle.ferry_carry.proofs.PutsLemmas.{contents_append, front_all, of_append}
-use Rattle.ferry_carry.proofs.WorkLemmas.{err_is, gathered_as, gathered_err, gathered_nothing}
+use Rattle.ferry_carry.proofs.PutsLemmas.{contents_append, of_append}
+use Rattle.ferry_carry.proofs.WorkLemmas.{err_is, gathered_as, gathered_err, gathered_fault, gathered_nothing}
 use Rattle.ferry_carry.proofs.copy.Copy.copy_content.Goals as goal
+use Rattle.ferry_carry.specs.Adding.{AddsOn}
 use Rattle.ferry_carry.specs.Copying.{BeginsContent, CopiesContent}
-use Rattle.ferry_carry.specs.Gather.{Gathers, KeepsStanding}
+use Rattle.ferry_carry.specs.Filling.{FillsContent, WhereSource}
 use Rattle.ferry_carry.specs.Piece.{CountsOn}
 use Rattle.ferry_carry.specs.Puts.{AreOf, Content, contents_in}
-use Rattle.ferry_carry.specs.Work.{Works}
 use Rattle.ferry_carry.specs.declared.fault.CarryFault.{CarryFault}
 use Rattle.ferry_carry.specs.declared.fault.CarryFault.TheVariants.{Memory, Pieces}
 use Rattle.ferry_item.specs.declared.item.ChunkRef.{ChunkRef}
@@ -21,14 +22,14 @@ returns-then-total_size-self-clause-copied g c =
     let store = c.args.store.now in (
       [],
       (
-        gathered_nothing {T = ChunkRefs} c.args.self.now.contents.checkpoint store store [] (g.D.Shelf.told c.args.depot.now)
-            (g.D.Shelf.faults c.args.depot.now) Pieces refl,
+        gathered_nothing {T = ChunkRefs} c.args.self.now.contents.checkpoint store (g.D.Shelf.told c.args.depot.now)
+            (g.D.Shelf.faults c.args.depot.now) Pieces refl tt,
         (
           tt,
           (
             inl (contents_begun (g.S.Shelf.told c.args.shelf.now) (repo_view c.args.source.now) c.args.chunks.now
                 (record { block = c.args.self.now.block; piece = [] })),
-            (tt, tt),
+            (tt, (tt, tt)),
           ),
         ),
       ),
@@ -56,16 +57,20 @@ returns-in_err-write_contents-clause-copied g c =
     let fault = c.in_err-write_contents.field-0.0 in (
       more,
       err_is c.from_residual.result fault
-          (λ (r : Result ChunkRefs CarryFault). Works (KeepsStanding most store more) (λ _. Gathers most store more now) a b n m r
+          (λ (r : Result ChunkRefs CarryFault). AddsOn most store more now a b n m r
           × (AreOf Content more × (BeginsContent told source block (Some refs) (contents_in more)
+          × ((IfErr r (λ f. WhereSource told f (λ there refusal. FillsContent there source block (Some refs) refusal (contents_in more))))
           × (IfOk r (λ copied. CopiesContent told source block keys (Some refs) (contents_in more) (Some copied))
-          × OnOk r (CountsOn Content contents more contents_now))))) c.from_residual.ensures.1 (
-            gathered_err {T = Unit {0}} {U = ChunkRefs} most store now more more a b n m fault (front_all more) wrote.1.0,
+          × OnOk r (CountsOn Content contents more contents_now)))))) c.from_residual.ensures.1 (
+            gathered_err {T = Unit {0}} {U = ChunkRefs} most store now more a b n m fault wrote.1.0,
             (
               wrote.1.1.0,
               (
                 inl (contents_from told source refs block contents.cutter (contents_in more) ready.contents_block ready.contents_piece wrote.1.1.1.0),
-                (tt, tt),
+                (
+                  filled_from told source refs block contents.cutter fault (contents_in more) ready.contents_block ready.contents_piece wrote.1.1.1.1.0,
+                  (tt, tt),
+                ),
               ),
             ),
           ),
@@ -74,7 +79,7 @@ returns-in_err-write_contents-clause-copied g c =
 pub returns-in_err-copied-clause-copied : goal.returns-in_err-copied-clause-copied
 returns-in_err-copied-clause-copied g c =
     let wrote = c.in_ok-write_contents.ensures.written in
-    let last = c.in_err-copied.ensures.works Content in
+    let last = c.in_err-copied.ensures.works Content refl in
     let more = wrote.0 ++ last.0 in
     let ready = c.requires.ready in
     let contents = c.args.self.now.contents in
@@ -98,11 +103,12 @@ returns-in_err-copied-clause-copied g c =
     let fault = c.in_err-copied.field-0.0 in (
       more,
       err_is c.from_residual-in_err-copied.result fault
-          (λ (r : Result ChunkRefs CarryFault). Works (KeepsStanding most store more) (λ _. Gathers most store more now) a b n m r
+          (λ (r : Result ChunkRefs CarryFault). AddsOn most store more now a b n m r
           × (AreOf Content more × (BeginsContent told source block (Some refs) (contents_in more)
+          × ((IfErr r (λ f. WhereSource told f (λ there refusal. FillsContent there source block (Some refs) refusal (contents_in more))))
           × (IfOk r (λ copied. CopiesContent told source block keys (Some refs) (contents_in more) (Some copied))
-          × OnOk r (CountsOn Content contents more contents_now))))) c.from_residual-in_err-copied.ensures.1 (
-            gathered_err {U = ChunkRefs} most store now more more a b n m fault (front_all more)
+          × OnOk r (CountsOn Content contents more contents_now)))))) c.from_residual-in_err-copied.ensures.1 (
+            gathered_err {U = ChunkRefs} most store now more a b n m fault
                 (pieces_then {T = Unit {0}} most most left.checkpoint store c.write_contents.new.store now wrote.0 last.0 a
                 (g.D.Shelf.told c.write_contents.new.depot) b n
                 (g.D.Shelf.faults c.write_contents.new.depot) m tt (Err fault) refl c.in_ok-write_contents.ensures.checkpoint
@@ -111,8 +117,12 @@ returns-in_err-copied-clause-copied g c =
               of_append Content wrote.0 last.0 wrote.1.1.0 last.1.1.0.1,
               (
                 content_whole told source block keys refs contents.cutter left.cutter contents.chunks.items left.chunks.items (contents_in wrote.0)
-                    (contents_in more) least ready.contents_block ready.contents_piece pieces wrote.1.1.1.1.0,
-                (tt, tt),
+                    (contents_in more) least ready.contents_block ready.contents_piece pieces wrote.1.1.1.1.1.0,
+                (
+                  where_target told fault (λ there refusal. FillsContent there source block (Some refs) refusal (contents_in more))
+                      c.in_err-copied.ensures.target,
+                  (tt, tt),
+                ),
               ),
             ),
           ),
@@ -121,7 +131,7 @@ returns-in_err-copied-clause-copied g c =
 pub returns-then-len-clause-copied : goal.returns-then-len-clause-copied
 returns-then-len-clause-copied g c =
     let wrote = c.in_ok-write_contents.ensures.written in
-    let last = c.in_ok-copied.ensures.works Content in
+    let last = c.in_ok-copied.ensures.works Content refl in
     let more = wrote.0 ++ last.0 in
     let ready = c.requires.ready in
     let contents = c.args.self.now.contents in
@@ -139,7 +149,7 @@ returns-then-len-clause-copied g c =
     contents_append wrote.0 last.0 ∙ ap (λ (ps : List (List ℕ)). contents_in wrote.0 ++ ps) last.1.1.0.0 in (
       more,
       (
-        gathered_fault {U = ChunkRefs} most store now more a b n m c.in_ok-copied.copied Memory refl
+        gathered_fault {U = ChunkRefs} most store now more a b n m c.in_ok-copied.copied Memory refl tt
             (pieces_then {T = Unit {0}} most most left.checkpoint store c.write_contents.new.store now wrote.0 last.0 a
             (g.D.Shelf.told c.write_contents.new.depot) b n
             (g.D.Shelf.faults c.write_contents.new.depot) m tt (Ok c.in_ok-copied.copied) refl c.in_ok-write_contents.ensures.checkpoint
@@ -150,8 +160,8 @@ returns-then-len-clause-copied g c =
           (
             content_whole (g.S.Shelf.told c.args.shelf.now) (repo_view c.args.source.now) block (repo_view store.repo).keys c.args.chunks.now
                 contents.cutter left.cutter contents.chunks.items left.chunks.items (contents_in wrote.0) (contents_in more) least
-                ready.contents_block ready.contents_piece pieces wrote.1.1.1.1.0,
-            (tt, tt),
+                ready.contents_block ready.contents_piece pieces wrote.1.1.1.1.1.0,
+            (tt, (tt, tt)),
           ),
         ),
       ),
@@ -160,7 +170,7 @@ returns-then-len-clause-copied g c =
 pub returns-clause-copied : goal.returns-clause-copied
 returns-clause-copied g c =
     let wrote = c.in_ok-write_contents.ensures.written in
-    let last = c.in_ok-copied.ensures.works Content in
+    let last = c.in_ok-copied.ensures.works Content refl in
     let more = wrote.0 ++ last.0 in
     let ready = c.requires.ready in
     let contents = c.args.self.now.contents in
@@ -194,16 +204,19 @@ returns-clause-copied g c =
           of_append Content wrote.0 last.0 wrote.1.1.0 last.1.1.0.1,
           (
             content_whole told source block keys refs contents.cutter left.cutter contents.chunks.items left.chunks.items (contents_in wrote.0)
-                (contents_in more) least ready.contents_block ready.contents_piece pieces wrote.1.1.1.1.0,
+                (contents_in more) least ready.contents_block ready.contents_piece pieces wrote.1.1.1.1.1.0,
             (
-              subst (λ (ps : List (List ℕ)). CopiesContent told source block keys (Some refs) ps (Some c.new.result)) (sym pieces)
-                  (subst (λ (copied : List ChunkRef). CopiesContent told source block keys (Some refs)
-                  (contents_in wrote.0 ++ cut left.cutter.block left.cutter.piece) (Some copied)) (sym c.new.ensures.chunks)
-                  (content_copied told source block keys (repo_view middle.repo).keys refs contents.cutter left.cutter
-                  contents.chunks.items left.chunks.items c.in_ok-copied.copied.items (contents_in wrote.0) least ready.contents_block
-                  ready.contents_piece ready.contents_chunks c.in_ok-write_contents.ensures.rest.keys wrote.1.1.1.1.0 c.in_ok-copied.ensures.chunks
-                  few)),
-              counts_then Content contents left c.finish.new.self wrote.0 last.0 wrote.1.1.1.1.1 last.1.1.1,
+              tt,
+              (
+                subst (λ (ps : List (List ℕ)). CopiesContent told source block keys (Some refs) ps (Some c.new.result)) (sym pieces)
+                    (subst (λ (copied : List ChunkRef). CopiesContent told source block keys (Some refs)
+                    (contents_in wrote.0 ++ cut left.cutter.block left.cutter.piece) (Some copied)) (sym c.new.ensures.chunks)
+                    (content_copied told source block keys (repo_view middle.repo).keys refs contents.cutter left.cutter
+                    contents.chunks.items left.chunks.items c.in_ok-copied.copied.items (contents_in wrote.0) least ready.contents_block
+                    ready.contents_piece ready.contents_chunks c.in_ok-write_contents.ensures.rest.keys wrote.1.1.1.1.1.0 c.in_ok-copied.ensures.chunks
+                    few)),
+                counts_then Content contents left c.finish.new.self wrote.0 last.0 wrote.1.1.1.1.1.1 last.1.1.1,
+              ),
             ),
           ),
         ),

@@ -1,15 +1,16 @@
 use Rattle.std.proofs.Common.{◌≡◌, ◌≤◌, ◌++◌, Bool, true, false, [], inl, Option, Result, Ok, Err, IfErr, IfSome, refl, ◌∙◌, ap, arith}
 use Rattle.ferry_carry.proofs.CopyLemmas.{copied_packable}
+use Rattle.ferry_carry.proofs.FillingLemmas.{item_filled, next_filled, where_target}
 use Rattle.ferry_carry.proofs.GatherLemmas.{rest_here, rest_then}
 use Rattle.ferry_carry.proofs.PieceLemmas.{pieces_at, pieces_then}
-use Rattle.ferry_carry.proofs.PutsLemmas.{front_all}
-use Rattle.ferry_carry.proofs.RefusalLemmas.{item_refused, next_refused}
+use Rattle.ferry_carry.proofs.RefusalLemmas.{item_refused, next_refused, next_unbroken}
 use Rattle.ferry_carry.proofs.StepLemmas.{StepIs, content_begun, copied_behind, copied_refused, most_added, most_taken, spelling_begun, step_copies}
 use Rattle.ferry_carry.proofs.StepLemmas.{step_counts}
 use Rattle.ferry_carry.proofs.WorkLemmas.{err_is, gathered_as, gathered_err, gathered_none, gathered_nothing}
 use Rattle.ferry_carry.proofs.copy.Copy.step.Goals as goal
 use Rattle.ferry_carry.specs.Carrying.{origin}
 use Rattle.ferry_carry.specs.Copying.{TakesItem}
+use Rattle.ferry_carry.specs.Filling.{FillsNext}
 use Rattle.ferry_carry.specs.Puts.{contents_in}
 use Rattle.ferry_carry.specs.Refusals.{RefusesStep}
 use Rattle.ferry_carry.specs.declared.copy.Copy.{Copy}
@@ -32,7 +33,7 @@ write_item-requires-clause-packable g c =
     let packable : IsPackable (item_view c.in-Some.item) =
     some_holds c.in_ok-item.field-0 c.in-Some.item (λ (item : Item). IsPackable (item_view item)) c.in-Some.is c.in_ok-item.ensures.packable in
     copied_packable (g.S.Shelf.told c.next.new.shelf) (repo_view c.next.new.source) c.next.new.self.block (repo_view c.args.store.now.repo).keys
-    (item_view c.in-Some.item) c.in_ok-chunks.chunks (contents_in copied.0) least most packable copied.1.1.1.1.0
+    (item_view c.in-Some.item) c.in_ok-chunks.chunks (contents_in copied.0) least most packable copied.1.1.1.1.1.0
 
 pub returns-in_err-item-clause-steps : goal.returns-in_err-item-clause-steps
 returns-in_err-item-clause-steps g c =
@@ -44,8 +45,11 @@ returns-in_err-item-clause-steps g c =
     let n = g.D.Shelf.faults c.args.depot.now in
     let fault = c.in_err-item.field-0.0 in (
       [],
-      err_is c.from_residual.result fault (StepIs told source copy c.next.new.self store store [] a a n n) c.from_residual.ensures.1
-          (gathered_nothing {T = Bool} copy.contents.checkpoint store store [] a n fault c.in_err-item.ensures.still, (inl refl, tt)),
+      err_is c.from_residual.result fault (StepIs told source copy c.next.new.self store store [] a a n n) c.from_residual.ensures.1 (
+        gathered_nothing {T = Bool} copy.contents.checkpoint store a n fault c.in_err-item.ensures.still
+            (next_unbroken told source (walk_view copy.walk) fault c.in_err-item.ensures.refused),
+        ((inl refl, next_filled told source copy fault c.in_err-item.ensures.refused), tt),
+      ),
     )
 
 pub returns-in_default-clause-steps : goal.returns-in_default-clause-steps
@@ -89,13 +93,18 @@ returns-in_err-chunks-clause-steps g c =
       came.0,
       err_is c.from_residual-in_err-chunks.result fault (StepIs told source copy c.copy_chunks.new.self store now came.0 a b n m)
           c.from_residual-in_err-chunks.ensures.1 (
-            gathered_err {T = Option ChunkRefs} {U = Bool} most store now came.0 came.0 a b n m fault (front_all came.0)
+            gathered_err {T = Option ChunkRefs} {U = Bool} most store now came.0 a b n m fault
                 (pieces_at {T = Option ChunkRefs} most next.contents.checkpoint store now came.0 a b n m (Err fault)
                 (most_taken copy next c.in_ok-item.ensures.others) came.1.0),
             (
-              content_begun told (g.S.Shelf.told c.next.new.shelf) source (repo_view c.next.new.source) (repo_view store.repo).keys copy next
-                  (item_view c.in-Some.item) came.0 c.in_ok-item.ensures.same c.in_ok-item.ensures.kept c.in_ok-item.ensures.others taken came.1.1.0
-                  came.1.1.1.0,
+              (
+                content_begun told (g.S.Shelf.told c.next.new.shelf) source (repo_view c.next.new.source) (repo_view store.repo).keys copy next
+                    (item_view c.in-Some.item) came.0 c.in_ok-item.ensures.same c.in_ok-item.ensures.kept c.in_ok-item.ensures.others taken came.1.1.0
+                    came.1.1.1.0,
+                item_filled told (g.S.Shelf.told c.next.new.shelf) source (repo_view c.next.new.source) copy next (item_view c.in-Some.item) came.0 fault
+                    c.in_ok-item.ensures.same c.in_ok-item.ensures.kept (ap (λ (x : Copy). x.block) c.in_ok-item.ensures.others) taken came.1.1.0
+                    came.1.1.1.1.0,
+              ),
               tt,
             ),
           ),
@@ -127,15 +136,19 @@ returns-in_err-write_item-clause-steps g c =
       more,
       err_is c.from_residual-in_err-write_item.result fault (StepIs told source copy c.write_item.new.self store now more a b n m)
           c.from_residual-in_err-write_item.ensures.1 (
-            gathered_err {T = Unit {0}} {U = Bool} copy.contents.checkpoint store now more more a b n m fault (front_all more)
+            gathered_err {T = Unit {0}} {U = Bool} copy.contents.checkpoint store now more a b n m fault
                 (pieces_then {T = Option ChunkRefs} {U = Unit {0}} copy.contents.checkpoint next.contents.checkpoint
                 middle.stream.checkpoint store c.copy_chunks.new.store now came.0 wrote.0 a
                 (g.D.Shelf.told c.copy_chunks.new.depot) b n (g.D.Shelf.faults c.copy_chunks.new.depot) m c.in_ok-chunks.chunks (Err fault)
                 begun held c.in_ok-chunks.ensures.rest tt came.1.0 wrote.1.0),
             (
-              spelling_begun told (g.S.Shelf.told c.next.new.shelf) source (repo_view c.next.new.source) (repo_view store.repo).keys copy next middle
-                  (item_view c.in-Some.item) c.in_ok-chunks.chunks came.0 wrote.0 c.in_ok-item.ensures.same c.in_ok-item.ensures.kept
-                  c.in_ok-item.ensures.others c.in_ok-chunks.ensures.others taken came.1.1.0 came.1.1.1.1.0 wrote.1.1.0 wrote.1.1.1.0,
+              (
+                spelling_begun told (g.S.Shelf.told c.next.new.shelf) source (repo_view c.next.new.source) (repo_view store.repo).keys copy next middle
+                    (item_view c.in-Some.item) c.in_ok-chunks.chunks came.0 wrote.0 c.in_ok-item.ensures.same c.in_ok-item.ensures.kept
+                    c.in_ok-item.ensures.others c.in_ok-chunks.ensures.others taken came.1.1.0 came.1.1.1.1.1.0 wrote.1.1.0 wrote.1.1.1.0,
+                where_target told fault (λ there refusal. FillsNext there source copy.block (walk_view copy.walk) refusal more)
+                    c.in_err-write_item.ensures.target,
+              ),
               tt,
             ),
           ),
@@ -177,10 +190,10 @@ returns-clause-steps g c =
             step_copies told (g.S.Shelf.told c.next.new.shelf) source (repo_view c.next.new.source) (repo_view store.repo).keys
                 (repo_view c.copy_chunks.new.store.repo).keys copy next middle copy_now (item_view c.in-Some.item)
                 c.in_ok-chunks.chunks came.0 wrote.0 c.in_ok-item.ensures.same c.in_ok-item.ensures.kept c.in_ok-chunks.ensures.rest.keys
-                c.in_ok-item.ensures.others c.in_ok-chunks.ensures.others c.in_ok-write_item.ensures.others taken came.1.1.0 came.1.1.1.1.0 wrote.1.1.0
+                c.in_ok-item.ensures.others c.in_ok-chunks.ensures.others c.in_ok-write_item.ensures.others taken came.1.1.0 came.1.1.1.1.1.0 wrote.1.1.0
                 wrote.1.1.1.1.0 c.in_ok-write_item.ensures.again,
             step_counts copy next middle copy_now came.0 wrote.0 c.in_ok-item.ensures.others c.in_ok-chunks.ensures.others
-                c.in_ok-write_item.ensures.others came.1.1.0 wrote.1.1.0 came.1.1.1.1.1 wrote.1.1.1.1.1,
+                c.in_ok-write_item.ensures.others came.1.1.0 wrote.1.1.0 came.1.1.1.1.1.1 wrote.1.1.1.1.1,
           ),
         ),
       ),

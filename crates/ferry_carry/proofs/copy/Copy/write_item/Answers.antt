@@ -2,11 +2,10 @@ use Rattle.std.proofs.Common.{◌≡◌, ◌++◌, ℕ, List, [], Result, OnOk, 
 use Rattle.ferry_carry.proofs.PieceLemmas.{begins_nothing, ok_to}
 use Rattle.ferry_carry.proofs.WorkLemmas.{err_is, gathered_nothing}
 use Rattle.ferry_carry.proofs.copy.Copy.write_item.Goals as goal
+use Rattle.ferry_carry.specs.Adding.{AddsOn}
 use Rattle.ferry_carry.specs.Copying.{WritesItem}
-use Rattle.ferry_carry.specs.Gather.{Gathers, KeepsStanding}
 use Rattle.ferry_carry.specs.Piece.{BeginsOn, CountsOn, WritesOn}
 use Rattle.ferry_carry.specs.Puts.{AreOf, Stream, contents_in}
-use Rattle.ferry_carry.specs.Work.{Works}
 use Rattle.ferry_carry.specs.declared.fault.CarryFault.{CarryFault}
 use Rattle.ferry_carry.specs.declared.fault.CarryFault.TheVariants.{Memory}
 use Rattle.ferry_item.specs.Item.{item_view}
@@ -22,18 +21,18 @@ returns-in_err-write_item-clause-written g c =
     let item = item_view c.args.item.now in (
       [],
       err_is c.from_residual.result Memory
-          (λ (r : Result (Unit {0}) CarryFault). Works (KeepsStanding stream.checkpoint store []) (λ _. Gathers stream.checkpoint store [] store) a a n n r
+          (λ (r : Result (Unit {0}) CarryFault). AddsOn stream.checkpoint store [] store a a n n r
           × (AreOf Stream [] × (BeginsOn stream.cutter (item_text item) []
           × OnOk r (WritesItem (repo_view store.repo).keys stream.cutter stream.chunks.items item [] stream.cutter stream.chunks.items
           × CountsOn Stream stream [] stream)))) c.from_residual.ensures.1 (
-            gathered_nothing {T = Unit {0}} stream.checkpoint store store [] a n Memory refl,
+            gathered_nothing {T = Unit {0}} stream.checkpoint store a n Memory refl tt,
             (tt, (begins_nothing stream.cutter (item_text item), tt)),
           ),
     )
 
 pub returns-clause-written : goal.returns-clause-written
 returns-clause-written g c =
-    let wrote = c.write.ensures.written Stream in
+    let wrote = c.write.ensures.written Stream refl in
     let more = wrote.0 in
     let stream = c.args.self.now.stream in
     let stream_now = c.write.new.self in

@@ -2,9 +2,8 @@ use Rattle.std.proofs.Common.{[], ◌∙◌, Result, ap}
 use Rattle.ferry_carry.proofs.FlightLemmas.{fits_read, works_read, works_unread}
 use Rattle.ferry_carry.proofs.WorkLemmas.{err_is}
 use Rattle.ferry_carry.proofs.flight.Flight.begin_comparing.Goals as goal
+use Rattle.ferry_carry.specs.Adding.{AddsOn}
 use Rattle.ferry_carry.specs.Fault.{compare_fault}
-use Rattle.ferry_carry.specs.Gather.{Gathers, KeepsStanding}
-use Rattle.ferry_carry.specs.Work.{Works}
 use Rattle.ferry_carry.specs.declared.fault.CarryFault.{CarryFault}
 use Rattle.ferry_compare.specs.declared.comparison.Comparison.{Comparison}
 use Rattle.ferry_repo.specs.Opening.{repo_view}
@@ -20,8 +19,10 @@ returns-in_err-comparison-clause-works g c most =
     let now : Store = record store { repo = c.begin.new.target } in
     let fault = c.in_err-comparison.field-0.0 in
     err_is c.from_residual.result (compare_fault fault)
-    (λ (r : Result Comparison CarryFault). Works (KeepsStanding most store []) (λ _. Gathers most store [] now) a b n m r) c.from_residual.ensures.1
-    (works_unread {U = Comparison} Comparison most store now a b n m fault c.in_err-comparison.ensures.target_same c.in_err-comparison.ensures.target_cause)
+    (λ (r : Result Comparison CarryFault). AddsOn most store [] now a b n m r) c.from_residual.ensures.1
+    (works_unread {U = Comparison} Comparison most store c.begin.new.target a b n m fault (c.begin.ensures.target_kept ∙ ap repo_view c.repo.ensures.repo)
+    c.in_err-comparison.ensures.target_same c.in_err-comparison.ensures.target_cause c.in_err-comparison.ensures.refused_target
+    c.begin.ensures.target_fits)
 
 pub returns-in_err-comparison-clause-fits : goal.returns-in_err-comparison-clause-fits
 returns-in_err-comparison-clause-fits g c =

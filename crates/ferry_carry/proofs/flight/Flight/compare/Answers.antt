@@ -1,14 +1,17 @@
-use Rattle.std.proofs.Common.{◌≡◌, [], ◌∷◌, ℕ, List, Some, Result, Ok, refl, sym, ◌∙◌, ap, subst, IfErr, IsSome}
+use Rattle.std.proofs.Common.{◌≡◌, [], ◌∷◌, ℕ, List, Some, Result, Ok, Err, refl, sym, ◌∙◌, ap, subst, IfErr, IsSome}
 use Rattle.ferry_carry.proofs.AcceptingLemmas.{still_rest}
-use Rattle.ferry_carry.proofs.CopyLemmas.{gathered_fault}
 use Rattle.ferry_carry.proofs.FlightLemmas.{on_ok, read_rest, rest_accepts, rest_there, there_accepted}
-use Rattle.ferry_carry.proofs.FlyLemmas.{begins_there, flies_as, flies_fault, present_flies, taken_still, turn_present, turn_stands, turned_err}
+use Rattle.ferry_carry.proofs.FlyLemmas.{begins_there, filled_apart, fills_there, flies_as, flies_fault, present_flies, present_stands, stands_within}
+use Rattle.ferry_carry.proofs.FlyLemmas.{taken_still, taken_unbroken, turn_present, turned_err}
 use Rattle.ferry_carry.proofs.GrowLemmas.{most_from}
-use Rattle.ferry_carry.proofs.WorkLemmas.{carried_from, err_is}
+use Rattle.ferry_carry.proofs.HeldLemmas.{held_apart, held_within, targets_apart}
+use Rattle.ferry_carry.proofs.ReportLemmas.{told_unbroken}
+use Rattle.ferry_carry.proofs.WorkLemmas.{carried_from, err_is, gathered_fault}
 use Rattle.ferry_carry.proofs.flight.Flight.compare.Goals as goal
 use Rattle.ferry_carry.specs.Flight.{IsSame, flown_from}
 use Rattle.ferry_carry.specs.Gather.{KeepsRest}
 use Rattle.ferry_carry.specs.Grow.{AcceptsMore}
+use Rattle.ferry_carry.specs.Puts.{AtBegin, border_behind}
 use Rattle.ferry_carry.specs.declared.fault.CarryFault.{CarryFault}
 use Rattle.ferry_carry.specs.declared.flight.Turn.{Turn}
 use Rattle.ferry_carry.specs.declared.flight.Turn.TheVariants.{More, Present}
@@ -20,7 +23,6 @@ use Rattle.ferry_carry.proofs.NamingLemmas.{pieces_limit, taken_limit}
 use Rattle.ferry_carry.specs.Carrying.{origin}
 use Rattle.ferry_carry.specs.Refusals.{DiffersThere, IsLimited, RefusesComparing, RefusesName, StopsPieces}
 use Rattle.std.proofs.lemmas.Result.{IfErr-weaker}
-use Rattle.ferry_carry.proofs.StandLemmas.{stands_behind}
 use Rattle.ferry_store.specs.Commit.{accepted_in}
 
 pub returns-in-More-clause-works : goal.returns-in-More-clause-works
@@ -35,15 +37,19 @@ returns-in-More-clause-works g c =
     let m = g.D.Shelf.faults c.compare_item.new.depot in
     let compared = c.in_ok-compare_item.field-0 in
     let read = c.compare_item.ensures.read in
+    let at = border_behind AtBegin [] in
     let works = c.in_ok-compare_item.ensures.works from.most in (
       [],
       record {
-        flies = flies_as {T = Compared} from name [] [] store now a b n m compared More refl
-            (carried_from {T = Compared} {U = Compared} from (name ∷ []) store now [] a b n m compared compared c.requires.accepts
+        flies = flies_as {T = Compared} [] from name [] [] store now a b n m compared More refl
+            (carried_from {T = Compared} {U = Compared} [] from (name ∷ []) store now [] a b n m compared compared c.requires.accepts
             (read_rest store now read) works);
         begins = begins_there a from (repo_view store.repo).keys (accepted_in store) name
             (there_accepted store name c.requires.accepts c.requires.there);
-        stands = works.each;
+        stands = stands_within at from.most store [] a b works.works.each;
+        last = tt;
+        held = tt;
+        fills = tt;
         lists = (
           record {
             stands = record {
@@ -90,7 +96,8 @@ returns-in-Equal-clause-works g c =
     (c.in_ok-compare_item.ensures.equal (ap Ok c.in-Equal.is) from.block from.most) in
     let compared = c.in_ok-compare_item.field-0 in
     let works = c.in_ok-compare_item.ensures.works from.most in
-    let ends = c.present.ensures.works from.most in (
+    let ends = c.present.ensures.works from.most in
+    let apart = targets_apart {T = Turn} c.present.result c.present.ensures.target in (
       [],
       record {
         flies = present_flies {T = Compared} from name store middle now a b d n m k compared c.present.result c.requires.accepts
@@ -98,8 +105,10 @@ returns-in-Equal-clause-works g c =
             (rest_there store middle name rest c.requires.there) same works ends;
         begins = begins_there a from (repo_view store.repo).keys (accepted_in store) name
             (there_accepted store name c.requires.accepts c.requires.there);
-        stands = turn_stands from.most store [] a d c.present.result
-            (stands_behind {T = Compared} from.most store middle [] [] a b d n m compared rest.keys works ends.each);
+        stands = present_stands {T = Compared} from.most store middle a b d n m compared c.present.result rest.keys works ends.each;
+        last = told_unbroken {T = Turn} a (repo_view store.repo).keys [] c.present.result c.present.ensures.unbroken;
+        held = held_apart {T = Turn} (border_behind AtBegin []) from.most store now [] a d c.present.result apart;
+        fills = filled_apart {T = Turn} a from (repo_view store.repo).keys (accepted_in store) name [] c.present.result apart;
         lists = turn_present (g.S.Shelf.told c.compare_item.new.shelf) (repo_view c.compare_item.new.source) d now _ a from (repo_view store.repo).keys
             c.present.result c.requires.uncounted c.present.ensures.present;
       },
@@ -125,13 +134,18 @@ returns-in_err-compare_item-clause-works g c =
     let n = g.D.Shelf.faults c.args.depot.now in
     let m = g.D.Shelf.faults c.compare_item.new.depot in
     let fault = c.in_err-compare_item.field-0.0 in
+    let at = border_behind AtBegin [] in
     let works = c.in_err-compare_item.ensures.works from.most in (
       [],
       turned_err _ _ from name [] [] store now _ a b n m c.from_residual.result fault c.from_residual.ensures.1 (record {
-        flies = flies_fault {T = Compared} from name store now [] a b n m fault c.requires.accepts works;
+        flies = flies_fault {T = Compared} [] from name store now [] a b n m fault c.requires.accepts works;
         begins = begins_there a from (repo_view store.repo).keys (accepted_in store) name
             (there_accepted store name c.requires.accepts c.requires.there);
-        stands = λ _. works.each;
+        stands = λ _. stands_within at from.most store [] a b works.works.each;
+        last = works.last;
+        held = held_within {T = Turn} at from.most store now [] a b (Err fault) works.held;
+        fills = fills_there a from (repo_view store.repo).keys (accepted_in store) name fault
+            (there_accepted store name c.requires.accepts c.requires.there);
         lists = tt;
       }),
     )
@@ -146,15 +160,21 @@ returns-in-Differs-clause-works g c =
     let b = g.D.Shelf.told c.compare_item.new.depot in
     let n = g.D.Shelf.faults c.args.depot.now in
     let m = g.D.Shelf.faults c.compare_item.new.depot in
-    let works = c.in_ok-compare_item.ensures.works from.most in (
+    let at = border_behind AtBegin [] in
+    let works = c.in_ok-compare_item.ensures.works from.most in
+    let refused = gathered_fault {T = Compared} {U = Compared} from.most store now [] a b n m c.in_ok-compare_item.field-0 c.taken.result
+    (taken_still c.taken.result c.as_slice.result.now c.taken.ensures.taken)
+    (taken_unbroken c.taken.result c.as_slice.result.now c.taken.ensures.taken) works in (
       [],
       record {
-        flies = flies_fault {T = Compared} from name store now [] a b n m c.taken.result c.requires.accepts
-            (gathered_fault {T = Compared} {U = Compared} from.most store now [] a b n m c.in_ok-compare_item.field-0 c.taken.result
-            (taken_still c.taken.result c.as_slice.result.now c.taken.ensures.taken) works);
+        flies = flies_fault {T = Compared} [] from name store now [] a b n m c.taken.result c.requires.accepts refused;
         begins = begins_there a from (repo_view store.repo).keys (accepted_in store) name
             (there_accepted store name c.requires.accepts c.requires.there);
-        stands = λ _. works.each;
+        stands = λ _. stands_within at from.most store [] a b works.works.each;
+        last = refused.last;
+        held = held_within {T = Turn} at from.most store now [] a b (Err c.taken.result) refused.held;
+        fills = fills_there a from (repo_view store.repo).keys (accepted_in store) name c.taken.result
+            (there_accepted store name c.requires.accepts c.requires.there);
         lists = tt;
       },
     )

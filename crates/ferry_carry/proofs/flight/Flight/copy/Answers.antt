@@ -2,18 +2,20 @@ use Rattle.std.proofs.Common.{rules, ◌≡◌, [], ◌∷◌, ◌++◌, false, 
 use Rattle.ferry_carry.proofs.CauseLemmas.{end_refused, lacks_by, step_refused}
 use Rattle.ferry_carry.proofs.AcceptingLemmas.{next_rest}
 use Rattle.ferry_carry.proofs.FlightLemmas.{rest_accepts}
-use Rattle.ferry_carry.proofs.FlyLemmas.{begins_new, done_before, flies_as, flies_err, flies_fault, so_far_as, so_far_later, stepped_as, turn_ended, turned_err}
+use Rattle.ferry_carry.proofs.FlyLemmas.{begins_new, done_before, end_apart, fills_new, flies_as, flies_err, flies_fault, so_far_as, so_far_later}
+use Rattle.ferry_carry.proofs.FlyLemmas.{stands_within, stepped_as, turn_ended, turned_err}
 use Rattle.ferry_carry.proofs.GrowLemmas.{most_from, most_then}
+use Rattle.ferry_carry.proofs.HeldLemmas.{held_within}
 use Rattle.ferry_carry.proofs.NamingLemmas.{pieces_limit, rest_limit}
 use Rattle.ferry_carry.proofs.WorkLemmas.{carried_from, err_is}
 use Rattle.ferry_carry.proofs.flight.Flight.copy.Goals as goal
+use Rattle.ferry_carry.specs.Adding.{AddsOn}
 use Rattle.ferry_carry.specs.Carrying.{origin}
 use Rattle.ferry_carry.specs.Flight.{flown_from}
-use Rattle.ferry_carry.specs.Gather.{Gathers, KeepsStanding}
+use Rattle.ferry_carry.specs.Gather.{KeepsStanding}
 use Rattle.ferry_carry.specs.Progress.{CopiesOn, IsCopiedSoFar}
-use Rattle.ferry_carry.specs.Puts.{Addition}
+use Rattle.ferry_carry.specs.Puts.{Addition, AtBegin, border_behind}
 use Rattle.ferry_carry.specs.Refusals.{IsLimited, RefusesName, RefusesStep}
-use Rattle.ferry_carry.specs.Work.{Works}
 use Rattle.ferry_carry.specs.declared.fault.CarryFault.{CarryFault}
 use Rattle.ferry_carry.specs.declared.flight.Turn.{Turn}
 use Rattle.ferry_carry.specs.declared.flight.Turn.TheVariants.{More, Named}
@@ -39,16 +41,21 @@ returns-in_err-more-clause-works g c =
     let from = flown_from told source flight in
     let name = flight.named.name in
     let copy = c.args.copy in
+    let at = border_behind AtBegin added in
     let stepped = c.in_err-more.ensures.copied flight.named added
     (so_far_as told source from.block from.most flight.named a store copy added so) in
     let works = stepped_as told source from.block from.most copy.block copy.contents.checkpoint flight.named a b store now c.step.new.self added stepped.0
     n m (Err fault) (sym so.0.block) (sym so.0.most) stepped.1 in (
       stepped.0,
       turned_err _ _ from name added stepped.0 store now _ a b n m c.from_residual.result fault c.from_residual.ensures.1 (record {
-        flies = flies_fault {T = Bool} from name store now stepped.0 a b n m fault c.requires.accepts works.0;
+        flies = flies_fault {T = Bool} added from name store now stepped.0 a b n m fault c.requires.accepts works.0;
         begins = begins_new a from (repo_view store.repo).keys (accepted_in store) name (added ++ stepped.0) c.requires.unnamed
             (works.1.0 c.requires.flight.named);
-        stands = λ _. works.0.each;
+        stands = λ _. stands_within at from.most store stepped.0 a b works.0.works.each;
+        last = works.0.last;
+        held = held_within {T = Turn} at from.most store now stepped.0 a b (Err fault) works.0.held;
+        fills = fills_new a from (repo_view store.repo).keys (accepted_in store) name (added ++ stepped.0) fault c.requires.unnamed
+            (works.1.1.0 c.requires.flight.named);
         lists = tt;
       }),
     )
@@ -74,18 +81,22 @@ returns-then-more-clause-works g c =
     let ensures = c.in_ok-more.ensures in
     let more = c.in_ok-more.more in
     let taken : more ≡ true = search rules in
+    let at = border_behind AtBegin added in
     let stepped = ensures.copied named added (so_far_as told source from.block from.most named a store copy added so) in
     let works = stepped_as told source from.block from.most copy.block copy.contents.checkpoint named a b store now c.step.new.self added stepped.0 n m
     (Ok more) (sym so.0.block) (sym so.0.most) stepped.1 in
     let so_far : IsCopiedSoFar from named b now c.step.new.self (added ++ stepped.0) =
-    subst (CopiesOn from named b now c.step.new.self added stepped.0) taken works.1.1 in (
+    subst (CopiesOn from named b now c.step.new.self added stepped.0) taken works.1.1.1 in (
       stepped.0,
       record {
-        flies = flies_as {T = Bool} from name [] stepped.0 store now a b n m more More refl
-            (carried_from {T = Bool} {U = Bool} from (name ∷ []) store now stepped.0 a b n m more more c.requires.accepts ensures.rest works.0);
+        flies = flies_as {T = Bool} added from name [] stepped.0 store now a b n m more More refl
+            (carried_from {T = Bool} {U = Bool} added from (name ∷ []) store now stepped.0 a b n m more more c.requires.accepts ensures.rest works.0);
         begins = begins_new a from (repo_view store.repo).keys (accepted_in store) name (added ++ stepped.0) c.requires.unnamed
             (works.1.0 c.requires.flight.named);
-        stands = works.0.each;
+        stands = stands_within at from.most store stepped.0 a b works.0.works.each;
+        last = tt;
+        held = tt;
+        fills = tt;
         lists = (
           record {
             stands = record {
@@ -139,15 +150,15 @@ returns-in_err-self-clause-works g c =
     let works = stepped_as told source from.block from.most copy.block copy.contents.checkpoint named a b store middle c.step.new.self added stepped.0 n m
     (Ok more) (sym so.0.block) (sym so.0.most) stepped.1 in
     let ended : CopiesOn from named b middle c.step.new.self added stepped.0 false =
-    subst (CopiesOn from named b middle c.step.new.self added stepped.0) not_more works.1.1 in
-    let first : Works {T = Bool} (KeepsStanding from.most store []) (λ _. Gathers from.most store [] middle) a b n m (Ok more) =
-    subst (λ (l : List Addition). Works {T = Bool} (KeepsStanding from.most store l) (λ _. Gathers from.most store l middle) a b n m (Ok more)) ended.0
-    works.0 in
+    subst (CopiesOn from named b middle c.step.new.self added stepped.0) not_more works.1.1.1 in
+    let first : AddsOn {T = Bool} from.most store [] middle a b n m (Ok more) =
+    subst (λ (l : List Addition). AddsOn {T = Bool} from.most store l middle a b n m (Ok more)) ended.0 works.0 in
     let ends = c.in_err-self.ensures.works from added (ended.1 c.requires.flight.named) in (
       ends.0,
       turned_err _ _ from name added ends.0 store now _ a d n k c.from_residual-in_err-self.result fault c.from_residual-in_err-self.ensures.1
           (turn_ended from name added ends.0 store middle now _ _ _ a b d n m k more (Err fault) c.requires.accepts rest c.requires.unnamed first
-          (flies_err {T = Carried} from name (name ∷ []) ends.0 middle now now b d m k fault ends.1.carries) ends.1.begins ends.1.stands tt),
+          (flies_err {T = Carried} added from name (name ∷ []) ends.0 middle now now b d m k fault ends.1.carries) ends.1.begins ends.1.stands ends.1.last
+          (end_apart from b (repo_view middle.repo).keys name fault (c.in_err-self.ensures.refused from added (ended.1 c.requires.flight.named))) tt),
     )
 
 pub returns-clause-works : goal.returns-clause-works
@@ -176,18 +187,17 @@ returns-clause-works g c =
     let works = stepped_as told source from.block from.most copy.block copy.contents.checkpoint named a b store middle c.step.new.self added stepped.0 n m
     (Ok more) (sym so.0.block) (sym so.0.most) stepped.1 in
     let ended : CopiesOn from named b middle c.step.new.self added stepped.0 false =
-    subst (CopiesOn from named b middle c.step.new.self added stepped.0) not_more works.1.1 in
-    let first : Works {T = Bool} (KeepsStanding from.most store []) (λ _. Gathers from.most store [] middle) a b n m (Ok more) =
-    subst (λ (l : List Addition). Works {T = Bool} (KeepsStanding from.most store l) (λ _. Gathers from.most store l middle) a b n m (Ok more)) ended.0
-    works.0 in
+    subst (CopiesOn from named b middle c.step.new.self added stepped.0) not_more works.1.1.1 in
+    let first : AddsOn {T = Bool} from.most store [] middle a b n m (Ok more) =
+    subst (λ (l : List Addition). AddsOn {T = Bool} from.most store l middle a b n m (Ok more)) ended.0 works.0 in
     let ends = c.in_ok-self.ensures.works from added (ended.1 c.requires.flight.named) in (
       ends.0,
       turn_ended from name added ends.0 store middle now _ _ _ a b d n m k more (Ok Named) c.requires.accepts rest c.requires.unnamed first
-          (flies_as {T = Carried} from name (name ∷ []) ends.0 middle now b d m k c.in_ok-self.field-0 Named refl ends.1.carries) ends.1.begins tt (
+          (flies_as {T = Carried} added from name (name ∷ []) ends.0 middle now b d m k c.in_ok-self.field-0 Named refl ends.1.carries) ends.1.begins tt tt tt (
             refl,
             (
               done_before from from (repo_view store.repo).keys (repo_view middle.repo).keys name (added ++ ends.0) (added ++ ends.0) true
-                  (KeepsStanding from.most store []) a b first.each refl rest.keys refl ends.1.lists.0,
+                  (KeepsStanding from.most store []) a b first.works.each refl rest.keys refl ends.1.lists.0,
               ends.1.lists.1,
             ),
           ),
@@ -246,11 +256,11 @@ returns-in_err-self-clause-refused g c =
     let works = stepped_as told source from.block from.most copy.block copy.contents.checkpoint named a b store middle c.step.new.self added stepped.0 n m
     (Ok more) (sym so.0.block) (sym so.0.most) stepped.1 in
     let ended : CopiesOn from named b middle c.step.new.self added stepped.0 false =
-    subst (CopiesOn from named b middle c.step.new.self added stepped.0) not_more works.1.1 in
+    subst (CopiesOn from named b middle c.step.new.self added stepped.0) not_more works.1.1.1 in
     let lacks = lacks_by (repo_view store.repo).manifest (accepted_in store) named.name c.requires.accepts c.requires.unnamed in
     err_is c.from_residual-in_err-self.result fault (λ (r : Result Turn CarryFault). IfErr r (RefusesName from a store d now named.name))
     c.from_residual-in_err-self.ensures.1
-    (end_refused from a b d (KeepsStanding from.most store stepped.0) store middle now named.name fault works.0.each c.in_ok-more.ensures.rest.keys lacks
+    (end_refused from a b d (KeepsStanding from.most store stepped.0) store middle now named.name fault works.0.works.each c.in_ok-more.ensures.rest.keys lacks
     c.in_err-self.ensures.stops (c.in_err-self.ensures.refused from added (ended.1 c.requires.flight.named)))
 
 pub returns-in_err-more-clause-limit : goal.returns-in_err-more-clause-limit

@@ -1,16 +1,22 @@
-use Rattle.std.proofs.Common.{[], ◌∷◌, Result, refl, sym, IfErr, subst, ◌∙◌}
+use Rattle.std.proofs.Common.{rules, [], ◌∷◌, Result, Err, refl, sym, IfErr, IsSome, subst, ◌∙◌}
 use Rattle.ferry_carry.proofs.AcceptingLemmas.{next_rest, next_source}
+use Rattle.ferry_carry.proofs.AddingLemmas.{stops_unbroken}
 use Rattle.ferry_carry.proofs.FlightLemmas.{on_ok, read_rest}
-use Rattle.ferry_carry.proofs.FlyLemmas.{begins_none, flies_err, flies_fault, origin_kept, turned_behind, turned_err}
+use Rattle.ferry_carry.proofs.FlyLemmas.{begins_none, fills_begin, fills_there, flies_err, flies_fault, origin_kept, record_unbroken, stands_within}
+use Rattle.ferry_carry.proofs.FlyLemmas.{turned_behind, turned_err}
 use Rattle.ferry_carry.proofs.GrowLemmas.{most_from, most_then}
+use Rattle.ferry_carry.proofs.HeldLemmas.{held_within, holds_here}
 use Rattle.ferry_carry.proofs.ProgressLemmas.{begin_copied}
 use Rattle.ferry_carry.proofs.WorkLemmas.{carried_nothing, err_is}
 use Rattle.ferry_carry.proofs.flight.Flight.take_first.Goals as goal
+use Rattle.ferry_carry.specs.Adding.{HoldsAll}
 use Rattle.ferry_carry.specs.Flight.{TakesTurn, flown_from}
 use Rattle.ferry_carry.specs.Grow.{KeepsMost}
+use Rattle.ferry_carry.specs.Puts.{AtBegin, border_behind}
 use Rattle.ferry_carry.specs.declared.fault.CarryFault.{CarryFault}
 use Rattle.ferry_carry.specs.declared.flight.Turn.{Turn}
 use Rattle.ferry_compare.specs.declared.comparison.Comparison.{Comparison}
+use Rattle.ferry_repo.specs.Archives.{archive_named}
 use Rattle.ferry_repo.specs.Opening.{RepoState, repo_view}
 use Rattle.ferry_store.specs.Commit.{accepted_in}
 use Rattle.ferry_carry.proofs.CauseLemmas.{begin_refused, comparing_refused, name_refused}
@@ -29,13 +35,19 @@ returns-in_err-copy-clause-works g c =
     let store = c.args.store.now in
     let fault = c.in_err-copy.field-0.0 in
     let from = flown_from (g.S.Shelf.told c.args.shelf.now) (repo_view c.args.source.now) c.args.self.now in
-    let name = c.args.self.now.named.name in (
+    let name = c.args.self.now.named.name in
+    let at = border_behind AtBegin [] in (
       [],
       turned_err _ _ from name [] [] store store _ a a n n c.from_residual-in_err-copy.result fault c.from_residual-in_err-copy.ensures.1 (record {
-        flies = flies_err {T = Turn} from name [] [] store store store a a n n fault
-            (carried_nothing {T = Turn} from (name ∷ []) [] [] store store a n fault c.requires.accepts c.in_err-copy.ensures.still);
+        flies = flies_err {T = Turn} [] from name [] [] store store store a a n n fault
+            (carried_nothing {T = Turn} [] from (name ∷ []) [] [] store store a n fault c.requires.accepts c.in_err-copy.ensures.still);
         begins = begins_none a from (repo_view store.repo).keys (accepted_in store) name;
-        stands = λ _. here_each (KeepsStanding from.most store []) a (λ h. stands_here from.most store [] h);
+        stands = λ _. stands_within at from.most store [] a a (here_each (KeepsStanding from.most store []) a (λ h. stands_here from.most store [] h));
+        last = stops_unbroken a (repo_view store.repo).keys [] fault
+            (record_unbroken (g.S.Shelf.told c.args.shelf.now) (repo_view c.args.source.now) c.args.self.now.named.id fault c.in_err-copy.ensures.refused);
+        held = λ _. here_each (HoldsAll at from.most store [] store) a (λ h. holds_here at from.most store h);
+        fills = fills_begin a (g.S.Shelf.told c.args.shelf.now) (repo_view c.args.source.now) from.block from.most (repo_view store.repo).keys
+            (accepted_in store) c.args.self.now.named fault c.requires.flight.named c.in_err-copy.ensures.refused;
         lists = tt;
       }),
     )
@@ -78,12 +90,17 @@ returns-in_err-comparison-clause-works g c =
     let n = g.D.Shelf.faults c.args.depot.now in
     let m = g.D.Shelf.faults c.begin_comparing.new.depot in
     let fault = c.in_err-comparison.field-0.0 in
+    let at = border_behind AtBegin [] in
+    let there : IsSome (archive_named name (accepted_in store).archives) = search rules in
     let works = c.in_err-comparison.ensures.works from.most in (
       [],
       turned_err _ _ from name [] [] store now _ a b n m c.from_residual.result fault c.from_residual.ensures.1 (record {
-        flies = flies_fault {T = Comparison} from name store now [] a b n m fault c.requires.accepts works;
+        flies = flies_fault {T = Comparison} [] from name store now [] a b n m fault c.requires.accepts works;
         begins = begins_none a from (repo_view store.repo).keys (accepted_in store) name;
-        stands = λ _. works.each;
+        stands = λ _. stands_within at from.most store [] a b works.works.each;
+        last = works.last;
+        held = held_within {T = Turn} at from.most store now [] a b (Err fault) works.held;
+        fills = fills_there a from (repo_view store.repo).keys (accepted_in store) name fault there;
         lists = tt;
       }),
     )
@@ -179,7 +196,8 @@ returns-in_ok-comparison-clause-refused g c =
     (g.D.Shelf.told c.begin_comparing.new.depot) (g.D.Shelf.told c.compare.new.depot) (KeepsStanding most store []) store middle c.compare.new.store
     flight.named.name flight.named.name c.compare.result
     (origin_kept told later source after block block most most c.in_ok-comparison.ensures.same c.begin_comparing.ensures.kept refl refl) refl
-    (c.in_ok-comparison.ensures.works most).each (most_from store middle (read_rest store middle c.begin_comparing.ensures.read)) c.compare.ensures.refused
+    (c.in_ok-comparison.ensures.works most).works.each (most_from store middle (read_rest store middle c.begin_comparing.ensures.read))
+    c.compare.ensures.refused
 
 pub returns-in_err-comparison-clause-limit : goal.returns-in_err-comparison-clause-limit
 returns-in_err-comparison-clause-limit g c =

@@ -1,13 +1,10 @@
 use Rattle.std.proofs.Common.{ℕ, List, [], ◌∷◌, false, Result, Ok, Err, OnOk, length, refl, sym, ap, subst}
-use Rattle.ferry_carry.proofs.CopyLemmas.{gathered_fault}
 use Rattle.ferry_carry.proofs.PieceLemmas.{counts_by}
-use Rattle.ferry_carry.proofs.PutsLemmas.{front_all}
-use Rattle.ferry_carry.proofs.WorkLemmas.{err_is, gathered_as, gathered_err}
+use Rattle.ferry_carry.proofs.WorkLemmas.{err_is, gathered_as, gathered_err, gathered_fault}
 use Rattle.ferry_carry.proofs.piece.PieceWriter.add.Goals as goal
-use Rattle.ferry_carry.specs.Gather.{Gathers, KeepsStanding}
+use Rattle.ferry_carry.specs.Adding.{AddsOn}
 use Rattle.ferry_carry.specs.Piece.{CountsOn}
 use Rattle.ferry_carry.specs.Puts.{addition}
-use Rattle.ferry_carry.specs.Work.{Works}
 use Rattle.ferry_carry.specs.declared.fault.CarryFault.{CarryFault}
 use Rattle.ferry_carry.specs.declared.fault.CarryFault.TheVariants.{Memory}
 use Rattle.ferry_store.specs.declared.content.Added.{Added}
@@ -24,15 +21,15 @@ returns-in_err-added-clause-works g c =
     let fault = c.in_err-added.field-0.0 in
     let writer = c.args.self.now in (
       false,
-      λ kind.
+      λ kind piece_is.
           let one = addition kind writer.cutter.piece false in
           err_is c.from_residual.result fault
-          (λ (r : Result (Unit {0}) CarryFault). Works (KeepsStanding most store (one ∷ [])) (λ _. Gathers most store (one ∷ []) now) a b n m r
+          (λ (r : Result (Unit {0}) CarryFault). AddsOn most store (one ∷ []) now a b n m r
           × OnOk r (CountsOn kind writer (one ∷ []) writer)) c.from_residual.ensures.1 (
-            gathered_err {T = Added} {U = Unit {0}} most store now (one ∷ []) (one ∷ []) a b n m fault (front_all (one ∷ []))
-                (subst (λ (piece : List ℕ). Works {T = Added} (KeepsStanding most store (addition kind piece false ∷ []))
-                (λ _. Gathers most store (addition kind piece false ∷ []) now) a b n m (Err fault)) c.in-Some.ensures.piece
-                (c.in_err-added.ensures.works kind false tt)),
+            gathered_err {T = Added} {U = Unit {0}} most store now (one ∷ []) a b n m fault
+                (subst (λ (piece : List ℕ). AddsOn {T = Added} most store (addition kind piece false ∷ []) now a b n m (Err fault))
+                c.in-Some.ensures.piece
+                (c.in_err-added.ensures.works kind false piece_is tt)),
             tt,
           ),
     )
@@ -49,15 +46,15 @@ returns-in_err-note-clause-works g c =
     let writer = c.args.self.now in
     let put = c.in_ok-added.added.new in (
       put,
-      λ kind.
+      λ kind piece_is.
           let one = addition kind writer.cutter.piece put in
           err_is c.from_residual-in_err-note.result Memory
-          (λ (r : Result (Unit {0}) CarryFault). Works (KeepsStanding most store (one ∷ [])) (λ _. Gathers most store (one ∷ []) now) a b n m r
+          (λ (r : Result (Unit {0}) CarryFault). AddsOn most store (one ∷ []) now a b n m r
           × OnOk r (CountsOn kind writer (one ∷ []) c.note.new.self)) c.from_residual-in_err-note.ensures.1 (
-            gathered_fault {T = Added} {U = Unit {0}} most store now (one ∷ []) a b n m c.in_ok-added.added Memory refl
-                (subst (λ (piece : List ℕ). Works {T = Added} (KeepsStanding most store (addition kind piece put ∷ []))
-                (λ _. Gathers most store (addition kind piece put ∷ []) now) a b n m (Ok c.in_ok-added.added)) c.in-Some.ensures.piece
-                (c.in_ok-added.ensures.works kind put refl)),
+            gathered_fault {T = Added} {U = Unit {0}} most store now (one ∷ []) a b n m c.in_ok-added.added Memory refl tt
+                (subst (λ (piece : List ℕ). AddsOn {T = Added} most store (addition kind piece put ∷ []) now a b n m (Ok c.in_ok-added.added))
+                c.in-Some.ensures.piece
+                (c.in_ok-added.ensures.works kind put piece_is refl)),
             tt,
           ),
     )
@@ -74,12 +71,12 @@ returns-clause-works g c =
     let writer = c.args.self.now in
     let put = c.in_ok-added.added.new in (
       put,
-      λ kind.
+      λ kind piece_is.
           let one = addition kind writer.cutter.piece put in (
             gathered_as {T = Added} {U = Unit {0}} most store now (one ∷ []) a b n m c.in_ok-added.added tt
-                (subst (λ (piece : List ℕ). Works {T = Added} (KeepsStanding most store (addition kind piece put ∷ []))
-                (λ _. Gathers most store (addition kind piece put ∷ []) now) a b n m (Ok c.in_ok-added.added)) c.in-Some.ensures.piece
-                (c.in_ok-added.ensures.works kind put refl)),
+                (subst (λ (piece : List ℕ). AddsOn {T = Added} most store (addition kind piece put ∷ []) now a b n m (Ok c.in_ok-added.added))
+                c.in-Some.ensures.piece
+                (c.in_ok-added.ensures.works kind put piece_is refl)),
             counts_by kind writer writer c.note.new.self (record c.note.new.self { cutter = c.clear.new.self }) (one ∷ []) refl refl refl refl
                 (c.in_ok-note.ensures.counted kind writer.cutter.piece (ap length (sym c.in-Some.ensures.piece))),
           ),

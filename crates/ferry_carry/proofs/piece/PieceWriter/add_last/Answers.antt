@@ -9,7 +9,7 @@ use Rattle.ferry_rechunk.specs.Cut.{cut}
 use Rattle.ferry_repo.specs.Opening.{repo_view}
 
 pub returns-then-is_none-clause-works : goal.returns-then-is_none-clause-works
-returns-then-is_none-clause-works g c kind =
+returns-then-is_none-clause-works g c kind piece_is =
     let most = c.args.self.now.checkpoint in
     let store = c.args.store.now in
     let a = g.D.Shelf.told c.args.depot.now in
@@ -34,10 +34,10 @@ returns-then-is_none-clause-chunks g c =
     none_more (repo_view c.args.store.now.repo).keys c.args.self.now.chunks.items (cut cutter.block cutter.piece) none
 
 pub returns-clause-works : goal.returns-clause-works
-returns-clause-works g c kind =
+returns-clause-works g c kind piece_is =
     let cutter = c.args.self.now.cutter in
     let put = c.add.ensures.works in
-    let next = put.1 kind in (
+    let next = put.1 kind piece_is in (
       addition kind cutter.piece put.0 ∷ [],
       (
         next.0,

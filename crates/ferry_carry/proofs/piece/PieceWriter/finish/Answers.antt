@@ -1,19 +1,17 @@
 use Rattle.std.proofs.Common.{Global, Vec, Result, OnOk, refl}
 use Rattle.ferry_carry.proofs.PieceLemmas.{counts_by}
-use Rattle.ferry_carry.proofs.PutsLemmas.{front_all}
 use Rattle.ferry_carry.proofs.WorkLemmas.{err_is, gathered_as, gathered_err}
 use Rattle.ferry_carry.proofs.piece.PieceWriter.finish.Goals as goal
-use Rattle.ferry_carry.specs.Gather.{Gathers, KeepsStanding}
+use Rattle.ferry_carry.specs.Adding.{AddsOn}
 use Rattle.ferry_carry.specs.Piece.{CountsOn}
 use Rattle.ferry_carry.specs.Puts.{ArePieces}
-use Rattle.ferry_carry.specs.Work.{Works}
 use Rattle.ferry_carry.specs.declared.fault.CarryFault.{CarryFault}
 use Rattle.ferry_item.specs.declared.item.ChunkRef.{ChunkRef}
 use Rattle.ferry_rechunk.specs.Cut.{cut}
 
 pub returns-in_err-add_last-clause-works : goal.returns-in_err-add_last-clause-works
-returns-in_err-add_last-clause-works g c kind =
-    let added = c.in_err-add_last.ensures.works kind in
+returns-in_err-add_last-clause-works g c kind piece =
+    let added = c.in_err-add_last.ensures.works kind piece in
     let more = added.0 in
     let writer = c.args.self.now in
     let most = writer.checkpoint in
@@ -26,17 +24,17 @@ returns-in_err-add_last-clause-works g c kind =
     let fault = c.in_err-add_last.field-0.0 in (
       more,
       err_is c.from_residual.result fault
-          (λ (r : Result (Vec ChunkRef Global) CarryFault). Works (KeepsStanding most store more) (λ _. Gathers most store more now) a b n m r
+          (λ (r : Result (Vec ChunkRef Global) CarryFault). AddsOn most store more now a b n m r
           × (ArePieces kind (cut writer.cutter.block writer.cutter.piece) more × OnOk r (CountsOn kind writer more c.add_last.new.self)))
           c.from_residual.ensures.1 (
-            gathered_err {T = Unit {0}} {U = Vec ChunkRef Global} most store now more more a b n m fault (front_all more) added.1.0,
+            gathered_err {T = Unit {0}} {U = Vec ChunkRef Global} most store now more a b n m fault added.1.0,
             (added.1.1.0, tt),
           ),
     )
 
 pub returns-clause-works : goal.returns-clause-works
-returns-clause-works g c kind =
-    let added = c.in_ok-add_last.ensures.works kind in
+returns-clause-works g c kind piece =
+    let added = c.in_ok-add_last.ensures.works kind piece in
     let more = added.0 in
     let writer = c.args.self.now in
     let writer_now = c.add_last.new.self in (

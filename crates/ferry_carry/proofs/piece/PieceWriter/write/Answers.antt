@@ -6,10 +6,10 @@ use Rattle.ferry_carry.proofs.PieceLemmas.{none_written, one_written, pieces_the
 use Rattle.ferry_carry.proofs.PutsLemmas.{contents_append, of_append}
 use Rattle.ferry_carry.proofs.WorkLemmas.{err_is, gathered_none}
 use Rattle.ferry_carry.proofs.piece.PieceWriter.write.Goals as goal
-use Rattle.ferry_carry.specs.Gather.{Gathers, KeepsStanding, chunk_of}
+use Rattle.ferry_carry.specs.Adding.{AddsOn}
+use Rattle.ferry_carry.specs.Gather.{chunk_of}
 use Rattle.ferry_carry.specs.Piece.{BeginsOn, CountsOn, WritesOn}
 use Rattle.ferry_carry.specs.Puts.{AreOf, addition, contents_in}
-use Rattle.ferry_carry.specs.Work.{Works}
 use Rattle.ferry_carry.specs.declared.fault.CarryFault.{CarryFault}
 use Rattle.ferry_rechunk.specs.Cutting.{Cutting}
 use Rattle.ferry_repo.specs.Opening.{repo_view}
@@ -24,7 +24,7 @@ loop-rest-init g c =
       rest_here store,
       refl,
       c.requires.pending,
-      λ kind. (
+      λ kind piece. (
         [],
         (
           gathered_none {T = Unit {0}} c.args.self.now.checkpoint store (g.D.Shelf.told c.args.depot.now) (g.D.Shelf.faults c.args.depot.now) tt,
@@ -40,9 +40,9 @@ loop-rest-init g c =
     )
 
 pub returns-then-is_none-clause-written : goal.returns-then-is_none-clause-written
-returns-then-is_none-clause-written g c kind =
+returns-then-is_none-clause-written g c kind piece =
     let invariant = c.loop-rest.invariant in
-    let so = invariant.7 kind in
+    let so = invariant.7 kind piece in
     let grown = c.feed-taken.new.self in
     let keys = (repo_view c.args.store.now.repo).keys in
     let writes = all_written keys c.args.self.now.cutter c.args.self.now.chunks.items c.args.bytes.now c.loop-rest.rest.now (contents_in so.0)
@@ -89,11 +89,11 @@ loop-rest-preserved g c =
       rest_then store middle now invariant.4 c.in_ok-add.ensures.rest,
       c.in_ok-add.ensures.checkpoint ∙ kept_most,
       subst (λ (count : ℕ). c.add.new.store.pending ≤ count) kept_most c.in_ok-add.ensures.pending,
-      λ kind.
-          let so = invariant.7 kind in
+      λ kind piece.
+          let so = invariant.7 kind piece in
           let one = addition kind grown.piece put.0 in
           let behind = take (length c.loop-rest.rest.now - c.feed-taken.result) (drop c.feed-taken.result c.loop-rest.rest.now) in
-          let next = put.1 kind in (
+          let next = put.1 kind piece in (
             so.0 ++ one ∷ [],
             (
               pieces_then {T = Unit {0}} {U = Unit {0}} most most c.loop-rest.self.checkpoint store middle now so.0 (one ∷ [])
@@ -120,9 +120,9 @@ loop-rest-preserved g c =
     )
 
 pub returns-in_err-add-clause-written : goal.returns-in_err-add-clause-written
-returns-in_err-add-clause-written g c kind =
+returns-in_err-add-clause-written g c kind piece =
     let invariant = c.loop-rest.invariant in
-    let so = invariant.7 kind in
+    let so = invariant.7 kind piece in
     let store = c.args.store.now in
     let middle = c.loop-rest.store in
     let now = c.add.new.store in
@@ -146,13 +146,13 @@ returns-in_err-add-clause-written g c kind =
     let fault = c.in_err-add.field-0.0 in (
       more,
       err_is c.from_residual.result fault
-          (λ (r : Result (Unit {0}) CarryFault). Works (KeepsStanding most store more) (λ _. Gathers most store more now) a b n m r
+          (λ (r : Result (Unit {0}) CarryFault). AddsOn most store more now a b n m r
           × (AreOf kind more × (BeginsOn writer.cutter bytes (contents_in more)
           × OnOk r (WritesOn keys writer.cutter writer.chunks.items bytes (contents_in more) writer_now.cutter writer_now.chunks.items
           × CountsOn kind writer more writer_now)))) c.from_residual.ensures.1 (
             pieces_then {T = Unit {0}} {U = Unit {0}} most most c.loop-rest.self.checkpoint store middle now so.0 (one ∷ []) a
                 (g.D.Shelf.told c.loop-rest.depot) b n (g.D.Shelf.faults c.loop-rest.depot) m tt (Err fault) refl kept_most invariant.4 tt so.1.0
-                (put.1 kind).0,
+                (put.1 kind piece).0,
             (
               of_append kind so.0 (one ∷ []) so.1.1.0 (refl, tt),
               (
