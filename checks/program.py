@@ -3,8 +3,8 @@
 
 Each case makes a folder, runs the program in the folder above it with the words and variables given, and compares status and
 output. What a repository has to print stands in the case, or comes from segments.keys. What standard error has to say beside it
-comes from the table in docs/FORMATS.md, of which each row is met. Nothing may be written: the folder is compared before and
-after. One line for each case that differs, and at the end 'N passed, M failed'; status 1 where M isn't 0.
+comes from the table in docs/FORMATS.md, of which each row is met. Where a case doesn't say what is written nothing may be:
+the folder is compared before and after. One line for each case that differs, and at the end 'N passed, M failed'; status 1 where M isn't 0.
 """
 import base64
 import concurrent.futures
@@ -119,7 +119,7 @@ def row_of(words, cwd, status, out):
         return ("none", "standard output failed, status 7") if status else None
     if status == 1:
         return "bad REASON", ""
-    told = re.search(r"(source refused: |target refused: |name taken: |not found: |usage|memory$|key file unreadable$|source device failed$|target device failed$|BORG_)[^\n]*\n?$", out.decode("utf-8", "replace"))
+    told = re.search(r"(source refused: |target refused: |name taken: |not found: |usage|memory$|key file unreadable$|source device failed$|target device failed$|limit: |BORG_)[^\n]*\n?$", out.decode("utf-8", "replace"))
     line = re.sub(r"^(name taken|not found): .*", r"\1: NAME", re.sub(r"\b[0-9a-f]{64}$", "ID", told[0].rstrip("\n") if told else ""))
     line = re.sub(r"segment \d+ at \d+$", "segment S at A", re.sub(r"^usage: word \d+$", "usage: word N", line))
     where, source = "", os.fsdecode(words[0]) if words else ""
@@ -133,6 +133,8 @@ def row_of(words, cwd, status, out):
         where = "the folder isn't there"
     elif line in ("source refused: missing ID", "source refused: blob 4 ID", "source refused: blob 5 ID"):
         where = "the zero id" if out.endswith(b"0" * 64 + b"\n") else "another id"
+    elif line.startswith("target refused: ") and (line, "") not in PLAIN:
+        line, where = "target refused: REASON", "another reason"
     return line, where
 
 
@@ -708,6 +710,46 @@ def transfers():
     told("a nonce that is no number", (9, b"target refused: nonce 2\n"), same, nonce=b"12")
     for words, number in [(("--block", "63"), 3), (("--checkpoint", "0", "a"), 3), (("--block", "64", "--block", "64"), 4), (("--x",), 2)]:
         told("a wrong word", wrong_word(number), same, *words)
+    empty = {folder: repository(of, PASSPHRASE, of.blob(of.tagged(fields()))) for folder, of in (("source", keys), ("target", others))}
+    beside, how = inside("target", {**empty["target"], "nonce": b"00000000000003e8"}), {**OPEN, b"BORG_PASSPHRASE": PASSPHRASE}
+    case("transfer: a source without archives", empty["source"], (0, total % 0), ("source", "target", "transfer"), beside=beside, variables=how)
+    # One more piece than an item may have: 13108 chunks of 20971436 bytes, as they are stated, in pieces of 64 bytes.
+    long = Archive(keys, b"a", [Item(b"f", [b"hello"] * 13108, size=20971436)])
+    files = repository(keys, PASSPHRASE, keys.blob(keys.tagged(fields(long.named(b"a")))), *long.chunks())
+    words = ("source", "target", "transfer", "--block", "64", "a")
+    case("transfer: an item is too long", files, (12, b"limit: item\n"), words, beside=beside, variables=how)
+
+
+def written():
+    """What `transfer` leaves where a later chunk of the source isn't there, and where a chunk of the target is damaged that it needs or doesn't need."""
+    keys, others = Keys(), Keys(b"other")
+    variables = {**OPEN, b"BORG_PASSPHRASE": PASSPHRASE}
+    words = ("source", "target", "transfer", "--block", "64", "a")
+
+    def source_of(*contents, without=None):
+        """A repository with one archive, a file of these contents."""
+        archive = Archive(keys, b"a", [Item(b"f", list(contents))])
+        return inside("source", repository(keys, PASSPHRASE, keys.blob(keys.tagged(fields(archive.named(b"a")))), *archive.chunks(without=without)))
+
+    first, second = b"x" * 64, b"y" * 64
+    with tempfile.TemporaryDirectory() as root:
+        make(root, source_of(first, second, without=keys.id(second)))
+        judge("transfer: a target is made", run(("-", "target", "init", "--iterations", "1"), root, variables)[0:1] + (b"",), (0, b""))
+        judge("transfer: the second chunk isn't there", run(words, root, variables), refused(b"missing %s" % keys.id(second).hex().encode()))
+        # The magic, and the PUT of the first piece: a head of 41 bytes, that of a blob of 43, and 64 bytes.
+        judge("transfer: the first piece is written", (os.path.getsize(os.path.join(root, "target/data/0/2")), b""), (8 + 41 + 43 + 64, b""))
+    id, blob = others.id(b"hello"), others.blob(b"hello")
+    damaged = (id, blob[:-1] + bytes([blob[-1] ^ 1]))
+    target = inside("target", {**repository(others, PASSPHRASE, others.blob(others.tagged(fields())), damaged), "nonce": b"00000000000003e8"})
+    reason = b"blob 3 %s\n" % id.hex().encode()
+    with tempfile.TemporaryDirectory() as root:
+        make(root, {**source_of(b"hello"), **target})
+        judge("transfer: a damaged chunk is needed", run(words, root, variables), (9, b"target refused: " + reason))
+    with tempfile.TemporaryDirectory() as root:
+        make(root, {**source_of(b"hullo"), **target})
+        lines = b"transferred a\ntotal 1 transferred 0 present 1 chunks 5 bytes 1 meta\n"
+        judge("transfer: a damaged chunk isn't needed", run(words, root, variables), (0, lines))
+        judge("transfer: it is bad after that", run(("target", "-", "check"), root, variables), (1, b"bad " + reason))
 
 
 def variables():
@@ -823,14 +865,15 @@ def progress():
 def rows():
     """Each row of the table of plain words was met."""
     met.add(("none", "standard output failed, status 7"))
-    # What no run here brings about: the system always has random bytes, and a counter that is used up is found after the first write.
-    met.update({("entropy failed", ""), ("limit: nonce", "")})
+    # What no run here brings about: the system always has random bytes, a counter that is used up is found after the first write, and no
+    # manifest, record or number of a segment here is that large.
+    met.update({("entropy failed", ""), *((f"limit: {what}", "") for what in ("nonce", "manifest", "record", "segment"))})
     for row in PLAIN:
         judge(f"plain words: {row}", (row in met, b""), (True, b""))
 
 
 reading = (folders, logs, damage, memory, names, words, keys_of_configs, listings, archives, checked, every_byte)
-for cases in (*reading, key_files, targets, transfers, variables, outputs, progress, rows):
+for cases in (*reading, key_files, targets, transfers, written, variables, outputs, progress, rows):
     cases()
 print(f"{passed} passed, {failed} failed")
 sys.exit(1 if failed or not passed else 0)

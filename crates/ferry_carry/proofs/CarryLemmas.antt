@@ -1,7 +1,8 @@
 -- Lemmas on specs/Carrying.antt: an archive that was carried stays so, and one that can be named is carried once its name is committed.
-use Rattle.std.proofs.Common.{◌≡◌, ◌≢◌, ◌⊎◌, inl, inr, ℕ, Bool, List, [], ◌∷◌, ◌++◌, Option, Some, None, IfSome, refl, sym, ◌∙◌}
+use Rattle.std.proofs.Common.{◌≡◌, ◌≢◌, ◌⊎◌, inl, inr, ℕ, Bool, List, [], ◌∷◌, ◌++◌, Some, refl, sym, ◌∙◌}
 use Rattle.std.proofs.Common.{ap, subst}
 use Rattle.std.proofs.lemmas.List.{append-nil, append_assoc}
+use Rattle.std.proofs.lemmas.Option.{IfSome_then}
 use Rattle.std.specs.List.{AllByRecursion}
 use Rattle.ferry_base.specs.Limits.{zero_id}
 use Rattle.ferry_blob.proofs.CallerLemmas.{opened_id}
@@ -26,17 +27,12 @@ use Rattle.ferry_store.specs.Store.{StoreFits}
 use Rattle.ferry_store.specs.declared.store.Store.{Store}
 use Rattle.ferry_carry.proofs.PutsLemmas.{contents_append}
 use Rattle.ferry_carry.proofs.WholeLemmas.{HoldsPiece, all_front, copied_whole, each_to, whole_kept}
-use Rattle.ferry_carry.specs.Carrying.{CanBeNamed, CarriesOver, HasLive, IsApart, IsCarried, IsReadyToName, IsWholeBy, LivesWithin, Origin, SaysIn}
+use Rattle.ferry_carry.specs.Carrying.{CanBeNamed, CarriesOver, EntersOver, HasLive, IsApart, IsCarried, IsReadyToName, IsWholeBy, LivesWithin, Origin, SaysIn}
 use Rattle.ferry_carry.specs.Copied.{adds_of}
 use Rattle.ferry_carry.specs.Gather.{HoldsContents, IsAmong}
 use Rattle.ferry_carry.specs.Grow.{KeepsChunks, KeepsNames}
 use Rattle.ferry_carry.specs.Puts.{Addition, AddsAll, AtBegin, AtEnd, Border, ComesBefore, IsAddedBehind, MayCome, Within, border_of, contents_in}
 use Rattle.ferry_carry.specs.Puts.{manifests_committed}
-
--- what holds of something that may be there
-pub if_some : {T : Type 0} (P Q : T → Type 0) (o : Option T) → ((x : T) → P x → Q x) → IfSome o P → IfSome o Q
-if_some P Q None step known = tt
-if_some P Q (Some x) step known = step x known
 
 -- ---- what is live behind what was added
 
@@ -110,23 +106,12 @@ module _ (scope : List (List ℕ)) (keys : Keys) where
 -- ---- what may collide
 
 -- among the first of what was added no contents collide where none do among all, nor among the last
-pub apart_front : (scope : List (List ℕ)) (keys : Keys) (base : List LogEntry) (some more : List Addition) → IsApart scope keys base (some ++ more)
-    → IsApart scope keys base some
-apart_front scope keys base some more apart = record {
-  one = apart.one;
-  added = (all_front (IsAmong scope) (contents_in some) (contents_in more)
-      (subst (AllByRecursion (IsAmong scope)) (contents_append some more) apart.added)).0;
-  live = apart.live;
-}
-
-pub apart_last : (scope : List (List ℕ)) (keys : Keys) (base : List LogEntry) (some more : List Addition) → IsApart scope keys base (some ++ more)
-    → IsApart scope keys base more
-apart_last scope keys base some more apart = record {
-  one = apart.one;
-  added = (all_front (IsAmong scope) (contents_in some) (contents_in more)
-      (subst (AllByRecursion (IsAmong scope)) (contents_append some more) apart.added)).1;
-  live = apart.live;
-}
+pub apart_parts : (scope : List (List ℕ)) (keys : Keys) (base : List LogEntry) (some more : List Addition) → IsApart scope keys base (some ++ more)
+    → IsApart scope keys base some × IsApart scope keys base more
+apart_parts scope keys base some more apart =
+    let added = all_front (IsAmong scope) (contents_in some) (contents_in more)
+    (subst (AllByRecursion (IsAmong scope)) (contents_append some more) apart.added) in
+    (record { one = apart.one; added = added.0; live = apart.live }, record { one = apart.one; added = added.1; live = apart.live })
 
 -- nor do they behind what was added before
 pub apart_behind : (scope : List (List ℕ)) (keys : Keys) (at : Border) (most : ℕ) (a b : List LogEntry) (earlier added others : List Addition)
@@ -155,16 +140,23 @@ whole_by keys a b before after name whole keeps names by files log has =
     whole_kept files log keys files log before.archives after.archives name whole is (λ id content chunk. chunk)
     (names name is.named is.named_is ∙ sym is.named_is)
 
+-- the entry of an archive stays where each name is kept
+abbrev pub entry_kept : (there : Files) (from : Origin) (keys : Keys) (before after : ManifestText) (name : List ℕ) → KeepsNames before after
+    → EntersOver there from keys before.archives name → EntersOver there from keys after.archives name
+entry_kept there from keys before after name names c = record {
+  whole = c.whole;
+  source = c.source;
+  entry = c.entry;
+  entry_is = names name c.entry c.entry_is;
+  text = c.text;
+  id = c.id;
+}
+
 module _ (from : Origin) (keys : Keys) (added more : List Addition) (base base_now a b : List LogEntry) (before after : ManifestText) where
   carries_on : (there : Files) (name : List ℕ) → StaysApart keys base added base_now more → KeepsChunks a b → KeepsNames before after
       → CarriesOver there from added base keys a before.archives name → CarriesOver there from more base_now keys b after.archives name
   carries_on there name stays keeps names c = record {
-    whole = c.whole;
-    source = c.source;
-    entry = c.entry;
-    entry_is = names name c.entry c.entry_is;
-    text = c.text;
-    id = c.id;
+    over = entry_kept there from keys before after name names c.over;
     record_is = c.record_is;
     target = λ scope apart. whole_by keys a b before after name c.whole keeps names (c.target scope (stays scope apart));
   }
@@ -175,10 +167,7 @@ module _ (from : Origin) (keys : Keys) (added more : List Addition) (base base_n
       → AllByRecursion (IsCarried from more base_now keys b after.archives) names
   all_carried names stays keeps kept all =
       each_to (IsCarried from added base keys a before.archives) (IsCarried from more base_now keys b after.archives) names
-      (λ name carried.
-      if_some (λ there. CarriesOver there from added base keys a before.archives name)
-      (λ there. CarriesOver there from more base_now keys b after.archives name) from.files
-      (λ there c. carries_on there name stays keeps kept c) carried) all
+      (λ name carried. IfSome_then from.files carried (λ there c. carries_on there name stays keeps kept c)) all
 
 -- ---- an archive that is named
 
@@ -195,6 +184,13 @@ chunk_by counts store h fits blob files log has id content chunk =
       object = record { blob = object.blob; has = has id object.blob chunk.chunk live; opens = object.opens };
     }
 
+-- the entry of an archive that can be named, once a manifest has it
+abbrev pub entry_named : (there : Files) (from : Origin) (added : List Addition) (files : Files) (repo : RepoState) (manifest : ManifestText)
+    (entry : ArchiveRef) → archive_named entry.name manifest.archives ≡ Some entry → CanBeNamed there from added files repo entry
+    → EntersOver there from repo.keys manifest.archives entry.name
+entry_named there from added files repo manifest entry named ready =
+    record { whole = ready.whole; source = ready.source; entry = entry; entry_is = named; text = ready.text; id = ready.id }
+
 named_over : (counts : Bool) (store : Store) (h : History) (fits : StoreFits counts store h) (blob : List ℕ) (there : Files) (from : Origin)
     (added : List Addition) (manifest : ManifestText) (entry : ArchiveRef) → archive_named entry.name manifest.archives ≡ Some entry
     → CanBeNamed there from added (files_now h) (repo_view store.repo) entry
@@ -203,12 +199,7 @@ named_over : (counts : Bool) (store : Store) (h : History) (fits : StoreFits cou
 named_over counts store h fits blob there from added manifest entry named ready =
     let keys = (repo_view store.repo).keys in
     record {
-      whole = ready.whole;
-      source = ready.source;
-      entry = entry;
-      entry_is = named;
-      text = ready.text;
-      id = ready.id;
+      over = entry_named there from added (files_now h) (repo_view store.repo) manifest entry named ready;
       record_is = (ready.copy.copied, (ready.copy.reads, ready.copy.same));
       target = λ scope apart files log has.
           let held : HoldsContents (files_now h) (repo_view store.repo) (adds_of keys from.block ready.whole.items ready.text) =
@@ -238,9 +229,7 @@ named_carried counts store h fits blob from added manifest entry named ready =
     let base = entries_of fits.written in
     let entries = entries_committed (with_entry fits.written (PutEntry zero_id blob)) in
     subst (λ (l : List Addition). IsCarried from l base keys entries manifest.archives entry.name) (sym (append-nil added))
-    (if_some (λ there. CanBeNamed there from added (files_now h) (repo_view store.repo) entry)
-    (λ there. CarriesOver there from added base keys entries manifest.archives entry.name) from.files
-    (λ there c. named_over counts store h fits blob there from added manifest entry named c) ready)
+    (IfSome_then from.files ready (λ there c. named_over counts store h fits blob there from added manifest entry named c))
 
 -- ---- an archive that was there
 
@@ -250,13 +239,15 @@ pub same_over : (there : Files) (from : Origin) (added : List Addition) (base : 
     → ((id blob : List ℕ) → id ≢ zero_id → HasBlob files repo.log id blob → live_in id entries ≡ Some blob) → SaysIn there from.repo name whole
     → SaysIn files repo name whole → CarriesOver there from added base repo.keys entries repo.manifest.archives name
 same_over there from added base files repo name whole entries lives source is = record {
-  whole = whole;
-  source = source;
-  entry = is.named;
-  entry_is = is.named_is;
-  text = is.record_is.content;
-  id = let chunk = is.record_is.chunk in
-      opened_id repo.keys is.named.id chunk.object.blob is.record_is.content chunk.object.opens chunk.chunk;
+  over = record {
+    whole = whole;
+    source = source;
+    entry = is.named;
+    entry_is = is.named_is;
+    text = is.record_is.content;
+    id = let chunk = is.record_is.chunk in
+        opened_id repo.keys is.named.id chunk.object.blob is.record_is.content chunk.object.opens chunk.chunk;
+  };
   record_is = (is.archive, (is.record_is.record_is, sym is.fields));
   target = λ scope apart other log has.
       whole_kept files repo.log repo.keys other log repo.manifest.archives repo.manifest.archives name whole is (λ id content chunk.

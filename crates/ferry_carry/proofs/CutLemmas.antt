@@ -1,5 +1,6 @@
 -- Lemmas on how archives are cut in a target.
 use Rattle.std.proofs.Common.{◌≡◌, ◌⊎◌, inl, inr, ℕ, zero, suc, List, [], ◌∷◌, ◌++◌, Option, Some, None, IfSome, slice_get, refl, sym, ◌∙◌, subst}
+use Rattle.std.proofs.lemmas.Option.{IfSome_then}
 use Rattle.ferry_disk.specs.Files.{Files}
 use Rattle.ferry_mac.specs.declared.keys.Keys.{Keys}
 use Rattle.ferry_manifest.specs.Manifest.Text.{ManifestText}
@@ -7,8 +8,8 @@ use Rattle.ferry_manifest.specs.declared.manifest.ArchiveRef.{ArchiveRef}
 use Rattle.ferry_repo.specs.Archives.{archive_named}
 use Rattle.ferry_repo.specs.Opening.{RepoState}
 use Rattle.ferry_repo.specs.Whole.{WholeArchive}
-use Rattle.ferry_carry.proofs.CarryLemmas.{if_some}
-use Rattle.ferry_carry.specs.Carrying.{AreCut, CanBeNamed, CutsOver, IsCut, IsReadyToName, Origin, SaysIn}
+use Rattle.ferry_carry.proofs.CarryLemmas.{entry_kept, entry_named}
+use Rattle.ferry_carry.specs.Carrying.{AreCut, IsCut, IsReadyToName, Origin, SaysIn}
 use Rattle.ferry_carry.specs.Gather.{IsAmong}
 use Rattle.ferry_carry.specs.Grow.{IsNamedBy, KeepsNames}
 use Rattle.ferry_carry.specs.Puts.{Addition}
@@ -40,16 +41,7 @@ cut_none accepted from keys archives name among none = absurd (among_none name a
 cuts_on : (from : Origin) (keys : Keys) (before after : ManifestText) (name : List ℕ) → KeepsNames before after → IsCut from keys before.archives name
     → IsCut from keys after.archives name
 cuts_on from keys before after name names cut =
-    if_some (λ there. CutsOver there from keys before.archives name) (λ there. CutsOver there from keys after.archives name) from.files
-    (λ there c. record {
-      whole = c.whole;
-      source = c.source;
-      entry = c.entry;
-      entry_is = names name c.entry c.entry_is;
-      text = c.text;
-      id = c.id;
-      copy = c.copy;
-    }) cut
+    IfSome_then from.files cut (λ there c. record { over = entry_kept there from keys before after name names c.over; copy = c.copy })
 
 -- of both
 pub cut_then : (accepted middle : ManifestText) (from : Origin) (keys : Keys) (before after : ManifestText) (some more : List (List ℕ))
@@ -77,8 +69,7 @@ pub cut_one : (accepted : ManifestText) (from : Origin) (added : List Addition) 
     → AreCut accepted from repo.keys manifest.archives (entry.name ∷ [])
 cut_one accepted from added files repo manifest entry is ready name among none =
     subst (IsCut from repo.keys manifest.archives) (among_one entry.name name among)
-    (if_some (λ there. CanBeNamed there from added files repo entry) (λ there. CutsOver there from repo.keys manifest.archives entry.name) from.files
-    (λ there c. record { whole = c.whole; source = c.source; entry = entry; entry_is = is; text = c.text; id = c.id; copy = c.copy }) ready)
+    (IfSome_then from.files ready (λ there c. record { over = entry_named there from added files repo manifest entry is c; copy = c.copy }))
 
 -- one that was there isn't new
 pub cut_same : (accepted : ManifestText) (from : Origin) (files : Files) (repo : RepoState) (keys : Keys) (archives : List ArchiveRef) (name : List ℕ)
@@ -87,10 +78,8 @@ pub cut_same : (accepted : ManifestText) (from : Origin) (files : Files) (repo :
     → AreCut accepted from keys archives (name ∷ [])
 cut_same accepted from files repo keys archives name accepts same other among none =
     let is = among_one name other among in
-    if_some (λ there. (whole : WholeArchive) × (SaysIn there from.repo name whole × SaysIn files repo name whole))
-    (λ there. CutsOver there from keys archives other) from.files
-    (λ there s.
+    IfSome_then from.files same (λ there s.
     let there_is = accepts name s.1.1.named s.1.1.named_is in
     let both : None ≡ Some s.1.1.named =
     sym none ∙ subst (λ (n : List ℕ). archive_named n accepted.archives ≡ Some s.1.1.named) is there_is in
-    absurd (let no : ⊥ = cc in no)) same
+    absurd (let no : ⊥ = cc in no))

@@ -1,5 +1,5 @@
 -- Lemmas on specs/Filling.antt: what was added where the source refused, from call to call.
-use Rattle.std.proofs.Common.{◌≡◌, ◌<◌, ◌+◌, ◌++◌, ℕ, inl, inr, true, List, [], Option, Some, None, IfSome, length, take, drop, get_or}
+use Rattle.std.proofs.Common.{◌≡◌, ◌<◌, ◌+◌, ◌++◌, ℕ, inl, inr, true, List, [], ◌∷◌, Option, Some, None, IfSome, length, take, drop, get_or}
 use Rattle.std.proofs.Common.{refl, sym, ◌∙◌, ap, subst, arith}
 use Rattle.std.proofs.lemmas.List.{append-nil, drop_more, take-append-drop}
 use Rattle.std.proofs.lemmas.Option.{IfSome_then}
@@ -10,21 +10,24 @@ use Rattle.ferry_disk.specs.Files.{Files}
 use Rattle.ferry_item.specs.Item.{ItemText}
 use Rattle.ferry_item.specs.declared.item.ChunkRef.{ChunkRef}
 use Rattle.ferry_mac.specs.declared.keys.Keys.{Keys}
-use Rattle.ferry_manifest.specs.Record.Text.{archive_view}
 use Rattle.ferry_manifest.specs.declared.manifest.ArchiveRef.{ArchiveRef}
 use Rattle.ferry_rechunk.specs.Cutting.{Cutting}
 use Rattle.ferry_repo.specs.Archives.{RefusesContent, archive_named}
-use Rattle.ferry_repo.specs.Opening.{RepoState, repo_view}
+use Rattle.ferry_repo.specs.Cached.{Contents}
+use Rattle.ferry_repo.specs.Opening.{FitsRepo, RepoState, repo_view}
 use Rattle.ferry_repo.specs.Walk.{IsToCome, walk_view}
 use Rattle.ferry_repo.specs.Whole.{ContentsCome}
 use Rattle.ferry_repo.specs.declared.fault.RepoFault.{RepoFault}
+use Rattle.ferry_repo.proofs.WalkLawLemmas.{some_to_come}
 use Rattle.ferry_store.specs.declared.store.Store.{Store}
+use Rattle.ferry_carry.proofs.ListingLemmas.{items_taken}
 use Rattle.ferry_carry.proofs.PieceLemmas.{hand_fed}
+use Rattle.ferry_carry.proofs.RefusalLemmas.{IsAt, item_at}
 use Rattle.ferry_carry.specs.Carrying.{Origin, origin}
 use Rattle.ferry_carry.specs.Copying.{TakesItem, WritesContents}
 use Rattle.ferry_carry.specs.Fault.{IsOfSource}
-use Rattle.ferry_carry.specs.Filling.{FillsArchive, FillsChunks, FillsContent, FillsNext, FillsOne, FillsStep, WhereHeard, WhereSource}
-use Rattle.ferry_carry.specs.Listing.{ListsItems}
+use Rattle.ferry_carry.specs.Filling.{FillsArchive, FillsChunks, FillsContent, FillsCopy, FillsNext, FillsOne, FillsStep, WhereHeard}
+use Rattle.ferry_carry.specs.Filling.{WhereSource}
 use Rattle.ferry_carry.specs.Progress.{CopiesSoFar, IsCopiedSoFar}
 use Rattle.ferry_carry.specs.Puts.{Addition, AreOf, Content, contents_in}
 use Rattle.ferry_carry.specs.Refusals.{RefusesNext, RefusesWriting, is_target}
@@ -97,8 +100,8 @@ pub next_filled : (told : Option Told) (source : RepoState) (copy : Copy) (fault
     → FillsStep told source copy fault []
 next_filled told source copy (Source fault) refused = λ of_files. by told (refused of_files) where
   by : (told : Option Told) → IfSome told (λ t. IsToCome (told_files t) source.log source.keys (walk_view copy.walk) [] (Some fault))
-      → IfSome told (λ t. FillsNext (told_files t) source copy.block (walk_view copy.walk) fault [])
-  by told come = IfSome_then told come (λ t is. inl (refl, is))
+      → IfSome told (λ t. FillsCopy (told_files t) source copy fault [])
+  by told come = IfSome_then told come (λ t is. record { more = []; ends = Some fault; come = is; next_is = inl (refl, (refl, refl)) })
 next_filled told source copy (Target refusal) refused = tt
 next_filled told source copy (Taken name) refused = tt
 next_filled told source copy (NotFound name) refused = tt
@@ -107,28 +110,36 @@ next_filled told source copy Memory refused = tt
 next_filled told source copy Record refused = tt
 
 -- a chunk of an item that was taken is refused
-pub item_filled : (told later : Option Told) (source after : RepoState) (copy next : Copy) (item : ItemText) (more : List Addition) (fault : CarryFault)
-    → heard later ≡ heard told → after ≡ source → next.block ≡ copy.block
+pub item_filled : (told later : Option Told) (source after : RepoState) (cached : Contents) (copy next : Copy) (item : ItemText) (more : List Addition)
+    (fault : CarryFault) → heard later ≡ heard told → after ≡ source → next.block ≡ copy.block
+    → IfSome told (λ t. FitsRepo (told_files t) source cached)
     → IfSome told (λ t. TakesItem (told_files t) source (walk_view copy.walk) item (walk_view next.walk)) → AreOf Content more
     → WhereSource later fault (λ there refusal. FillsContent there after next.block item.chunks refusal (contents_in more))
     → FillsStep told source copy fault more
-item_filled told later source after copy next item more (Source fault) alike kept block taken of filled = λ of_files.
-    told_with told told (λ f. TakesItem f source (walk_view copy.walk) item (walk_view next.walk))
-    (λ f. FillsContent f source next.block item.chunks fault (contents_in more)) (λ f. FillsNext f source copy.block (walk_view copy.walk) fault more) refl
-    (λ f takes fills.
-    inr (record {
-      item = item;
-      next = record { after = walk_view next.walk; taken = takes };
-      fills = subst (λ (b : ℕ). FillsContent f source b item.chunks fault (contents_in more)) block fills;
-      of_content = of;
-    })) taken
+item_filled told later source after cached copy next item more (Source fault) alike kept block fits taken of filled = λ of_files.
+    told_with told told (λ f. IsAt f source (walk_view copy.walk) item (walk_view next.walk))
+    (λ f. FillsContent f source next.block item.chunks fault (contents_in more)) (λ f. FillsCopy f source copy fault more) refl
+    (λ f at fills.
+    let some = some_to_come f source.log source.keys (walk_view next.walk) at.fits in
+    record {
+      more = item ∷ some.0;
+      ends = some.1.0;
+      come = at.taken some.0 some.1.0 some.1.1;
+      next_is = inr (record {
+        item = item;
+        others = some.0;
+        first = refl;
+        fills = subst (λ (b : ℕ). FillsContent f source b item.chunks fault (contents_in more)) block fills;
+        of_content = of;
+      });
+    }) (item_at told source cached (walk_view copy.walk) (walk_view next.walk) item fits taken)
     (at_first told later source after (λ r f. FillsContent f r next.block item.chunks fault (contents_in more)) alike kept (filled of_files))
-item_filled told later source after copy next item more (Target refusal) alike kept block taken of filled = tt
-item_filled told later source after copy next item more (Taken name) alike kept block taken of filled = tt
-item_filled told later source after copy next item more (NotFound name) alike kept block taken of filled = tt
-item_filled told later source after copy next item more Pieces alike kept block taken of filled = tt
-item_filled told later source after copy next item more Memory alike kept block taken of filled = tt
-item_filled told later source after copy next item more Record alike kept block taken of filled = tt
+item_filled told later source after cached copy next item more (Target refusal) alike kept block fits taken of filled = tt
+item_filled told later source after cached copy next item more (Taken name) alike kept block fits taken of filled = tt
+item_filled told later source after cached copy next item more (NotFound name) alike kept block fits taken of filled = tt
+item_filled told later source after cached copy next item more Pieces alike kept block fits taken of filled = tt
+item_filled told later source after cached copy next item more Memory alike kept block fits taken of filled = tt
+item_filled told later source after cached copy next item more Record alike kept block fits taken of filled = tt
 
 -- ---- an archive on its way
 
@@ -136,27 +147,16 @@ item_filled told later source after copy next item more Record alike kept block 
 archive_filled : (there : Files) (from : Origin) (named : ArchiveRef) (files : Files) (store : Store) (copy : Copy) (added more : List Addition)
     (fault : RepoFault) → archive_named named.name from.repo.manifest.archives ≡ Some named → from.block ≡ copy.block
     → CopiesSoFar there from.repo named files (repo_view store.repo) copy added
-    → FillsNext there from.repo copy.block (walk_view copy.walk) fault more
+    → FillsCopy there from.repo copy fault more
     → FillsArchive there from (repo_view store.repo).keys named.name fault (added ++ more)
 archive_filled there from named files store copy added more fault named_is block copied filled =
-    let keys = (repo_view store.repo).keys in
-    let piece = copy.stream.cutter.piece in
     record {
       named = named;
       named_is = named_is;
       fills = inr (record {
-        archive = archive_view copy.archive;
-        record_is = copied.record_is;
-        items = copied.items;
-        walk = walk_view copy.walk;
-        leads = copied.leads;
-        wholes = copied.wholes;
-        come = copied.come;
-        listed = added;
-        piece = piece;
-        lists = subst (λ (b : ℕ). ListsItems keys b [] copied.wholes added piece) (sym block) copied.writes.lists;
+        taken = items_taken there from named files (repo_view store.repo) copy added filled.more filled.ends block copied filled.come;
         next = more;
-        next_is = subst (λ (b : ℕ). FillsNext there from.repo b (walk_view copy.walk) fault more) (sym block) filled;
+        next_is = subst (λ (b : ℕ). FillsNext there from.repo b filled.more filled.ends fault more) (sym block) filled.next_is;
         begun_is = refl;
       });
     }

@@ -1,7 +1,8 @@
 -- Lemmas on specs/Flight.antt: a target that is only read, and what holds of a store of which nothing was named.
-use Rattle.std.proofs.Common.{◌≡◌, ◌≢◌, ◌⊎◌, inl, inr, ◌<◌, ℕ, Bool, true, false, List, [], ◌∷◌, Option, Some, None, Result, Ok, Err, IfSome, IsSome, OnOk}
+use Rattle.std.proofs.Common.{◌≡◌, ◌≢◌, ◌⊎◌, inl, inr, ◌<◌, ℕ, Bool, true, false, List, [], ◌∷◌, Option, Some, None, Result, Ok, Err, IfSome, IsSome}
 use Rattle.std.proofs.Common.{refl, sym, ◌∙◌, ap, subst, arith, ◌^◌, ◌-◌, ◌++◌, min, length}
 use Rattle.std.proofs.lemmas.List.{append-nil}
+use Rattle.std.proofs.lemmas.Option.{IfSome_then}
 use Rattle.std.proofs.lemmas.Slice.Eq.{bytes_eq-Decides}
 use Rattle.std.specs.FinMap.{get}
 use Rattle.std.specs.Str.{bytes_eq}
@@ -41,14 +42,14 @@ use Rattle.ferry_store.specs.declared.store.Store.{Store}
 use Rattle.ferry_write.specs.Room.{behind}
 use Rattle.ferry_write.specs.Script.{AllDone}
 use Rattle.ferry_carry.proofs.AddingLemmas.{gathers_all, stops_unbroken}
-use Rattle.ferry_carry.proofs.CarryLemmas.{if_some, same_over}
+use Rattle.ferry_carry.proofs.CarryLemmas.{same_over}
 use Rattle.ferry_carry.proofs.CutLemmas.{cut_same}
 use Rattle.ferry_carry.proofs.GatherLemmas.{moved_here, stands_here}
 use Rattle.ferry_carry.proofs.GrowLemmas.{growing_by, has_kept, most_from}
 use Rattle.ferry_carry.proofs.PutsLemmas.{adds_here, goes_same}
 use Rattle.ferry_carry.specs.Adding.{AddsOn, HoldsAll, IsNoChunk}
 use Rattle.ferry_carry.specs.Fault.{compare_fault, target_failed}
-use Rattle.ferry_carry.specs.Carrying.{CarriesOver, IsCarried, Origin, SaysIn, origin}
+use Rattle.ferry_carry.specs.Carrying.{IsCarried, Origin, SaysIn, origin}
 use Rattle.ferry_carry.specs.Flight.{IsCommitted, IsSame, IsSettled, ReadsStore}
 use Rattle.ferry_carry.proofs.WorkLemmas.{between_known}
 use Rattle.ferry_carry.specs.Gather.{Gathered, Gathers, GathersAt, HoldsWithin, KeepsRest, KeepsStanding, KeepsStandingAt}
@@ -273,11 +274,6 @@ settled_committed store name settled entry is = sym (ap (λ (m : ManifestText). 
 
 -- ---- bodies that end so
 
--- what holds of each body that is `Ok`
-pub on_ok : {T F : Type 0} {P Q : Type 0} (result : Result T F) → (P → Q) → OnOk result P → OnOk result Q
-on_ok (Ok x) step p = step p
-on_ok (Err fault) step p = tt
-
 -- an archive that was there is carried once nothing is pending
 none_pending : (n m : ℕ) → n ≡ 0 → n ≡ min m (2 ^ 64 - 1) → m ≡ 0
 none_pending n m none is = omega (arith, none, is)
@@ -306,10 +302,8 @@ same_grows earlier from name store now h g accepts rest pending there same gathe
     λ id blob apart has.
     ap (live_in id) (sym all) ∙ end.moved.entries id blob ((fits.holds id blob apart).0 has) in
     let carried : IsCarried from all_added base (repo_view store.repo).keys (committed_of written) (repo_view store.repo).manifest.archives name =
-    if_some (λ there. (whole : WholeArchive) × (SaysIn there from.repo name whole × SaysIn (files_now h) (repo_view store.repo) name whole))
-    (λ there. CarriesOver there from all_added base (repo_view store.repo).keys (committed_of written) (repo_view store.repo).manifest.archives name)
-    from.files
-    (λ there s. same_over there from all_added base (files_now h) (repo_view store.repo) name s.0 (committed_of written) lives s.1.0 s.1.1) same in
+    IfSome_then from.files same (λ there s.
+    same_over there from all_added base (files_now h) (repo_view store.repo) name s.0 (committed_of written) lives s.1.0 s.1.1) in
     record {
       fits_now = end.fits_now;
       chunks = λ id blob apart live. end.moved.committed id blob live;

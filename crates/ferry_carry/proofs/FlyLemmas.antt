@@ -6,25 +6,23 @@ use Rattle.std.proofs.lemmas.List.{append-nil, append_assoc}
 use Rattle.ferry_disk.proofs.MomentLemmas.{between_both, between_map, between_then}
 use Rattle.ferry_disk.specs.Act.{History, files_now}
 use Rattle.ferry_disk.specs.Device.{Heard, Told, heard, heard_of, told_files}
-use Rattle.ferry_disk.specs.Files.{Files}
 use Rattle.ferry_disk.specs.Moments.{Between}
 use Rattle.ferry_mac.specs.declared.keys.Keys.{Keys}
 use Rattle.ferry_manifest.specs.Manifest.Text.{ManifestText}
-use Rattle.ferry_manifest.specs.Record.Text.{archive_view}
 use Rattle.ferry_manifest.specs.declared.manifest.ArchiveRef.{ArchiveRef}
 use Rattle.ferry_repo.specs.Archives.{RefusesRecord, archive_named}
 use Rattle.ferry_repo.specs.Fault.{IsOfFiles}
-use Rattle.ferry_repo.specs.Opening.{RepoState, repo_view}
-use Rattle.ferry_repo.specs.Walk.{walk_view}
+use Rattle.ferry_repo.specs.Cached.{Contents}
+use Rattle.ferry_repo.specs.Opening.{FitsRepo, RepoState, repo_view}
 use Rattle.ferry_repo.specs.declared.fault.RepoFault.{RepoFault}
 use Rattle.ferry_store.specs.Commit.{accepted_in}
 use Rattle.ferry_store.specs.declared.store.Store.{Store}
 use Rattle.ferry_carry.proofs.AddingLemmas.{held_gathered, stops_then, stops_unbroken}
-use Rattle.ferry_carry.proofs.CarryLemmas.{if_some}
 use Rattle.ferry_carry.proofs.FlightLemmas.{same_carried}
 use Rattle.ferry_carry.proofs.GatherLemmas.{checkpoint_gathers, checkpoint_stands, moved_here, sound_moments, standing_wider, stands_at, stands_here}
 use Rattle.ferry_carry.proofs.GatherLemmas.{stands_then}
-use Rattle.ferry_carry.proofs.ReportLemmas.{tells_named}
+use Rattle.ferry_carry.proofs.ListingLemmas.{copied_begun}
+use Rattle.ferry_carry.proofs.ThereLemmas.{tells_named}
 use Rattle.ferry_carry.proofs.StandLemmas.{growing_behind, stands_behind}
 use Rattle.ferry_carry.proofs.WorkLemmas.{carried_by_then, carried_from, carried_from_err, carried_gathered_err, carried_none, err_is}
 use Rattle.ferry_carry.proofs.WorkLemmas.{works_as, works_front, works_none}
@@ -41,8 +39,8 @@ use Rattle.ferry_carry.specs.Gather.{Gathers, GathersAt, KeepsRest, KeepsStandin
 use Rattle.ferry_carry.specs.Grow.{AcceptsMore, Grows, KeepsGrowing}
 use Rattle.ferry_carry.specs.Fault.{IsOfSource, IsOfWork, target_failed}
 use Rattle.ferry_carry.specs.Filling.{FillsFlight, FillsName, FillsOne, WhereHeard}
-use Rattle.ferry_carry.specs.Listing.{BeginsArchive, BeginsName, BeginsOne, EndsItemsOf, ListsArchive, ListsItems, ListsOne}
-use Rattle.ferry_carry.specs.Progress.{CopiesOn, CopiesSoFar, IsCopiedSoFar}
+use Rattle.ferry_carry.specs.Listing.{BeginsName, BeginsOne, ListsOne}
+use Rattle.ferry_carry.specs.Progress.{CopiesOn, IsCopiedSoFar}
 use Rattle.ferry_carry.specs.Puts.{Addition, AtBegin, Border, Within, border_behind, put_bytes, put_count}
 use Rattle.ferry_carry.specs.Refusals.{RefusesBegin, RefusesEnd}
 use Rattle.ferry_carry.specs.Work.{Works}
@@ -390,44 +388,11 @@ filled_apart {T} before from keys accepted name begun (Ok x) apart = tt
 filled_apart {T} before from keys accepted name begun (Err fault) apart =
     heard_apart before fault (λ refusal. FillsName from keys accepted [] name refusal begun) apart
 
--- the items that were copied so far
-begun_archive : (there : Files) (from : Origin) (named : ArchiveRef) (files : Files) (repo : RepoState) (copy : Copy) (added : List Addition)
-    → archive_named named.name from.repo.manifest.archives ≡ Some named → from.block ≡ copy.block
-    → CopiesSoFar there from.repo named files repo copy added → BeginsArchive there from repo.keys named.name added
-begun_archive there from named files repo copy added named_is block so = record {
-  named = named;
-  named_is = named_is;
-  archive = archive_view copy.archive;
-  record_is = so.record_is;
-  items = so.items;
-  walk = walk_view copy.walk;
-  leads = so.leads;
-  wholes = so.wholes;
-  come = so.come;
-  listed = added;
-  piece = copy.stream.cutter.piece;
-  lists = subst (λ (b : ℕ). ListsItems repo.keys b [] so.wholes added copy.stream.cutter.piece) (sym block) so.writes.lists;
-  next = [];
-  next_is = inl refl;
-  begun_is = sym (append-nil added);
-}
-
-begun_so_far : (from : Origin) (named : ArchiveRef) (heard : Option Told) (store : Store) (copy : Copy) (added : List Addition)
-    → archive_named named.name from.repo.manifest.archives ≡ Some named → IsCopiedSoFar from named heard store copy added
-    → IfSome heard (λ _. BeginsOne from (repo_view store.repo).keys named.name added)
-begun_so_far from named None store copy added named_is so = tt
-begun_so_far from named (Some t) store copy added named_is so =
-    let keys = (repo_view store.repo).keys in
-    inr (if_some (λ there. CopiesSoFar there from.repo named (told_files t) (repo_view store.repo) copy added)
-    (λ there. BeginsArchive there from keys named.name added
-    ⊎ (EndsItemsOf there from keys named.name added ⊎ ListsArchive there from keys named.name added)) from.files
-    (λ there p. inl (begun_archive there from named (told_files t) (repo_view store.repo) copy added named_is so.0.block p)) so.1)
-
 -- what a flight has added
-pub fits_begins : (told : Option Told) (source : RepoState) (heard : Option Told) (store : Store) (flight : Flight)
-    (fits : FlightFits told source heard store flight) → AcceptsMore store
+pub fits_begins : (told : Option Told) (source : RepoState) (cached : Contents) (heard : Option Told) (store : Store) (flight : Flight)
+    (fits : FlightFits told source heard store flight) → IfSome told (λ t. FitsRepo (told_files t) source cached) → AcceptsMore store
     → BeginsDone heard (flown_from told source flight) (repo_view store.repo).keys (accepted_in store) flight.named.name fits.added
-fits_begins told source heard store flight fits accepts = by flight.work fits.work where
+fits_begins told source cached heard store flight fits log_fits accepts = by flight.work fits.work where
   from : Origin
   from = flown_from told source flight
 
@@ -440,7 +405,9 @@ fits_begins told source heard store flight fits accepts = by flight.work fits.wo
   by Waiting is = none is
   by (Copying copy) p =
       begins_new heard from (repo_view store.repo).keys (accepted_in store) flight.named.name fits.added p.1
-      (begun_so_far from flight.named heard store copy fits.added fits.stands.named p.3)
+      (subst (λ (l : List Addition). IfSome heard (λ _. BeginsOne from (repo_view store.repo).keys flight.named.name l)) (append-nil fits.added)
+      (copied_begun told heard source cached flight.options.block flight.options.checkpoint flight.named store copy fits.added [] p.0 log_fits
+      fits.stands.named (inl refl) p.3))
   by (Comparing comparison) p = none p.3
 
 -- ---- where nothing is named
@@ -798,17 +765,17 @@ takes_begin from name start more store now flight a b n m result none p =
     subst (λ (l : List Addition). TakesAll from name l more store now flight a b n m result) none p
 
 -- a further one wasn't taken
-pub takes_end : (told : Option Told) (source : RepoState) (from : Origin) (name : List ℕ) (start : List Addition) (store now : Store) (flight : Flight)
-    (a b : Option Told) (n m : ℕ) → flown_from told source flight ≡ from → flight.named.name ≡ name → accepted_in now ≡ accepted_in store
-    → (repo_view now.repo).keys ≡ (repo_view store.repo).keys → AcceptsMore now
+pub takes_end : (told : Option Told) (source : RepoState) (cached : Contents) (from : Origin) (name : List ℕ) (start : List Addition) (store now : Store)
+    (flight : Flight) (a b : Option Told) (n m : ℕ) → flown_from told source flight ≡ from → flight.named.name ≡ name → accepted_in now ≡ accepted_in store
+    → (repo_view now.repo).keys ≡ (repo_view store.repo).keys → IfSome told (λ t. FitsRepo (told_files t) source cached) → AcceptsMore now
     → (before : TakesOn told source from name start store now flight a b n m)
     → TakesAll from name start before.more store now flight a b n m (Err Memory)
-takes_end told source from name start store now flight a b n m is named accepted keys accepts before = record {
+takes_end told source cached from name start store now flight a b n m is named accepted keys log_fits accepts before = record {
   carries = record { each = before.works.each; end = tt; ends = before.works.ends; cause = before.works.cause };
   begins = begins_before from (flown_from told source flight) (repo_view store.repo).keys (repo_view now.repo).keys (accepted_in store) (accepted_in now) name
       flight.named.name (start ++ before.more) before.fits.added (KeepsGrowing start from [] store before.more) a b before.stands is
       keys accepted named before.added
-      (fits_begins told source b now flight before.fits accepts);
+      (fits_begins told source cached b now flight before.fits log_fits accepts);
   stands = λ _. before.stands;
   last = stops_unbroken a (repo_view store.repo).keys before.more Memory tt;
   held = λ source. absurd source;

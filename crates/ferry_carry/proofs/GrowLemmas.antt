@@ -29,7 +29,7 @@ use Rattle.ferry_store.specs.State.{Did, IsSound, Written, with_entry}
 use Rattle.ferry_store.specs.Store.{StoreFits}
 use Rattle.ferry_store.specs.declared.store.Store.{Store}
 use Rattle.ferry_write.specs.Script.{AllDone}
-use Rattle.ferry_carry.proofs.CarryLemmas.{all_carried, apart_behind, apart_front, apart_last, named_carried}
+use Rattle.ferry_carry.proofs.CarryLemmas.{all_carried, apart_behind, apart_parts, named_carried}
 use Rattle.ferry_carry.proofs.CutLemmas.{cut_none, cut_one, cut_then}
 use Rattle.ferry_carry.proofs.GatherLemmas.{gathers_at, keeps_at, opening_same, opening_then, sound_moments, standing_from, stands_still}
 use Rattle.ferry_carry.proofs.PutsLemmas.{Allows, adds_at, adds_here, adds_manifest, adds_then, allows_settled, border_append, first_all, front_all}
@@ -153,8 +153,8 @@ module _ (earlier : List Addition) (from : Origin) (some more : List (List ℕ))
       all_both (IsCarried from all before keys b after.archives) some more
       (all_carried from keys (earlier ++ added) all before before a b middle after some
       (λ scope apart.
-      apart_front scope keys before (earlier ++ added) others
-      (subst (IsApart scope keys before) (sym (append_assoc earlier added others)) apart)) chunks names first)
+      (apart_parts scope keys before (earlier ++ added) others
+      (subst (IsApart scope keys before) (sym (append_assoc earlier added others)) apart)).0) chunks names first)
       (all_carried from keys ((earlier ++ added) ++ others) all behind before b b after after more
       (λ scope apart. apart_behind scope keys at from.most before behind earlier added others adds apart) (λ id blob chunk live. live) (names_here after)
       second)
@@ -227,9 +227,9 @@ on_wider earlier from some more within all accepted repo written image first sta
   carried = all_carried from repo.keys (earlier ++ within) (earlier ++ all) (entries_of written) (entries_of written) stands.entries stands.entries
       stands.manifest stands.manifest stands.done
       (λ scope apart.
-      apart_front scope repo.keys (entries_of written) (earlier ++ within) first.0
+      (apart_parts scope repo.keys (entries_of written) (earlier ++ within) first.0
       (subst (IsApart scope repo.keys (entries_of written))
-      (ap (λ (l : List Addition). earlier ++ l) first.1 ∙ sym (append_assoc earlier within first.0)) apart)) (λ id blob chunk live. live)
+      (ap (λ (l : List Addition). earlier ++ l) first.1 ∙ sym (append_assoc earlier within first.0)) apart)).0) (λ id blob chunk live. live)
       (names_here stands.manifest) stands.carried;
   cut = stands.cut;
   only = stands.only;
@@ -289,7 +289,7 @@ pub carried_behind : (earlier : List Addition) (from : Origin) (added : List Add
     → AllByRecursion (IsCarried from (earlier ++ added) base keys entries manifest.archives) names
 carried_behind earlier from added base keys entries manifest names all =
     all_carried from keys added (earlier ++ added) base base entries entries manifest manifest names
-    (λ scope apart. apart_last scope keys base earlier added apart) (λ id blob chunk live. live) (names_here manifest) all
+    (λ scope apart. (apart_parts scope keys base earlier added apart).1) (λ id blob chunk live. live) (names_here manifest) all
 
 -- what stands on from the begin stands on behind what was added, with the same names that are done
 unfoldable pub stands_on_at : (earlier : List Addition) (from : Origin) (chosen : List (List ℕ)) (within : List Addition) (accepted : ManifestText)

@@ -21,6 +21,11 @@ pub mod CauseLemmas
 pub mod TellLemmas
 pub mod CarryLemmas
 pub mod FlyLemmas
+pub mod ThereLemmas
+pub mod LinesLemmas
+pub mod NamesLemmas
+pub mod CountingLemmas
+pub mod MomentLemmas
 pub mod ReportLemmas
 pub mod StandLemmas
 pub mod CutLemmas

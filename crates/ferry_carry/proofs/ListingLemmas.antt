@@ -10,6 +10,7 @@ use Rattle.ferry_disk.specs.Files.{Files}
 use Rattle.ferry_item.specs.Item.{ItemText}
 use Rattle.ferry_item.specs.Writing.{item_text}
 use Rattle.ferry_item.specs.declared.item.ChunkRef.{ChunkRef}
+use Rattle.ferry_log.specs.State.{FitsFiles}
 use Rattle.ferry_mac.specs.declared.keys.Keys.{Keys}
 use Rattle.ferry_manifest.specs.Record.Text.{archive_view}
 use Rattle.ferry_manifest.specs.declared.manifest.ArchiveRef.{ArchiveRef}
@@ -17,14 +18,18 @@ use Rattle.ferry_msgpack.specs.Tree.{Tree}
 use Rattle.ferry_rechunk.specs.Cut.{cut}
 use Rattle.ferry_rechunk.specs.Cutting.{Cutting, IsFed}
 use Rattle.ferry_repo.specs.Archives.{archive_named}
-use Rattle.ferry_repo.specs.Opening.{RepoState, repo_view}
-use Rattle.ferry_repo.specs.Walk.{WalkState, walk_view}
+use Rattle.ferry_repo.specs.Cached.{Contents}
+use Rattle.ferry_repo.specs.Opening.{FitsRepo, RepoState, repo_view}
+use Rattle.ferry_repo.specs.Walk.{IsToCome, walk_view}
 use Rattle.ferry_repo.specs.Whole.{HoldsItem, HoldsJoined, WholeItem}
+use Rattle.ferry_repo.specs.declared.fault.RepoFault.{RepoFault}
+use Rattle.ferry_repo.proofs.WalkLawLemmas.{some_to_come}
 use Rattle.ferry_store.specs.declared.store.Store.{Store}
+use Rattle.ferry_carry.proofs.SourceLemmas.{leads_come}
 use Rattle.ferry_carry.specs.Carrying.{Origin, origin}
 use Rattle.ferry_carry.specs.Copied.{copied_item, pieces_of, stream_block}
-use Rattle.ferry_carry.specs.Copying.{BeginsContent, CopiesContent, IsReady, TakesItem}
-use Rattle.ferry_carry.specs.Listing.{BeginsArchive, BeginsNext, BeginsOne, EndsItemsOf, FillsOn, ListsItems}
+use Rattle.ferry_carry.specs.Copying.{BeginsContent, CopiesContent, IsReady}
+use Rattle.ferry_carry.specs.Listing.{BeginsArchive, BeginsNext, BeginsOne, FillsOn, ListsContents, ListsItems, TakesItems}
 use Rattle.ferry_carry.specs.Piece.{AreFullOf, WritesOn}
 use Rattle.ferry_carry.specs.Progress.{CopiesAll, CopiesSoFar, IsCopiedSoFar}
 use Rattle.ferry_carry.specs.Puts.{Addition, AreOf, ArePieces, Content, Kind, Stream, contents_in, put_bytes, put_count, same_kind}
@@ -158,15 +163,16 @@ full_written keys cutter cutter_now chunks chunks_now bytes more within wrote =
 
 -- ---- as far as it came
 
--- of the content of the next item these were added
-content_next : (t : Told) (source : RepoState) (keys : Keys) (block : ℕ) (walk after : WalkState) (piece : List ℕ) (item : ItemText)
-    (chunks : Option (List ChunkRef)) (more : List Addition) → item.chunks ≡ chunks → TakesItem (told_files t) source walk item after → AreOf Content more
-    → BeginsContent (Some t) source block chunks (contents_in more) → BeginsNext (told_files t) source keys block walk piece more
-content_next t source keys block walk after piece item None more is taken of begun = inl (contents_none more begun)
-content_next t source keys block walk after piece item (Some refs) more is taken of (inl begun) =
+-- of the content of the first of items that are to come these were added
+content_next : (t : Told) (source : RepoState) (keys : Keys) (block : ℕ) (piece : List ℕ) (item : ItemText) (others : List ItemText)
+    (chunks : Option (List ChunkRef)) (more : List Addition) → item.chunks ≡ chunks → AreOf Content more
+    → BeginsContent (Some t) source block chunks (contents_in more) → BeginsNext (told_files t) source keys block (item ∷ others) piece more
+content_next t source keys block piece item others None more is of begun = inl (contents_none more begun)
+content_next t source keys block piece item others (Some refs) more is of (inl begun) =
     inr (inl (record {
       item = item;
-      next = record { after = after; taken = taken };
+      others = others;
+      first = refl;
       refs = begun.first;
       rest = begun.rest;
       chunks = is ∙ ap (λ (c : List ChunkRef). Some c) begun.split;
@@ -175,11 +181,12 @@ content_next t source keys block walk after piece item (Some refs) more is taken
       full = begun.full;
       of_content = of;
     }))
-content_next t source keys block walk after piece item (Some refs) more is taken of (inr all) =
+content_next t source keys block piece item others (Some refs) more is of (inr all) =
     let whole : WholeItem = record { fields = item.fields; content = Some all.0 } in
     inr (inr (record {
       item = item;
-      next = record { after = after; taken = taken };
+      others = others;
+      first = refl;
       whole = whole;
       holds = record {
         fields = refl;
@@ -197,19 +204,19 @@ content_next t source keys block walk after piece item (Some refs) more is taken
       begun_is = sym (append-nil more);
     }))
 
--- of the next item these were added, up to the stream with it
-spelling_next : (t : Told) (source : RepoState) (keys : Keys) (copy : Copy) (item : ItemText) (after : WalkState) (more : List Addition)
-    → copy.stream.cutter.block ≡ stream_block → TakesItem (told_files t) source (walk_view copy.walk) item after
-    → SpellsOn (Some t) source keys copy item more
-    → BeginsNext (told_files t) source keys copy.block (walk_view copy.walk) copy.stream.cutter.piece more
-spelling_next t source keys copy item after more large taken spells =
+-- of the first of them these were added, up to the stream with it
+spelling_next : (t : Told) (source : RepoState) (keys : Keys) (copy : Copy) (item : ItemText) (others : List ItemText) (more : List Addition)
+    → copy.stream.cutter.block ≡ stream_block → SpellsOn (Some t) source keys copy item more
+    → BeginsNext (told_files t) source keys copy.block (item ∷ others) copy.stream.cutter.piece more
+spelling_next t source keys copy item others more large spells =
     let found = item_taken t source copy.block keys item spells.copied.fields item.chunks spells.copied.chunks (contents_in spells.contents) refl
     spells.fields spells.content in
     let piece = copy.stream.cutter.piece in
     let full = contents_in spells.spelled in
     inr (inr (record {
       item = item;
-      next = record { after = after; taken = taken };
+      others = others;
+      first = refl;
       whole = found.0;
       holds = found.1.holds;
       own = spells.contents;
@@ -221,16 +228,30 @@ spelling_next t source keys copy item after more large taken spells =
       begun_is = spells.pieces;
     }))
 
-next_begun : (t : Told) (source : RepoState) (keys : Keys) (copy : Copy) (more : List Addition) → copy.stream.cutter.block ≡ stream_block
-    → BeginsMore (Some t) source keys copy more
-    → BeginsNext (told_files t) source keys copy.block (walk_view copy.walk) copy.stream.cutter.piece more
-next_begun t source keys copy more large (inl none) = inl none
-next_begun t source keys copy more large (inr begun) = elim begun.begun [
-  | inl content ↦
-      content_next t source keys copy.block (walk_view copy.walk) begun.after copy.stream.cutter.piece begun.item begun.item.chunks more refl begun.taken
-      content.0 content.1
-  | inr spells ↦ spelling_next t source keys copy begun.item begun.after more large begun.taken spells
-]
+-- What is to come of an archive on its way, and what was added of the first item of it.
+record BeginsCopy (there : Files) (source : RepoState) (keys : Keys) (copy : Copy) (next : List Addition) : Type 0 where
+  more : List ItemText
+  ends : Option RepoFault
+  come : IsToCome there source.log source.keys (walk_view copy.walk) more ends
+  begun : BeginsNext there source keys copy.block more copy.stream.cutter.piece next
+
+next_begun : (t : Told) (source : RepoState) (keys : Keys) (copy : Copy) (more : List Addition) → FitsFiles (told_files t) source.log
+    → copy.stream.cutter.block ≡ stream_block → BeginsMore (Some t) source keys copy more → BeginsCopy (told_files t) source keys copy more
+next_begun t source keys copy more fits large (inl none) =
+    let some = some_to_come (told_files t) source.log source.keys (walk_view copy.walk) fits in
+    record { more = some.0; ends = some.1.0; come = some.1.1; begun = inl none }
+next_begun t source keys copy more fits large (inr begun) =
+    let some = some_to_come (told_files t) source.log source.keys begun.after fits in
+    record {
+      more = begun.item ∷ some.0;
+      ends = some.1.0;
+      come = begun.taken some.0 some.1.0 some.1.1;
+      begun = elim begun.begun [
+        | inl content ↦
+            content_next t source keys copy.block copy.stream.cutter.piece begun.item some.0 begun.item.chunks more refl content.0 content.1
+        | inr spells ↦ spelling_next t source keys copy begun.item some.0 more large spells
+      ];
+    }
 
 -- what a step did that wasn't refused is what was begun
 pub step_begun : (told : Option Told) (source : RepoState) (keys : Keys) (copy : Copy) (more : List Addition) (copy_now : Copy) (further : Bool)
@@ -257,47 +278,56 @@ step_begun told source keys copy more copy_now true within steps =
       });
     })
 
--- behind items that were taken and written a part of the next was added
-archive_begun : (there : Files) (from : Origin) (named : ArchiveRef) (files : Files) (repo : RepoState) (copy : Copy) (added next : List Addition)
-    → archive_named named.name from.repo.manifest.archives ≡ Some named → from.block ≡ copy.block
-    → CopiesSoFar there from.repo named files repo copy added
-    → BeginsNext there from.repo repo.keys copy.block (walk_view copy.walk) copy.stream.cutter.piece next
-    → BeginsArchive there from repo.keys named.name (added ++ next)
-archive_begun there from named files repo copy added next named_is same so begun = record {
-  named = named;
-  named_is = named_is;
+-- items were taken and written, and these are to come behind them
+abbrev pub items_taken : (there : Files) (from : Origin) (named : ArchiveRef) (files : Files) (repo : RepoState) (copy : Copy) (added : List Addition)
+    (more : List ItemText) (ends : Option RepoFault) → from.block ≡ copy.block → CopiesSoFar there from.repo named files repo copy added
+    → IsToCome there from.repo.log from.repo.keys (walk_view copy.walk) more ends → TakesItems there from repo.keys named
+items_taken there from named files repo copy added more ends same so come = record {
   archive = archive_view copy.archive;
   record_is = so.record_is;
   items = so.items;
-  walk = walk_view copy.walk;
-  leads = so.leads;
+  more = more;
+  ends = ends;
+  stream = leads_come there from.repo.log from.repo.keys named.id (archive_view copy.archive).items so.items more (walk_view copy.walk) ends so.leads come;
   wholes = so.wholes;
   come = so.come;
   listed = added;
   piece = copy.stream.cutter.piece;
   lists = subst (λ (b : ℕ). ListsItems repo.keys b [] so.wholes added copy.stream.cutter.piece) (sym same) so.writes.lists;
+}
+
+-- behind them a part of the next was added
+archive_begun : (there : Files) (from : Origin) (named : ArchiveRef) (files : Files) (repo : RepoState) (copy : Copy) (added next : List Addition)
+    → archive_named named.name from.repo.manifest.archives ≡ Some named → from.block ≡ copy.block
+    → CopiesSoFar there from.repo named files repo copy added → BeginsCopy there from.repo repo.keys copy next
+    → BeginsArchive there from repo.keys named.name (added ++ next)
+archive_begun there from named files repo copy added next named_is same so begun = record {
+  named = named;
+  named_is = named_is;
+  taken = items_taken there from named files repo copy added begun.more begun.ends same so begun.come;
   next = next;
-  next_is = subst (λ (b : ℕ). BeginsNext there from.repo repo.keys b (walk_view copy.walk) copy.stream.cutter.piece next) (sym same) begun;
+  next_is = subst (λ (b : ℕ). BeginsNext there from.repo repo.keys b begun.more copy.stream.cutter.piece next) (sym same) begun.begun;
   begun_is = refl;
 }
 
 -- the same over what the devices tell
-pub copied_begun : (told a : Option Told) (source : RepoState) (block most : ℕ) (named : ArchiveRef) (store : Store) (copy : Copy)
-    (added more : List Addition) → IsReady copy → archive_named named.name source.manifest.archives ≡ Some named
+pub copied_begun : (told a : Option Told) (source : RepoState) (cached : Contents) (block most : ℕ) (named : ArchiveRef) (store : Store) (copy : Copy)
+    (added more : List Addition) → IsReady copy → IfSome told (λ t. FitsRepo (told_files t) source cached)
+    → archive_named named.name source.manifest.archives ≡ Some named
     → BeginsMore told source (repo_view store.repo).keys copy more → IsCopiedSoFar (origin told source block most) named a store copy added
     → IfSome a (λ _. BeginsOne (origin told source block most) (repo_view store.repo).keys named.name (added ++ more))
-copied_begun None a source block most named store copy added more ready named_is begun so =
+copied_begun None a source cached block most named store copy added more ready fits named_is begun so =
     told_any a (λ _. BeginsOne (origin None source block most) (repo_view store.repo).keys named.name (added ++ more)) (λ f. inr tt)
-copied_begun (Some t) a source block most named store copy added more ready named_is begun so =
+copied_begun (Some t) a source cached block most named store copy added more ready fits named_is begun so =
     IfSome_then a so.1 (λ d c. inr (inl (archive_begun (told_files t) (origin (Some t) source block most) named (told_files d) (repo_view store.repo) copy
-    added more named_is so.0.block c (next_begun t source (repo_view store.repo).keys copy more ready.stream_block_is begun))))
+    added more named_is so.0.block c (next_begun t source (repo_view store.repo).keys copy more fits.log ready.stream_block_is begun))))
 
 -- ---- the end of the items
 
 -- behind the pieces of all items what is left of the stream was added
-pub items_ended : (there : Files) (from : Origin) (named : ArchiveRef) (files : Files) (repo : RepoState) (copy : Copy) (added last : List Addition)
+abbrev pub items_ended : (there : Files) (from : Origin) (named : ArchiveRef) (files : Files) (repo : RepoState) (copy : Copy) (added last : List Addition)
     → from.block ≡ copy.block → IsReady copy → ArePieces Stream (cut copy.stream.cutter.block copy.stream.cutter.piece) last
-    → CopiesAll there from.repo named files repo copy added → EndsItemsOf there from repo.keys named.name (added ++ last)
+    → CopiesAll there from.repo named files repo copy added → ListsContents there from repo.keys named.name (added ++ last)
 items_ended there from named files repo copy added last same ready last_is all =
     let piece = copy.stream.cutter.piece in
     record {
@@ -308,5 +338,5 @@ items_ended there from named files repo copy added last same ready last_is all =
       lists = subst (λ (b : ℕ). ListsItems repo.keys b [] all.wholes added piece) (sym same) all.writes.lists;
       last = last;
       last_is = subst (λ (b : ℕ). ArePieces Stream (cut b piece) last) ready.stream_block_is last_is;
-      begun_is = refl;
+      added_is = refl;
     }

@@ -46,7 +46,7 @@ use Rattle.ferry_carry.specs.Flight.{AcceptsOne, ListsDone, NamesArchive}
 use Rattle.ferry_carry.specs.Counting.{CountsOf}
 use Rattle.ferry_carry.specs.Gather.{KeepsRest, chunks_of}
 use Rattle.ferry_carry.specs.Grow.{AcceptsMore, GrowsBy, KeepsGrowingBy, KeepsMost, KeepsNames}
-use Rattle.ferry_carry.specs.Listing.{BeginsOne, EndsItemsOf, ListsArchive, ListsItems}
+use Rattle.ferry_carry.specs.Listing.{BeginsOne, ListsArchive, ListsContents}
 use Rattle.ferry_carry.specs.Naming.{AddsRecord, AddsUnder, BeginsRecord, copied_in, entry_for}
 use Rattle.ferry_carry.specs.Piece.{CountsOn}
 use Rattle.ferry_carry.specs.Progress.{CopiesAll, IsAllCopied, IsCopyFrom, WritesItems}
@@ -121,21 +121,15 @@ lists_end : (there : Files) (from : Origin) (named : ArchiveRef) (files : Files)
     ++ chunks_of repo.keys (cut copy.stream.cutter.block copy.stream.cutter.piece))) more
     → CopiesAll there from.repo named files repo copy added → ListsArchive there from repo.keys named.name (added ++ (last ++ more))
 lists_end there from named files repo copy added last more same ready last_is adds all =
-    let piece = copy.stream.cutter.piece in
     let fields = (archive_view copy.archive).fields in
     record {
-      whole = record { time = named.time; fields = fields; items = all.wholes };
-      source = all.source_whole;
-      listed = added;
-      piece = piece;
-      lists = subst (λ (b : ℕ). ListsItems repo.keys b [] all.wholes added piece) (sym same) all.writes.lists;
-      last = last;
-      last_is = subst (λ (b : ℕ). ArePieces Stream (cut b piece) last) ready.stream_block_is last_is;
+      contents = added ++ last;
+      lists = items_ended there from named files repo copy added last same ready last_is all;
       text = adds.text;
       copy = subst (λ (b : ℕ). IsCopyOf repo.keys b all.wholes fields adds.text) (sym same)
           (copied_so files repo copy all.wholes added more ready all.writes adds);
       put = adds.put;
-      added_is = ap (λ (l : List Addition). added ++ (last ++ l)) adds.more_is;
+      added_is = sym (append_assoc added last more) ∙ ap (λ (l : List Addition). (added ++ last) ++ l) adds.more_is;
     }
 
 -- as far as that came
@@ -144,10 +138,10 @@ begins_end : (there : Files) (from : Origin) (named : ArchiveRef) (files : Files
     → BeginsRecord repo.keys (copied_in (archive_view copy.archive) copy.block (copy.stream.chunks.items
     ++ chunks_of repo.keys (cut copy.stream.cutter.block copy.stream.cutter.piece))) more
     → CopiesAll there from.repo named files repo copy added
-    → EndsItemsOf there from repo.keys named.name (added ++ (last ++ more)) ⊎ ListsArchive there from repo.keys named.name (added ++ (last ++ more))
+    → ListsContents there from repo.keys named.name (added ++ (last ++ more)) ⊎ ListsArchive there from repo.keys named.name (added ++ (last ++ more))
 begins_end there from named files repo copy added last more same ready last_is (inl none) all =
     let is : last ≡ last ++ more = sym (append-nil last) ∙ ap (λ (l : List Addition). last ++ l) (sym none) in
-    inl (subst (λ (l : List Addition). EndsItemsOf there from repo.keys named.name (added ++ l)) is
+    inl (subst (λ (l : List Addition). ListsContents there from repo.keys named.name (added ++ l)) is
     (items_ended there from named files repo copy added last same ready last_is all))
 begins_end there from named files repo copy added last more same ready last_is (inr adds) all =
     inr (lists_end there from named files repo copy added last more same ready last_is adds all)

@@ -117,11 +117,11 @@ long_item there source from named files repo copy added item after same named_is
     long_in from.repo same
 
 -- what is known of an item that was taken
-record IsAt (there : Files) (source : RepoState) (before : WalkState) (item : ItemText) (after : WalkState) : Type 0 where
-  fits : FitsFiles there source.log
-  taken : TakesItem there source before item after
+pub record IsAt (there : Files) (source : RepoState) (before : WalkState) (item : ItemText) (after : WalkState) : Type 0 where
+  pub fits : FitsFiles there source.log
+  pub taken : TakesItem there source before item after
 
-item_at : (told : Option Told) (source : RepoState) (cached : Contents) (before after : WalkState) (item : ItemText)
+pub item_at : (told : Option Told) (source : RepoState) (cached : Contents) (before after : WalkState) (item : ItemText)
     → IfSome told (λ t. FitsRepo (told_files t) source cached) → IfSome told (λ t. TakesItem (told_files t) source before item after)
     → IfSome told (λ t. IsAt (told_files t) source before item after)
 item_at None source cached before after item fits taken = tt

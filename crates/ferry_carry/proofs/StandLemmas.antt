@@ -18,7 +18,9 @@ use Rattle.ferry_write.specs.declared.fault.WriteFault.TheVariants as Writes
 use Rattle.ferry_carry.proofs.FaultLemmas.{failed_target}
 use Rattle.ferry_carry.proofs.GatherLemmas.{add_stands, each_then}
 use Rattle.ferry_carry.proofs.GrowLemmas.{Follows, growing_by, growing_here, growing_then, standing_accepted}
-use Rattle.ferry_carry.proofs.ReportLemmas.{all_nothing, all_then, all_wider, extends_next, names_here, reported_growing, reported_here, reported_then}
+use Rattle.ferry_carry.proofs.MomentLemmas.{names_here, reported_growing, reported_here, reported_then}
+use Rattle.ferry_carry.proofs.NamesLemmas.{all_nothing, all_then, all_wider}
+use Rattle.ferry_carry.proofs.ThereLemmas.{extends_next}
 use Rattle.ferry_carry.specs.Accepting.{AreNextOf}
 use Rattle.ferry_carry.specs.Carrying.{Origin}
 use Rattle.ferry_carry.specs.Fault.{IsOfWork, target_fault}

@@ -226,13 +226,15 @@ module _ (told a b : Option Told) (source : RepoState) (named : ArchiveRef) (sto
     (n m : ℕ) (ready : IsReady copy)
     (so : IsCopiedSoFar (origin told source copy.block copy.contents.checkpoint) named a store copy added) where
   -- where it was refused
-  pub copied_refused : (result : Result Bool CarryFault) (fault : CarryFault) → IsErrAnd result (λ y. y ≡ fault)
+  pub copied_refused : (cached : Contents) (result : Result Bool CarryFault) (fault : CarryFault)
+      → IfSome told (λ t. FitsRepo (told_files t) source cached) → IsErrAnd result (λ y. y ≡ fault)
       → StepIs told source copy copy_now store now more a b n m result → CopiedIs told source named added copy copy_now store now more a b n m result
-  copied_refused (Ok further) fault e p = absurd e
-  copied_refused (Err other) fault e p = (
+  copied_refused cached (Ok further) fault log_fits e p = absurd e
+  copied_refused cached (Err other) fault log_fits e p = (
     p.0,
     (
-      λ named_is. copied_begun told a source copy.block copy.contents.checkpoint named store copy added more ready named_is p.1.0.0 so,
+      λ named_is.
+          copied_begun told a source cached copy.block copy.contents.checkpoint named store copy added more ready log_fits named_is p.1.0.0 so,
       (
         λ named_is. copied_filled told a source copy.block copy.contents.checkpoint named store copy added more other named_is p.1.0.1 so,
         tt,
@@ -249,7 +251,7 @@ module _ (told a b : Option Told) (source : RepoState) (named : ArchiveRef) (sto
     p.0,
     (
       λ named_is.
-          copied_begun told a source copy.block copy.contents.checkpoint named store copy added more ready named_is
+          copied_begun told a source cached copy.block copy.contents.checkpoint named store copy added more ready log_fits named_is
           (step_begun told source (repo_view store.repo).keys copy more copy_now true (omega (arith, ready.stream_room)) p.1.1) so,
       (
         tt,
@@ -262,7 +264,7 @@ module _ (told a b : Option Told) (source : RepoState) (named : ArchiveRef) (sto
     p.0,
     (
       λ named_is.
-          copied_begun told a source copy.block copy.contents.checkpoint named store copy added more ready named_is
+          copied_begun told a source cached copy.block copy.contents.checkpoint named store copy added more ready log_fits named_is
           (step_begun told source (repo_view store.repo).keys copy more copy_now false (omega (arith, ready.stream_room)) p.1.1) so,
       (
         tt,

@@ -64,16 +64,21 @@ pub record IsApart (scope : List (List ℕ)) (keys : Keys) (base : List LogEntry
   pub added : AllByRecursion (IsAmong scope) (contents_in more)
   pub live : LivesWithin scope keys base
 
--- The archive of a name is whole in a source. By these entries it is whole in the target, and says the same, where no contents collide among those that were
--- added and those that were live by the entries behind which they were.
-pub record CarriesOver (there : Files) (from : Origin) (added : List Addition) (base : List LogEntry) (keys : Keys) (entries : List LogEntry)
-    (archives : List ArchiveRef) (name : List ℕ) : Type 0 where
+-- The archive of a name is whole in a source, and one of a target's archives has the name, by the id of this text.
+pub record EntersOver (there : Files) (from : Origin) (keys : Keys) (archives : List ArchiveRef) (name : List ℕ) : Type 0 where
   pub whole : WholeArchive
   pub source : SaysIn there from.repo name whole
   pub entry : ArchiveRef
   pub entry_is : archive_named name archives ≡ Some entry
   pub text : List ℕ
   pub id : entry.id ≡ content_id keys text
+
+-- The archive of a name is whole in a source. By these entries it is whole in the target, and says the same, where no contents collide among those that were
+-- added and those that were live by the entries behind which they were.
+pub record CarriesOver (there : Files) (from : Origin) (added : List Addition) (base : List LogEntry) (keys : Keys) (entries : List LogEntry)
+    (archives : List ArchiveRef) (name : List ℕ) : Type 0 where
+  pub over : EntersOver there from keys archives name
+  pub open over use *
   pub record_is : IsRecordText keys text whole
   pub target : (scope : List (List ℕ)) → IsApart scope keys base added → IsWholeBy entries keys archives name whole
 
@@ -86,12 +91,8 @@ IsCarried from added base keys entries archives name = IfSome from.files (λ the
 -- The record that an archive has in a target, by its entry's id, says the fields that it has in the source; its stream spells the items, in pieces of its own
 -- length, and an item's chunks are those of its content, cut.
 pub record CutsOver (there : Files) (from : Origin) (keys : Keys) (archives : List ArchiveRef) (name : List ℕ) : Type 0 where
-  pub whole : WholeArchive
-  pub source : SaysIn there from.repo name whole
-  pub entry : ArchiveRef
-  pub entry_is : archive_named name archives ≡ Some entry
-  pub text : List ℕ
-  pub id : entry.id ≡ content_id keys text
+  pub over : EntersOver there from keys archives name
+  pub open over use *
   pub copy : IsCopyOf keys from.block whole.items whole.fields text
 
 -- The same of a source that tells its files.

@@ -7,19 +7,18 @@ use Rattle.ferry_item.specs.Item.{ItemText}
 use Rattle.ferry_item.specs.declared.item.ChunkRef.{ChunkRef}
 use Rattle.ferry_mac.specs.declared.keys.Keys.{Keys}
 use Rattle.ferry_manifest.specs.Manifest.Text.{ManifestText}
-use Rattle.ferry_manifest.specs.Record.Text.{ArchiveText}
 use Rattle.ferry_manifest.specs.declared.manifest.ArchiveRef.{ArchiveRef}
 use Rattle.ferry_rechunk.specs.Cutting.{Cutting, IsFed}
-use Rattle.ferry_repo.specs.Archives.{HoldsRecord, RefusesContent, RefusesRecord, archive_named}
+use Rattle.ferry_repo.specs.Archives.{RefusesContent, RefusesRecord, archive_named}
 use Rattle.ferry_repo.specs.Fault.{IsOfFiles}
 use Rattle.ferry_repo.specs.Opening.{RepoState, repo_view}
-use Rattle.ferry_repo.specs.Walk.{IsToCome, LeadsOn, WalkState, begin_walk, walk_view}
-use Rattle.ferry_repo.specs.Whole.{ContentsCome, WholeItem, WholesCome}
+use Rattle.ferry_repo.specs.Walk.{IsToCome, walk_view}
+use Rattle.ferry_repo.specs.Whole.{ContentsCome}
 use Rattle.ferry_repo.specs.declared.fault.RepoFault.{RepoFault}
 use Rattle.ferry_store.specs.Commit.{accepted_in}
 use Rattle.ferry_store.specs.declared.store.Store.{Store}
 use Rattle.ferry_carry.specs.Carrying.{Origin}
-use Rattle.ferry_carry.specs.Listing.{IsNextItem, IsThere, ListsItems, ListsName}
+use Rattle.ferry_carry.specs.Listing.{IsThere, ListsName, TakesItems}
 use Rattle.ferry_carry.specs.Puts.{Addition, AreOf, Content, contents_in}
 use Rattle.ferry_carry.specs.declared.copy.Copy.{Copy}
 use Rattle.ferry_carry.specs.declared.fault.CarryFault.{CarryFault}
@@ -52,32 +51,26 @@ FillsContent there source block (Some refs) fault more = FillsChunks there sourc
 
 -- ---- an archive
 
--- Of the next item a chunk is refused, so, and these are added of its content.
-pub record FillsItem (there : Files) (source : RepoState) (block : ℕ) (walk : WalkState) (fault : RepoFault) (more : List Addition) : Type 0 where
+-- Of the first of these items a chunk is refused, so, and these are added of its content.
+pub record FillsItem (there : Files) (source : RepoState) (block : ℕ) (more : List ItemText) (fault : RepoFault) (next : List Addition) : Type 0 where
   pub item : ItemText
-  pub next : IsNextItem there source walk item
-  pub fills : FillsContent there source block item.chunks fault (contents_in more)
-  pub of_content : AreOf Content more
+  pub others : List ItemText
+  pub first : more ≡ item ∷ others
+  pub fills : FillsContent there source block item.chunks fault (contents_in next)
+  pub of_content : AreOf Content next
 
--- What is added behind items that were taken: nothing where the stream is refused then, so, and else what is in front of the refused chunk.
-abbrev pub FillsNext : Files → RepoState → ℕ → WalkState → RepoFault → List Addition → Type 0
-FillsNext there source block walk fault more =
-    ((more ≡ []) × IsToCome there source.log source.keys walk [] (Some fault)) ⊎ FillsItem there source block walk fault more
+-- What is added behind items that were taken, where these are to come and this end: nothing where none is and the stream is refused, so, and else what is in
+-- front of the refused chunk.
+abbrev pub FillsNext : Files → RepoState → ℕ → List ItemText → Option RepoFault → RepoFault → List Addition → Type 0
+FillsNext there source block more ends fault next =
+    ((next ≡ []) × ((more ≡ []) × (ends ≡ Some fault))) ⊎ FillsItem there source block more fault next
 
--- These items of an archive are there with their contents, and what is next is refused, so: what is added of them all, and of what is next.
+-- The first items of an archive's stream are there with their contents, and what is next is refused, so: what is added of them all, and of what is next.
 pub record FillsItems (there : Files) (from : Origin) (keys : Keys) (named : ArchiveRef) (fault : RepoFault) (begun : List Addition) : Type 0 where
-  pub archive : ArchiveText
-  pub record_is : HoldsRecord there from.repo.log from.repo.keys named.id archive
-  pub items : List ItemText
-  pub walk : WalkState
-  pub leads : LeadsOn there from.repo.log from.repo.keys (begin_walk named.id archive.items) items walk
-  pub wholes : List WholeItem
-  pub come : WholesCome there from.repo.log from.repo.keys items None wholes None
-  pub listed : List Addition
-  pub piece : List ℕ
-  pub lists : ListsItems keys from.block [] wholes listed piece
+  pub taken : TakesItems there from keys named
+  pub open taken use *
   pub next : List Addition
-  pub next_is : FillsNext there from.repo from.block walk fault next
+  pub next_is : FillsNext there from.repo from.block more ends fault next
   pub begun_is : begun ≡ listed ++ next
 
 -- What is added of the archive of a name that is refused, so: nothing where its record is.
@@ -109,10 +102,16 @@ abbrev pub WhereHeard : Option Told → CarryFault → (RepoFault → Type 0) �
 WhereHeard heard (Source fault) P = IsOfFiles fault → IfSome heard (λ _. P fault)
 WhereHeard heard fault P = Unit {0}
 
+-- Of what is to come of an archive on its way these were added.
+pub record FillsCopy (there : Files) (source : RepoState) (copy : Copy) (fault : RepoFault) (next : List Addition) : Type 0 where
+  pub more : List ItemText
+  pub ends : Option RepoFault
+  pub come : IsToCome there source.log source.keys (walk_view copy.walk) more ends
+  pub next_is : FillsNext there source copy.block more ends fault next
+
 -- Of an archive on its way these were added in its step.
 abbrev pub FillsStep : Option Told → RepoState → Copy → CarryFault → List Addition → Type 0
-FillsStep told source copy fault more =
-    WhereSource told fault (λ there refusal. FillsNext there source copy.block (walk_view copy.walk) refusal more)
+FillsStep told source copy fault more = WhereSource told fault (λ there refusal. FillsCopy there source copy refusal more)
 
 -- Of the archive of a name these were added, of archives of names these.
 abbrev pub FillsFlight : Option Told → Origin → Keys → ManifestText → List ℕ → CarryFault → List Addition → Type 0

@@ -1,6 +1,6 @@
 -- What is added of archives, in the order in which it is: the pieces of each item's content, behind them those of the stream that the item completes, at the
 -- end what is left of the stream, and the record; and how far that came.
-use Rattle.std.specs.Prelude.{◌≡◌, ◌⊎◌, ◌<◌, ◌++◌, ℕ, Bool, List, [], ◌∷◌, length, Some, None, IfSome, IsSome}
+use Rattle.std.specs.Prelude.{◌≡◌, ◌⊎◌, ◌<◌, ◌++◌, ℕ, Bool, List, [], ◌∷◌, length, Option, Some, None, IfSome, IsSome}
 use Rattle.std.specs.List.{concat}
 use Rattle.ferry_disk.specs.Files.{Files}
 use Rattle.ferry_item.specs.Item.{ItemText}
@@ -14,11 +14,11 @@ use Rattle.ferry_rechunk.specs.Cut.{cut}
 use Rattle.ferry_rechunk.specs.Cutting.{IsFed}
 use Rattle.ferry_repo.specs.Archives.{HoldsRecord, archive_named}
 use Rattle.ferry_repo.specs.Opening.{RepoState}
-use Rattle.ferry_repo.specs.Walk.{LeadsOn, WalkState, begin_walk}
+use Rattle.ferry_repo.specs.Walk.{Comes}
 use Rattle.ferry_repo.specs.Whole.{ContentsCome, HoldsItem, WholeArchive, WholeItem, WholesCome}
+use Rattle.ferry_repo.specs.declared.fault.RepoFault.{RepoFault}
 use Rattle.ferry_carry.specs.Carrying.{Origin, SaysIn}
 use Rattle.ferry_carry.specs.Copied.{IsCopyOf, copied_item, pieces_of, stream_block}
-use Rattle.ferry_carry.specs.Copying.{TakesItem}
 use Rattle.ferry_carry.specs.Gather.{IsAmong}
 use Rattle.ferry_carry.specs.Piece.{AreFullOf}
 use Rattle.ferry_carry.specs.Puts.{Addition, AreOf, ArePieces, Content, Record, Stream, addition, contents_in}
@@ -47,8 +47,8 @@ ListsItems keys block piece (whole ∷ wholes) listed piece_now = (own : List Ad
 
 -- ---- archives
 
--- All that is added of the archive of a name.
-pub record ListsArchive (there : Files) (from : Origin) (keys : Keys) (name : List ℕ) (added : List Addition) : Type 0 where
+-- All that is added of the archive of a name in front of its record.
+pub record ListsContents (there : Files) (from : Origin) (keys : Keys) (name : List ℕ) (added : List Addition) : Type 0 where
   pub whole : WholeArchive
   pub source : SaysIn there from.repo name whole
   pub listed : List Addition
@@ -56,10 +56,16 @@ pub record ListsArchive (there : Files) (from : Origin) (keys : Keys) (name : Li
   pub lists : ListsItems keys from.block [] whole.items listed piece
   pub last : List Addition
   pub last_is : ArePieces Stream (cut stream_block piece) last
+  pub added_is : added ≡ listed ++ last
+
+-- All that is added of the archive of a name.
+pub record ListsArchive (there : Files) (from : Origin) (keys : Keys) (name : List ℕ) (added : List Addition) : Type 0 where
+  pub contents : List Addition
+  pub lists : ListsContents there from keys name contents
   pub text : List ℕ
-  pub copy : IsCopyOf keys from.block whole.items whole.fields text
+  pub copy : IsCopyOf keys from.block lists.whole.items lists.whole.fields text
   pub put : Bool
-  pub added_is : added ≡ listed ++ (last ++ addition Record text put ∷ [])
+  pub added_is : added ≡ contents ++ addition Record text put ∷ []
 
 -- The same of a source that tells its files.
 abbrev pub ListsOne : Origin → Keys → List ℕ → List Addition → Type 0
@@ -78,15 +84,11 @@ ListsNames from keys accepted before (name ∷ names) added = (one : List Additi
 
 -- ---- as far as it came
 
--- An item is next in the source's stream.
-pub record IsNextItem (there : Files) (source : RepoState) (walk : WalkState) (item : ItemText) : Type 0 where
-  pub after : WalkState
-  pub taken : TakesItem there source walk item after
-
--- Of the next item these are first pieces of the content, all of a whole block, as far as the contents of its chunks come.
-pub record BeginsItem (there : Files) (source : RepoState) (block : ℕ) (walk : WalkState) (begun : List Addition) : Type 0 where
+-- Of the first of these items these are first pieces of the content, all of a whole block, as far as the contents of its chunks come.
+pub record BeginsItem (there : Files) (source : RepoState) (block : ℕ) (more : List ItemText) (begun : List Addition) : Type 0 where
   pub item : ItemText
-  pub next : IsNextItem there source walk item
+  pub others : List ItemText
+  pub first : more ≡ item ∷ others
   pub refs : List ChunkRef
   pub rest : List ChunkRef
   pub chunks : item.chunks ≡ Some (refs ++ rest)
@@ -95,11 +97,12 @@ pub record BeginsItem (there : Files) (source : RepoState) (block : ℕ) (walk :
   pub full : AreFullOf block (concat contents) (contents_in begun)
   pub of_content : AreOf Content begun
 
--- Of the next item these are all pieces of the content, and first pieces of the stream with it, all of a whole block.
-pub record BeginsSpelling (there : Files) (source : RepoState) (keys : Keys) (block : ℕ) (walk : WalkState) (piece : List ℕ) (begun : List Addition)
+-- Of the first of these items these are all pieces of the content, and first pieces of the stream with it, all of a whole block.
+pub record BeginsSpelling (there : Files) (source : RepoState) (keys : Keys) (block : ℕ) (more : List ItemText) (piece : List ℕ) (begun : List Addition)
     : Type 0 where
   pub item : ItemText
-  pub next : IsNextItem there source walk item
+  pub others : List ItemText
+  pub first : more ≡ item ∷ others
   pub whole : WholeItem
   pub holds : HoldsItem there source.log source.keys item whole
   pub own : List Addition
@@ -109,44 +112,40 @@ pub record BeginsSpelling (there : Files) (source : RepoState) (keys : Keys) (bl
   pub of_stream : AreOf Stream full
   pub begun_is : begun ≡ own ++ full
 
--- What is added behind items that were taken, of a further one that isn't written: nothing, or that.
-abbrev pub BeginsNext : Files → RepoState → Keys → ℕ → WalkState → List ℕ → List Addition → Type 0
-BeginsNext there source keys block walk piece next =
-    (next ≡ []) ⊎ (BeginsItem there source block walk next ⊎ BeginsSpelling there source keys block walk piece next)
+-- What is added of the first of these items, where it isn't written: nothing, or that.
+abbrev pub BeginsNext : Files → RepoState → Keys → ℕ → List ItemText → List ℕ → List Addition → Type 0
+BeginsNext there source keys block more piece next =
+    (next ≡ []) ⊎ (BeginsItem there source block more next ⊎ BeginsSpelling there source keys block more piece next)
 
--- What is added of the archive of a name, as far as items of the source came: of the first of them all, and a part of the next.
-pub record BeginsArchive (there : Files) (from : Origin) (keys : Keys) (name : List ℕ) (begun : List Addition) : Type 0 where
-  pub named : ArchiveRef
-  pub named_is : archive_named name from.repo.manifest.archives ≡ Some named
+-- The first items of an archive's stream in the source are there with their contents; others are to come behind them, and then the stream ends so. All that is
+-- added of the first ones is listed, and behind them a piece of the stream is in hand.
+pub record TakesItems (there : Files) (from : Origin) (keys : Keys) (named : ArchiveRef) : Type 0 where
   pub archive : ArchiveText
   pub record_is : HoldsRecord there from.repo.log from.repo.keys named.id archive
   pub items : List ItemText
-  pub walk : WalkState
-  pub leads : LeadsOn there from.repo.log from.repo.keys (begin_walk named.id archive.items) items walk
+  pub more : List ItemText
+  pub ends : Option RepoFault
+  pub stream : Comes there from.repo.log from.repo.keys named.id [] archive.items (items ++ more) ends
   pub wholes : List WholeItem
   pub come : WholesCome there from.repo.log from.repo.keys items None wholes None
   pub listed : List Addition
   pub piece : List ℕ
   pub lists : ListsItems keys from.block [] wholes listed piece
+
+-- What is added of the archive of a name, as far as items of its stream in the source came: of the first of them all, and a part of the next.
+pub record BeginsArchive (there : Files) (from : Origin) (keys : Keys) (name : List ℕ) (begun : List Addition) : Type 0 where
+  pub named : ArchiveRef
+  pub named_is : archive_named name from.repo.manifest.archives ≡ Some named
+  pub taken : TakesItems there from keys named
+  pub open taken use *
   pub next : List Addition
-  pub next_is : BeginsNext there from.repo keys from.block walk piece next
+  pub next_is : BeginsNext there from.repo keys from.block more piece next
   pub begun_is : begun ≡ listed ++ next
 
--- What is added of the archive of a name that is whole, but for its record.
-pub record EndsItemsOf (there : Files) (from : Origin) (keys : Keys) (name : List ℕ) (begun : List Addition) : Type 0 where
-  pub whole : WholeArchive
-  pub source : SaysIn there from.repo name whole
-  pub listed : List Addition
-  pub piece : List ℕ
-  pub lists : ListsItems keys from.block [] whole.items listed piece
-  pub last : List Addition
-  pub last_is : ArePieces Stream (cut stream_block piece) last
-  pub begun_is : begun ≡ listed ++ last
-
--- What is added of an archive, as far as it came: nothing, a part, or all. The source may not tell its files.
+-- What is added of an archive, as far as it came: nothing, a part, all but its record, or all. The source may not tell its files.
 abbrev pub BeginsOne : Origin → Keys → List ℕ → List Addition → Type 0
 BeginsOne from keys name begun = (begun ≡ []) ⊎ IfSome from.files (λ there.
-    BeginsArchive there from keys name begun ⊎ (EndsItemsOf there from keys name begun ⊎ ListsArchive there from keys name begun))
+    BeginsArchive there from keys name begun ⊎ (ListsContents there from keys name begun ⊎ ListsArchive there from keys name begun))
 
 -- What is added for a name behind others, as far as it came: nothing where its archive is there.
 abbrev pub BeginsName : Origin → Keys → ManifestText → List (List ℕ) → List ℕ → List Addition → Type 0

@@ -21,7 +21,8 @@ ghost use Rattle.ferry_item.specs.Writing.{IsPackable as IsPackableItem, field_p
 ghost use Rattle.ferry_manifest.specs.Record.Text.{archive_of, archive_view};
 ghost use Rattle.ferry_manifest.specs.Record.Writing.{IsPackableArchive};
 ghost use Rattle.ferry_manifest.specs.declared.manifest.ArchiveRef.{ArchiveRef};
-ghost use Rattle.ferry_repo.specs.Archives.{HoldsRecord, archive_named};
+ghost use Rattle.ferry_repo.specs.Archives.{HoldsContent, HoldsRecord, RefusesContent, archive_named};
+ghost use Rattle.ferry_repo.specs.Fault.{IsOfFiles, repo_failed};
 ghost use Rattle.ferry_repo.specs.Opening.{FitsRepo, cached_in, repo_view};
 ghost use Rattle.ferry_repo.specs.Walk.{FitsWalk, IsToCome, begin_walk, walk_view};
 ghost use Rattle.ferry_store.specs.Store.{IsUnspent, StoreFits};
@@ -315,7 +316,15 @@ impl Copy {
         if total_size(chunks) > MOST_PIECES * self.block as u128 {
             return Err(CarryFault::Pieces);
         }
-        write_contents(&mut self.contents, source, shelf, store, depot, chunks)?;
+        write_contents(
+            &mut self.contents,
+            &self.walk,
+            source,
+            shelf,
+            store,
+            depot,
+            chunks,
+        )?;
         let copied = self.contents.finish(store, depot)?;
         if copied.len() > MOST_PIECES as usize {
             return Err(CarryFault::Memory);
@@ -327,6 +336,7 @@ impl Copy {
 /// Writes the contents of these chunks, one after another.
 fn write_contents<S: Shelf, D: Depot>(
     writer: &mut PieceWriter,
+    walk: &Walk,
     source: &mut Repo,
     shelf: &mut S,
     store: &mut Store,
@@ -363,7 +373,17 @@ fn write_contents<S: Shelf, D: Depot>(
     // A number that was read is known to be in its range.
     let _counted = writer.put();
     for place in 0..chunks.len() {
-        write_content(writer, source, shelf, store, depot, &chunks[place])?;
+        let later = &chunks[place..];
+        write_content(
+            writer,
+            walk,
+            source,
+            shelf,
+            store,
+            depot,
+            &chunks[place],
+            later,
+        )?;
     }
     Ok(())
 }
@@ -372,11 +392,13 @@ fn write_contents<S: Shelf, D: Depot>(
 #[tactic(auto, using(crate::proofs::FaultLemmas::conversions))]
 fn write_content<S: Shelf, D: Depot>(
     writer: &mut PieceWriter,
+    walk: &Walk,
     source: &mut Repo,
     shelf: &mut S,
     store: &mut Store,
     depot: &mut D,
     chunk: &ChunkRef,
+    later: &[ChunkRef],
 ) -> Result<(), CarryFault>
     requires most { writer.old.cutter.block ≤ 8388608 }
     requires room { length writer.old.cutter.piece < writer.old.cutter.block }
@@ -404,8 +426,30 @@ fn write_content<S: Shelf, D: Depot>(
     ensures cause { HasCause shelf_failed (S.faults shelf.old) (S.faults shelf.new) result }
     ensures drawn { IfErr result (λ fault. random_failed fault ≡ false) }
 {
-    let content = source.content(shelf, chunk)?;
+    let content = content_of(walk, source, shelf, chunk, later)?;
     writer.write(store, depot, &content)
+}
+
+/// The content of a chunk of the source, which is the first of `later`. Where it isn't kept, those that follow are read with it.
+fn content_of<S: Shelf>(
+    walk: &Walk,
+    source: &mut Repo,
+    shelf: &mut S,
+    chunk: &ChunkRef,
+    later: &[ChunkRef],
+) -> Result<Vec<u8>, RepoFault>
+    requires fits { IfSome (S.told shelf.old) (λ t. FitsRepo (told_files t) (repo_view source.old) (cached_in source.old)) }
+    ensures content { IfOk result (λ content. IfSome (S.told shelf.old) (λ t.
+        HoldsContent (told_files t) (repo_view source.old).log (repo_view source.old).keys chunk.now content.items)) }
+    ensures refused { IfErr result (λ fault. IsOfFiles fault → IfSome (S.told shelf.old) (λ t.
+        RefusesContent (told_files t) (repo_view source.old).log (repo_view source.old).keys chunk.now fault)) }
+    ensures fits { IfSome (S.told shelf.new) (λ t. FitsRepo (told_files t) (repo_view source.new) (cached_in source.new)) }
+    ensures kept { repo_view source.new ≡ repo_view source.old }
+    ensures same { KeepsTold repo_failed (S.told shelf.old) (S.told shelf.new) result }
+    ensures cause { HasCause repo_failed (S.faults shelf.old) (S.faults shelf.new) result }
+{
+    walk.read_ahead(source, shelf, later)?;
+    source.content(shelf, chunk)
 }
 
 /// The sum of the stated sizes of chunks.

@@ -8,10 +8,13 @@ ghost use Rattle.ferry_item.specs.declared.fault.ItemFault.{ItemFault};
 
 use crate::fault::ItemFault;
 use crate::front::item_at;
-use crate::item::Item;
+use crate::item::{ChunkRef, ChunkRefs, Item};
 use crate::progress::{Progress, begun, behind, gone_on};
-use std::alloc::Global;
+use std::alloc::{AllocError, Global};
 use std::marker::Model;
+
+/// How many items a look ahead reads at most.
+const ITEMS_AHEAD: usize = 8;
 
 /// A reader of the item stream of an archive, which comes in pieces that are cut anywhere.
 ///
@@ -105,6 +108,24 @@ impl ItemReader {
         Ok(Some(item))
     }
 
+    /// Adds the chunks of the items that `next` answers next, so far as these stand whole in the bytes that were fed, until
+    /// `chunks` has `most`. At most eight items are looked at, and a malformed one ends the look. The reader stays where it is.
+    pub fn chunks_ahead(&self, most: usize, chunks: &mut Vec<ChunkRef>) -> Result<(), AllocError> {
+        let alloc = *self.bytes.allocator();
+        let mut at = self.at;
+        for _ in 0..ITEMS_AHEAD {
+            if chunks.len() >= most {
+                break;
+            }
+            let Ok(Some((item, stop))) = item_at(alloc, self.bytes.as_slice(), at) else {
+                break;
+            };
+            add_chunks(&item.chunks, most, chunks)?;
+            at = stop;
+        }
+        Ok(())
+    }
+
     /// Ends the reading, once the stream has no more pieces and `next` answered none: no bytes may be left.
     pub fn finish(self) -> Result<(), ItemFault>
         requires ended { front_item self ≡ nothing_yet }
@@ -116,6 +137,25 @@ impl ItemReader {
         }
         Ok(())
     }
+}
+
+/// Adds an item's chunks, until there are `most`.
+fn add_chunks(
+    more: &Option<ChunkRefs>,
+    most: usize,
+    chunks: &mut Vec<ChunkRef>,
+) -> Result<(), AllocError> {
+    let Some(more) = more else {
+        return Ok(());
+    };
+    let more = more.as_slice();
+    for place in 0..more.len() {
+        if chunks.len() >= most {
+            return Ok(());
+        }
+        chunks.push(more[place])?;
+    }
+    Ok(())
 }
 
 /// Gives the first `count` bytes back, by one move of the others within the same memory.

@@ -201,3 +201,24 @@ fn a_stream_that_ends_inside_an_item_has_a_rest(rt: HostRuntime) -> Result<(), F
     }
     Ok(())
 }
+
+#[test]
+fn the_chunks_ahead_are_those_of_the_items_that_come(rt: HostRuntime) -> Result<(), Fail> {
+    let alloc = rt.alloc();
+    let mut reader = ItemReader::new(alloc);
+    reader.feed(BORG)?;
+    reader.feed(PACKED)?;
+    let (mut chunks, mut sizes) = (Vec::new(alloc), Vec::new(alloc));
+    reader.chunks_ahead(3, &mut chunks)?;
+    for chunk in chunks.iter() {
+        sizes.push(chunk.size)?;
+    }
+    // One of the file's, and two of the three of the item behind it.
+    assert!(rt; sizes.as_slice() == [64, 65_536, 0].as_slice());
+    // An item that isn't whole ends the look, and the first item is still to come.
+    reader.feed(b"\x82\xa4path\xa1a\xa6chunks")?;
+    reader.chunks_ahead(9, &mut chunks)?;
+    assert_eq!(rt; chunks.len(), 7);
+    assert_eq!(rt; answer(&mut reader), 0);
+    Ok(())
+}

@@ -118,6 +118,15 @@ put_all id content value cache mid after found cap is t made same put =
     ∙ (ap (λ (x : LruCache (List ℕ) (List ℕ)). put_entries bytes_eq x id value) mid_is
     ∙ (put_used id value cache.entries none ∙ ap (λ (v : List ℕ). used id v cache.entries) same))
 
+-- a content that isn't there is put
+pub put_new : (id content value : List ℕ) (cache after : LruCache (List ℕ) (List ℕ)) → cache.cap ≡ 16 → content_in id cache.entries ≡ None
+    → value ≡ content → after ≡ lru_cache (put_entries bytes_eq cache id value) cache.cap → after.entries ≡ used id content cache.entries
+put_new id content value cache after cap none same put =
+    let cache_is : cache ≡ lru_cache cache.entries 16 = ap (λ (n : ℕ). lru_cache cache.entries n) cap in
+    ap (λ (x : LruCache (List ℕ) (List ℕ)). x.entries) put
+    ∙ (ap (λ (x : LruCache (List ℕ) (List ℕ)). put_entries bytes_eq x id value) cache_is
+    ∙ (put_used id value cache.entries none ∙ ap (λ (v : List ℕ). used id v cache.entries) same))
+
 -- ---- what fits
 
 -- the contents without one of them hold
@@ -137,7 +146,8 @@ take_hold files log keys zero cs all = tt
 take_hold files log keys (suc n) [] all = tt
 take_hold files log keys (suc n) (c ∷ cs) all = (all.0, take_hold files log keys n cs all.1)
 
-used_hold : (files : Files) (log : LogState) (keys : Keys) (id content : List ℕ) (cs : Contents) → HoldsChunk files log keys id content
+-- the contents after one was used hold
+pub used_hold : (files : Files) (log : LogState) (keys : Keys) (id content : List ℕ) (cs : Contents) → HoldsChunk files log keys id content
     → AllByRecursion (λ c. HoldsChunk files log keys c.0 c.1) cs → AllByRecursion (λ c. HoldsChunk files log keys c.0 c.1) (used id content cs)
 unfolding used
 used_hold files log keys id content cs holds all =

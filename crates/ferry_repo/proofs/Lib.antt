@@ -1,5 +1,6 @@
 pub mod FaultLemmas
 pub mod ObjectLemmas
+pub mod BatchLemmas
 pub mod OpeningLemmas
 pub mod LawLemmas
 pub mod CacheLemmas

@@ -1,5 +1,6 @@
 pub mod Fault
 pub mod Objects
+pub mod Batch
 pub mod Cached
 pub mod Reason
 pub mod Opening

@@ -1,5 +1,5 @@
 //! The contents that a repository keeps.
-ghost use Rattle.std.specs.Prelude.{◌≡◌, [], IfOk, IfSome, OnOk, OnErr, option_copied};
+ghost use Rattle.std.specs.Prelude.{◌≡◌, [], None, IfOk, IfSome, OnOk, OnErr, option_copied};
 ghost use Rattle.ferry_repo.specs.Cached.{content_in, used};
 
 use ferry_base::{Bytes, Id};
@@ -59,6 +59,18 @@ impl Cache {
         }
         let copy = Vec::from_slice(self.alloc, content)?;
         self.entries.put(*id, Bytes::new(copy))?;
+        Ok(())
+    }
+
+    /// Keeps a content that isn't kept, in front of the others. At the limit the last one goes.
+    pub(crate) fn keep_new(&mut self, id: &Id, content: Vec<u8>) -> Result<(), AllocError>
+        requires new { content_in id.now self.old ≡ None }
+        ensures ok { OnOk result (self.new ≡ used id.now content.items self.old) }
+        ensures err { OnErr result (self.new ≡ self.old) }
+    {
+        // The contract of `len` says that the ids are distinct.
+        let _count = self.entries.len();
+        self.entries.put(*id, Bytes::new(content))?;
         Ok(())
     }
 }

@@ -6,6 +6,7 @@
 //! formats").
 #![tactic(auto)]
 
+mod batch;
 mod cache;
 mod fault;
 mod laws;

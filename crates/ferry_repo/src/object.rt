@@ -45,7 +45,11 @@ pub(crate) fn object<S: Shelf>(
 
 /// The blob at a place.
 #[tactic(auto, using(crate::proofs::FaultLemmas::conversions))]
-fn blob_at<S: Shelf>(alloc: Global, shelf: &mut S, place: Place) -> Result<Vec<u8>, RepoFault>
+pub(crate) fn blob_at<S: Shelf>(
+    alloc: Global,
+    shelf: &mut S,
+    place: Place,
+) -> Result<Vec<u8>, RepoFault>
     ensures blob { IfOk result (λ blob. IfSome (S.told shelf.old) (λ t.
         blob.items ≡ take place.size (drop place.at (segment_bytes (told_files t) place.segment)))) }
     ensures refused { IfErr result (λ fault. IfSome (S.told shelf.old) (λ t.
@@ -78,8 +82,16 @@ fn content_of(keys: &Keys, id: &Id, mut blob: Vec<u8>) -> Result<Vec<u8>, RepoFa
         Ok(()) => {}
         Err(fault) => return Err(RepoFault::Blob(*id, fault)),
     }
+    Ok(without_head(blob))
+}
+
+/// The content of a blob that was opened in place.
+pub(crate) fn without_head(mut blob: Vec<u8>) -> Vec<u8>
+    requires { 43 ≤ length blob.items }
+    ensures { result.items ≡ drop 43 blob.items }
+{
     let size = blob.len() - BLOB_HEAD;
     blob.copy_within(BLOB_HEAD.., 0);
     blob.truncate(size);
-    Ok(blob)
+    blob
 }

@@ -1,5 +1,5 @@
 //! An opened repository.
-ghost use Rattle.std.specs.Prelude.{◌≡◌, ◌⊎◌, [], IfOk, IfErr, IfSome, OnOk, OnErr, MatchResult, option_map, Ok, false};
+ghost use Rattle.std.specs.Prelude.{◌≡◌, ◌⊎◌, [], IfOk, IfErr, IfSome, OnOk, OnErr, MatchResult, option_map, is_some, Ok, false};
 ghost use Rattle.ferry_disk.specs.Files.{Files};
 ghost use Rattle.ferry_disk.specs.Device.{KeepsTold, HasCause, told_files};
 ghost use Rattle.ferry_log.specs.State.{with_learnt};
@@ -8,11 +8,12 @@ ghost use Rattle.ferry_manifest.specs.Manifest.Writing.{IsPackable};
 ghost use Rattle.ferry_manifest.specs.Record.Text.{archive_of, archive_view};
 ghost use Rattle.ferry_repo.specs.Archives.{archive_named, IsNoRecord, HoldsNamed, RefusesNamed, HoldsContent, RefusesContent};
 ghost use Rattle.ferry_repo.specs.Cached.{IsCached, content_in, used};
-ghost use Rattle.ferry_repo.specs.Fault.{repo_failed};
+ghost use Rattle.ferry_repo.specs.Fault.{repo_failed, IsOfFiles};
 ghost use Rattle.ferry_repo.specs.Objects.{IsMissing, HoldsChunk, RefusesChunk};
 ghost use Rattle.ferry_repo.specs.Opening.{repo_view, cached_in, mode_of, OpensFilesTo, RefusesRepo, FitsRepo};
 ghost use Rattle.ferry_repo.specs.Walk.{walk_view, begin_walk, FitsWalk};
 
+use crate::batch::Batch;
 use crate::cache::Cache;
 use crate::fault::{RepoFault, of_archive};
 use crate::object::object;
@@ -29,8 +30,8 @@ use ferry_mac::Keys;
 use ferry_manifest::{Archive, ArchiveRef, Ids, Manifest, read_archive};
 use std::alloc::{AllocError, Global};
 
-/// A repository opened for reading: it owns what it read of its log, its settings, its keys and its manifest, and copies of the contents
-/// that it answered last, sixteen at most. It is used with the shelf on which it was opened.
+/// A repository opened for reading: it owns what it read of its log, its settings, its keys and its manifest, and the contents that it
+/// answered or read ahead last, sixteen at most. It is used with the shelf on which it was opened.
 ///
 /// There is no `Debug`, so that no message can show a key.
 #[derive(Drop)]
@@ -236,6 +237,33 @@ impl Repo {
 }
 
 impl Repo {
+    /// Whether the content of a chunk is kept.
+    pub(crate) fn keeps(&self, id: &Id) -> bool
+        ensures { result ≡ is_some (content_in id.now (cached_in self.now)) }
+    {
+        self.cache.get(id).is_some()
+    }
+
+    /// Reads the contents of chunks that aren't kept, four at most, opens them side by side, and keeps them. One that can't be read is
+    /// left to the call that asks for it.
+    #[tactic(auto, using(crate::proofs::FaultLemmas::conversions))]
+    pub(crate) fn read_ahead<S: Shelf>(
+        &mut self,
+        shelf: &mut S,
+        ids: &[Id],
+    ) -> Result<(), RepoFault>
+        requires fits { IfSome (S.told shelf.old) (λ t. FitsRepo (told_files t) (repo_view self.old) (cached_in self.old)) }
+        ensures refused { IfErr result (λ fault. IsOfFiles fault → ⊥) }
+        ensures fits { IfSome (S.told shelf.new) (λ t. FitsRepo (told_files t) (repo_view self.new) (cached_in self.new)) }
+        ensures kept { repo_view self.new ≡ repo_view self.old }
+        ensures same { KeepsTold repo_failed (S.told shelf.old) (S.told shelf.new) result }
+        ensures cause { HasCause repo_failed (S.faults shelf.old) (S.faults shelf.new) result }
+    {
+        let batch = Batch::read(self.alloc, shelf, &self.log, &self.cache, ids)?;
+        batch.keep(&self.keys, &mut self.cache)?;
+        Ok(())
+    }
+
     /// The content of a chunk, copied where it is kept, and else read.
     #[tactic(auto, using(crate::proofs::FaultLemmas::conversions))]
     fn fetch<S: Shelf>(&self, shelf: &mut S, id: &Id) -> Result<Vec<u8>, RepoFault>

@@ -13,10 +13,20 @@ use crate::fault::{RepoFault, of_item};
 use crate::repo::Repo;
 use ferry_base::Id;
 use ferry_disk::Shelf;
-use ferry_item::{Item, ItemFault, ItemReader};
+use ferry_item::{ChunkRef, Item, ItemFault, ItemReader};
 use ferry_manifest::Ids;
-use std::alloc::Global;
+use std::alloc::{AllocError, Global};
+use std::cmp::min;
 use std::mem;
+
+/// How many chunks that come are looked at for those that are opened side by side.
+const AHEAD: usize = 8;
+
+/// The size in bytes from which a content takes longer to be opened than some items to be read.
+const LARGE: u64 = 32_768;
+
+/// How many contents are faster opened side by side than one after another.
+const FEWEST: usize = 3;
 
 /// A walk over the items of an archive. It owns the ids of the chunks of the archive's stream and what it read ahead of them. It is
 /// used with the repository that made it and its shelf.
@@ -113,9 +123,59 @@ impl Walk {
             }
         }
     }
+
+    /// Brings the contents of chunks that are wanted next among those that the repository keeps, where the first of `chunks` isn't
+    /// there: of `chunks`, the rest of an item, and then of the items that stand whole in what was read. Four at most are read, and
+    /// opened side by side; none where too few are of like size for that to be faster. Only time depends on it: the call that asks for
+    /// a content says what is wrong with it.
+    #[tactic(auto, using(crate::proofs::FaultLemmas::conversions))]
+    pub fn read_ahead<S: Shelf>(
+        &self,
+        repo: &mut Repo,
+        shelf: &mut S,
+        chunks: &[ChunkRef],
+    ) -> Result<(), RepoFault>
+        requires fits { IfSome (S.told shelf.old) (λ t. FitsRepo (told_files t) (repo_view repo.old) (cached_in repo.old)) }
+        ensures refused { IfErr result (λ fault. IsOfFiles fault → ⊥) }
+        ensures fits { IfSome (S.told shelf.new) (λ t. FitsRepo (told_files t) (repo_view repo.new) (cached_in repo.new)) }
+        ensures kept { repo_view repo.new ≡ repo_view repo.old }
+        ensures same { KeepsTold repo_failed (S.told shelf.old) (S.told shelf.new) result }
+        ensures cause { HasCause repo_failed (S.faults shelf.old) (S.faults shelf.new) result }
+    {
+        if chunks.is_empty() || repo.keeps(&chunks[0].id) {
+            return Ok(());
+        }
+        let ids = self.ids_ahead(repo, chunks)?;
+        if ids.len() < FEWEST {
+            return Ok(());
+        }
+        repo.read_ahead(shelf, ids.as_slice())
+    }
 }
 
 impl Walk {
+    /// The ids of chunks that are wanted next and aren't kept, of like size: opening side by side takes as long as the longest one. Where the
+    /// first is small, the items that follow aren't read for it.
+    fn ids_ahead(&self, repo: &Repo, chunks: &[ChunkRef]) -> Result<Vec<Id>, AllocError> {
+        let mut ids = Vec::new(self.alloc);
+        let Some(first) = chunks.first() else {
+            return Ok(ids);
+        };
+        let size = first.size;
+        let mut wanted = Vec::new(self.alloc);
+        wanted.extend_from_slice(&chunks[..min(chunks.len(), AHEAD)])?;
+        if size >= LARGE {
+            self.reader.chunks_ahead(AHEAD, &mut wanted)?;
+        }
+        wanted.sort_by_key(|chunk| chunk.size.abs_diff(size))?;
+        for chunk in wanted.iter() {
+            if are_alike(chunk.size, size) && !repo.keeps(&chunk.id) {
+                ids.push(chunk.id)?;
+            }
+        }
+        Ok(ids)
+    }
+
     /// Opens the next chunk of the stream, and feeds the reader with its content.
     #[tactic(auto, using(crate::proofs::FaultLemmas::conversions))]
     fn read_on<S: Shelf>(&mut self, repo: &mut Repo, shelf: &mut S) -> Result<(), RepoFault>
@@ -156,4 +216,9 @@ impl Walk {
             Err(_) => Ending::Cut,
         };
     }
+}
+
+/// Whether each of two sizes is at most twice the other.
+fn are_alike(a: u64, b: u64) -> bool {
+    a / 2 <= b && b / 2 <= a
 }

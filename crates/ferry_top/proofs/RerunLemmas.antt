@@ -1,10 +1,13 @@
 -- Lemmas on specs/Rerun.antt: what a stop of a transfer leaves meets the conditions of the transfer again.
-use Rattle.std.proofs.Common.{◌≡◌, ◌⊎◌, ◌↔◌, inl, inr, ℕ, true, false, List, [], ◌∷◌, ◌++◌, Option, Some, None, refl, sym, ◌∙◌, subst, IfSome, IsSome}
+use Rattle.std.proofs.Common.{◌≡◌, ◌≢◌, ◌⊎◌, ◌↔◌, inl, inr, ℕ, true, false, List, [], ◌∷◌, ◌++◌, Option, Some, None, refl, sym, ◌∙◌, subst, IfSome, IsSome}
 use Rattle.std.specs.List.{AllByRecursion}
-use Rattle.ferry_carry.proofs.WholeLemmas.{among_all, among_front, each_to}
-use Rattle.ferry_carry.specs.Gather.{IsAmong}
+use Rattle.ferry_base.specs.Limits.{zero_id}
+use Rattle.ferry_blob.specs.Blob.{content_id}
+use Rattle.ferry_carry.proofs.CutLemmas.{among_one}
+use Rattle.ferry_carry.proofs.WholeLemmas.{all_among, among_all, among_front, each_to}
+use Rattle.ferry_carry.specs.Gather.{IsAmong, NoCollision}
 use Rattle.ferry_carry.specs.Grow.{IsNamedBy, KeepsNames}
-use Rattle.ferry_carry.specs.Puts.{Addition}
+use Rattle.ferry_carry.specs.Puts.{Addition, contents_in}
 use Rattle.ferry_disk.specs.Act.{History}
 use Rattle.ferry_disk.specs.Files.{Files}
 use Rattle.ferry_disk.specs.Image.{ImageOf}
@@ -16,6 +19,7 @@ use Rattle.ferry_repo.specs.Archives.{archive_named}
 use Rattle.ferry_repo.specs.Opening.{RepoState, OpensFilesTo}
 use Rattle.ferry_repo.specs.Whole.{HasWhole, WholeArchive}
 use Rattle.ferry_stops.specs.Counters.{IsNonce}
+use Rattle.ferry_store.specs.New.{OpensNew}
 use Rattle.ferry_top.specs.Rerun.{AreLeftInTurn, EachChosen, HasNumber, IsAbsentOrEqual, IsEqualThere, IsNamedOrChosen, KeepsNonce, LacksName}
 use Rattle.ferry_top.specs.Rerun.{MeetsConditions}
 use Rattle.ferry_top.specs.Transfer.{Arrives, IsChosenFront, KeepsArchives, NoneCollide, Request, chosen_of}
@@ -158,3 +162,25 @@ same_names request start image before from source lines told opens keeps name =
       named_then request from.manifest before.manifest keeps.repo.manifest keeps.done chosen.0 name keeps.only chosen.1,
       named_now request from.manifest before.manifest keeps.repo.manifest name keeps.names,
     )
+
+-- ---- what may not collide
+
+-- over a new repository no contents collide where none of those that are added do
+pub new_apart : (request : Request) (start : Files) (new : OpensNew request.secrets.target start) (added : List Addition)
+    → NoCollision new.repo.keys (contents_in added) → NoneCollide request start added
+new_apart request start new added apart = record {
+  repo = new.repo;
+  opens = new.opens;
+  scope = contents_in added;
+  apart = apart;
+  among = all_among (contents_in added);
+  live = λ id content holds. absurd (holds.chunk (new.alone id holds.object.has.place holds.object.has.placed));
+}
+
+-- and of one content none, where its id isn't the manifest's
+pub one_apart : (request : Request) (start : Files) (new : OpensNew request.secrets.target start) (added : Addition)
+    → content_id new.repo.keys added.content ≢ zero_id → NoneCollide request start (added ∷ [])
+one_apart request start new added apart = new_apart request start new (added ∷ []) record {
+  one = λ a b first second _. sym (among_one added.content a first) ∙ among_one added.content b second;
+  chunk = λ a among. subst (λ (content : List ℕ). content_id new.repo.keys content ≢ zero_id) (among_one added.content a among) apart;
+}

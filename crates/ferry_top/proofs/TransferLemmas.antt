@@ -5,7 +5,8 @@ use Rattle.std.proofs.lemmas.List.{append-nil}
 use Rattle.std.specs.List.{AllByRecursion}
 use Rattle.ferry_blob.specs.Blob.{OpensTo as OpensBlob}
 use Rattle.ferry_carry.proofs.PutsLemmas.{adds_at, allows_settled, first_at, first_none, shown_none as none_pending_shown}
-use Rattle.ferry_carry.proofs.ReportLemmas.{report_none, untold_moments, whole_report}
+use Rattle.ferry_carry.proofs.LinesLemmas.{report_none, whole_report}
+use Rattle.ferry_carry.proofs.MomentLemmas.{untold_moments}
 use Rattle.ferry_carry.proofs.WholeLemmas.{each_to, whole_kept}
 use Rattle.ferry_carry.proofs.WorkLemmas.{between_known, works_both, works_err, works_nothing, works_ok, works_then}
 use Rattle.ferry_carry.specs.Listing.{BeginsName, BeginsNames, IsThere, ListsNames}

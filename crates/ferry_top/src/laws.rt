@@ -1,9 +1,10 @@
 //! Laws of what `run` says, each the contract of a function with nothing to do.
-ghost use Rattle.std.specs.Prelude.{◌≡◌, ◌≢◌, ◌↔◌, List, [], ℕ, Some};
+ghost use Rattle.std.specs.Prelude.{◌≡◌, ◌≢◌, ◌↔◌, ◌∷◌, List, [], ℕ, Some};
 ghost use Rattle.std.specs.List.{AllByRecursion};
 ghost use Rattle.ferry_base.specs.Limits.{zero_id};
-ghost use Rattle.ferry_blob.specs.Blob.{OpensTo};
-ghost use Rattle.ferry_carry.specs.Gather.{IsAmong};
+ghost use Rattle.ferry_blob.specs.Blob.{OpensTo, content_id};
+ghost use Rattle.ferry_carry.specs.Gather.{IsAmong, NoCollision};
+ghost use Rattle.ferry_carry.specs.Puts.{Addition, contents_in};
 ghost use Rattle.ferry_check.specs.Verify.{FilesVerify};
 ghost use Rattle.ferry_disk.specs.Device.{Told, told_files};
 ghost use Rattle.ferry_disk.specs.Act.{History};
@@ -69,4 +70,10 @@ pub fn transfer_laws()
         → (whole : WholeArchive) × HasWhole source request.secrets.source name whole)
         → OpensNew request.secrets.target start → (text : List ℕ) (number : ℕ) → file_at start Nonce ≡ Some text → SpellsNumber text number
         → IsReadyFor request source start }
+    // Over a new repository no contents collide where none of those that are added do.
+    ensures apart { (request : Request) (start : Files) (new : OpensNew request.secrets.target start) (added : List Addition)
+        → NoCollision new.repo.keys (contents_in added) → NoneCollide request start added }
+    // One content alone asks that its id isn't the manifest's.
+    ensures one { (request : Request) (start : Files) (new : OpensNew request.secrets.target start) (added : Addition)
+        → content_id new.repo.keys added.content ≢ zero_id → NoneCollide request start (added ∷ []) }
 {}

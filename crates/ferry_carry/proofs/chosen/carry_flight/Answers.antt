@@ -3,7 +3,9 @@ use Rattle.ferry_carry.proofs.AcceptingLemmas.{telling_small}
 use Rattle.ferry_carry.proofs.FlyLemmas.{takes_begin}
 use Rattle.ferry_carry.proofs.GrowLemmas.{accepts_on}
 use Rattle.ferry_carry.proofs.AddingLemmas.{target_apart}
-use Rattle.ferry_carry.proofs.ReportLemmas.{all_one, counts_one, reports_name, reports_silent, telling_unbroken}
+use Rattle.ferry_carry.proofs.CountingLemmas.{counts_one}
+use Rattle.ferry_carry.proofs.NamesLemmas.{all_one}
+use Rattle.ferry_carry.proofs.ReportLemmas.{reports_name, reports_silent, telling_unbroken}
 use Rattle.ferry_carry.proofs.WorkLemmas.{err_is}
 use Rattle.ferry_carry.proofs.chosen.carry_flight.Goals as goal
 use Rattle.ferry_carry.specs.Flight.{flown_from}

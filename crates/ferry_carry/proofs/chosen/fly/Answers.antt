@@ -3,7 +3,7 @@ use Rattle.ferry_carry.proofs.FlyLemmas.{TakesOn, origin_kept, taken_err, takes_
 use Rattle.ferry_carry.proofs.AcceptingLemmas.{flown_large, flown_named}
 use Rattle.ferry_carry.proofs.GrowLemmas.{accepts_on, most_here, most_then}
 use Rattle.ferry_carry.proofs.FlightLemmas.{settled_committed}
-use Rattle.ferry_carry.proofs.ReportLemmas.{tells_named, tells_present}
+use Rattle.ferry_carry.proofs.ThereLemmas.{tells_named, tells_present}
 use Rattle.ferry_carry.proofs.WorkLemmas.{err_is}
 use Rattle.ferry_carry.proofs.chosen.fly.Goals as goal
 use Rattle.ferry_carry.specs.Flight.{TakesTurn, flown_from}
@@ -16,7 +16,7 @@ use Rattle.ferry_carry.specs.declared.options.Options.{Options}
 use Rattle.ferry_manifest.specs.declared.manifest.ArchiveRef.{ArchiveRef}
 use Rattle.ferry_manifest.specs.Manifest.Text.{ManifestText}
 use Rattle.ferry_repo.specs.Archives.{archive_named}
-use Rattle.ferry_repo.specs.Opening.{repo_view}
+use Rattle.ferry_repo.specs.Opening.{cached_in, repo_view}
 use Rattle.ferry_store.specs.Commit.{accepted_in}
 use Rattle.ferry_store.specs.declared.fault.StoreRefusal.TheVariants.{TooLarge}
 use Rattle.ferry_carry.proofs.CauseLemmas.{name_refused}
@@ -271,11 +271,11 @@ returns-clause-works g c =
     λ fits.
     let before = invariant.works fits in (
       before.more,
-      takes_end later after (flown_from told source flight) flight.named.name fits.added c.args.store.now c.loop.store c.loop.flight
-          (g.D.Shelf.told c.args.depot.now) (g.D.Shelf.told c.loop.depot) (g.D.Shelf.faults c.args.depot.now) (g.D.Shelf.faults c.loop.depot)
+      takes_end later after (cached_in c.loop.source) (flown_from told source flight) flight.named.name fits.added c.args.store.now c.loop.store
+          c.loop.flight (g.D.Shelf.told c.args.depot.now) (g.D.Shelf.told c.loop.depot) (g.D.Shelf.faults c.args.depot.now) (g.D.Shelf.faults c.loop.depot)
           (origin_kept told later source after flight.options.block c.loop.flight.options.block flight.options.checkpoint c.loop.flight.options.checkpoint
           invariant.alike invariant.repo (ap (λ (o : Options). o.block) invariant.options) (ap (λ (o : Options). o.checkpoint) invariant.options))
-          (ap (λ (e : ArchiveRef). e.name) invariant.named) invariant.accepted invariant.most.keys
+          (ap (λ (e : ArchiveRef). e.name) invariant.named) invariant.accepted invariant.most.keys invariant.source_fits
           (accepts_on c.loop.store c.loop.store invariant.settled) before,
     )
 

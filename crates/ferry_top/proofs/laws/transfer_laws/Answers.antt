@@ -1,4 +1,4 @@
-use Rattle.ferry_top.proofs.RerunLemmas.{keeps_nonce, meets_again, meets_first, meets_in_turn, same_names}
+use Rattle.ferry_top.proofs.RerunLemmas.{keeps_nonce, meets_again, meets_first, meets_in_turn, new_apart, one_apart, same_names}
 use Rattle.ferry_top.proofs.TransferCauseLemmas.{ready_again, ready_first}
 use Rattle.ferry_top.proofs.VerifyLemmas.{verifies_again}
 use Rattle.ferry_top.proofs.laws.transfer_laws.Goals as goal
@@ -13,4 +13,6 @@ returns c = record {
   verifies = verifies_again;
   first = meets_first;
   fresh = ready_first;
+  apart = new_apart;
+  one = one_apart;
 }

@@ -1,4 +1,4 @@
-use Rattle.std.proofs.Common.{◌≡◌, ◌≤◌, ◌++◌, Bool, true, false, [], inl, Option, Result, Ok, Err, IfErr, IfSome, refl, ◌∙◌, ap, arith}
+use Rattle.std.proofs.Common.{◌≡◌, ◌≤◌, ◌++◌, Bool, true, false, [], inl, Option, Result, Ok, Err, IfErr, refl, ◌∙◌, ap, arith}
 use Rattle.ferry_carry.proofs.CopyLemmas.{copied_packable}
 use Rattle.ferry_carry.proofs.FillingLemmas.{item_filled, next_filled, where_target}
 use Rattle.ferry_carry.proofs.GatherLemmas.{rest_here, rest_then}
@@ -9,8 +9,7 @@ use Rattle.ferry_carry.proofs.StepLemmas.{step_counts}
 use Rattle.ferry_carry.proofs.WorkLemmas.{err_is, gathered_as, gathered_err, gathered_none, gathered_nothing}
 use Rattle.ferry_carry.proofs.copy.Copy.step.Goals as goal
 use Rattle.ferry_carry.specs.Carrying.{origin}
-use Rattle.ferry_carry.specs.Copying.{TakesItem}
-use Rattle.ferry_carry.specs.Filling.{FillsNext}
+use Rattle.ferry_carry.specs.Filling.{FillsCopy}
 use Rattle.ferry_carry.specs.Puts.{contents_in}
 use Rattle.ferry_carry.specs.Refusals.{RefusesStep}
 use Rattle.ferry_carry.specs.declared.copy.Copy.{Copy}
@@ -20,7 +19,6 @@ use Rattle.ferry_item.specs.Item.{item_view}
 use Rattle.ferry_item.specs.Writing.{IsPackable}
 use Rattle.ferry_item.specs.declared.item.ChunkRefs.{ChunkRefs}
 use Rattle.ferry_item.specs.declared.item.Item.{Item}
-use Rattle.ferry_disk.specs.Device.{told_files}
 use Rattle.ferry_repo.specs.Walk.{walk_view}
 use Rattle.ferry_repo.specs.Opening.{cached_in, repo_view}
 
@@ -86,10 +84,7 @@ returns-in_err-chunks-clause-steps g c =
     let m = g.D.Shelf.faults c.copy_chunks.new.depot in
     let most = copy.contents.checkpoint in
     let fault = c.in_err-chunks.field-0.0 in
-    let taken =
-    some_holds c.in_ok-item.field-0 c.in-Some.item
-    (λ (item : Item). IfSome told (λ t. TakesItem (told_files t) source (walk_view copy.walk) (item_view item) (walk_view next.walk)))
-    c.in-Some.is c.in_ok-item.ensures.item in (
+    let taken = some_holds c.in_ok-item.field-0 c.in-Some.item _ c.in-Some.is c.in_ok-item.ensures.item in (
       came.0,
       err_is c.from_residual-in_err-chunks.result fault (StepIs told source copy c.copy_chunks.new.self store now came.0 a b n m)
           c.from_residual-in_err-chunks.ensures.1 (
@@ -101,9 +96,9 @@ returns-in_err-chunks-clause-steps g c =
                 content_begun told (g.S.Shelf.told c.next.new.shelf) source (repo_view c.next.new.source) (repo_view store.repo).keys copy next
                     (item_view c.in-Some.item) came.0 c.in_ok-item.ensures.same c.in_ok-item.ensures.kept c.in_ok-item.ensures.others taken came.1.1.0
                     came.1.1.1.0,
-                item_filled told (g.S.Shelf.told c.next.new.shelf) source (repo_view c.next.new.source) copy next (item_view c.in-Some.item) came.0 fault
-                    c.in_ok-item.ensures.same c.in_ok-item.ensures.kept (ap (λ (x : Copy). x.block) c.in_ok-item.ensures.others) taken came.1.1.0
-                    came.1.1.1.1.0,
+                item_filled told (g.S.Shelf.told c.next.new.shelf) source (repo_view c.next.new.source) (cached_in c.args.source.now) copy next
+                    (item_view c.in-Some.item) came.0 fault c.in_ok-item.ensures.same c.in_ok-item.ensures.kept
+                    (ap (λ (x : Copy). x.block) c.in_ok-item.ensures.others) c.requires.source_fits taken came.1.1.0 came.1.1.1.1.0,
               ),
               tt,
             ),
@@ -129,10 +124,7 @@ returns-in_err-write_item-clause-steps g c =
     let n = g.D.Shelf.faults c.args.depot.now in
     let m = g.D.Shelf.faults c.write_item.new.depot in
     let fault = c.in_err-write_item.field-0.0 in
-    let taken =
-    some_holds c.in_ok-item.field-0 c.in-Some.item
-    (λ (item : Item). IfSome told (λ t. TakesItem (told_files t) source (walk_view copy.walk) (item_view item) (walk_view next.walk)))
-    c.in-Some.is c.in_ok-item.ensures.item in (
+    let taken = some_holds c.in_ok-item.field-0 c.in-Some.item _ c.in-Some.is c.in_ok-item.ensures.item in (
       more,
       err_is c.from_residual-in_err-write_item.result fault (StepIs told source copy c.write_item.new.self store now more a b n m)
           c.from_residual-in_err-write_item.ensures.1 (
@@ -146,7 +138,7 @@ returns-in_err-write_item-clause-steps g c =
                 spelling_begun told (g.S.Shelf.told c.next.new.shelf) source (repo_view c.next.new.source) (repo_view store.repo).keys copy next middle
                     (item_view c.in-Some.item) c.in_ok-chunks.chunks came.0 wrote.0 c.in_ok-item.ensures.same c.in_ok-item.ensures.kept
                     c.in_ok-item.ensures.others c.in_ok-chunks.ensures.others taken came.1.1.0 came.1.1.1.1.1.0 wrote.1.1.0 wrote.1.1.1.0,
-                where_target told fault (λ there refusal. FillsNext there source copy.block (walk_view copy.walk) refusal more)
+                where_target told fault (λ there refusal. FillsCopy there source copy refusal more)
                     c.in_err-write_item.ensures.target,
               ),
               tt,
@@ -173,10 +165,7 @@ returns-clause-steps g c =
     let b = g.D.Shelf.told c.write_item.new.depot in
     let n = g.D.Shelf.faults c.args.depot.now in
     let m = g.D.Shelf.faults c.write_item.new.depot in
-    let taken =
-    some_holds c.in_ok-item.field-0 c.in-Some.item
-    (λ (item : Item). IfSome told (λ t. TakesItem (told_files t) source (walk_view copy.walk) (item_view item) (walk_view next.walk)))
-    c.in-Some.is c.in_ok-item.ensures.item in (
+    let taken = some_holds c.in_ok-item.field-0 c.in-Some.item _ c.in-Some.is c.in_ok-item.ensures.item in (
       more,
       (
         gathered_as {T = Unit {0}} {U = Bool} copy.contents.checkpoint store now more a b n m tt true
@@ -209,7 +198,8 @@ returns-in_err-item-clause-copied g c =
     let steps = returns-in_err-item-clause-steps g c in (
       steps.0,
       copied_refused (g.S.Shelf.told c.args.shelf.now) a a (repo_view c.args.source.now) named store store copy c.next.new.self added steps.0 n n
-          c.requires.ready so c.from_residual.result c.in_err-item.field-0.0 c.from_residual.ensures.1 steps.1,
+          c.requires.ready so (cached_in c.args.source.now) c.from_residual.result c.in_err-item.field-0.0 c.requires.source_fits
+          c.from_residual.ensures.1 steps.1,
     )
 
 pub returns-in_default-clause-copied : goal.returns-in_default-clause-copied
@@ -236,8 +226,8 @@ returns-in_err-chunks-clause-copied g c =
       steps.0,
       copied_refused (g.S.Shelf.told c.args.shelf.now) (g.D.Shelf.told c.args.depot.now) (g.D.Shelf.told c.copy_chunks.new.depot)
           (repo_view c.args.source.now) named c.args.store.now c.copy_chunks.new.store c.args.self.now c.copy_chunks.new.self added steps.0
-          (g.D.Shelf.faults c.args.depot.now) (g.D.Shelf.faults c.copy_chunks.new.depot) c.requires.ready so c.from_residual-in_err-chunks.result
-          c.in_err-chunks.field-0.0 c.from_residual-in_err-chunks.ensures.1 steps.1,
+          (g.D.Shelf.faults c.args.depot.now) (g.D.Shelf.faults c.copy_chunks.new.depot) c.requires.ready so (cached_in c.args.source.now)
+          c.from_residual-in_err-chunks.result c.in_err-chunks.field-0.0 c.requires.source_fits c.from_residual-in_err-chunks.ensures.1 steps.1,
     )
 
 pub returns-in_err-write_item-clause-copied : goal.returns-in_err-write_item-clause-copied
@@ -247,8 +237,9 @@ returns-in_err-write_item-clause-copied g c =
       steps.0,
       copied_refused (g.S.Shelf.told c.args.shelf.now) (g.D.Shelf.told c.args.depot.now) (g.D.Shelf.told c.write_item.new.depot)
           (repo_view c.args.source.now) named c.args.store.now c.write_item.new.store c.args.self.now c.write_item.new.self added steps.0
-          (g.D.Shelf.faults c.args.depot.now) (g.D.Shelf.faults c.write_item.new.depot) c.requires.ready so c.from_residual-in_err-write_item.result
-          c.in_err-write_item.field-0.0 c.from_residual-in_err-write_item.ensures.1 steps.1,
+          (g.D.Shelf.faults c.args.depot.now) (g.D.Shelf.faults c.write_item.new.depot) c.requires.ready so (cached_in c.args.source.now)
+          c.from_residual-in_err-write_item.result c.in_err-write_item.field-0.0 c.requires.source_fits c.from_residual-in_err-write_item.ensures.1
+          steps.1,
     )
 
 pub returns-clause-copied : goal.returns-clause-copied
@@ -298,10 +289,7 @@ returns-in_err-chunks-clause-refused g c =
     let heard = g.D.Shelf.told c.args.depot.now in
     let fault = c.in_err-chunks.field-0.0 in
     let block : c.next.new.self.block ≡ copy.block = ap (λ (x : Copy). x.block) c.in_ok-item.ensures.others in
-    let taken =
-    some_holds c.in_ok-item.field-0 c.in-Some.item
-    (λ (item : Item). IfSome told (λ t. TakesItem (told_files t) source (walk_view copy.walk) (item_view item) (walk_view c.next.new.self.walk)))
-    c.in-Some.is c.in_ok-item.ensures.item in
+    let taken = some_holds c.in_ok-item.field-0 c.in-Some.item _ c.in-Some.is c.in_ok-item.ensures.item in
     err_is c.from_residual-in_err-chunks.result fault
     (λ (r : Result Bool CarryFault). IfErr r (RefusesStep (origin told source copy.block copy.contents.checkpoint) heard named.name))
     c.from_residual-in_err-chunks.ensures.1

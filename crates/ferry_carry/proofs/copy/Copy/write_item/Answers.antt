@@ -1,5 +1,6 @@
 use Rattle.std.proofs.Common.{◌≡◌, ◌++◌, ℕ, List, [], Result, OnOk, refl, ◌∙◌, ap, subst}
-use Rattle.ferry_carry.proofs.PieceLemmas.{begins_nothing, ok_to}
+use Rattle.std.proofs.lemmas.Result.{on_ok_weaker}
+use Rattle.ferry_carry.proofs.PieceLemmas.{begins_nothing}
 use Rattle.ferry_carry.proofs.WorkLemmas.{err_is, gathered_nothing}
 use Rattle.ferry_carry.proofs.copy.Copy.write_item.Goals as goal
 use Rattle.ferry_carry.specs.Adding.{AddsOn}
@@ -49,10 +50,10 @@ returns-clause-written g c =
           wrote.1.1.0,
           (
             subst (λ (bytes : List ℕ). BeginsOn stream.cutter bytes (contents_in more)) spelled wrote.1.1.1.0,
-            ok_to {T = Unit {0}} (WritesOn keys stream.cutter stream.chunks.items c.deref.result.now (contents_in more) stream_now.cutter
-                stream_now.chunks.items × CountsOn Stream stream more stream_now)
-                (WritesItem keys stream.cutter stream.chunks.items item (contents_in more) stream_now.cutter stream_now.chunks.items
-                × CountsOn Stream stream more stream_now) c.write.result
+            on_ok_weaker {P = WritesOn keys stream.cutter stream.chunks.items c.deref.result.now (contents_in more) stream_now.cutter
+                stream_now.chunks.items × CountsOn Stream stream more stream_now}
+                {Q = WritesItem keys stream.cutter stream.chunks.items item (contents_in more) stream_now.cutter stream_now.chunks.items
+                × CountsOn Stream stream more stream_now} c.write.result
                 (λ writes. (
                   record {
                     writes = subst (λ (bytes : List ℕ). WritesOn keys stream.cutter stream.chunks.items bytes (contents_in more) stream_now.cutter

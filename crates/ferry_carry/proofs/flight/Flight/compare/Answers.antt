@@ -1,6 +1,7 @@
 use Rattle.std.proofs.Common.{◌≡◌, [], ◌∷◌, ℕ, List, Some, Result, Ok, Err, refl, sym, ◌∙◌, ap, subst, IfErr, IsSome}
+use Rattle.std.proofs.lemmas.Result.{on_ok_weaker}
 use Rattle.ferry_carry.proofs.AcceptingLemmas.{still_rest}
-use Rattle.ferry_carry.proofs.FlightLemmas.{on_ok, read_rest, rest_accepts, rest_there, there_accepted}
+use Rattle.ferry_carry.proofs.FlightLemmas.{read_rest, rest_accepts, rest_there, there_accepted}
 use Rattle.ferry_carry.proofs.FlyLemmas.{begins_there, filled_apart, fills_there, flies_as, flies_fault, present_flies, present_stands, stands_within}
 use Rattle.ferry_carry.proofs.FlyLemmas.{taken_still, taken_unbroken, turn_present, turned_err}
 use Rattle.ferry_carry.proofs.GrowLemmas.{most_from}
@@ -119,7 +120,7 @@ returns-in-Equal-clause-accepts g c =
     let store = c.args.store.now in
     let middle = c.compare_item.new.store in
     let now = c.present.new.store in
-    on_ok {P = KeepsRest middle now} {Q = AcceptsMore now} c.present.result
+    on_ok_weaker {P = KeepsRest middle now} {Q = AcceptsMore now} c.present.result
     (λ rest. rest_accepts middle now rest (rest_accepts store middle (read_rest store middle c.compare_item.ensures.read) c.requires.accepts))
     c.present.ensures.rest
 

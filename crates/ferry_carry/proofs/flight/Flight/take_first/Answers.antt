@@ -1,7 +1,8 @@
 use Rattle.std.proofs.Common.{rules, [], ◌∷◌, Result, Err, refl, sym, IfErr, IsSome, subst, ◌∙◌}
+use Rattle.std.proofs.lemmas.Result.{on_ok_weaker}
 use Rattle.ferry_carry.proofs.AcceptingLemmas.{next_rest, next_source}
 use Rattle.ferry_carry.proofs.AddingLemmas.{stops_unbroken}
-use Rattle.ferry_carry.proofs.FlightLemmas.{on_ok, read_rest}
+use Rattle.ferry_carry.proofs.FlightLemmas.{read_rest}
 use Rattle.ferry_carry.proofs.FlyLemmas.{begins_none, fills_begin, fills_there, flies_err, flies_fault, origin_kept, record_unbroken, stands_within}
 use Rattle.ferry_carry.proofs.FlyLemmas.{turned_behind, turned_err}
 use Rattle.ferry_carry.proofs.GrowLemmas.{most_from, most_then}
@@ -76,7 +77,7 @@ returns-in_ok-comparison-clause-most g c =
     let store = c.args.store.now in
     let middle = c.begin_comparing.new.store in
     let now = c.compare.new.store in
-    on_ok {P = KeepsMost middle now} {Q = KeepsMost store now} c.compare.result
+    on_ok_weaker {P = KeepsMost middle now} {Q = KeepsMost store now} c.compare.result
     (λ most. most_then store middle now (most_from store middle (read_rest store middle c.begin_comparing.ensures.read)) most) c.compare.ensures.most
 
 pub returns-in_err-comparison-clause-works : goal.returns-in_err-comparison-clause-works
