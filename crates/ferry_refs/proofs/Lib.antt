@@ -1,0 +1,4 @@
+pub mod CountLemmas
+pub mod ItemLemmas
+pub mod ArchiveLemmas
+pub mod LawLemmas

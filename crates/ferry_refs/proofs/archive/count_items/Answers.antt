@@ -1,0 +1,57 @@
+use Rattle.std.proofs.Common.{Ok, ◌∷◌, [], IfSome, refl, sym, ◌∙◌, ap, subst}
+use Rattle.ferry_disk.specs.Device.{told_files}
+use Rattle.ferry_item.specs.Item.{item_view}
+use Rattle.ferry_repo.specs.Fault.{IsOfFiles}
+use Rattle.ferry_repo.specs.Opening.{repo_view}
+use Rattle.ferry_repo.specs.Walk.{LeadsOn, walk_view}
+use Rattle.ferry_repo.specs.declared.fault.RepoFault.{RepoFault}
+use Rattle.ferry_repo.proofs.FaultLemmas.{gives_err}
+use Rattle.ferry_refs.specs.Refs.{count_in}
+use Rattle.ferry_refs.specs.Steps.{StreamEnds}
+use Rattle.ferry_refs.proofs.ItemLemmas.{goes_begin, goes_next, items_counted, stream_refused}
+use Rattle.ferry_refs.proofs.archive.count_items.Goals as goal
+
+pub loop-init : goal.loop-init
+loop-init g c = record {
+  goes = goes_begin (g.S.Shelf.told c.args.shelf.now) (repo_view c.args.repo.now) (walk_view c.args.walk.now) (count_in c.args.counts.now)
+      c.requires.walk_fits;
+  fits = c.requires.fits;
+  repo = refl;
+  same = refl;
+  faults = refl;
+}
+
+pub loop-preserved : goal.loop-preserved
+loop-preserved g c =
+    let later = g.S.Shelf.told c.loop.shelf in
+    let now_repo = repo_view c.loop.repo in
+    let now = walk_view c.loop.walk in
+    let after = walk_view c.step.new.self in
+    let leads = subst (λ o. IfSome o (λ i. IfSome later (λ t. LeadsOn (told_files t) now_repo.log now_repo.keys now (item_view i ∷ []) after)))
+    c.in-Some.is c.in_ok-item.ensures.item in
+    record {
+      goes = goes_next (g.S.Shelf.told c.args.shelf.now) later (repo_view c.args.repo.now) now_repo (walk_view c.args.walk.now) now after
+          (count_in c.args.counts.now) (count_in c.loop.counts) (count_in c.count_item.new.counts) (item_view c.in-Some.item) c.loop.invariant.same
+          c.loop.invariant.repo c.loop.invariant.goes leads c.in_ok-item.ensures.walk_fits c.in_ok-count_item-in-Some.ensures.added;
+      fits = c.in_ok-item.ensures.fits;
+      repo = c.in_ok-item.ensures.kept ∙ c.loop.invariant.repo;
+      same = c.in_ok-item.ensures.same ∙ c.loop.invariant.same;
+      faults = c.in_ok-item.ensures.cause ∙ c.loop.invariant.faults;
+    }
+
+pub returns-in_err-item-clause-refused : goal.returns-in_err-item-clause-refused
+returns-in_err-item-clause-refused g c =
+    let told = g.S.Shelf.told c.args.shelf.now in
+    let repo = repo_view c.args.repo.now in
+    let from = walk_view c.args.walk.now in
+    gives_err c.from_residual.result _ _ c.from_residual.ensures.1 (λ y is of_files.
+    subst (λ (f : RepoFault). IfSome told (λ t. StreamEnds (told_files t) repo from f)) (sym is)
+    (stream_refused told (g.S.Shelf.told c.loop.shelf) repo (repo_view c.loop.repo) from (walk_view c.loop.walk) (count_in c.args.counts.now)
+    (count_in c.loop.counts) c.in_err-item.field-0.0 c.loop.invariant.same c.loop.invariant.repo c.loop.invariant.goes
+    (c.in_err-item.ensures.refused (subst (λ (f : RepoFault). IsOfFiles f) is of_files))))
+
+pub returns-in-None-clause-items : goal.returns-in-None-clause-items
+returns-in-None-clause-items g c =
+    items_counted (g.S.Shelf.told c.args.shelf.now) (g.S.Shelf.told c.loop.shelf) (repo_view c.args.repo.now) (repo_view c.loop.repo)
+    (walk_view c.args.walk.now) (walk_view c.loop.walk) (count_in c.args.counts.now) (count_in c.loop.counts) c.loop.invariant.same
+    c.loop.invariant.repo c.loop.invariant.goes (c.in_ok-item.ensures.none (ap Ok c.in-None.is))
