@@ -181,7 +181,10 @@ fn a_failing_device_of_init_is_told_by_its_status(rt: HostRuntime) -> Result<(),
 }
 
 /// What a stop leaves, where there is such a one.
-fn stopped(target: MemoryDepot, choice: Choice) -> Result<Option<MemoryDepot>, AllocError> {
+pub(crate) fn stopped(
+    target: MemoryDepot,
+    choice: Choice,
+) -> Result<Option<MemoryDepot>, AllocError> {
     if target.allows(&choice) {
         let next = target.crash(choice)?;
         Ok(Some(next))

@@ -1,9 +1,10 @@
 //! `transfer` over devices in memory.
 ghost use Rattle.std.specs.Prelude.{◌≡◌, [], IfOk};
 
+use crate::target_tests::stopped;
 use crate::tests::{CONFIG, PASSPHRASE, config, secret, strings};
 use crate::{Secrets, run};
-use ferry_disk::{Kind, MemoryDepot, MemoryEntropy, MemoryShelf, MemorySink, Name, Shelf};
+use ferry_disk::{Choice, Kind, MemoryDepot, MemoryEntropy, MemoryShelf, MemorySink, Name, Shelf};
 use std::alloc::{AllocError, Global};
 use std::test::Fail;
 
@@ -323,5 +324,128 @@ fn a_nonce_that_is_used_up_ends_a_transfer(rt: HostRuntime) -> Result<(), Fail> 
     let mut target = target_of(alloc, files, 0)?;
     assert!(rt; run_into(alloc, &COPY, &mut target)?.is(12, "", "limit: nonce\n"));
     assert!(rt; put_nothing(&target));
+    Ok(())
+}
+
+/// The words of a transfer in pieces of 64 bytes, of which two may be pending.
+const IN_TWOS: [&str; 6] = ["transfer", "--block", "64", "--checkpoint", "2", "a"];
+
+/// The lines of a transfer where the target has the first two pieces, and where it has the archive.
+const REST: &str = "transferred a\ntotal 1 transferred 0 present 1 chunks 1 bytes 1 meta\n";
+
+const PRESENT: &str = "present a\ntotal 0 transferred 1 present 0 chunks 0 bytes 0 meta\n";
+
+/// How much is left of what a segment has that isn't stable.
+#[derive(Clone, Copy)]
+enum Share {
+    Nothing,
+    Half,
+    All,
+}
+
+/// The bytes that the first acts of a run appended to a segment and that aren't stable.
+fn unstable(
+    alloc: Global,
+    target: &MemoryDepot,
+    acts: usize,
+    segment: u64,
+) -> Result<Vec<u8>, AllocError> {
+    let mut bytes = Vec::new(alloc);
+    for index in 0..acts {
+        if let Some(act) = target.act(index) {
+            match &act.kind {
+                Kind::Append(number, more) if *number == segment => {
+                    bytes.extend_from_slice(more)?;
+                }
+                Kind::Sync(number) if *number == segment => bytes.clear(),
+                _ => {}
+            }
+        }
+    }
+    Ok(bytes)
+}
+
+/// A stop behind the first acts of a run, the last of which isn't done where it is cut.
+fn stop_at(
+    alloc: Global,
+    target: &MemoryDepot,
+    acts: usize,
+    cut: bool,
+    share: Share,
+) -> Result<Choice, AllocError> {
+    let mut tails = Vec::new(alloc);
+    for segment in 2..6u64 {
+        let mut bytes = unstable(alloc, target, acts, segment)?;
+        let len = bytes.len();
+        bytes.truncate(match share {
+            Share::Nothing => 0,
+            Share::Half => len / 2,
+            Share::All => len,
+        });
+        if !bytes.is_empty() {
+            tails.push((segment, Some(bytes)))?;
+        }
+    }
+    Ok(Choice {
+        acts: acts as u64,
+        cut,
+        took: cut,
+        tails,
+    })
+}
+
+/// A transfer over what a stop left of one, none where there is no such stop.
+fn run_again(alloc: Global, acts: usize, cut: bool, share: Share) -> Result<Option<Outcome>, Fail> {
+    let mut target = target_of(alloc, made(alloc)?, 0)?;
+    run_into(alloc, &IN_TWOS, &mut target)?;
+    let choice = stop_at(alloc, &target, acts, cut, share)?;
+    match stopped(target, choice)? {
+        Some(left) => {
+            let mut next = left.again()?;
+            Ok(Some(run_into(alloc, &IN_TWOS, &mut next)?))
+        }
+        None => Ok(None),
+    }
+}
+
+/// The machine stops at each of the 24 acts of a transfer, and of what isn't stable nothing, a half or all is left. The next run ends well and
+/// leaves the archive.
+#[test]
+fn a_transfer_that_was_stopped_is_done_again(rt: HostRuntime) -> Result<(), Fail> {
+    let alloc = rt.alloc();
+    let mut stops = 0u64;
+    for case in 0..150usize {
+        let (acts, share) = (
+            case / 6,
+            [Share::Nothing, Share::Half, Share::All][case / 2 % 3],
+        );
+        if let Some(run) = run_again(alloc, acts, case % 2 == 1, share)? {
+            let is_well = run.is(0, COPIED, "") || run.is(0, REST, "") || run.is(0, PRESENT, "");
+            assert!(rt; is_well, "{case}");
+            stops = stops.wrapping_add(1);
+        }
+    }
+    assert_eq!(rt; stops, 150);
+    Ok(())
+}
+
+/// Behind the sync of the first commit, in front of the second one, with a half and with all of it, and behind the line that tells the archive.
+#[test]
+fn what_was_committed_is_there_behind_a_stop(rt: HostRuntime) -> Result<(), Fail> {
+    let alloc = rt.alloc();
+    let cases = [
+        (8, Share::All, COPIED),
+        (10, Share::Nothing, REST),
+        (20, Share::Nothing, REST),
+        (21, Share::Half, REST),
+        (21, Share::All, PRESENT),
+        (23, Share::Nothing, PRESENT),
+    ];
+    for (acts, share, lines) in cases {
+        match run_again(alloc, acts, false, share)? {
+            Some(run) => assert!(rt; run.is(0, lines, ""), "{acts}"),
+            None => assert!(rt; false, "{acts}"),
+        }
+    }
     Ok(())
 }
