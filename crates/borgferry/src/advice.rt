@@ -2,7 +2,7 @@
 //! output. docs/FORMATS.md has the lines as a table.
 
 ghost use Rattle.std.specs.Prelude.{◌≡◌, ◌↔◌, IsNone};
-ghost use Rattle.ferry_top.specs.declared.status.Status.TheVariants as TheStatus;
+ghost use Rattle.ferry_status.specs.declared.status.Status.TheVariants as TheStatus;
 
 use crate::target::{ENTROPY, TARGET, of_limit, of_target};
 use ferry_base::ZERO_ID;

@@ -18,8 +18,6 @@ mod planes;
 mod rounds;
 mod schedule;
 mod substitution;
-#[cfg(test)]
-mod tests;
 mod transposition;
 
 pub use counter::keystream;

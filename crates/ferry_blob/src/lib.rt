@@ -18,8 +18,6 @@ mod opening;
 mod places;
 mod sealing;
 mod stream;
-#[cfg(test)]
-mod tests;
 
 pub use batch_opening::open_blobs;
 pub use batch_sealing::seal_blobs;

@@ -21,15 +21,15 @@ use Rattle.ferry_store.specs.Standing.{with_manifest}
 use Rattle.ferry_store.specs.declared.fault.StoreRefusal.TheVariants.{TooLarge}
 use Rattle.ferry_store.specs.declared.store.Store.{Store}
 use Rattle.ferry_carry.specs.Accepting.{AreNextOf, HasLargeNext, IsNextOf, LimitsNames, next_named}
-use Rattle.ferry_carry.specs.Fault.{target_fault}
+use Rattle.ferry_piece.specs.Fault.{target_fault}
 use Rattle.ferry_carry.specs.Flight.{IsSettled}
-use Rattle.ferry_carry.specs.Gather.{KeepsRest}
+use Rattle.ferry_piece.specs.Gather.{KeepsRest}
 use Rattle.ferry_carry.specs.Naming.{entry_for}
 use Rattle.ferry_carry.specs.Refusals.{IsLimited, is_of_telling, named_next}
 use Rattle.ferry_carry.specs.Telling.{TellsNames}
 use Rattle.ferry_carry.specs.Time.{time_for}
-use Rattle.ferry_carry.specs.declared.fault.CarryFault.{CarryFault}
-use Rattle.ferry_carry.specs.declared.fault.CarryFault.TheVariants.{Target, NotFound, Memory}
+use Rattle.ferry_piece.specs.declared.fault.CarryFault.{CarryFault}
+use Rattle.ferry_piece.specs.declared.fault.CarryFault.TheVariants.{Target, NotFound, Memory}
 
 -- ---- a line that isn't told
 

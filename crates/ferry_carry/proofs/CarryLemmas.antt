@@ -25,14 +25,15 @@ use Rattle.ferry_store.specs.Standing.{entries_committed, entries_of, live_in}
 use Rattle.ferry_store.specs.State.{with_entry}
 use Rattle.ferry_store.specs.Store.{StoreFits}
 use Rattle.ferry_store.specs.declared.store.Store.{Store}
-use Rattle.ferry_carry.proofs.PutsLemmas.{contents_append}
-use Rattle.ferry_carry.proofs.WholeLemmas.{HoldsPiece, all_front, copied_whole, each_to, whole_kept}
+use Rattle.ferry_piece.proofs.PutsLemmas.{contents_append}
+use Rattle.ferry_carry.proofs.WholeLemmas.{HoldsPiece, copied_whole, whole_kept}
+use Rattle.ferry_piece.proofs.AmongLemmas.{all_front, each_to}
 use Rattle.ferry_carry.specs.Carrying.{CanBeNamed, CarriesOver, EntersOver, HasLive, IsApart, IsCarried, IsReadyToName, IsWholeBy, LivesWithin, Origin, SaysIn}
 use Rattle.ferry_carry.specs.Copied.{adds_of}
-use Rattle.ferry_carry.specs.Gather.{HoldsContents, IsAmong}
+use Rattle.ferry_piece.specs.Gather.{HoldsContents, IsAmong}
 use Rattle.ferry_carry.specs.Grow.{KeepsChunks, KeepsNames}
-use Rattle.ferry_carry.specs.Puts.{Addition, AddsAll, AtBegin, AtEnd, Border, ComesBefore, IsAddedBehind, MayCome, Within, border_of, contents_in}
-use Rattle.ferry_carry.specs.Puts.{manifests_committed}
+use Rattle.ferry_piece.specs.Puts.{Addition, AddsAll, AtBegin, AtEnd, Border, ComesBefore, IsAddedBehind, MayCome, Within, border_of, contents_in}
+use Rattle.ferry_piece.specs.Puts.{manifests_committed}
 
 -- ---- what is live behind what was added
 

@@ -29,21 +29,22 @@ use Rattle.ferry_store.specs.declared.store.Store.{Store}
 use Rattle.ferry_carry.proofs.FlightLemmas.{known_read}
 use Rattle.ferry_carry.proofs.GrowLemmas.{most_then}
 use Rattle.ferry_carry.proofs.ProgressLemmas.{any_told, stream_ids}
-use Rattle.ferry_carry.proofs.WholeLemmas.{among_next}
+use Rattle.ferry_piece.proofs.AmongLemmas.{among_next}
 use Rattle.ferry_carry.specs.Carrying.{Origin, SaysIn, origin}
 use Rattle.ferry_carry.specs.Copied.{stream_pieces}
 use Rattle.ferry_carry.specs.Copying.{IsReady}
-use Rattle.ferry_carry.specs.Gather.{chunks_of}
+use Rattle.ferry_piece.specs.Gather.{chunks_of}
 use Rattle.ferry_carry.specs.Grow.{KeepsMost, KeepsNames}
 use Rattle.ferry_carry.specs.Naming.{copied_archive}
 use Rattle.ferry_carry.specs.Progress.{IsAllCopied}
-use Rattle.ferry_carry.specs.Puts.{Addition}
+use Rattle.ferry_piece.specs.Puts.{Addition}
 use Rattle.ferry_carry.specs.Refusals.{DiffersThere, HasLargeRecord, LacksName, RefusesBegin, RefusesComparing, RefusesEnd, RefusesName, RefusesRecordText}
-use Rattle.ferry_carry.specs.Refusals.{RefusesNames, RefusesOne, RefusesStep, StopsPieces, StopsTarget, TakenAt, WhereTold, is_of_telling, is_target}
+use Rattle.ferry_carry.specs.Refusals.{RefusesNames, RefusesOne, RefusesStep, TakenAt, WhereTold, is_of_telling}
+use Rattle.ferry_piece.specs.Stops.{StopsPieces, StopsTarget, is_target}
 use Rattle.ferry_carry.specs.Telling.{TellsNames}
 use Rattle.ferry_carry.specs.declared.copy.Copy.{Copy}
-use Rattle.ferry_carry.specs.declared.fault.CarryFault.{CarryFault}
-use Rattle.ferry_carry.specs.declared.fault.CarryFault.TheVariants.{Source, Target, Taken, NotFound, Pieces, Memory, Record}
+use Rattle.ferry_piece.specs.declared.fault.CarryFault.{CarryFault}
+use Rattle.ferry_piece.specs.declared.fault.CarryFault.TheVariants.{Source, Target, Taken, NotFound, Pieces, Memory, Record}
 
 -- ---- files that are told
 

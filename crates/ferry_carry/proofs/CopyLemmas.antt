@@ -21,11 +21,11 @@ use Rattle.ferry_repo.proofs.ContentLemmas.{contents_then}
 use Rattle.ferry_repo.specs.Archives.{HoldsContent}
 use Rattle.ferry_repo.specs.Opening.{RepoState}
 use Rattle.ferry_repo.specs.Whole.{ContentsCome, HoldsJoined}
-use Rattle.ferry_carry.proofs.PieceLemmas.{begins_nothing, begins_written, chunks_more, hand_fed}
+use Rattle.ferry_piece.proofs.PieceLemmas.{begins_nothing, begins_written, chunks_more, hand_fed}
 use Rattle.ferry_carry.proofs.WholeLemmas.{joined_concat}
 use Rattle.ferry_carry.specs.Copying.{BeginsChunk, BeginsContent, BeginsContents, CopiesContent, WritesContent, WritesContents}
-use Rattle.ferry_carry.specs.Gather.{chunks_of}
-use Rattle.ferry_carry.specs.Piece.{BeginsOn, WritesOn}
+use Rattle.ferry_piece.specs.Gather.{chunks_of}
+use Rattle.ferry_piece.specs.Piece.{BeginsOn, WritesOn}
 
 -- ---- WritesOn
 

@@ -3,10 +3,10 @@ use Rattle.std.proofs.Common.{◌≡◌, ℕ, suc, Bool, true, false, if◌then�
 use Rattle.std.proofs.Common.{◌+◌}
 use Rattle.std.proofs.lemmas.List.{append-nil}
 use Rattle.ferry_manifest.specs.Manifest.Text.{ManifestText}
-use Rattle.ferry_carry.proofs.PutsLemmas.{bytes_append, count_append}
+use Rattle.ferry_piece.proofs.PutsLemmas.{bytes_append, count_append}
 use Rattle.ferry_carry.proofs.ThereLemmas.{Extends, tells_behind}
 use Rattle.ferry_carry.specs.Counting.{CountsMore, CountsNames, CountsOf, TellsNew}
-use Rattle.ferry_carry.specs.Puts.{Addition, Content, Stream, put_bytes, put_count}
+use Rattle.ferry_piece.specs.Puts.{Addition, Content, Stream, put_bytes, put_count}
 use Rattle.ferry_carry.specs.declared.options.Carried.{Carried}
 
 counts_up : (new : Bool) (copied more others : ℕ) → copied ≡ (if new then suc more else more)

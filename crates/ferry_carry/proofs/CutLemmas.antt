@@ -10,9 +10,9 @@ use Rattle.ferry_repo.specs.Opening.{RepoState}
 use Rattle.ferry_repo.specs.Whole.{WholeArchive}
 use Rattle.ferry_carry.proofs.CarryLemmas.{entry_kept, entry_named}
 use Rattle.ferry_carry.specs.Carrying.{AreCut, IsCut, IsReadyToName, Origin, SaysIn}
-use Rattle.ferry_carry.specs.Gather.{IsAmong}
+use Rattle.ferry_piece.specs.Gather.{IsAmong}
 use Rattle.ferry_carry.specs.Grow.{IsNamedBy, KeepsNames}
-use Rattle.ferry_carry.specs.Puts.{Addition}
+use Rattle.ferry_piece.specs.Puts.{Addition}
 
 -- ---- IsAmong
 

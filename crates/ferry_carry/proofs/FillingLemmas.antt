@@ -21,19 +21,20 @@ use Rattle.ferry_repo.specs.declared.fault.RepoFault.{RepoFault}
 use Rattle.ferry_repo.proofs.WalkLawLemmas.{some_to_come}
 use Rattle.ferry_store.specs.declared.store.Store.{Store}
 use Rattle.ferry_carry.proofs.ListingLemmas.{items_taken}
-use Rattle.ferry_carry.proofs.PieceLemmas.{hand_fed}
+use Rattle.ferry_piece.proofs.PieceLemmas.{hand_fed}
 use Rattle.ferry_carry.proofs.RefusalLemmas.{IsAt, item_at}
 use Rattle.ferry_carry.specs.Carrying.{Origin, origin}
 use Rattle.ferry_carry.specs.Copying.{TakesItem, WritesContents}
-use Rattle.ferry_carry.specs.Fault.{IsOfSource}
+use Rattle.ferry_piece.specs.Fault.{IsOfSource}
 use Rattle.ferry_carry.specs.Filling.{FillsArchive, FillsChunks, FillsContent, FillsCopy, FillsNext, FillsOne, FillsStep, WhereHeard}
 use Rattle.ferry_carry.specs.Filling.{WhereSource}
 use Rattle.ferry_carry.specs.Progress.{CopiesSoFar, IsCopiedSoFar}
-use Rattle.ferry_carry.specs.Puts.{Addition, AreOf, Content, contents_in}
-use Rattle.ferry_carry.specs.Refusals.{RefusesNext, RefusesWriting, is_target}
+use Rattle.ferry_piece.specs.Puts.{Addition, AreOf, Content, contents_in}
+use Rattle.ferry_carry.specs.Refusals.{RefusesNext, RefusesWriting}
+use Rattle.ferry_piece.specs.Stops.{is_target}
 use Rattle.ferry_carry.specs.declared.copy.Copy.{Copy}
-use Rattle.ferry_carry.specs.declared.fault.CarryFault.{CarryFault}
-use Rattle.ferry_carry.specs.declared.fault.CarryFault.TheVariants.{Source, Target, Taken, NotFound, Pieces, Memory, Record}
+use Rattle.ferry_piece.specs.declared.fault.CarryFault.{CarryFault}
+use Rattle.ferry_piece.specs.declared.fault.CarryFault.TheVariants.{Source, Target, Taken, NotFound, Pieces, Memory, Record}
 
 -- ---- faults
 

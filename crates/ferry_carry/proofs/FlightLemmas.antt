@@ -41,22 +41,22 @@ use Rattle.ferry_store.specs.declared.fault.StoreRefusal.TheVariants as Stores
 use Rattle.ferry_store.specs.declared.store.Store.{Store}
 use Rattle.ferry_write.specs.Room.{behind}
 use Rattle.ferry_write.specs.Script.{AllDone}
-use Rattle.ferry_carry.proofs.AddingLemmas.{gathers_all, stops_unbroken}
+use Rattle.ferry_piece.proofs.AddingLemmas.{gathers_all, stops_unbroken}
 use Rattle.ferry_carry.proofs.CarryLemmas.{same_over}
 use Rattle.ferry_carry.proofs.CutLemmas.{cut_same}
-use Rattle.ferry_carry.proofs.GatherLemmas.{moved_here, stands_here}
+use Rattle.ferry_piece.proofs.GatherLemmas.{moved_here, stands_here}
 use Rattle.ferry_carry.proofs.GrowLemmas.{growing_by, has_kept, most_from}
-use Rattle.ferry_carry.proofs.PutsLemmas.{adds_here, goes_same}
-use Rattle.ferry_carry.specs.Adding.{AddsOn, HoldsAll, IsNoChunk}
-use Rattle.ferry_carry.specs.Fault.{compare_fault, target_failed}
+use Rattle.ferry_piece.proofs.PutsLemmas.{adds_here, goes_same}
+use Rattle.ferry_piece.specs.Adding.{AddsOn, HoldsAll, IsNoChunk}
+use Rattle.ferry_piece.specs.Fault.{compare_fault, target_failed}
 use Rattle.ferry_carry.specs.Carrying.{IsCarried, Origin, SaysIn, origin}
 use Rattle.ferry_carry.specs.Flight.{IsCommitted, IsSame, IsSettled, ReadsStore}
-use Rattle.ferry_carry.proofs.WorkLemmas.{between_known}
-use Rattle.ferry_carry.specs.Gather.{Gathered, Gathers, GathersAt, HoldsWithin, KeepsRest, KeepsStanding, KeepsStandingAt}
+use Rattle.ferry_piece.proofs.WorkLemmas.{between_known}
+use Rattle.ferry_piece.specs.Gather.{Gathered, Gathers, GathersAt, HoldsWithin, KeepsRest, KeepsStanding, KeepsStandingAt}
 use Rattle.ferry_carry.specs.Grow.{AcceptsMore, Grows, KeepsGrowing, KeepsNames}
-use Rattle.ferry_carry.specs.Puts.{Addition, AtBegin, Within, border_behind}
-use Rattle.ferry_carry.specs.Work.{Works}
-use Rattle.ferry_carry.specs.declared.fault.CarryFault.TheVariants.{Target}
+use Rattle.ferry_piece.specs.Puts.{Addition, AtBegin, Within, border_behind}
+use Rattle.ferry_piece.specs.Work.{Works}
+use Rattle.ferry_piece.specs.declared.fault.CarryFault.TheVariants.{Target}
 
 -- ---- faults of a comparison
 

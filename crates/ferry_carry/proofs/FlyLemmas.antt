@@ -17,36 +17,37 @@ use Rattle.ferry_repo.specs.Opening.{FitsRepo, RepoState, repo_view}
 use Rattle.ferry_repo.specs.declared.fault.RepoFault.{RepoFault}
 use Rattle.ferry_store.specs.Commit.{accepted_in}
 use Rattle.ferry_store.specs.declared.store.Store.{Store}
-use Rattle.ferry_carry.proofs.AddingLemmas.{held_gathered, stops_then, stops_unbroken}
+use Rattle.ferry_piece.proofs.AddingLemmas.{held_gathered, stops_then, stops_unbroken}
 use Rattle.ferry_carry.proofs.FlightLemmas.{same_carried}
-use Rattle.ferry_carry.proofs.GatherLemmas.{checkpoint_gathers, checkpoint_stands, moved_here, sound_moments, standing_wider, stands_at, stands_here}
-use Rattle.ferry_carry.proofs.GatherLemmas.{stands_then}
+use Rattle.ferry_piece.proofs.GatherLemmas.{checkpoint_gathers, checkpoint_stands, moved_here, sound_moments, standing_wider, stands_at, stands_here}
+use Rattle.ferry_piece.proofs.GatherLemmas.{stands_then}
 use Rattle.ferry_carry.proofs.ListingLemmas.{copied_begun}
 use Rattle.ferry_carry.proofs.ThereLemmas.{tells_named}
 use Rattle.ferry_carry.proofs.StandLemmas.{growing_behind, stands_behind}
-use Rattle.ferry_carry.proofs.WorkLemmas.{carried_by_then, carried_from, carried_from_err, carried_gathered_err, carried_none, err_is}
-use Rattle.ferry_carry.proofs.WorkLemmas.{works_as, works_front, works_none}
+use Rattle.ferry_carry.proofs.WorkLemmas.{carried_by_then, carried_from, carried_from_err, carried_gathered_err, carried_none}
+use Rattle.ferry_piece.proofs.WorkLemmas.{err_is}
+use Rattle.ferry_piece.proofs.WorkLemmas.{works_as, works_front, works_none}
 use Rattle.ferry_carry.proofs.GrowLemmas.{growing_here}
 use Rattle.ferry_carry.proofs.HeldLemmas.{grows_all, heard_apart, heard_back, heard_each, heard_map, held_apart, held_then, holds_within}
 use Rattle.ferry_carry.proofs.HeldLemmas.{known_back}
-use Rattle.ferry_carry.proofs.PutsLemmas.{adds_at, adds_here, allows_within, border_append, front_all, goes_at, goes_same}
-use Rattle.ferry_carry.specs.Adding.{AddsOn, HoldsAll, HoldsRefused, IsNoChunk, StopsLast}
+use Rattle.ferry_piece.proofs.PutsLemmas.{adds_at, adds_here, allows_within, border_append, front_all, goes_at, goes_same}
+use Rattle.ferry_piece.specs.Adding.{AddsOn, HoldsAll, HoldsRefused, IsNoChunk, StopsLast}
 use Rattle.ferry_carry.specs.Carrying.{Origin, origin}
 use Rattle.ferry_carry.specs.Counting.{CountsOf, nothing_carried}
 use Rattle.ferry_carry.specs.Flight.{BeginsDone, Flies, FlightFits, IsSame, ListsDone, TakesAll, TakesTurn, TurnLists, TurnStands, WorkFits}
 use Rattle.ferry_carry.specs.Flight.{carried_by, flown_from}
-use Rattle.ferry_carry.specs.Gather.{Gathers, GathersAt, KeepsRest, KeepsStanding, KeepsStandingAt, StandsFrom}
+use Rattle.ferry_piece.specs.Gather.{Gathers, GathersAt, KeepsRest, KeepsStanding, KeepsStandingAt, StandsFrom}
 use Rattle.ferry_carry.specs.Grow.{AcceptsMore, Grows, KeepsGrowing}
-use Rattle.ferry_carry.specs.Fault.{IsOfSource, IsOfWork, target_failed}
+use Rattle.ferry_piece.specs.Fault.{IsOfSource, IsOfWork, target_failed}
 use Rattle.ferry_carry.specs.Filling.{FillsFlight, FillsName, FillsOne, WhereHeard}
 use Rattle.ferry_carry.specs.Listing.{BeginsName, BeginsOne, ListsOne}
 use Rattle.ferry_carry.specs.Progress.{CopiesOn, IsCopiedSoFar}
-use Rattle.ferry_carry.specs.Puts.{Addition, AtBegin, Border, Within, border_behind, put_bytes, put_count}
+use Rattle.ferry_piece.specs.Puts.{Addition, AtBegin, Border, Within, border_behind, put_bytes, put_count}
 use Rattle.ferry_carry.specs.Refusals.{RefusesBegin, RefusesEnd}
-use Rattle.ferry_carry.specs.Work.{Works}
+use Rattle.ferry_piece.specs.Work.{Works}
 use Rattle.ferry_carry.specs.declared.copy.Copy.{Copy}
-use Rattle.ferry_carry.specs.declared.fault.CarryFault.TheVariants.{Source, Target, Taken, NotFound, Pieces, Memory, Record}
-use Rattle.ferry_carry.specs.declared.fault.CarryFault.{CarryFault}
+use Rattle.ferry_piece.specs.declared.fault.CarryFault.TheVariants.{Source, Target, Taken, NotFound, Pieces, Memory, Record}
+use Rattle.ferry_piece.specs.declared.fault.CarryFault.{CarryFault}
 use Rattle.ferry_carry.specs.declared.flight.Flight.{Flight}
 use Rattle.ferry_carry.specs.declared.flight.Turn.{Turn}
 use Rattle.ferry_carry.specs.declared.flight.Turn.TheVariants.{More, Named, Present}

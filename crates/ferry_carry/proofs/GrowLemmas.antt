@@ -31,16 +31,16 @@ use Rattle.ferry_store.specs.declared.store.Store.{Store}
 use Rattle.ferry_write.specs.Script.{AllDone}
 use Rattle.ferry_carry.proofs.CarryLemmas.{all_carried, apart_behind, apart_parts, named_carried}
 use Rattle.ferry_carry.proofs.CutLemmas.{cut_none, cut_one, cut_then}
-use Rattle.ferry_carry.proofs.GatherLemmas.{gathers_at, keeps_at, opening_same, opening_then, sound_moments, standing_from, stands_still}
-use Rattle.ferry_carry.proofs.PutsLemmas.{Allows, adds_at, adds_here, adds_manifest, adds_then, allows_settled, border_append, first_all, front_all}
-use Rattle.ferry_carry.proofs.PutsLemmas.{front_of, goes_at, goes_same, goes_then, goes_wider, none_of}
-use Rattle.ferry_carry.proofs.WholeLemmas.{all_both, among_behind, among_front, each_to}
-use Rattle.ferry_carry.specs.Gather.{BringsOpening, Gathers, GathersAt, IsAmong, KeepsRest, KeepsStanding, KeepsStandingAt, StandsFrom}
+use Rattle.ferry_piece.proofs.GatherLemmas.{gathers_at, keeps_at, opening_same, opening_then, sound_moments, standing_from, stands_still}
+use Rattle.ferry_piece.proofs.PutsLemmas.{Allows, adds_at, adds_here, adds_manifest, adds_then, allows_settled, border_append, first_all, front_all}
+use Rattle.ferry_piece.proofs.PutsLemmas.{front_of, goes_at, goes_same, goes_then, goes_wider, none_of}
+use Rattle.ferry_piece.proofs.AmongLemmas.{all_both, among_behind, among_front, each_to}
+use Rattle.ferry_piece.specs.Gather.{BringsOpening, Gathers, GathersAt, IsAmong, KeepsRest, KeepsStanding, KeepsStandingAt, StandsFrom}
 use Rattle.ferry_carry.specs.Grow.{AcceptsMore, Grows, GrowsBy, IsNamedBy, KeepsChunks, KeepsGrowing, KeepsGrowingBy, KeepsMost, KeepsNames}
 use Rattle.ferry_carry.specs.Grow.{StandsOn}
 use Rattle.ferry_carry.specs.Carrying.{AreCut, IsApart, IsCarried, IsReadyToName, Origin}
 use Rattle.ferry_carry.specs.Flight.{AcceptsOne}
-use Rattle.ferry_carry.specs.Puts.{Addition, AddsAll, AtBegin, AtEnd, Border, GoesOn, IsFront, border_behind}
+use Rattle.ferry_piece.specs.Puts.{Addition, AddsAll, AtBegin, AtEnd, Border, GoesOn, IsFront, border_behind}
 
 -- ---- names and chunks
 

@@ -11,17 +11,17 @@ use Rattle.ferry_repo.specs.declared.fault.RepoFault.{RepoFault}
 use Rattle.ferry_store.specs.Standing.{entries_of}
 use Rattle.ferry_store.specs.Store.{StoreFits}
 use Rattle.ferry_store.specs.declared.store.Store.{Store}
-use Rattle.ferry_carry.proofs.AddingLemmas.{target_apart}
-use Rattle.ferry_carry.proofs.PutsLemmas.{Allows, adds_at, adds_here, adds_then, allows_within}
-use Rattle.ferry_carry.specs.Adding.{HoldsAll, HoldsRefused}
+use Rattle.ferry_piece.proofs.AddingLemmas.{target_apart}
+use Rattle.ferry_piece.proofs.PutsLemmas.{Allows, adds_at, adds_here, adds_then, allows_within}
+use Rattle.ferry_piece.specs.Adding.{HoldsAll, HoldsRefused}
 use Rattle.ferry_carry.specs.Carrying.{Origin}
-use Rattle.ferry_carry.specs.Fault.{IsOfSource}
+use Rattle.ferry_piece.specs.Fault.{IsOfSource}
 use Rattle.ferry_carry.specs.Filling.{WhereHeard}
 use Rattle.ferry_carry.specs.Grow.{GrowsBy}
-use Rattle.ferry_carry.specs.Puts.{Addition, AddsAll, AtBegin, Border, Within, border_behind}
-use Rattle.ferry_carry.specs.Refusals.{is_target}
-use Rattle.ferry_carry.specs.declared.fault.CarryFault.{CarryFault}
-use Rattle.ferry_carry.specs.declared.fault.CarryFault.TheVariants as Carry
+use Rattle.ferry_piece.specs.Puts.{Addition, AddsAll, AtBegin, Border, Within, border_behind}
+use Rattle.ferry_piece.specs.Stops.{is_target}
+use Rattle.ferry_piece.specs.declared.fault.CarryFault.{CarryFault}
+use Rattle.ferry_piece.specs.declared.fault.CarryFault.TheVariants as Carry
 
 -- ---- faults that are none of the source
 

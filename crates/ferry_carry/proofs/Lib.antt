@@ -1,11 +1,6 @@
-pub mod PutsLemmas
-pub mod GatherLemmas
-pub mod AddingLemmas
 pub mod WorkLemmas
-pub mod FaultLemmas
 pub mod WholeLemmas
 pub mod SourceLemmas
-pub mod PieceLemmas
 pub mod CopyLemmas
 pub mod FillingLemmas
 pub mod GrowLemmas

@@ -7,7 +7,7 @@ use Rattle.ferry_stops.specs.Tells.{lines_of}
 use Rattle.ferry_carry.proofs.ThereLemmas.{Extends, tells_behind}
 use Rattle.ferry_carry.specs.Counting.{TellsNew}
 use Rattle.ferry_carry.specs.Lines.{name_line, told_of, total_line}
-use Rattle.ferry_carry.specs.Puts.{Addition}
+use Rattle.ferry_piece.specs.Puts.{Addition}
 use Rattle.ferry_carry.specs.Telling.{AreLines, IsReport, TellsWhole}
 use Rattle.ferry_carry.specs.declared.options.Carried.{Carried}
 

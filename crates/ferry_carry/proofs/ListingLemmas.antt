@@ -30,9 +30,9 @@ use Rattle.ferry_carry.specs.Carrying.{Origin, origin}
 use Rattle.ferry_carry.specs.Copied.{copied_item, pieces_of, stream_block}
 use Rattle.ferry_carry.specs.Copying.{BeginsContent, CopiesContent, IsReady}
 use Rattle.ferry_carry.specs.Listing.{BeginsArchive, BeginsNext, BeginsOne, FillsOn, ListsContents, ListsItems, TakesItems}
-use Rattle.ferry_carry.specs.Piece.{AreFullOf, WritesOn}
+use Rattle.ferry_piece.specs.Piece.{AreFullOf, WritesOn}
 use Rattle.ferry_carry.specs.Progress.{CopiesAll, CopiesSoFar, IsCopiedSoFar}
-use Rattle.ferry_carry.specs.Puts.{Addition, AreOf, ArePieces, Content, Kind, Stream, contents_in, put_bytes, put_count, same_kind}
+use Rattle.ferry_piece.specs.Puts.{Addition, AreOf, ArePieces, Content, Kind, Stream, contents_in, put_bytes, put_count, same_kind}
 use Rattle.ferry_carry.specs.Step.{BeginsMore, SpellsOn, StepsOn}
 use Rattle.ferry_carry.specs.declared.copy.Copy.{Copy}
 

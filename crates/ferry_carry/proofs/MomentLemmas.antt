@@ -16,10 +16,10 @@ use Rattle.ferry_store.specs.State.{IsSound, IsStep, ShowsStanding, Written}
 use Rattle.ferry_store.specs.Store.{StoreFits}
 use Rattle.ferry_store.specs.declared.store.Store.{Store}
 use Rattle.ferry_write.specs.Script.{AllDone}
-use Rattle.ferry_carry.proofs.GatherLemmas.{rest_here, sound_map, standing_from}
+use Rattle.ferry_piece.proofs.GatherLemmas.{rest_here, sound_map, standing_from}
 use Rattle.ferry_carry.proofs.GrowLemmas.{Follows, follows_allows, growing_here, growing_longer, grows_from, grows_then, on_from, on_then, on_wider}
 use Rattle.ferry_carry.proofs.GrowLemmas.{stands_on_at}
-use Rattle.ferry_carry.proofs.PutsLemmas.{front_of}
+use Rattle.ferry_piece.proofs.PutsLemmas.{front_of}
 use Rattle.ferry_carry.proofs.TellLemmas.{told_gathers, told_stands}
 use Rattle.ferry_carry.proofs.ThereLemmas.{Extends, extends_by}
 use Rattle.ferry_carry.proofs.LinesLemmas.{lines_then, report_none, report_then, report_one, report_whole}
@@ -27,10 +27,10 @@ use Rattle.ferry_carry.specs.Carrying.{Origin}
 use Rattle.ferry_carry.specs.Chosen.{TellsLine}
 use Rattle.ferry_carry.specs.Counting.{IsTotalOf, TellsNew}
 use Rattle.ferry_carry.specs.Flight.{IsSettled}
-use Rattle.ferry_carry.specs.Gather.{StandsFrom}
+use Rattle.ferry_piece.specs.Gather.{StandsFrom}
 use Rattle.ferry_carry.specs.Grow.{AcceptsMore, Grows, KeepsGrowing, StandsOn}
 use Rattle.ferry_carry.specs.Lines.{name_line, told_of, total_line}
-use Rattle.ferry_carry.specs.Puts.{Addition, AtBegin, Border, IsFront, border_behind}
+use Rattle.ferry_piece.specs.Puts.{Addition, AtBegin, Border, IsFront, border_behind}
 use Rattle.ferry_carry.specs.Telling.{CarriesNames, IsReport, IsReported, KeepsReported, ShowsReport, TellsNames, TellsWhole}
 use Rattle.ferry_carry.specs.declared.options.Carried.{Carried}
 

@@ -15,13 +15,13 @@ use Rattle.ferry_carry.proofs.HeldLemmas.{heard_apart, heard_map, heard_to}
 use Rattle.ferry_carry.proofs.ThereLemmas.{Extends, there_behind, there_or_not}
 use Rattle.ferry_carry.specs.Carrying.{Origin}
 use Rattle.ferry_carry.specs.Counting.{TellsNew}
-use Rattle.ferry_carry.specs.Fault.{IsOfSource}
+use Rattle.ferry_piece.specs.Fault.{IsOfSource}
 use Rattle.ferry_carry.specs.Filling.{FillsAll, FillsFlight, FillsName, FillsNames}
 use Rattle.ferry_carry.specs.Flight.{BeginsDone, ListsDone}
 use Rattle.ferry_carry.specs.Listing.{BeginsName, BeginsNames, IsThere, ListsName, ListsNames, ListsOne}
-use Rattle.ferry_carry.specs.Puts.{Addition}
+use Rattle.ferry_piece.specs.Puts.{Addition}
 use Rattle.ferry_carry.specs.Telling.{BeginsAll, CarriesNames, TellsNames}
-use Rattle.ferry_carry.specs.declared.fault.CarryFault.{CarryFault}
+use Rattle.ferry_piece.specs.declared.fault.CarryFault.{CarryFault}
 
 -- ---- a name, and those behind it
 

@@ -32,32 +32,34 @@ use Rattle.ferry_store.specs.declared.fault.StoreRefusal.{StoreRefusal}
 use Rattle.ferry_store.specs.declared.fault.StoreRefusal.TheVariants as Stores
 use Rattle.ferry_store.specs.declared.store.Store.{Store}
 use Rattle.ferry_write.specs.Script.{AllDone}
-use Rattle.ferry_carry.proofs.FaultLemmas.{failed_target}
+use Rattle.ferry_piece.proofs.FaultLemmas.{failed_target}
 use Rattle.ferry_carry.proofs.GrowLemmas.{commit_growing, commit_grows, growing_accepted, grows_accepted}
 use Rattle.ferry_carry.proofs.ListingLemmas.{bytes_apart, count_apart, counts_then, items_ended}
 use Rattle.ferry_carry.proofs.ProgressLemmas.{any_told, stream_ids}
-use Rattle.ferry_carry.proofs.PutsLemmas.{border_record, bytes_append, count_append}
-use Rattle.ferry_carry.proofs.WorkLemmas.{between_known, carried_nothing, works_as, works_front}
+use Rattle.ferry_piece.proofs.PutsLemmas.{border_record, bytes_append, count_append}
+use Rattle.ferry_carry.proofs.WorkLemmas.{carried_nothing}
+use Rattle.ferry_piece.proofs.WorkLemmas.{between_known, works_as, works_front}
 use Rattle.ferry_carry.specs.Carrying.{IsReadyToName, Origin}
-use Rattle.ferry_carry.specs.Fault.{target_failed, target_fault}
+use Rattle.ferry_piece.specs.Fault.{target_failed, target_fault}
 use Rattle.ferry_carry.specs.Copied.{IsCopyOf}
 use Rattle.ferry_carry.specs.Copying.{IsReady}
 use Rattle.ferry_carry.specs.Flight.{AcceptsOne, ListsDone, NamesArchive}
 use Rattle.ferry_carry.specs.Counting.{CountsOf}
-use Rattle.ferry_carry.specs.Gather.{KeepsRest, chunks_of}
+use Rattle.ferry_piece.specs.Gather.{KeepsRest, chunks_of}
 use Rattle.ferry_carry.specs.Grow.{AcceptsMore, GrowsBy, KeepsGrowingBy, KeepsMost, KeepsNames}
 use Rattle.ferry_carry.specs.Listing.{BeginsOne, ListsArchive, ListsContents}
 use Rattle.ferry_carry.specs.Naming.{AddsRecord, AddsUnder, BeginsRecord, copied_in, entry_for}
-use Rattle.ferry_carry.specs.Piece.{CountsOn}
+use Rattle.ferry_piece.specs.Piece.{CountsOn}
 use Rattle.ferry_carry.specs.Progress.{CopiesAll, IsAllCopied, IsCopyFrom, WritesItems}
-use Rattle.ferry_carry.specs.Puts.{Addition, AreOf, ArePieces, AtBegin, AtEnd, Content, Kind, Record, Stream, addition, border_behind, put_bytes, put_count}
-use Rattle.ferry_carry.specs.Refusals.{IsLimited, LimitsManifest, RefusesBegin, StopsPieces, named_next}
+use Rattle.ferry_piece.specs.Puts.{Addition, AreOf, ArePieces, AtBegin, AtEnd, Content, Kind, Record, Stream, addition, border_behind, put_bytes, put_count}
+use Rattle.ferry_carry.specs.Refusals.{IsLimited, LimitsManifest, RefusesBegin, named_next}
+use Rattle.ferry_piece.specs.Stops.{StopsPieces}
 use Rattle.ferry_carry.specs.Time.{time_for}
 use Rattle.ferry_carry.specs.declared.copy.Copy.{Copy}
-use Rattle.ferry_carry.specs.declared.fault.CarryFault.{CarryFault}
-use Rattle.ferry_carry.specs.declared.fault.CarryFault.TheVariants as Carry
+use Rattle.ferry_piece.specs.declared.fault.CarryFault.{CarryFault}
+use Rattle.ferry_piece.specs.declared.fault.CarryFault.TheVariants as Carry
 use Rattle.ferry_carry.specs.declared.options.Carried.{Carried}
-use Rattle.ferry_carry.specs.declared.piece.PieceWriter.{PieceWriter}
+use Rattle.ferry_piece.specs.declared.piece.PieceWriter.{PieceWriter}
 
 -- ---- the record
 

@@ -31,27 +31,27 @@ use Rattle.ferry_store.specs.Standing.{Keeps, entries_of}
 use Rattle.ferry_store.specs.Store.{StoreFits}
 use Rattle.ferry_store.specs.declared.store.Store.{Store}
 use Rattle.ferry_write.proofs.StandLemmas.{all-append}
-use Rattle.ferry_carry.proofs.GatherLemmas.{chunk_on}
+use Rattle.ferry_piece.proofs.GatherLemmas.{chunk_on}
 use Rattle.ferry_carry.proofs.HealedLemmas.{taken_whole}
 use Rattle.ferry_carry.proofs.ListingLemmas.{counts_then, fills_on, item_taken, lists_then}
-use Rattle.ferry_carry.proofs.PutsLemmas.{bytes_append, contents_append, count_append}
+use Rattle.ferry_piece.proofs.PutsLemmas.{bytes_append, contents_append, count_append}
 use Rattle.ferry_carry.proofs.SourceLemmas.{leads_end, leads_then, source_whole, wholes_more}
-use Rattle.ferry_carry.proofs.WholeLemmas.{all_both, all_front, each_to}
-use Rattle.ferry_carry.proofs.WorkLemmas.{works_known}
+use Rattle.ferry_piece.proofs.AmongLemmas.{all_both, all_front, each_to}
+use Rattle.ferry_piece.proofs.WorkLemmas.{works_known}
 use Rattle.ferry_carry.specs.Carrying.{CanBeNamed, HoldsApart, IsReadyToName, Origin, SaysIn, origin}
 use Rattle.ferry_carry.specs.Copied.{IsCopyOf, IsRead, adds_of, contents_of, copied_item, copied_stream, pieces_of, stream_block, stream_pieces}
 use Rattle.ferry_carry.specs.Copying.{IsReady}
-use Rattle.ferry_carry.specs.Gather.{Gathered, Gathers, HoldsContents, HoldsWithin, IsAmong, KeepsRest, KeepsStanding, NoCollision, chunk_of, chunks_of}
+use Rattle.ferry_piece.specs.Gather.{Gathered, Gathers, HoldsContents, HoldsWithin, IsAmong, KeepsRest, KeepsStanding, NoCollision, chunk_of, chunks_of}
 use Rattle.ferry_carry.specs.Listing.{ListsItems}
 use Rattle.ferry_carry.specs.Naming.{AddsUnder, copied_in, entry_for}
-use Rattle.ferry_carry.specs.Piece.{WritesOn}
+use Rattle.ferry_piece.specs.Piece.{WritesOn}
 use Rattle.ferry_carry.specs.Progress.{CopiesAll, CopiesSoFar, IsAllCopied, IsCopiedSoFar, IsCopyFrom, WritesItems}
-use Rattle.ferry_carry.specs.Puts.{Addition, AreOf, ArePieces, Content, Kind, Stream, Within, contents_in, put_bytes, put_count}
+use Rattle.ferry_piece.specs.Puts.{Addition, AreOf, ArePieces, Content, Kind, Stream, Within, contents_in, put_bytes, put_count}
 use Rattle.ferry_carry.specs.Step.{CopiesItem, CountsStep, EndsItems}
-use Rattle.ferry_carry.specs.Work.{Works}
+use Rattle.ferry_piece.specs.Work.{Works}
 use Rattle.ferry_carry.specs.declared.copy.Copy.{Copy}
-use Rattle.ferry_carry.specs.declared.fault.CarryFault.{CarryFault}
-use Rattle.ferry_carry.specs.declared.piece.PieceWriter.{PieceWriter}
+use Rattle.ferry_piece.specs.declared.fault.CarryFault.{CarryFault}
+use Rattle.ferry_piece.specs.declared.piece.PieceWriter.{PieceWriter}
 
 -- ---- the stream and the contents of one item more
 

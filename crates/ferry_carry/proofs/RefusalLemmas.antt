@@ -21,15 +21,15 @@ use Rattle.ferry_repo.specs.Whole.{ContentsCome, RefusesJoined, RefusesWhole}
 use Rattle.ferry_store.specs.declared.store.Store.{Store}
 use Rattle.ferry_carry.proofs.ProgressLemmas.{any_told}
 use Rattle.ferry_carry.proofs.SourceLemmas.{leads_come, leads_then, refuses_content_here, refuses_copy}
-use Rattle.ferry_carry.specs.Adding.{IsNoChunk}
+use Rattle.ferry_piece.specs.Adding.{IsNoChunk}
 use Rattle.ferry_carry.specs.Carrying.{Origin, origin}
 use Rattle.ferry_carry.specs.Copying.{TakesItem}
 use Rattle.ferry_carry.specs.Progress.{CopiesSoFar, IsCopiedSoFar}
-use Rattle.ferry_carry.specs.Puts.{Addition}
+use Rattle.ferry_piece.specs.Puts.{Addition}
 use Rattle.ferry_carry.specs.Refusals.{HasLongItem, IsTooLong, RefusesContents, RefusesCopying, RefusesNext, RefusesStep, RefusesWriting, WhereTold}
 use Rattle.ferry_carry.specs.declared.copy.Copy.{Copy}
-use Rattle.ferry_carry.specs.declared.fault.CarryFault.{CarryFault}
-use Rattle.ferry_carry.specs.declared.fault.CarryFault.TheVariants.{Source, Target, Taken, NotFound, Pieces, Memory, Record}
+use Rattle.ferry_piece.specs.declared.fault.CarryFault.{CarryFault}
+use Rattle.ferry_piece.specs.declared.fault.CarryFault.TheVariants.{Source, Target, Taken, NotFound, Pieces, Memory, Record}
 
 -- ---- the contents of an item
 

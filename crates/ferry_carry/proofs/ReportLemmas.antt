@@ -15,11 +15,11 @@ use Rattle.ferry_store.specs.Store.{StoreFits}
 use Rattle.ferry_store.specs.declared.fault.StoreRefusal.TheVariants as Stores
 use Rattle.ferry_store.specs.declared.store.Store.{Store}
 use Rattle.ferry_write.specs.Script.{AllDone}
-use Rattle.ferry_carry.proofs.AddingLemmas.{stops_then, stops_unbroken}
+use Rattle.ferry_piece.proofs.AddingLemmas.{stops_then, stops_unbroken}
 use Rattle.ferry_carry.proofs.GrowLemmas.{Follows, follows_allows, grows_follows, grows_here, grows_then}
-use Rattle.ferry_carry.proofs.PutsLemmas.{front_all}
+use Rattle.ferry_piece.proofs.PutsLemmas.{front_all}
 use Rattle.ferry_carry.proofs.HeldLemmas.{grows_all, heard_apart, held_apart, held_at, held_then}
-use Rattle.ferry_carry.proofs.WorkLemmas.{works_as, works_both, works_from, works_front, works_none, works_nothing, works_then}
+use Rattle.ferry_piece.proofs.WorkLemmas.{works_as, works_both, works_from, works_front, works_none, works_nothing, works_then}
 use Rattle.ferry_carry.proofs.ThereLemmas.{Extends, extends_next}
 use Rattle.ferry_carry.proofs.NamesLemmas.{lists_then, all_nothing, all_one, all_wider, all_then, filled_apart, filled_one, filled_wider, filled_then}
 use Rattle.ferry_carry.proofs.NamesLemmas.{ListedAs, listed_as, lists_one}
@@ -27,22 +27,22 @@ use Rattle.ferry_carry.proofs.CountingLemmas.{counts_then, counts_none}
 use Rattle.ferry_carry.proofs.MomentLemmas.{reported_growing, reported_here, names_here, reported_wider, reported_then, names_then, reported_name, told_name}
 use Rattle.ferry_carry.proofs.MomentLemmas.{grows_told, carries_told, reported_whole, told_whole}
 use Rattle.ferry_carry.specs.Accepting.{AreNextOf}
-use Rattle.ferry_carry.specs.Adding.{HoldsAll, IsNoChunk, StopsLast}
+use Rattle.ferry_piece.specs.Adding.{HoldsAll, IsNoChunk, StopsLast}
 use Rattle.ferry_carry.specs.Carrying.{Origin}
 use Rattle.ferry_carry.specs.Chosen.{TellsLine}
 use Rattle.ferry_carry.specs.Counting.{CountsMore, TellsNew, nothing_carried}
-use Rattle.ferry_carry.specs.Fault.{IsOfSource, target_failed}
+use Rattle.ferry_piece.specs.Fault.{IsOfSource, target_failed}
 use Rattle.ferry_carry.specs.Filling.{FillsAll, FillsNames}
 use Rattle.ferry_carry.specs.Flight.{BeginsDone, Carries, IsSettled, ListsDone, TakesAll}
 use Rattle.ferry_carry.specs.Grow.{AcceptsMore, Grows, KeepsGrowing}
 use Rattle.ferry_carry.specs.Lines.{name_line, told_of, total_line}
 use Rattle.ferry_carry.specs.Listing.{ListsNames}
-use Rattle.ferry_carry.specs.Puts.{Addition, AtBegin, border_behind}
+use Rattle.ferry_piece.specs.Puts.{Addition, AtBegin, border_behind}
 use Rattle.ferry_carry.specs.Refusals.{is_of_telling}
 use Rattle.ferry_carry.specs.Telling.{CarriesNames, KeepsReported, Reports, ReportsWhole, TellsNames, TellsWhole}
-use Rattle.ferry_carry.specs.Work.{Works}
-use Rattle.ferry_carry.specs.declared.fault.CarryFault.{CarryFault}
-use Rattle.ferry_carry.specs.declared.fault.CarryFault.TheVariants as Carry
+use Rattle.ferry_piece.specs.Work.{Works}
+use Rattle.ferry_piece.specs.declared.fault.CarryFault.{CarryFault}
+use Rattle.ferry_piece.specs.declared.fault.CarryFault.TheVariants as Carry
 use Rattle.ferry_carry.specs.declared.flight.Flight.{Flight}
 use Rattle.ferry_carry.specs.declared.options.Carried.{Carried}
 

@@ -15,24 +15,24 @@ use Rattle.ferry_store.specs.declared.fault.StoreRefusal.TheVariants as Stores
 use Rattle.ferry_store.specs.declared.store.Store.{Store}
 use Rattle.ferry_write.specs.Script.{AllDone}
 use Rattle.ferry_write.specs.declared.fault.WriteFault.TheVariants as Writes
-use Rattle.ferry_carry.proofs.FaultLemmas.{failed_target}
-use Rattle.ferry_carry.proofs.GatherLemmas.{add_stands, each_then}
+use Rattle.ferry_piece.proofs.FaultLemmas.{failed_target}
+use Rattle.ferry_piece.proofs.GatherLemmas.{add_stands, each_then}
 use Rattle.ferry_carry.proofs.GrowLemmas.{Follows, growing_by, growing_here, growing_then, standing_accepted}
 use Rattle.ferry_carry.proofs.MomentLemmas.{names_here, reported_growing, reported_here, reported_then}
 use Rattle.ferry_carry.proofs.NamesLemmas.{all_nothing, all_then, all_wider}
 use Rattle.ferry_carry.proofs.ThereLemmas.{extends_next}
 use Rattle.ferry_carry.specs.Accepting.{AreNextOf}
 use Rattle.ferry_carry.specs.Carrying.{Origin}
-use Rattle.ferry_carry.specs.Fault.{IsOfWork, target_fault}
+use Rattle.ferry_piece.specs.Fault.{IsOfWork, target_fault}
 use Rattle.ferry_carry.specs.Flight.{IsSettled}
-use Rattle.ferry_carry.specs.Gather.{Gathers, KeepsStanding, KeepsStandingAt}
+use Rattle.ferry_piece.specs.Gather.{Gathers, KeepsStanding, KeepsStandingAt}
 use Rattle.ferry_carry.specs.Grow.{AcceptsMore, Grows, KeepsGrowing}
-use Rattle.ferry_carry.specs.Puts.{Addition, AtBegin, Within, border_behind}
+use Rattle.ferry_piece.specs.Puts.{Addition, AtBegin, Within, border_behind}
 use Rattle.ferry_carry.specs.Refusals.{is_of_telling}
 use Rattle.ferry_carry.specs.Telling.{BeginsAll, CarriesNames, KeepsReported, Reports, StopsBehind, StopsUnnamed, TellsNames}
-use Rattle.ferry_carry.specs.Work.{Works}
-use Rattle.ferry_carry.specs.declared.fault.CarryFault.{CarryFault}
-use Rattle.ferry_carry.specs.declared.fault.CarryFault.TheVariants as Carry
+use Rattle.ferry_piece.specs.Work.{Works}
+use Rattle.ferry_piece.specs.declared.fault.CarryFault.{CarryFault}
+use Rattle.ferry_piece.specs.declared.fault.CarryFault.TheVariants as Carry
 use Rattle.ferry_carry.specs.declared.options.Carried.{Carried}
 use Rattle.ferry_manifest.specs.Manifest.Text.{ManifestText}
 

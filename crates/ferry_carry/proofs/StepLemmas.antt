@@ -19,21 +19,21 @@ use Rattle.ferry_store.specs.declared.store.Store.{Store}
 use Rattle.ferry_carry.proofs.FillingLemmas.{copied_filled}
 use Rattle.ferry_carry.proofs.ListingLemmas.{bytes_apart, copied_begun, count_apart, step_begun}
 use Rattle.ferry_carry.proofs.ProgressLemmas.{steps_copied, steps_ended}
-use Rattle.ferry_carry.proofs.PutsLemmas.{bytes_append, count_append}
+use Rattle.ferry_piece.proofs.PutsLemmas.{bytes_append, count_append}
 use Rattle.ferry_carry.specs.Carrying.{origin}
 use Rattle.ferry_carry.specs.Copied.{IsRead}
 use Rattle.ferry_carry.specs.Copying.{BeginsContent, CopiesContent, IsReady, TakesItem, WritesItem}
-use Rattle.ferry_carry.specs.Adding.{AddsOn}
+use Rattle.ferry_piece.specs.Adding.{AddsOn}
 use Rattle.ferry_carry.specs.Filling.{FillsOne, FillsStep, WhereHeard}
-use Rattle.ferry_carry.specs.Gather.{KeepsRest}
+use Rattle.ferry_piece.specs.Gather.{KeepsRest}
 use Rattle.ferry_carry.specs.Listing.{BeginsOne}
-use Rattle.ferry_carry.specs.Piece.{BeginsOn, CountsOn}
+use Rattle.ferry_piece.specs.Piece.{BeginsOn, CountsOn}
 use Rattle.ferry_carry.specs.Progress.{CopiesOn, IsCopiedSoFar}
-use Rattle.ferry_carry.specs.Puts.{Addition, AreOf, Content, Kind, Stream, contents_in, put_bytes, put_count}
+use Rattle.ferry_piece.specs.Puts.{Addition, AreOf, Content, Kind, Stream, contents_in, put_bytes, put_count}
 use Rattle.ferry_carry.specs.Step.{BeginsMore, CopiesItem, CountsStep, StepsOn}
 use Rattle.ferry_carry.specs.declared.copy.Copy.{Copy}
-use Rattle.ferry_carry.specs.declared.fault.CarryFault.{CarryFault}
-use Rattle.ferry_carry.specs.declared.piece.PieceWriter.{PieceWriter}
+use Rattle.ferry_piece.specs.declared.fault.CarryFault.{CarryFault}
+use Rattle.ferry_piece.specs.declared.piece.PieceWriter.{PieceWriter}
 
 -- what was copied of a content by what a shelf told later was so by what it told first
 pub copies_first : (told later : Option Told) (source after : RepoState) (block : ℕ) (keys : Keys) (chunks copied : Option (List ChunkRef))

@@ -26,17 +26,17 @@ use Rattle.ferry_write.proofs.LawLemmas.{beside_blobs, beside_fits, beside_rows}
 use Rattle.ferry_write.proofs.PlainLemmas.{plain_next}
 use Rattle.ferry_write.specs.Script.{AllDone}
 use Rattle.ferry_write.specs.Session.{KeepsPlain, rests_at}
-use Rattle.ferry_carry.proofs.GatherLemmas.{moved_here}
-use Rattle.ferry_carry.proofs.PutsLemmas.{adds_here, goes_same}
-use Rattle.ferry_carry.proofs.WorkLemmas.{works_known, works_nothing}
-use Rattle.ferry_carry.specs.Adding.{IsNoChunk}
+use Rattle.ferry_piece.proofs.GatherLemmas.{moved_here}
+use Rattle.ferry_piece.proofs.PutsLemmas.{adds_here, goes_same}
+use Rattle.ferry_piece.proofs.WorkLemmas.{works_known, works_nothing}
+use Rattle.ferry_piece.specs.Adding.{IsNoChunk}
 use Rattle.ferry_carry.specs.Chosen.{TellsLine}
-use Rattle.ferry_carry.specs.Fault.{target_failed, target_fault}
-use Rattle.ferry_carry.specs.Gather.{Gathered, GathersAt, HoldsWithin}
-use Rattle.ferry_carry.specs.Puts.{Border}
-use Rattle.ferry_carry.specs.Work.{Works}
-use Rattle.ferry_carry.specs.declared.fault.CarryFault.{CarryFault}
-use Rattle.ferry_carry.specs.declared.fault.CarryFault.TheVariants.{NotFound, Memory}
+use Rattle.ferry_piece.specs.Fault.{target_failed, target_fault}
+use Rattle.ferry_piece.specs.Gather.{Gathered, GathersAt, HoldsWithin}
+use Rattle.ferry_piece.specs.Puts.{Border}
+use Rattle.ferry_piece.specs.Work.{Works}
+use Rattle.ferry_piece.specs.declared.fault.CarryFault.{CarryFault}
+use Rattle.ferry_piece.specs.declared.fault.CarryFault.TheVariants.{NotFound, Memory}
 
 -- ---- a line that is told, or isn't
 

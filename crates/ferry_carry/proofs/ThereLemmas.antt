@@ -17,11 +17,11 @@ use Rattle.ferry_carry.proofs.CauseLemmas.{not_there}
 use Rattle.ferry_carry.proofs.CutLemmas.{among_either, among_none, among_one}
 use Rattle.ferry_carry.proofs.FlightLemmas.{named_so}
 use Rattle.ferry_carry.proofs.GrowLemmas.{has_kept}
-use Rattle.ferry_carry.proofs.WholeLemmas.{among_all, among_behind, among_front}
+use Rattle.ferry_piece.proofs.AmongLemmas.{among_all, among_behind, among_front}
 use Rattle.ferry_carry.specs.Accepting.{AreNextOf, IsNextOf}
 use Rattle.ferry_carry.specs.Counting.{TellsNew}
 use Rattle.ferry_carry.specs.Flight.{IsSettled}
-use Rattle.ferry_carry.specs.Gather.{IsAmong}
+use Rattle.ferry_piece.specs.Gather.{IsAmong}
 use Rattle.ferry_carry.specs.Grow.{AcceptsMore, IsNamedBy, KeepsMost}
 use Rattle.ferry_carry.specs.Listing.{IsThere}
 use Rattle.ferry_carry.specs.Naming.{entry_for}

@@ -18,8 +18,8 @@ use Rattle.ferry_repo.specs.Whole.{IsWhole, WholeArchive}
 use Rattle.ferry_segment.specs.Entry.{LogEntry}
 use Rattle.ferry_store.specs.Standing.{live_in}
 use Rattle.ferry_carry.specs.Copied.{IsCopyOf, adds_of}
-use Rattle.ferry_carry.specs.Gather.{HoldsContents, HoldsWithin, IsAmong, NoCollision}
-use Rattle.ferry_carry.specs.Puts.{Addition, contents_in}
+use Rattle.ferry_piece.specs.Gather.{HoldsContents, HoldsWithin, IsAmong, NoCollision}
+use Rattle.ferry_piece.specs.Puts.{Addition, contents_in}
 
 -- ---- a source
 

@@ -10,7 +10,7 @@ use Rattle.ferry_manifest.specs.Record.Text.{ArchiveText, archive_of}
 use Rattle.ferry_msgpack.specs.Tree.{Tree}
 use Rattle.ferry_rechunk.specs.Cut.{cut}
 use Rattle.ferry_repo.specs.Whole.{WholeItem}
-use Rattle.ferry_carry.specs.Gather.{chunks_of}
+use Rattle.ferry_piece.specs.Gather.{chunks_of}
 
 -- the length of the pieces of an item stream
 abbrev pub stream_block : ℕ

@@ -16,9 +16,9 @@ use Rattle.ferry_repo.specs.Archives.{HoldsContent}
 use Rattle.ferry_repo.specs.Whole.{ContentsCome, HoldsJoined}
 use Rattle.std.specs.List.{concat}
 use Rattle.ferry_carry.specs.Copied.{stream_block}
-use Rattle.ferry_carry.specs.Gather.{chunks_of}
-use Rattle.ferry_carry.specs.Piece.{BeginsOn, WritesOn}
-use Rattle.ferry_carry.specs.Puts.{IsCheckpoint}
+use Rattle.ferry_piece.specs.Gather.{chunks_of}
+use Rattle.ferry_piece.specs.Piece.{BeginsOn, WritesOn}
+use Rattle.ferry_piece.specs.Puts.{IsCheckpoint}
 use Rattle.ferry_carry.specs.declared.copy.Copy.{Copy}
 
 -- No content is under way, and the block size, the checkpoint and the record are those of an archive that can be written.

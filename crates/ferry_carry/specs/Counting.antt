@@ -2,7 +2,7 @@
 use Rattle.std.specs.Prelude.{◌≡◌, ◌+◌, ◌-◌, ◌^◌, ◌++◌, ℕ, suc, Bool, true, false, if◌then◌else◌, List, [], ◌∷◌, min}
 use Rattle.ferry_manifest.specs.Manifest.Text.{ManifestText}
 use Rattle.ferry_carry.specs.Listing.{IsThere}
-use Rattle.ferry_carry.specs.Puts.{Addition, Content, Stream, put_bytes, put_count}
+use Rattle.ferry_piece.specs.Puts.{Addition, Content, Stream, put_bytes, put_count}
 use Rattle.ferry_carry.specs.declared.options.Carried.{Carried}
 
 abbrev pub nothing_carried : Carried

@@ -19,10 +19,10 @@ use Rattle.ferry_store.specs.Commit.{accepted_in}
 use Rattle.ferry_store.specs.declared.store.Store.{Store}
 use Rattle.ferry_carry.specs.Carrying.{Origin}
 use Rattle.ferry_carry.specs.Listing.{IsThere, ListsName, TakesItems}
-use Rattle.ferry_carry.specs.Puts.{Addition, AreOf, Content, contents_in}
+use Rattle.ferry_piece.specs.Puts.{Addition, AreOf, Content, contents_in}
 use Rattle.ferry_carry.specs.declared.copy.Copy.{Copy}
-use Rattle.ferry_carry.specs.declared.fault.CarryFault.{CarryFault}
-use Rattle.ferry_carry.specs.declared.fault.CarryFault.TheVariants.{Source}
+use Rattle.ferry_piece.specs.declared.fault.CarryFault.{CarryFault}
+use Rattle.ferry_piece.specs.declared.fault.CarryFault.TheVariants.{Source}
 
 -- What holds of a fault of the source's files, where files are told.
 abbrev pub WhereSource : Option Told → CarryFault → (Files → RepoFault → Type 0) → Type 0

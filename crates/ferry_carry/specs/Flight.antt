@@ -12,19 +12,19 @@ use Rattle.ferry_repo.specs.Walk.{FitsWalk, walk_view}
 use Rattle.ferry_repo.specs.Whole.{WholeArchive}
 use Rattle.ferry_store.specs.Commit.{accepted_in}
 use Rattle.ferry_store.specs.declared.store.Store.{Store}
-use Rattle.ferry_carry.specs.Adding.{HoldsRefused, StopsLast}
+use Rattle.ferry_piece.specs.Adding.{HoldsRefused, StopsLast}
 use Rattle.ferry_carry.specs.Carrying.{IsReadyToName, Origin, SaysIn, origin}
 use Rattle.ferry_carry.specs.Copying.{IsReady}
 use Rattle.ferry_carry.specs.Counting.{CountsOf, nothing_carried}
-use Rattle.ferry_carry.specs.Fault.{IsOfWork}
+use Rattle.ferry_piece.specs.Fault.{IsOfWork}
 use Rattle.ferry_carry.specs.Filling.{FillsFlight}
-use Rattle.ferry_carry.specs.Gather.{KeepsStanding, KeepsStandingAt}
+use Rattle.ferry_piece.specs.Gather.{KeepsStanding, KeepsStandingAt}
 use Rattle.ferry_carry.specs.Grow.{Grows, GrowsBy, IsNamedBy, KeepsGrowing, KeepsGrowingBy, KeepsNames}
 use Rattle.ferry_carry.specs.Listing.{BeginsName, BeginsOne, ListsOne}
 use Rattle.ferry_carry.specs.Progress.{IsCopiedSoFar}
-use Rattle.ferry_carry.specs.Puts.{Addition, AtBegin, AtEnd, Border, IsCheckpoint, border_behind}
-use Rattle.ferry_carry.specs.Work.{Works}
-use Rattle.ferry_carry.specs.declared.fault.CarryFault.{CarryFault}
+use Rattle.ferry_piece.specs.Puts.{Addition, AtBegin, AtEnd, Border, IsCheckpoint, border_behind}
+use Rattle.ferry_piece.specs.Work.{Works}
+use Rattle.ferry_piece.specs.declared.fault.CarryFault.{CarryFault}
 use Rattle.ferry_carry.specs.declared.flight.Flight.{Flight}
 use Rattle.ferry_carry.specs.declared.flight.Turn.{Turn}
 use Rattle.ferry_carry.specs.declared.flight.Turn.TheVariants.{More, Named, Present}

@@ -18,8 +18,8 @@ use Rattle.ferry_store.specs.State.{IsSound, Written}
 use Rattle.ferry_store.specs.Store.{StoreFits}
 use Rattle.ferry_store.specs.declared.store.Store.{Store}
 use Rattle.ferry_carry.specs.Carrying.{AreCut, IsCarried, Origin}
-use Rattle.ferry_carry.specs.Gather.{BringsOpening, IsAmong}
-use Rattle.ferry_carry.specs.Puts.{Addition, AddsAll, AtBegin, GoesOn, border_behind}
+use Rattle.ferry_piece.specs.Gather.{BringsOpening, IsAmong}
+use Rattle.ferry_piece.specs.Puts.{Addition, AddsAll, AtBegin, GoesOn, border_behind}
 
 -- Each chunk that is live by these entries is live by those, with the same blob.
 abbrev pub KeepsChunks : List LogEntry → List LogEntry → Type 0

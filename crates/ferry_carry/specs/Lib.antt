@@ -1,11 +1,5 @@
-pub mod Puts
-pub mod Gather
-pub mod Fault
-pub mod Work
-pub mod Adding
 pub mod Lines
 pub mod Time
-pub mod Piece
 pub mod Copied
 pub mod Grow
 pub mod Copying

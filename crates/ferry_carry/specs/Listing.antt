@@ -19,9 +19,9 @@ use Rattle.ferry_repo.specs.Whole.{ContentsCome, HoldsItem, WholeArchive, WholeI
 use Rattle.ferry_repo.specs.declared.fault.RepoFault.{RepoFault}
 use Rattle.ferry_carry.specs.Carrying.{Origin, SaysIn}
 use Rattle.ferry_carry.specs.Copied.{IsCopyOf, copied_item, pieces_of, stream_block}
-use Rattle.ferry_carry.specs.Gather.{IsAmong}
-use Rattle.ferry_carry.specs.Piece.{AreFullOf}
-use Rattle.ferry_carry.specs.Puts.{Addition, AreOf, ArePieces, Content, Record, Stream, addition, contents_in}
+use Rattle.ferry_piece.specs.Gather.{IsAmong}
+use Rattle.ferry_piece.specs.Piece.{AreFullOf}
+use Rattle.ferry_piece.specs.Puts.{Addition, AreOf, ArePieces, Content, Record, Stream, addition, contents_in}
 
 -- ---- names
 

@@ -6,7 +6,7 @@ use Rattle.ferry_mac.specs.declared.keys.Keys.{Keys}
 use Rattle.ferry_manifest.specs.Record.Text.{ArchiveText, archive_of, as_tagged}
 use Rattle.ferry_manifest.specs.declared.manifest.ArchiveRef.{ArchiveRef}
 use Rattle.ferry_msgpack.specs.Tree.{Tree, array, item, no_items, number, raw}
-use Rattle.ferry_carry.specs.Puts.{Addition, Record, addition}
+use Rattle.ferry_piece.specs.Puts.{Addition, Record, addition}
 
 -- the parameters of a chunker that cuts pieces of this length: its name, the length, and that of a header
 abbrev pub fixed_params : ℕ → Tree

@@ -14,9 +14,9 @@ use Rattle.ferry_repo.specs.Whole.{WholeItem, WholesCome}
 use Rattle.ferry_store.specs.declared.store.Store.{Store}
 use Rattle.ferry_carry.specs.Carrying.{HoldsApart, Origin, SaysIn}
 use Rattle.ferry_carry.specs.Copied.{IsRead, contents_of, copied_item, copied_stream, stream_block}
-use Rattle.ferry_carry.specs.Gather.{chunks_of}
+use Rattle.ferry_piece.specs.Gather.{chunks_of}
 use Rattle.ferry_carry.specs.Listing.{ListsItems}
-use Rattle.ferry_carry.specs.Puts.{Addition, Content, Stream, put_bytes, put_count}
+use Rattle.ferry_piece.specs.Puts.{Addition, Content, Stream, put_bytes, put_count}
 use Rattle.ferry_carry.specs.declared.copy.Copy.{Copy}
 
 -- These items are written into the stream of a target: these pieces of it became whole. Their contents and those pieces are there. All that was added of

@@ -1,5 +1,5 @@
 -- Why archives aren't carried: what a refusal says of the source's archive, of the target's archive of the same name, and of what would be written.
-use Rattle.std.specs.Prelude.{◌≡◌, ◌≢◌, ◌⊎◌, ◌<◌, ◌*◌, ℕ, Bool, true, false, List, [], ◌∷◌, ◌++◌, length, map, sum_by, slice_get, Option, Some, None}
+use Rattle.std.specs.Prelude.{◌≡◌, ◌⊎◌, ◌<◌, ◌*◌, ℕ, Bool, true, false, List, [], ◌∷◌, ◌++◌, length, map, sum_by, slice_get, Option, Some, None}
 use Rattle.std.specs.Prelude.{IfSome, IsSome}
 use Rattle.ferry_base.specs.Limits.{content_limit}
 use Rattle.ferry_blob.specs.Blob.{content_id}
@@ -20,7 +20,6 @@ use Rattle.ferry_repo.specs.Opening.{RepoState, repo_view}
 use Rattle.ferry_repo.specs.Walk.{Comes, IsToCome, WalkState}
 use Rattle.ferry_repo.specs.Whole.{RefusesJoined, RefusesWhole, WholeArchive, WholeItem, WholesCome}
 use Rattle.ferry_repo.specs.declared.fault.RepoFault.{RepoFault}
-use Rattle.ferry_store.specs.Causes.{StopsAt}
 use Rattle.ferry_store.specs.Commit.{accepted_in}
 use Rattle.ferry_store.specs.Store.{StoreFits}
 use Rattle.ferry_store.specs.declared.fault.StoreRefusal.TheVariants.{TooLarge, Write}
@@ -33,32 +32,17 @@ use Rattle.ferry_carry.specs.Grow.{KeepsMost}
 use Rattle.ferry_carry.specs.Naming.{copied_archive, entry_for}
 use Rattle.ferry_carry.specs.Telling.{TellsNames}
 use Rattle.ferry_carry.specs.Time.{time_for}
-use Rattle.ferry_carry.specs.declared.fault.CarryFault.{CarryFault}
-use Rattle.ferry_carry.specs.declared.fault.CarryFault.TheVariants.{Source, Target, Taken, NotFound, Pieces, Memory, Record}
+use Rattle.ferry_piece.specs.declared.fault.CarryFault.{CarryFault}
+use Rattle.ferry_piece.specs.declared.fault.CarryFault.TheVariants.{Source, Target, Taken, NotFound, Pieces, Memory, Record}
+use Rattle.ferry_piece.specs.Stops.{is_target, StopsTarget}
 
 -- ---- the target
-
--- whether a fault is the target's, or want of memory
-abbrev pub is_target : CarryFault → Bool
-is_target (Target refusal) = true
-is_target Memory = true
-is_target fault = false
 
 -- whether a fault can be that of a line that isn't told
 abbrev pub is_of_telling : CarryFault → Bool
 is_of_telling (Target (Write Writes.Device)) = true
 is_of_telling Memory = true
 is_of_telling fault = false
-
--- What a refusal of the target says of its files as they are then.
-abbrev pub StopsTarget : Option Told → Keys → CarryFault → Type 0
-StopsTarget now keys (Target refusal) = IfSome now (λ t. StopsAt (told_files t) keys refusal)
-StopsTarget now keys fault = Unit {0}
-
--- The same of a body that puts no manifest, so that none is too large.
-abbrev pub StopsPieces : Option Told → Keys → CarryFault → Type 0
-StopsPieces now keys (Target refusal) = IfSome now (λ t. (refusal ≢ TooLarge) × StopsAt (told_files t) keys refusal)
-StopsPieces now keys fault = Unit {0}
 
 -- ---- the contents of an item
 

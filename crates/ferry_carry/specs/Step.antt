@@ -8,8 +8,8 @@ use Rattle.ferry_repo.specs.Opening.{RepoState}
 use Rattle.ferry_repo.specs.Walk.{IsToCome, WalkState, walk_view}
 use Rattle.ferry_carry.specs.Copied.{IsRead}
 use Rattle.ferry_carry.specs.Copying.{BeginsContent, CopiesContent, TakesItem, WritesItem}
-use Rattle.ferry_carry.specs.Piece.{BeginsOn, CountsOn}
-use Rattle.ferry_carry.specs.Puts.{Addition, AreOf, Content, Stream, contents_in}
+use Rattle.ferry_piece.specs.Piece.{BeginsOn, CountsOn}
+use Rattle.ferry_piece.specs.Puts.{Addition, AreOf, Content, Stream, contents_in}
 use Rattle.ferry_carry.specs.declared.copy.Copy.{Copy}
 
 -- A further item was taken, the pieces of its content were added, and with the target's chunks it was written into the stream, of which the

@@ -11,16 +11,16 @@ use Rattle.ferry_store.specs.Commit.{accepted_in}
 use Rattle.ferry_store.specs.State.{IsSound, Written}
 use Rattle.ferry_store.specs.Store.{StoreFits}
 use Rattle.ferry_store.specs.declared.store.Store.{Store}
-use Rattle.ferry_carry.specs.Adding.{HoldsRefused, StopsLast}
+use Rattle.ferry_piece.specs.Adding.{HoldsRefused, StopsLast}
 use Rattle.ferry_carry.specs.Carrying.{Origin}
 use Rattle.ferry_carry.specs.Counting.{CountsMore, IsTotalOf, TellsNew}
 use Rattle.ferry_carry.specs.Filling.{FillsAll}
 use Rattle.ferry_carry.specs.Grow.{Grows, KeepsGrowing, StandsOn}
 use Rattle.ferry_carry.specs.Listing.{BeginsNames, ListsNames}
-use Rattle.ferry_carry.specs.Puts.{Addition, AtBegin}
+use Rattle.ferry_piece.specs.Puts.{Addition, AtBegin}
 use Rattle.ferry_carry.specs.Lines.{name_line, told_of, total_line}
-use Rattle.ferry_carry.specs.Work.{Works}
-use Rattle.ferry_carry.specs.declared.fault.CarryFault.{CarryFault}
+use Rattle.ferry_piece.specs.Work.{Works}
+use Rattle.ferry_piece.specs.declared.fault.CarryFault.{CarryFault}
 use Rattle.ferry_carry.specs.declared.options.Carried.{Carried}
 
 -- ---- lines

@@ -1,20 +1,22 @@
 //! An archive that the target lacks.
 ghost use Rattle.std.specs.Prelude.{◌≡◌, ◌≤◌, ◌<◌, ◌^◌, ◌-◌, ◌++◌, [], List, Some, None, Ok, true, false, length, min, IfErr, IfOk, IfSome, OnOk};
 ghost use Rattle.ferry_disk.specs.Device.{HasCause, KeepsTold, told_files};
-ghost use Rattle.ferry_carry.specs.Adding.{AddsOn};
+ghost use Rattle.ferry_piece.specs.Adding.{AddsOn};
 ghost use Rattle.ferry_carry.specs.Carrying.{origin};
 ghost use Rattle.ferry_carry.specs.Copied.{IsRead};
 ghost use Rattle.ferry_carry.specs.Copying.{BeginsChunk, BeginsContent, BeginsContents, CopiesContent, IsReady, TakesItem};
 ghost use Rattle.ferry_carry.specs.Copying.{WritesContent, WritesContents, WritesItem};
-ghost use Rattle.ferry_carry.specs.Fault.{IsOfSource, random_failed, shelf_failed, target_failed};
+ghost use Rattle.ferry_piece.specs.Fault.{IsOfSource, random_failed, shelf_failed, target_failed};
 ghost use Rattle.ferry_carry.specs.Filling.{FillsChunks, FillsContent, FillsOne, FillsStep, WhereHeard, WhereSource};
-ghost use Rattle.ferry_carry.specs.Gather.{KeepsRest};
+ghost use Rattle.ferry_piece.specs.Gather.{KeepsRest};
 ghost use Rattle.ferry_carry.specs.Listing.{BeginsOne};
 ghost use Rattle.ferry_carry.specs.Progress.{CopiesOn, IsCopiedSoFar};
-ghost use Rattle.ferry_carry.specs.Piece.{BeginsOn, CountsOn};
-ghost use Rattle.ferry_carry.specs.Puts.{Addition, AreOf, Content, IsCheckpoint, Stream, contents_in};
-ghost use Rattle.ferry_carry.specs.Refusals.{RefusesBegin, RefusesContents, RefusesCopying, RefusesNext, RefusesStep, RefusesText, RefusesWriting, StopsPieces};
-ghost use Rattle.ferry_carry.specs.Refusals.{is_target, total_size};
+ghost use Rattle.ferry_piece.specs.Piece.{BeginsOn, CountsOn};
+ghost use Rattle.ferry_piece.specs.Puts.{Addition, AreOf, Content, IsCheckpoint, Stream, contents_in};
+ghost use Rattle.ferry_carry.specs.Refusals.{RefusesBegin, RefusesContents, RefusesCopying, RefusesNext, RefusesStep, RefusesText, RefusesWriting};
+ghost use Rattle.ferry_piece.specs.Stops.{StopsPieces};
+ghost use Rattle.ferry_carry.specs.Refusals.{total_size};
+ghost use Rattle.ferry_piece.specs.Stops.{is_target};
 ghost use Rattle.ferry_carry.specs.Step.{BeginsMore, StepsOn};
 ghost use Rattle.ferry_item.specs.Item.{is_healed, item_view};
 ghost use Rattle.ferry_item.specs.Writing.{IsPackable as IsPackableItem, field_pairs, item_text};
@@ -27,14 +29,13 @@ ghost use Rattle.ferry_repo.specs.Opening.{FitsRepo, cached_in, repo_view};
 ghost use Rattle.ferry_repo.specs.Walk.{FitsWalk, IsToCome, begin_walk, walk_view};
 ghost use Rattle.ferry_store.specs.Store.{IsUnspent, StoreFits};
 
-use crate::fault::CarryFault;
 use crate::options::Options;
-use crate::piece::PieceWriter;
 use ferry_base::Id;
 use ferry_disk::{Depot, Shelf};
 use ferry_item::{ChunkRef, ChunkRefs, Item, write_item};
 use ferry_mac::Keys;
 use ferry_manifest::{Archive, MetaFault, read_archive};
+use ferry_piece::{CarryFault, PieceWriter};
 use ferry_repo::{Repo, RepoFault, Walk};
 use ferry_store::Store;
 use std::alloc::Global;
@@ -58,7 +59,7 @@ pub(crate) struct Copy {
 
 impl Copy {
     /// The archive whose record has this id, in front of its items.
-    #[tactic(auto, using(crate::proofs::FaultLemmas::conversions))]
+    #[tactic(auto, using(ferry_piece::proofs::FaultLemmas::conversions))]
     pub(crate) fn begin<S: Shelf>(
         alloc: Global,
         source: &mut Repo,
@@ -165,7 +166,7 @@ impl Copy {
     }
 
     /// The next item of the source.
-    #[tactic(auto, using(crate::proofs::FaultLemmas::conversions))]
+    #[tactic(auto, using(ferry_piece::proofs::FaultLemmas::conversions))]
     fn next<S: Shelf>(
         &mut self,
         source: &mut Repo,
@@ -389,7 +390,7 @@ fn write_contents<S: Shelf, D: Depot>(
 }
 
 /// Writes the content of one chunk.
-#[tactic(auto, using(crate::proofs::FaultLemmas::conversions))]
+#[tactic(auto, using(ferry_piece::proofs::FaultLemmas::conversions))]
 fn write_content<S: Shelf, D: Depot>(
     writer: &mut PieceWriter,
     walk: &Walk,
@@ -464,7 +465,7 @@ fn total_size(chunks: &[ChunkRef]) -> u128
 }
 
 /// The record of the archive whose record has this id.
-#[tactic(auto, using(crate::proofs::FaultLemmas::conversions))]
+#[tactic(auto, using(ferry_piece::proofs::FaultLemmas::conversions))]
 fn read_record<S: Shelf>(
     alloc: Global,
     source: &mut Repo,

@@ -1,18 +1,19 @@
 //! One archive, item by item.
 ghost use Rattle.std.specs.Prelude.{◌≡◌, ◌≢◌, ◌≤◌, ◌⊎◌, ℕ, List, Option, None, Ok, [], true, false, IfErr, IfOk, IfSome, IsSome, OnOk};
 ghost use Rattle.ferry_blob.specs.Blob.{content_id};
-ghost use Rattle.ferry_carry.specs.Adding.{AddsOn, IsNoChunk};
-ghost use Rattle.ferry_carry.specs.Fault.{random_failed, shelf_failed};
+ghost use Rattle.ferry_piece.specs.Adding.{AddsOn, IsNoChunk};
+ghost use Rattle.ferry_piece.specs.Fault.{random_failed, shelf_failed};
 ghost use Rattle.ferry_carry.specs.Counting.{nothing_carried};
 ghost use Rattle.ferry_carry.specs.Flight.{AreRight, FlightFits, FlightStands, IsCommitted, IsSame, IsSettled, ReadsStore, TakesTurn, flown_from};
 ghost use Rattle.ferry_carry.specs.Carrying.{origin};
 ghost use Rattle.ferry_carry.specs.Copying.{IsReady};
-ghost use Rattle.ferry_carry.specs.Gather.{GathersAt, KeepsRest, KeepsStandingAt};
+ghost use Rattle.ferry_piece.specs.Gather.{GathersAt, KeepsRest, KeepsStandingAt};
 ghost use Rattle.ferry_carry.specs.Grow.{AcceptsMore, KeepsMost};
 ghost use Rattle.ferry_carry.specs.Progress.{IsCopiedSoFar};
-ghost use Rattle.ferry_carry.specs.Puts.{Addition, AtBegin};
-ghost use Rattle.ferry_carry.specs.Refusals.{DiffersThere, IsLimited, RefusesComparing, RefusesName, StopsPieces, is_target, named_next};
-ghost use Rattle.ferry_carry.specs.Work.{Works};
+ghost use Rattle.ferry_piece.specs.Puts.{Addition, AtBegin};
+ghost use Rattle.ferry_carry.specs.Refusals.{DiffersThere, IsLimited, RefusesComparing, RefusesName, named_next};
+ghost use Rattle.ferry_piece.specs.Stops.{StopsPieces, is_target};
+ghost use Rattle.ferry_piece.specs.Work.{Works};
 ghost use Rattle.ferry_compare.specs.Compare.{Differ, FitsTold, comparison_view};
 ghost use Rattle.ferry_disk.specs.Device.{HasCause, KeepsTold, Told, told_files};
 ghost use Rattle.ferry_manifest.specs.Manifest.Writing.{IsPackable};
@@ -23,14 +24,13 @@ ghost use Rattle.ferry_store.specs.Commit.{accepted_in};
 ghost use Rattle.ferry_store.specs.Store.{IsUnspent, StoreFits};
 
 use crate::copy::Copy;
-use crate::fault::CarryFault;
 use crate::naming::end_copy;
 use crate::options::{Carried, Options};
-use crate::piece::commit_pieces;
 use ferry_base::Bytes;
 use ferry_compare::{Compared, Comparison};
 use ferry_disk::{Depot, Entropy, Shelf};
 use ferry_manifest::ArchiveRef;
+use ferry_piece::{CarryFault, commit_pieces};
 use ferry_repo::Repo;
 use ferry_store::Store;
 use std::alloc::{AllocError, Global};
@@ -358,7 +358,7 @@ impl Flight {
     }
 
     /// Begins to compare.
-    #[tactic(auto, using(crate::proofs::FaultLemmas::conversions))]
+    #[tactic(auto, using(ferry_piece::proofs::FaultLemmas::conversions))]
     fn begin_comparing<S: Shelf, D: Depot>(
         &self,
         source: &mut Repo,
@@ -392,7 +392,7 @@ impl Flight {
 }
 
 /// Compares one further item, and answers what the comparison says.
-#[tactic(auto, using(crate::proofs::FaultLemmas::conversions))]
+#[tactic(auto, using(ferry_piece::proofs::FaultLemmas::conversions))]
 fn compare_item<S: Shelf, D: Depot>(
     source: &mut Repo,
     shelf: &mut S,

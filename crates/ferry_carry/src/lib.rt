@@ -7,15 +7,13 @@
 
 mod chosen;
 mod copy;
-mod fault;
 mod flight;
 mod lines;
 mod naming;
 mod options;
-mod piece;
 mod time;
 
 pub use chosen::{carry, missing_name};
-pub use fault::CarryFault;
+pub use ferry_piece::CarryFault;
 pub use flight::{Flight, Turn};
 pub use options::{Carried, Options};

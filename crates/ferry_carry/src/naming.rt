@@ -2,18 +2,19 @@
 ghost use Rattle.std.specs.Prelude.{◌≡◌, ◌≤◌, ◌∷◌, ◌++◌, [], ℕ, Bool, List, Option, None, Ok, true, false, length, map, IfErr, IfOk, IfSome, OnOk};
 ghost use Rattle.ferry_base.specs.Limits.{content_limit};
 ghost use Rattle.ferry_blob.specs.Blob.{content_id};
-ghost use Rattle.ferry_carry.specs.Adding.{AddsOn, IsNoChunk};
+ghost use Rattle.ferry_piece.specs.Adding.{AddsOn, IsNoChunk};
 ghost use Rattle.ferry_carry.specs.Copying.{IsReady};
-ghost use Rattle.ferry_carry.specs.Fault.{IsOfWork, random_failed, shelf_failed, target_failed};
-ghost use Rattle.ferry_carry.specs.Gather.{KeepsRest, KeepsStanding, chunks_of};
+ghost use Rattle.ferry_piece.specs.Fault.{IsOfWork, random_failed, shelf_failed, target_failed};
+ghost use Rattle.ferry_piece.specs.Gather.{KeepsRest, KeepsStanding, chunks_of};
 ghost use Rattle.ferry_carry.specs.Carrying.{Origin};
 ghost use Rattle.ferry_carry.specs.Flight.{AcceptsOne, EndsCopy, NamesArchive};
 ghost use Rattle.ferry_carry.specs.Grow.{AcceptsMore, KeepsMost};
 ghost use Rattle.ferry_carry.specs.Progress.{IsAllCopied};
-ghost use Rattle.ferry_carry.specs.Piece.{CountsOn};
-ghost use Rattle.ferry_carry.specs.Puts.{Addition, ArePieces, IsCheckpoint, Record, Stream, addition};
+ghost use Rattle.ferry_piece.specs.Piece.{CountsOn};
+ghost use Rattle.ferry_piece.specs.Puts.{Addition, ArePieces, IsCheckpoint, Record, Stream, addition};
 ghost use Rattle.ferry_carry.specs.Naming.{AddsUnder, BeginsRecord, copied_archive, copied_in, entry_for, fixed_params};
-ghost use Rattle.ferry_carry.specs.Refusals.{IsLimited, LimitsManifest, RefusesEnd, RefusesRecordText, StopsPieces, StopsTarget, is_target, named_next};
+ghost use Rattle.ferry_carry.specs.Refusals.{IsLimited, LimitsManifest, RefusesEnd, RefusesRecordText, named_next};
+ghost use Rattle.ferry_piece.specs.Stops.{StopsPieces, StopsTarget, is_target};
 ghost use Rattle.ferry_msgpack.specs.View.{value_view};
 ghost use Rattle.ferry_disk.specs.Device.{HasCause, Told};
 ghost use Rattle.ferry_disk.specs.Moments.{Between};
@@ -32,9 +33,7 @@ ghost use Rattle.ferry_store.specs.Standing.{with_manifest};
 ghost use Rattle.ferry_store.specs.Store.{IsUnspent, StoreFits};
 
 use crate::copy::Copy;
-use crate::fault::CarryFault;
 use crate::options::Carried;
-use crate::piece::{PieceWriter, add};
 use crate::time::time_for;
 use ferry_base::{Bytes, Id};
 use ferry_disk::{Depot, Entropy};
@@ -42,6 +41,7 @@ use ferry_item::ChunkRef;
 use ferry_mac::Keys;
 use ferry_manifest::{Archive, ArchiveRef, Ids, MetaFault, write_archive};
 use ferry_msgpack::Value;
+use ferry_piece::{CarryFault, PieceWriter, add};
 use ferry_repo::Repo;
 use ferry_store::Store;
 use std::alloc::{AllocError, Global};
@@ -115,7 +115,7 @@ fn record_text(
 }
 
 /// The record of an archive, tagged with 64 random bytes.
-#[tactic(auto, using(crate::proofs::FaultLemmas::conversions))]
+#[tactic(auto, using(ferry_piece::proofs::FaultLemmas::conversions))]
 fn tagged_record<E: Entropy>(
     alloc: Global,
     keys: &Keys,
@@ -168,7 +168,7 @@ fn entry_of(alloc: Global, named: &ArchiveRef, id: Id) -> Result<ArchiveRef, All
 }
 
 /// Makes the record of an archive, and adds it.
-#[tactic(auto, using(crate::proofs::FaultLemmas::conversions))]
+#[tactic(auto, using(ferry_piece::proofs::FaultLemmas::conversions))]
 fn put_record<D: Depot, E: Entropy>(
     alloc: Global,
     store: &mut Store,
@@ -404,7 +404,7 @@ fn commit_named<D: Depot, E: Entropy>(
 }
 
 /// Commits what was put and what was accepted.
-#[tactic(auto, using(crate::proofs::FaultLemmas::conversions))]
+#[tactic(auto, using(ferry_piece::proofs::FaultLemmas::conversions))]
 fn commit<D: Depot, E: Entropy>(
     store: &mut Store,
     depot: &mut D,

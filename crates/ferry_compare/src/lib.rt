@@ -14,8 +14,6 @@ mod fault;
 mod items;
 mod laws;
 mod same;
-#[cfg(test)]
-mod tests;
 
 pub use comparison::{Compared, Comparison};
 pub use fault::CompareFault;

@@ -14,8 +14,6 @@ mod meaning;
 mod printing;
 mod reading;
 mod section;
-#[cfg(test)]
-mod tests;
 mod values;
 
 pub use config::Config;

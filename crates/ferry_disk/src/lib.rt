@@ -17,8 +17,6 @@ mod shelf;
 mod sink;
 mod sizes;
 mod stop;
-#[cfg(test)]
-mod tests;
 mod whole;
 
 pub use act::{Act, Kind};

@@ -13,8 +13,6 @@ mod fields;
 mod laws;
 mod others;
 mod reading;
-#[cfg(test)]
-mod tests;
 
 pub use building::{copied, put, put_raw, table_of, text_of};
 pub use fault::MapFault;

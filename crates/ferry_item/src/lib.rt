@@ -14,8 +14,6 @@ mod laws;
 mod opening;
 mod progress;
 mod reader;
-#[cfg(test)]
-mod tests;
 mod writing;
 
 pub use fault::ItemFault;

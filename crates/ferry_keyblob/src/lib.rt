@@ -14,8 +14,6 @@ mod laws;
 mod opening;
 mod reading;
 mod sealing;
-#[cfg(test)]
-mod tests;
 
 pub use envelope::Envelope;
 pub use fault::KeyFault;

@@ -10,8 +10,6 @@ mod file;
 mod laws;
 mod printing;
 mod reading;
-#[cfg(test)]
-mod tests;
 
 pub use fault::KeyFileFault;
 pub use file::KeyFile;

@@ -6,7 +6,5 @@
 #![tactic(auto)]
 
 mod kernels;
-#[cfg(test)]
-mod tests;
 
 pub use kernels::{same, xor_into, zero_prefix};

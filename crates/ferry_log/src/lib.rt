@@ -13,8 +13,6 @@ mod live;
 mod log;
 mod opening;
 mod place;
-#[cfg(test)]
-mod tests;
 mod window;
 
 pub use fault::LogFault;

@@ -14,8 +14,6 @@ mod lanes;
 mod mac256;
 mod mac512;
 mod pbkdf;
-#[cfg(test)]
-mod tests;
 
 pub use four::hmac256_four;
 pub use hkdf::hkdf512;

@@ -14,8 +14,6 @@ mod place;
 mod record;
 mod stated;
 mod tag;
-#[cfg(test)]
-mod tests;
 mod values;
 
 pub use fault::MetaFault;

@@ -23,6 +23,3 @@ pub use reading::read;
 pub use value::Value;
 pub use writable::is_writable;
 pub use writing::write;
-
-#[cfg(test)]
-mod tests;

@@ -10,8 +10,6 @@ mod copy;
 mod item_keys;
 mod laws;
 mod next;
-#[cfg(test)]
-mod tests;
 
 pub use archives::{add_archive, has_archive};
 pub use copy::copy_manifest;

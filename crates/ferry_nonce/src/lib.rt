@@ -8,8 +8,6 @@
 mod counter;
 mod fault;
 mod laws;
-#[cfg(test)]
-mod tests;
 mod text;
 
 pub use counter::Counter;

@@ -1,12 +1,12 @@
 //! The device over a repository's folder that is written as well.
 ghost use Rattle.std.specs.Prelude.{◌≡◌, None};
 ghost use Rattle.ferry_disk.specs.Device.{HasCause, store_failed};
-ghost use Rattle.ferry_real.specs.Count.{count_after};
+ghost use Rattle.ferry_layout.specs.Count.{count_after};
 
-use crate::count::count_store;
 use crate::progress::Progress;
 use crate::writer::Writer;
 use ferry_disk::{Depot, Name, Shelf, StoreFault};
+use ferry_layout::count_store;
 use std::alloc::{AllocError, Global};
 use std::rc::Rc;
 use std::rt::Runtime;

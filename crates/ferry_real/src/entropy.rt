@@ -1,9 +1,8 @@
 //! The device over the system's random bytes.
 ghost use Rattle.std.specs.Prelude.{None};
 
-use crate::count::count_entropy;
-use crate::read::fill;
 use ferry_disk::{Entropy, EntropyFault};
+use ferry_layout::{count_entropy, fill};
 use std::fs::File;
 use std::rt::Runtime;
 

@@ -2,14 +2,10 @@
 ghost use Rattle.std.specs.Prelude.{◌≤◌, length, IfOk};
 ghost use Rattle.std.specs.List.Sorted.{IsStrictlyIncreasing};
 
-use crate::count::store_fault;
-use crate::listing::{Listing, numbers};
-use crate::names::Location;
-use crate::place::{Place, file_name};
-use crate::read::read_file_at;
 use crate::walk::walk;
 use ferry_config::{ConfigFault, read_config};
 use ferry_disk::{Name, StoreFault};
+use ferry_layout::{Listing, Place, file_name, numbers, read_file_at, store_fault};
 use std::alloc::{AllocError, Global};
 use std::fs;
 use std::fs::File;
@@ -120,16 +116,13 @@ impl<R: Runtime> Folder<R> {
         let Some(path) = self.path_of(name)? else {
             return Ok(());
         };
-        if length_of(&self.rt, path.as_str())?.is_none() {
-            return Ok(());
-        }
-        match File::open(&self.rt, path.as_str()) {
-            Ok(file) => {
+        match open_to_read(&self.rt, path.as_str()) {
+            Ok(Some(file)) => {
                 self.opened = Some(Opened { name, file });
                 Ok(())
             }
-            Err(error) if error.kind() == ErrorKind::NotFound => Ok(()),
-            Err(error) => Err(store_fault(&error)),
+            Ok(None) => Ok(()),
+            Err(fault) => Err(fault),
         }
     }
 
@@ -171,11 +164,10 @@ impl<R: Runtime> Folder<R> {
         if self.found.is_none() {
             self.found = Some(self.list()?);
         }
-        let Some(found) = &self.found else {
-            return Ok(None);
-        };
-        let location: Option<Location> = found.places.get(&number).copied();
-        Ok(location.map(|location| found.folder(number, location)))
+        match &self.found {
+            Some(found) => Ok(found.folder_of(number)),
+            None => Ok(None),
+        }
     }
 
     /// Finds the segments that are there.
@@ -212,6 +204,18 @@ impl<R: Runtime> Folder<R> {
             Err(ConfigFault::Memory) => Err(StoreFault::Memory),
             Err(_) => Ok(None),
         }
+    }
+}
+
+/// Opens the file at a path to read it, where a regular file is there.
+fn open_to_read<R: Runtime>(rt: &R, path: &str) -> Result<Option<R::File>, StoreFault> {
+    if length_of(rt, path)?.is_none() {
+        return Ok(None);
+    }
+    match File::open(rt, path) {
+        Ok(file) => Ok(Some(file)),
+        Err(error) if error.kind() == ErrorKind::NotFound => Ok(None),
+        Err(error) => Err(store_fault(&error)),
     }
 }
 

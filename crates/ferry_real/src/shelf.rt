@@ -1,10 +1,10 @@
 //! The device over a repository's folder that is read.
 ghost use Rattle.std.specs.Prelude.{None};
 
-use crate::count::count_store;
 use crate::folder::{Folder, Presence};
 use crate::progress::Progress;
 use ferry_disk::{Name, Shelf, StoreFault};
+use ferry_layout::count_store;
 use std::alloc::{AllocError, Global};
 use std::rc::Rc;
 use std::rt::Runtime;

@@ -1,10 +1,9 @@
 //! The device over standard output.
 ghost use Rattle.std.specs.Prelude.{None};
 
-use crate::count::{count_sink, sink_fault};
 use crate::progress::Progress;
-use crate::write::write_all;
 use ferry_disk::{Sink, SinkFault};
+use ferry_layout::{count_sink, sink_fault, write_all};
 use std::io;
 use std::rc::Rc;
 use std::rt::Runtime;

@@ -18,17 +18,41 @@ pub fn failed(_error: Error) -> StoreFault {
     StoreFault::Failed
 }
 
-/// Makes a file or a folder stable as it is.
-pub fn sync_path<R: Runtime>(rt: &R, path: &str) -> Result<(), StoreFault> {
-    let file = File::open(rt, path).map_err(failed)?;
-    file.sync_all().map_err(failed)
-}
-
-/// Makes a folder stable, where it is there.
-pub fn sync_if_there<R: Runtime>(rt: &R, path: &str) -> Result<(), StoreFault> {
+/// Makes a file stable as it is.
+pub fn sync_file<R: Runtime>(rt: &R, path: &str) -> Result<(), StoreFault> {
     match File::open(rt, path) {
         Ok(file) => file.sync_all().map_err(failed),
-        Err(error) if error.kind() == ErrorKind::NotFound => Ok(()),
+        Err(error) => Err(failed(error)),
+    }
+}
+
+/// Makes the names in a folder stable.
+pub fn sync_folder<R: Runtime>(rt: &R, path: &str) -> Result<(), StoreFault> {
+    match File::open(rt, path) {
+        Ok(folder) => sync_names(&folder),
+        Err(error) => Err(failed(error)),
+    }
+}
+
+/// Makes the names in a folder stable, where the system doesn't refuse to open it for this reason.
+pub fn sync_folder_unless<R: Runtime>(
+    rt: &R,
+    path: &str,
+    reason: ErrorKind,
+) -> Result<(), StoreFault> {
+    match File::open(rt, path) {
+        Ok(folder) => sync_names(&folder),
+        Err(error) if error.kind() == reason => Ok(()),
+        Err(error) => Err(failed(error)),
+    }
+}
+
+/// Makes the names in an open folder stable. Some file systems over a network know no sync of a folder, and answer that the call isn't
+/// valid; Borg passes that over too, and no other answer.
+fn sync_names<F: OpenFile>(folder: &F) -> Result<(), StoreFault> {
+    match folder.sync_all() {
+        Ok(()) => Ok(()),
+        Err(error) if error.kind() == ErrorKind::InvalidInput => Ok(()),
         Err(error) => Err(failed(error)),
     }
 }
@@ -37,13 +61,10 @@ pub fn sync_if_there<R: Runtime>(rt: &R, path: &str) -> Result<(), StoreFault> {
 pub fn make_folder<R: Runtime>(rt: &R, path: &str) -> Result<bool, StoreFault> {
     match fs::metadata(rt, path) {
         Ok(metadata) if metadata.is_dir() => Ok(false),
-        _ => {
-            DirBuilder::new()
-                .mode(FOLDER_MODE)
-                .create(rt, path)
-                .map_err(failed)?;
-            Ok(true)
-        }
+        _ => match DirBuilder::new().mode(FOLDER_MODE).create(rt, path) {
+            Ok(()) => Ok(true),
+            Err(error) => Err(failed(error)),
+        },
     }
 }
 
@@ -56,13 +77,15 @@ pub fn make_file<R: Runtime>(rt: &R, path: &str) -> Result<R::File, StoreFault> 
 
 /// Opens a file to append to it. What isn't a regular file, a link too, isn't opened.
 pub fn open_to_append<R: Runtime>(rt: &R, path: &str) -> Result<R::File, StoreFault> {
-    let metadata = fs::symlink_metadata(rt, path).map_err(failed)?;
-    if !metadata.is_file() {
-        return Err(StoreFault::Failed);
+    match fs::symlink_metadata(rt, path) {
+        Ok(metadata) if metadata.is_file() => {
+            let mut options = OpenOptions::new();
+            options.append(true);
+            options.open(rt, path).map_err(failed)
+        }
+        Ok(_) => Err(StoreFault::Failed),
+        Err(error) => Err(failed(error)),
     }
-    let mut options = OpenOptions::new();
-    options.append(true);
-    options.open(rt, path).map_err(failed)
 }
 
 /// Fails where an open file isn't the one at its path any more.

@@ -1,10 +1,7 @@
 //! The pass over a repository's `data` that finds its segments.
 
-use crate::count::store_fault;
-use crate::listing::Listing;
-use crate::names::number_of;
-use crate::place::Place;
 use ferry_disk::StoreFault;
+use ferry_layout::{Listing, Place, number_of, store_fault};
 use std::fs::{DirEntry, FileType, ReadDir};
 use std::io::ErrorKind;
 use std::rt::Runtime;
@@ -13,10 +10,21 @@ use std::{fs, io};
 /// Finds the segments of a repository in its folder `data` and the numbered folders in it. There are none where `data`
 /// isn't there.
 pub fn walk<R: Runtime>(rt: &R, place: &Place, found: &mut Listing) -> Result<(), StoreFault> {
-    let data = place.data()?;
-    let Some(entries) = entries_of(rt, data.as_str())? else {
-        return Ok(());
-    };
+    let path = place.data()?;
+    match entries_of(rt, path.as_str()) {
+        Ok(Some(mut entries)) => walk_entries(rt, place, &mut entries, found),
+        Ok(None) => Ok(()),
+        Err(fault) => Err(fault),
+    }
+}
+
+/// Adds the segments and the numbered folders among the entries of `data`.
+fn walk_entries<R: Runtime>(
+    rt: &R,
+    place: &Place,
+    entries: &mut ReadDir<R, R::A>,
+    found: &mut Listing,
+) -> Result<(), StoreFault> {
     for entry in entries {
         match numbered(rt, entry)? {
             Some((folder, kind)) if kind.is_dir() => walk_folder(rt, place, folder, found)?,
@@ -38,9 +46,20 @@ fn walk_folder<R: Runtime>(
         return Err(StoreFault::Memory);
     }
     let path = place.folder(folder)?;
-    let Some(entries) = entries_of(rt, path.as_str())? else {
-        return Ok(());
-    };
+    match entries_of(rt, path.as_str()) {
+        Ok(Some(mut entries)) => walk_segments(rt, folder, &mut entries, found),
+        Ok(None) => Ok(()),
+        Err(fault) => Err(fault),
+    }
+}
+
+/// Adds the segments among the entries of a numbered folder.
+fn walk_segments<R: Runtime>(
+    rt: &R,
+    folder: u64,
+    entries: &mut ReadDir<R, R::A>,
+    found: &mut Listing,
+) -> Result<(), StoreFault> {
     for entry in entries {
         match numbered(rt, entry)? {
             Some((number, kind)) if kind.is_file() => add(found, number, Some(folder))?,
@@ -73,12 +92,19 @@ fn numbered<R: Runtime>(
     rt: &R,
     entry: io::Result<DirEntry<R, R::A>>,
 ) -> Result<Option<(u64, FileType)>, StoreFault> {
-    let entry = match entry {
-        Ok(entry) => entry,
+    match entry {
+        Ok(entry) => kind_of(rt, &entry),
         // std's answer to a name that isn't UTF-8; the entries go on behind it.
-        Err(error) if error.kind() == ErrorKind::InvalidFilename => return Ok(None),
-        Err(error) => return Err(store_fault(&error)),
-    };
+        Err(error) if error.kind() == ErrorKind::InvalidFilename => Ok(None),
+        Err(error) => Err(store_fault(&error)),
+    }
+}
+
+/// The same of an entry that was listed.
+fn kind_of<R: Runtime>(
+    rt: &R,
+    entry: &DirEntry<R, R::A>,
+) -> Result<Option<(u64, FileType)>, StoreFault> {
     let Some(number) = number_of(entry.file_name()) else {
         return Ok(None);
     };

@@ -4,16 +4,15 @@
 //! nothing.
 
 use crate::folder::{Folder, Presence, length_of};
-use crate::listing::Listing;
-use crate::place::{Place, file_name};
 use crate::stable::{
     failed, keep_mode, make_file, make_folder, open_to_append, remove_if_there, stays_at,
-    sync_if_there, sync_path,
+    sync_file, sync_folder, sync_folder_unless,
 };
-use crate::write::write_all;
 use ferry_disk::{Name, StoreFault};
+use ferry_layout::{Listing, Location, Place, file_name, folder_of_path, write_all};
 use std::alloc::{AllocError, Global};
 use std::fs::OpenFile;
+use std::io::ErrorKind;
 use std::rt::Runtime;
 use std::{fs, io};
 
@@ -64,78 +63,117 @@ impl<R: Runtime> Writer<R> {
 
     /// Appends bytes to a segment, which is made where it is absent.
     pub fn append(&mut self, segment: u64, bytes: &[u8]) -> Result<(), StoreFault> {
-        let mut open = match self.appending.take() {
-            Some(open) if open.segment == segment => open,
-            _ => self.open(segment)?,
+        self.open(segment)?;
+        let Some(open) = &mut self.appending else {
+            return Err(StoreFault::Failed);
         };
         stays_at(&self.folder.rt, &open.file, open.path.as_str())?;
-        write_all(&mut open.file, bytes).map_err(failed)?;
-        self.appending = Some(open);
-        Ok(())
+        write_all(&mut open.file, bytes).map_err(failed)
     }
 
-    /// Opens a segment to append to it.
-    fn open(&mut self, segment: u64) -> Result<Appending<R>, StoreFault> {
-        let Some(path) = self.folder.path_of_segment(segment)? else {
-            return self.make(segment);
-        };
-        let file = open_to_append(&self.folder.rt, path.as_str())?;
-        Ok(Appending {
-            segment,
-            path,
-            file,
-        })
+    /// Opens a segment to append to it, where it isn't the open one, and makes it where it is absent.
+    fn open(&mut self, segment: u64) -> Result<(), StoreFault> {
+        if let Some(open) = &self.appending
+            && open.segment == segment
+        {
+            return Ok(());
+        }
+        self.appending = None;
+        match self.folder.path_of_segment(segment)? {
+            Some(path) => self.open_at(segment, path),
+            None => self.make(segment),
+        }
+    }
+
+    /// Opens the file of a segment at its path.
+    fn open_at(&mut self, segment: u64, path: String) -> Result<(), StoreFault> {
+        match open_to_append(&self.folder.rt, path.as_str()) {
+            Ok(file) => {
+                self.appending = Some(Appending {
+                    segment,
+                    path,
+                    file,
+                });
+                Ok(())
+            }
+            Err(fault) => Err(fault),
+        }
     }
 
     /// Makes a segment at its own place, and the folders that it lies in.
-    fn make(&mut self, segment: u64) -> Result<Appending<R>, StoreFault> {
+    fn make(&mut self, segment: u64) -> Result<(), StoreFault> {
+        let path = self.note_made(segment)?;
+        self.make_folders(path.as_str())?;
+        self.make_at(segment, path)
+    }
+
+    /// The path of a segment at its own place, where it counts as made from now on.
+    fn note_made(&mut self, segment: u64) -> Result<String, StoreFault> {
         let (Some(place), Some(found)) = (&self.folder.place, &mut self.folder.found) else {
             return Err(StoreFault::Failed);
         };
         let own = found.own_folder(segment);
-        let data = place.data()?;
-        let folder = place.folder(own)?;
         let path = place.segment(segment, Some(own))?;
         if self.made.push(segment).is_err() || found.add(segment, Some(own)).is_err() {
             return Err(StoreFault::Memory);
         }
+        Ok(path)
+    }
+
+    /// Makes the folders that the path of a segment leads through, where they aren't there.
+    fn make_folders(&mut self, path: &str) -> Result<(), StoreFault> {
+        let Some(place) = &self.folder.place else {
+            return Err(StoreFault::Failed);
+        };
         let rt = &self.folder.rt;
+        let folder = folder_of_path(path);
         self.made_place |= make_folder(rt, place.path())?;
-        self.made_folders |= make_folder(rt, data.as_str())?;
-        self.made_folders |= make_folder(rt, folder.as_str())?;
-        let file = make_file(rt, path.as_str())?;
-        Ok(Appending {
-            segment,
-            path,
-            file,
-        })
+        self.made_folders |= make_folder(rt, folder_of_path(folder))?;
+        self.made_folders |= make_folder(rt, folder)?;
+        Ok(())
+    }
+
+    /// Makes the file of a segment at its path.
+    fn make_at(&mut self, segment: u64, path: String) -> Result<(), StoreFault> {
+        match make_file(&self.folder.rt, path.as_str()) {
+            Ok(file) => {
+                self.appending = Some(Appending {
+                    segment,
+                    path,
+                    file,
+                });
+                Ok(())
+            }
+            Err(fault) => Err(fault),
+        }
     }
 
     /// Makes a segment stable, its bytes before its name.
     pub fn sync(&mut self, segment: u64) -> Result<(), StoreFault> {
-        match self.appending.take() {
-            Some(open) if open.segment == segment => {
-                open.file.sync_all().map_err(failed)?;
-                stays_at(&self.folder.rt, &open.file, open.path.as_str())?;
-                self.appending = Some(open);
-            }
-            other => {
-                self.appending = other;
-                self.sync_file_of(segment)?;
-            }
+        if !self.sync_open(segment)? {
+            self.sync_file_of(segment)?;
         }
         self.sync_name(segment)
     }
 
+    /// Makes the bytes of a segment stable, where its file is the open one, and answers whether it is.
+    fn sync_open(&self, segment: u64) -> Result<bool, StoreFault> {
+        match &self.appending {
+            Some(open) if open.segment == segment => {
+                open.file.sync_all().map_err(failed)?;
+                stays_at(&self.folder.rt, &open.file, open.path.as_str())?;
+                Ok(true)
+            }
+            _ => Ok(false),
+        }
+    }
+
     /// Makes the bytes of a segment stable whose file isn't open.
     fn sync_file_of(&mut self, segment: u64) -> Result<(), StoreFault> {
-        let Some(path) = self.folder.path_of_segment(segment)? else {
-            return Err(StoreFault::Failed);
-        };
-        if length_of(&self.folder.rt, path.as_str())?.is_none() {
-            return Err(StoreFault::Failed);
+        match self.folder.path_of_segment(segment)? {
+            Some(path) => sync_regular(&self.folder.rt, path.as_str()),
+            None => Err(StoreFault::Failed),
         }
-        sync_path(&self.folder.rt, path.as_str())
     }
 
     /// Makes a segment's name stable, and those of the folders that it lies in, where they were made here.
@@ -144,11 +182,8 @@ impl<R: Runtime> Writer<R> {
             self.sync_folder_of(segment)?;
             self.made.retain(|made| *made != segment);
         }
-        if self.made_folders
-            && let Some(place) = &self.folder.place
-        {
-            sync_path(&self.folder.rt, place.data()?.as_str())?;
-            sync_path(&self.folder.rt, place.path())?;
+        if self.made_folders {
+            self.sync_made_folders()?;
             self.made_folders = false;
         }
         self.sync_place()
@@ -156,11 +191,19 @@ impl<R: Runtime> Writer<R> {
 
     /// Makes the names in the folder stable that a segment lies in.
     fn sync_folder_of(&mut self, segment: u64) -> Result<(), StoreFault> {
-        let folder = self.folder.folder_of(segment)?;
-        let (Some(folder), Some(place)) = (folder, &self.folder.place) else {
-            return Err(StoreFault::Failed);
+        match self.folder.path_of_segment(segment)? {
+            Some(path) => sync_folder(&self.folder.rt, folder_of_path(path.as_str())),
+            None => Err(StoreFault::Failed),
+        }
+    }
+
+    /// Makes the names of `data` and of the folders in it stable.
+    fn sync_made_folders(&self) -> Result<(), StoreFault> {
+        let Some(place) = &self.folder.place else {
+            return Ok(());
         };
-        sync_path(&self.folder.rt, place.numbered(folder)?.as_str())
+        sync_folder(&self.folder.rt, place.data()?.as_str())?;
+        sync_folder(&self.folder.rt, place.path())
     }
 
     /// Makes the name of the repository's folder stable, where it was made here.
@@ -168,7 +211,7 @@ impl<R: Runtime> Writer<R> {
         if self.made_place
             && let Some(place) = &self.folder.place
         {
-            sync_path(&self.folder.rt, place.parent()?.as_str())?;
+            sync_folder(&self.folder.rt, place.parent())?;
             self.made_place = false;
         }
         Ok(())
@@ -176,16 +219,8 @@ impl<R: Runtime> Writer<R> {
 
     /// Removes a segment for good: first its files that don't count, so that none of them comes to count, then the one that does.
     pub fn remove(&mut self, segment: u64) -> Result<(), StoreFault> {
-        let folder = self.folder.folder_of(segment)?;
-        let (Some(folder), Some(place)) = (folder, &self.folder.place) else {
-            return Err(StoreFault::Failed);
-        };
-        let path = place.segment(segment, folder)?;
-        let names = place.numbered(folder)?;
-        if let Some(found) = &self.folder.found {
-            remove_spare(&self.folder.rt, place, found, segment)?;
-        }
-        remove_file(&self.folder.rt, path.as_str(), names.as_str())?;
+        let paths = self.paths_of(segment)?;
+        remove_files(&self.folder.rt, paths.as_slice())?;
         self.appending = None;
         self.folder.close();
         self.made.retain(|made| *made != segment);
@@ -195,30 +230,44 @@ impl<R: Runtime> Writer<R> {
         Ok(())
     }
 
+    /// The paths of a segment's files, the one that counts last. That there is none is a failure.
+    fn paths_of(&mut self, segment: u64) -> Result<Vec<String>, StoreFault> {
+        let Some(folder) = self.folder.folder_of(segment)? else {
+            return Err(StoreFault::Failed);
+        };
+        let mut paths = Vec::new(self.folder.alloc);
+        if let (Some(place), Some(found)) = (&self.folder.place, &self.folder.found) {
+            add_spare(place, found, segment, &mut paths)?;
+            add_path(place, segment, folder, &mut paths)?;
+        }
+        Ok(paths)
+    }
+
     /// Replaces a file that is no segment, or makes it.
     pub fn replace(&mut self, name: Name, bytes: &[u8]) -> Result<(), StoreFault> {
         let (Some(place), Some(word)) = (&self.folder.place, file_name(name)) else {
             return Err(StoreFault::Failed);
         };
         let path = place.path_to(word)?;
-        let beside = place.beside(word)?;
-        let parent = place.parent()?;
-        let rt = &self.folder.rt;
-        self.made_place |= make_folder(rt, place.path())?;
-        if let Err(fault) = replace_file(rt, path.as_str(), beside.as_str(), bytes) {
-            let _ = fs::remove_file(rt, beside.as_str());
-            return Err(fault);
-        }
-        sync_path(rt, place.path())?;
-        if self.made_place {
-            sync_path(rt, parent.as_str())?;
-            self.made_place = false;
-        }
+        self.replace_at(path.as_str(), word, bytes)?;
         self.folder.close();
         if name == Name::Config {
             self.folder.found = None;
         }
         Ok(())
+    }
+
+    /// Replaces the file at a path, which has this name in the folder.
+    fn replace_at(&mut self, path: &str, word: &str, bytes: &[u8]) -> Result<(), StoreFault> {
+        let Some(place) = &self.folder.place else {
+            return Err(StoreFault::Failed);
+        };
+        let beside = place.beside(word)?;
+        let rt = &self.folder.rt;
+        self.made_place |= make_folder(rt, place.path())?;
+        replace_file(rt, path, beside.as_str(), bytes)?;
+        sync_folder(rt, place.path())?;
+        self.sync_place()
     }
 
     /// Makes all stable that a read gives: the bytes of files, then the names in folders. Where the folder isn't there, there is nothing.
@@ -228,16 +277,33 @@ impl<R: Runtime> Writer<R> {
             Presence::Absent => return Ok(()),
             Presence::There => {}
         }
-        let found = self.folder.list()?;
-        if let Some(place) = &self.folder.place {
-            sync_files(&self.folder.rt, place, &found)?;
-            sync_folders(&self.folder.rt, place, &found)?;
-        }
-        self.folder.found = Some(found);
+        self.folder.found = Some(self.folder.list()?);
+        self.sync_found()?;
         self.made.clear();
         self.made_folders = false;
         self.made_place = false;
         Ok(())
+    }
+
+    /// Makes all stable that was listed.
+    fn sync_found(&self) -> Result<(), StoreFault> {
+        let (Some(place), Some(found)) = (&self.folder.place, &self.folder.found) else {
+            return Ok(());
+        };
+        sync_files(&self.folder.rt, place, found)?;
+        sync_folders(&self.folder.rt, place, found)?;
+        self.sync_parent(place)
+    }
+
+    /// Makes the name of the repository's folder stable. A user may be refused to look into the folder that it lies in, as into the one of
+    /// all home folders: that is passed over, where it wasn't this run that made the repository's folder.
+    fn sync_parent(&self, place: &Place) -> Result<(), StoreFault> {
+        if self.made_place {
+            sync_folder(&self.folder.rt, place.parent())
+        } else {
+            let reason = ErrorKind::PermissionDenied;
+            sync_folder_unless(&self.folder.rt, place.parent(), reason)
+        }
     }
 
     /// Writes a line to standard output.
@@ -246,32 +312,73 @@ impl<R: Runtime> Writer<R> {
     }
 }
 
-/// Removes the files of a segment that don't count.
-fn remove_spare<R: Runtime>(
-    rt: &R,
+/// Makes the bytes of the regular file at a path stable. That there is none is a failure.
+fn sync_regular<R: Runtime>(rt: &R, path: &str) -> Result<(), StoreFault> {
+    match length_of(rt, path)? {
+        Some(_) => sync_file(rt, path),
+        None => Err(StoreFault::Failed),
+    }
+}
+
+/// Adds the paths of the files of a segment that don't count.
+fn add_spare(
     place: &Place,
     found: &Listing,
     segment: u64,
+    paths: &mut Vec<String>,
 ) -> Result<(), StoreFault> {
     for (number, location) in &found.spare {
         if *number == segment {
-            let folder = found.folder(segment, *location);
-            let path = place.segment(segment, folder)?;
-            let names = place.numbered(folder)?;
-            remove_file(rt, path.as_str(), names.as_str())?;
+            add_path(place, segment, found.folder(segment, *location), paths)?;
         }
     }
     Ok(())
 }
 
-/// Removes a file from the folder at `names`, for good.
-fn remove_file<R: Runtime>(rt: &R, path: &str, names: &str) -> Result<(), StoreFault> {
-    fs::remove_file(rt, path).map_err(failed)?;
-    sync_path(rt, names)
+/// Adds the path of a segment that lies in this folder of `data`, `None` being `data` itself.
+fn add_path(
+    place: &Place,
+    segment: u64,
+    folder: Option<u64>,
+    paths: &mut Vec<String>,
+) -> Result<(), StoreFault> {
+    let path = place.segment(segment, folder)?;
+    match paths.push(path) {
+        Ok(()) => Ok(()),
+        Err(_) => Err(StoreFault::Memory),
+    }
 }
 
-/// Gives the file at `path` these bytes: they are written and made stable in a file beside it, which then takes its name.
+/// Removes files in this order, each for good.
+fn remove_files<R: Runtime>(rt: &R, paths: &[String]) -> Result<(), StoreFault> {
+    for path in paths {
+        remove_file(rt, path.as_str())?;
+    }
+    Ok(())
+}
+
+/// Removes a file from the folder that it lies in, for good.
+fn remove_file<R: Runtime>(rt: &R, path: &str) -> Result<(), StoreFault> {
+    fs::remove_file(rt, path).map_err(failed)?;
+    sync_folder(rt, folder_of_path(path))
+}
+
+/// Gives the file at `path` these bytes, by a file beside it, of which a failure leaves nothing where that can be.
 fn replace_file<R: Runtime>(
+    rt: &R,
+    path: &str,
+    beside: &str,
+    bytes: &[u8],
+) -> Result<(), StoreFault> {
+    let outcome = write_beside(rt, path, beside, bytes);
+    if outcome.is_err() {
+        let _ = fs::remove_file(rt, beside);
+    }
+    outcome
+}
+
+/// Writes the bytes into a file beside the one at `path`, makes them stable, and gives it the other's name.
+fn write_beside<R: Runtime>(
     rt: &R,
     path: &str,
     beside: &str,
@@ -289,23 +396,41 @@ fn replace_file<R: Runtime>(
 fn sync_files<R: Runtime>(rt: &R, place: &Place, found: &Listing) -> Result<(), StoreFault> {
     for name in PLAIN_FILES {
         let path = place.path_to(name)?;
-        if length_of(rt, path.as_str())?.is_some() {
-            sync_path(rt, path.as_str())?;
-        }
+        sync_if_regular(rt, path.as_str())?;
     }
     for (number, location) in &found.places {
-        let folder = found.folder(*number, *location);
-        sync_path(rt, place.segment(*number, folder)?.as_str())?;
+        sync_segment(rt, place, found, *number, *location)?;
     }
     Ok(())
 }
 
-/// Makes the names of all files stable that a read gives, and those of their folders.
+/// Makes the bytes of the regular file at a path stable, where there is one.
+fn sync_if_regular<R: Runtime>(rt: &R, path: &str) -> Result<(), StoreFault> {
+    match length_of(rt, path)? {
+        Some(_) => sync_file(rt, path),
+        None => Ok(()),
+    }
+}
+
+/// Makes the bytes of a segment stable that was found there.
+fn sync_segment<R: Runtime>(
+    rt: &R,
+    place: &Place,
+    found: &Listing,
+    number: u64,
+    location: Location,
+) -> Result<(), StoreFault> {
+    let path = place.segment(number, found.folder(number, location))?;
+    sync_file(rt, path.as_str())
+}
+
+/// Makes the names of all files in the folder stable that a read gives, and those of their folders.
 fn sync_folders<R: Runtime>(rt: &R, place: &Place, found: &Listing) -> Result<(), StoreFault> {
     for folder in &found.folders {
-        sync_path(rt, place.folder(*folder)?.as_str())?;
+        let path = place.folder(*folder)?;
+        sync_folder(rt, path.as_str())?;
     }
-    sync_if_there(rt, place.data()?.as_str())?;
-    sync_path(rt, place.path())?;
-    sync_path(rt, place.parent()?.as_str())
+    let data = place.data()?;
+    sync_folder_unless(rt, data.as_str(), ErrorKind::NotFound)?;
+    sync_folder(rt, place.path())
 }

@@ -6,8 +6,6 @@
 
 mod cutter;
 mod laws;
-#[cfg(test)]
-mod tests;
 
 pub use cutter::{Cutter, LEAST_BLOCK, MOST_BLOCK};
 pub use laws::cut_laws;

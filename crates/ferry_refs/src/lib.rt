@@ -7,8 +7,6 @@
 mod archive;
 mod counts;
 mod laws;
-#[cfg(test)]
-mod tests;
 
 pub use counts::Counts;
 pub use laws::refs_laws;

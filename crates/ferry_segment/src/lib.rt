@@ -11,8 +11,6 @@ mod head;
 mod laws;
 mod remainders;
 mod segment;
-#[cfg(test)]
-mod tests;
 
 pub use crc::{crc32, crc32_more};
 pub use entry::{Entry, EntryFault, delete_entry, put_head, read_entry};

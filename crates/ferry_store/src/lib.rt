@@ -20,6 +20,3 @@ pub use fault::StoreRefusal;
 pub use key::make_key;
 pub use laws::{keeps_laws, live_laws, store_laws};
 pub use store::Store;
-
-#[cfg(test)]
-mod tests;

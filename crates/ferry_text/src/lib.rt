@@ -8,8 +8,6 @@
 mod escape;
 mod fields;
 mod laws;
-#[cfg(test)]
-mod tests;
 
 pub use escape::write_text;
 pub use fields::{write_id, write_number};

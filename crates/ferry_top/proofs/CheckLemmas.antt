@@ -12,8 +12,8 @@ use Rattle.ferry_view.specs.Output.{view_failed}
 use Rattle.ferry_view.specs.declared.fault.ViewFault.{ViewFault}
 use Rattle.ferry_view.specs.declared.fault.ViewFault.TheVariants as View
 use Rattle.ferry_top.specs.Check.{IsChecked, Checks, report_line}
-use Rattle.ferry_top.specs.Devices.{Written}
-use Rattle.ferry_top.specs.Status.{output_status}
+use Rattle.ferry_status.specs.Devices.{Written}
+use Rattle.ferry_status.specs.Status.{output_status}
 
 pub is_checked : (source later : Option Told) (secret : Secret) (repo : RepoState) (report : Report) → heard later ≡ heard source
     → IfSome source (λ t. OpensFilesTo (told_files t) secret repo) → IfSome later (λ t. IsReport (told_files t) repo report) → Counts repo report

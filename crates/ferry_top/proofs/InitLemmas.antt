@@ -37,8 +37,8 @@ use Rattle.ferry_store.specs.declared.fault.StoreRefusal.{StoreRefusal}
 use Rattle.ferry_store.specs.declared.fault.StoreRefusal.TheVariants as Store
 use Rattle.ferry_store.specs.declared.store.Store.{Store as StoreValue}
 use Rattle.ferry_top.specs.Init.{CommandEach, InitTells, IsFault, IsReady, IsRefused, RefusesTelling, initialized_line}
-use Rattle.ferry_top.specs.Status.{store_status, target_status}
-use Rattle.ferry_top.specs.declared.status.Status.{Status}
+use Rattle.ferry_status.specs.Status.{store_status, target_status}
+use Rattle.ferry_status.specs.declared.status.Status.{Status}
 use Rattle.ferry_write.proofs.LawLemmas.{beside_blobs, beside_traced}
 use Rattle.ferry_write.specs.Script.{AllDone}
 use Rattle.ferry_write.specs.Session.{BeginBySettle, SettlesFirst}

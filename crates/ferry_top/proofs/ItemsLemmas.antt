@@ -14,13 +14,13 @@ use Rattle.ferry_repo.specs.declared.secret.Secret.{Secret}
 use Rattle.ferry_view.specs.Output.{ShowsAll, ShowsSome, view_failed}
 use Rattle.ferry_view.specs.declared.fault.ViewFault.{ViewFault}
 use Rattle.ferry_view.specs.declared.fault.ViewFault.TheVariants as View
-use Rattle.ferry_top.specs.Devices.{Written}
+use Rattle.ferry_status.specs.Devices.{Written}
 use Rattle.ferry_top.specs.Items.{OpensWith, RefusesShowing}
-use Rattle.ferry_top.specs.Run.{HasBegun, PrintsAsRead}
-use Rattle.ferry_top.specs.Status.{view_status}
-use Rattle.ferry_top.specs.declared.status.Refusal.{Refusal}
-use Rattle.ferry_top.specs.declared.status.Refusal.TheVariants as TheRefusal
-use Rattle.ferry_top.specs.declared.status.Status.TheVariants as TheStatus
+use Rattle.ferry_status.specs.Output.{HasBegun, PrintsAsRead}
+use Rattle.ferry_status.specs.Status.{view_status}
+use Rattle.ferry_status.specs.declared.status.Refusal.{Refusal}
+use Rattle.ferry_status.specs.declared.status.Refusal.TheVariants as TheRefusal
+use Rattle.ferry_status.specs.declared.status.Status.TheVariants as TheStatus
 
 -- what is true of the files and of the repository that they opened to, where a later call told it
 pub opens_with : (source later : Option Told) (secret : Secret) (repo : RepoState) (Holds : Files → RepoState → Type 0)

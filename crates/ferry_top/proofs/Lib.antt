@@ -1,4 +1,3 @@
-pub mod StatusLemmas
 pub mod KeysLemmas
 pub mod ListLemmas
 pub mod ItemsLemmas

@@ -4,10 +4,10 @@ use Rattle.std.specs.List.{AllByRecursion}
 use Rattle.ferry_base.specs.Limits.{zero_id}
 use Rattle.ferry_blob.specs.Blob.{content_id}
 use Rattle.ferry_carry.proofs.CutLemmas.{among_one}
-use Rattle.ferry_carry.proofs.WholeLemmas.{all_among, among_all, among_front, each_to}
-use Rattle.ferry_carry.specs.Gather.{IsAmong, NoCollision}
+use Rattle.ferry_piece.proofs.AmongLemmas.{all_among, among_all, among_front, each_to}
+use Rattle.ferry_piece.specs.Gather.{IsAmong, NoCollision}
 use Rattle.ferry_carry.specs.Grow.{IsNamedBy, KeepsNames}
-use Rattle.ferry_carry.specs.Puts.{Addition, contents_in}
+use Rattle.ferry_piece.specs.Puts.{Addition, contents_in}
 use Rattle.ferry_disk.specs.Act.{History}
 use Rattle.ferry_disk.specs.Files.{Files}
 use Rattle.ferry_disk.specs.Image.{ImageOf}

@@ -1,31 +1,32 @@
 -- Lemmas on specs/Run.antt: which statuses a command ends with, and what they say of devices that it doesn't use.
 use Rattle.std.proofs.Common.{◌≡◌, ◌⊎◌, inl, inr, ℕ, true, false, List, Option, Some, None, Result, Ok, Err, IfSome, refl, sym, subst}
-use Rattle.ferry_carry.specs.declared.fault.CarryFault.TheVariants as CarryFault
+use Rattle.ferry_piece.specs.declared.fault.CarryFault.TheVariants as CarryFault
 use Rattle.ferry_disk.proofs.MomentLemmas.{between_map}
 use Rattle.ferry_disk.specs.Device.{Told, Rose}
 use Rattle.ferry_disk.specs.Files.{Files}
 use Rattle.ferry_disk.specs.Moments.{Between}
 use Rattle.ferry_repo.specs.declared.secret.Secret.{Secret}
 use Rattle.ferry_top.proofs.InitLemmas.{each_command}
-use Rattle.ferry_top.proofs.StatusLemmas.{IsOfStore, of_store}
+use Rattle.ferry_status.proofs.StatusLemmas.{IsOfStore, of_store}
 use Rattle.ferry_top.proofs.TransferCauseLemmas.{ends_done, left_of, memory_refused}
 use Rattle.ferry_top.proofs.TransferLemmas.{each_untouched}
 use Rattle.ferry_top.specs.Check.{Checks}
-use Rattle.ferry_top.specs.Devices.{Devices, HasCauses, Written}
+use Rattle.ferry_status.specs.Devices.{Devices, HasCauses, Written}
 use Rattle.ferry_store.proofs.StoreLemmas.{each_here}
 use Rattle.ferry_store.specs.Store.{RefusesInit}
 use Rattle.ferry_store.specs.declared.fault.StoreRefusal.TheVariants as Store
 use Rattle.ferry_top.specs.Init.{CommandEach, IsRefused, time_or}
 use Rattle.ferry_top.specs.MakeKey.{PrintsKey}
-use Rattle.ferry_top.specs.Run.{DoesCommand, Prints, PrintsAsRead, Reports, Runs}
-use Rattle.ferry_top.specs.Status.{source_failed, target_failed, entropy_failed, output_failed}
+use Rattle.ferry_top.specs.Run.{DoesCommand, Runs}
+use Rattle.ferry_status.specs.Output.{Prints, PrintsAsRead, Reports}
+use Rattle.ferry_status.specs.Status.{source_failed, target_failed, entropy_failed, output_failed}
 use Rattle.ferry_top.specs.Transfer.{Request, TransferEach, TransferLeaves, asked}
 use Rattle.ferry_top.specs.TransferCauses.{IsRefusedSo}
-use Rattle.ferry_top.specs.declared.status.Refusal.{Refusal}
-use Rattle.ferry_top.specs.declared.status.Secrets.{Secrets}
-use Rattle.ferry_top.specs.declared.status.Status.{Status}
-use Rattle.ferry_top.specs.declared.status.Status.TheVariants.{Done, No, Usage, Memory, SourceDevice, TargetDevice, EntropyDevice, OutputDevice}
-use Rattle.ferry_top.specs.declared.status.Status.TheVariants.{SourceRefused, TargetRefused, Taken, NotFound, Limit}
+use Rattle.ferry_status.specs.declared.status.Refusal.{Refusal}
+use Rattle.ferry_status.specs.declared.status.Secrets.{Secrets}
+use Rattle.ferry_status.specs.declared.status.Status.{Status}
+use Rattle.ferry_status.specs.declared.status.Status.TheVariants.{Done, No, Usage, Memory, SourceDevice, TargetDevice, EntropyDevice, OutputDevice}
+use Rattle.ferry_status.specs.declared.status.Status.TheVariants.{SourceRefused, TargetRefused, Taken, NotFound, Limit}
 use Rattle.ferry_words.specs.declared.command.Command.{Command}
 use Rattle.ferry_words.specs.declared.command.Command.TheVariants.{Keys, Key, List as ListArchives, ListItems, Extract, Check, Init, MakeKey, Transfer}
 

@@ -2,16 +2,16 @@
 use Rattle.std.proofs.Common.{◌≡◌, ℕ, suc, ◌+◌, Bool, true, false, List, [], ◌∷◌, ◌++◌, length, Option, Some, Ok, Err, refl, arith, sym, ◌∙◌}
 use Rattle.std.proofs.Common.{ap, subst, append_assoc, IfSome}
 use Rattle.std.proofs.lemmas.List.{append-nil, length-append, nil_from_length}
-use Rattle.ferry_carry.proofs.WorkLemmas.{between_known}
+use Rattle.ferry_piece.proofs.WorkLemmas.{between_known}
 use Rattle.ferry_carry.specs.Carrying.{Origin, origin}
-use Rattle.ferry_carry.specs.Fault.{IsOfWork}
+use Rattle.ferry_piece.specs.Fault.{IsOfWork}
 use Rattle.ferry_carry.specs.Flight.{IsSettled}
 use Rattle.ferry_carry.specs.Grow.{StandsOn}
 use Rattle.ferry_carry.specs.Listing.{BeginsNames}
-use Rattle.ferry_carry.specs.Puts.{Addition}
+use Rattle.ferry_piece.specs.Puts.{Addition}
 use Rattle.ferry_carry.specs.Lines.{name_line, told_of, total_line}
 use Rattle.ferry_carry.specs.Telling.{AreLines, IsReport, IsTotal, KeepsReported, StopsBehind, TellsNames}
-use Rattle.ferry_carry.specs.declared.fault.CarryFault.{CarryFault}
+use Rattle.ferry_piece.specs.declared.fault.CarryFault.{CarryFault}
 use Rattle.ferry_carry.specs.declared.options.Carried.{Carried}
 use Rattle.ferry_carry.specs.declared.options.Options.{Options}
 use Rattle.ferry_disk.proofs.MomentLemmas.{between_both, between_map, between_then}
@@ -32,13 +32,13 @@ use Rattle.ferry_store.specs.Store.{OpenEach, OpenFits}
 use Rattle.ferry_store.specs.declared.fault.StoreRefusal.{StoreRefusal}
 use Rattle.ferry_store.specs.declared.store.Store.{Store}
 use Rattle.ferry_top.proofs.LeftLemmas.{now_left}
-use Rattle.ferry_top.proofs.StatusLemmas.{entropy_of_carry, source_of_carry, target_of_carry}
+use Rattle.ferry_status.proofs.StatusLemmas.{entropy_of_carry, source_of_carry, target_of_carry}
 use Rattle.ferry_top.proofs.TransferLemmas.{entries_of_files, shown_keeps, shown_none, stands_opened, untold_yet}
-use Rattle.ferry_top.specs.Status.{carry_status, entropy_failed, is_of_work, source_failed, target_failed}
+use Rattle.ferry_status.specs.Status.{carry_status, entropy_failed, is_of_work, source_failed, target_failed}
 use Rattle.ferry_top.specs.Transfer.{KeepsArchives, LeavesTold, Request, TransferEach, asked, chosen_of}
-use Rattle.ferry_top.specs.declared.status.Secrets.{Secrets}
-use Rattle.ferry_top.specs.declared.status.Status.{Status}
-use Rattle.ferry_top.specs.declared.status.Status.TheVariants as Statuses
+use Rattle.ferry_status.specs.declared.status.Secrets.{Secrets}
+use Rattle.ferry_status.specs.declared.status.Status.{Status}
+use Rattle.ferry_status.specs.declared.status.Status.TheVariants as Statuses
 use Rattle.ferry_write.specs.Script.{AllDone}
 
 -- ---- the status of a refusal

@@ -5,19 +5,20 @@ use Rattle.ferry_base.specs.Limits.{zero_id}
 use Rattle.ferry_blob.proofs.BlobLemmas.{opens_no_fault}
 use Rattle.ferry_blob.specs.Blob.{OpensTo}
 use Rattle.ferry_blob.specs.declared.fault.BlobFault.{BlobFault}
-use Rattle.ferry_carry.proofs.WholeLemmas.{among_next, whole_kept}
+use Rattle.ferry_carry.proofs.WholeLemmas.{whole_kept}
+use Rattle.ferry_piece.proofs.AmongLemmas.{among_next}
 use Rattle.ferry_carry.specs.Accepting.{AreNextOf, LimitsNames}
-use Rattle.ferry_carry.specs.Adding.{IsOfLast}
+use Rattle.ferry_piece.specs.Adding.{IsOfLast}
 use Rattle.ferry_carry.specs.Carrying.{SaysIn, origin}
 use Rattle.ferry_carry.specs.Chosen.{IsMissingName}
-use Rattle.ferry_carry.specs.Fault.{source_fault, target_fault}
-use Rattle.ferry_carry.specs.Gather.{IsAmong}
+use Rattle.ferry_piece.specs.Fault.{source_fault, target_fault}
+use Rattle.ferry_piece.specs.Gather.{IsAmong}
 use Rattle.ferry_carry.specs.Listing.{BeginsNames}
-use Rattle.ferry_carry.specs.Puts.{Addition}
+use Rattle.ferry_piece.specs.Puts.{Addition}
 use Rattle.ferry_carry.specs.Refusals.{HasLargeRecord, HasLongItem, RefusesBehind, RefusesName, RefusesNames, is_of_telling}
 use Rattle.ferry_carry.specs.Telling.{AreLines, BeginsAll, TellsNames}
-use Rattle.ferry_carry.specs.declared.fault.CarryFault.{CarryFault}
-use Rattle.ferry_carry.specs.declared.fault.CarryFault.TheVariants as Carry
+use Rattle.ferry_piece.specs.declared.fault.CarryFault.{CarryFault}
+use Rattle.ferry_piece.specs.declared.fault.CarryFault.TheVariants as Carry
 use Rattle.ferry_carry.specs.declared.options.Options.{Options}
 use Rattle.ferry_disk.specs.Act.{History, files_now}
 use Rattle.ferry_disk.specs.Device.{Told, told_files}
@@ -54,13 +55,13 @@ use Rattle.ferry_top.proofs.LeftLemmas.{now_left}
 use Rattle.ferry_top.proofs.RerunLemmas.{chosen_again, number_again}
 use Rattle.ferry_top.proofs.TransferLemmas.{untold_yet}
 use Rattle.ferry_top.specs.Rerun.{EachChosen, HasNumber, IsAbsentOrEqual, KeepsNonce, LacksName}
-use Rattle.ferry_top.specs.Status.{carry_status, repo_status, store_status, target_status}
+use Rattle.ferry_status.specs.Status.{carry_status, repo_status, store_status, target_status}
 use Rattle.ferry_top.specs.Transfer.{KeepsArchives, NoneCollide, Request, TransferEach, TransferLeaves, asked, chosen_of, from_source}
 use Rattle.ferry_top.specs.TransferCauses.{EndsDone, HasLargeTarget, IsDoneUnless, IsFirstMissing, IsOfAdded, IsOfChosen, IsReadyFor, IsRefusedSo, IsTaken}
 use Rattle.ferry_top.specs.TransferCauses.{RefusesAsked, RefusesSource, RefusesTransfer, StopsWriting, WhereRead}
-use Rattle.ferry_top.specs.declared.status.Secrets.{Secrets}
-use Rattle.ferry_top.specs.declared.status.Status.{Status}
-use Rattle.ferry_top.specs.declared.status.Status.TheVariants as Statuses
+use Rattle.ferry_status.specs.declared.status.Secrets.{Secrets}
+use Rattle.ferry_status.specs.declared.status.Status.{Status}
+use Rattle.ferry_status.specs.declared.status.Status.TheVariants as Statuses
 use Rattle.ferry_write.proofs.LawLemmas.{fits_now}
 use Rattle.ferry_write.specs.Room.{behind}
 use Rattle.ferry_write.specs.declared.fault.WriteFault.TheVariants as Writes

@@ -4,23 +4,24 @@ use Rattle.std.proofs.Common.{Err, is_some, ◌-◌, ◌^◌, length, min, unwra
 use Rattle.std.proofs.lemmas.List.{append-nil}
 use Rattle.std.specs.List.{AllByRecursion}
 use Rattle.ferry_blob.specs.Blob.{OpensTo as OpensBlob}
-use Rattle.ferry_carry.proofs.PutsLemmas.{adds_at, allows_settled, first_at, first_none, shown_none as none_pending_shown}
+use Rattle.ferry_piece.proofs.PutsLemmas.{adds_at, allows_settled, first_at, first_none, shown_none as none_pending_shown}
 use Rattle.ferry_carry.proofs.LinesLemmas.{report_none, whole_report}
 use Rattle.ferry_carry.proofs.MomentLemmas.{untold_moments}
-use Rattle.ferry_carry.proofs.WholeLemmas.{each_to, whole_kept}
-use Rattle.ferry_carry.proofs.WorkLemmas.{between_known, works_both, works_err, works_nothing, works_ok, works_then}
+use Rattle.ferry_carry.proofs.WholeLemmas.{whole_kept}
+use Rattle.ferry_piece.proofs.AmongLemmas.{each_to}
+use Rattle.ferry_piece.proofs.WorkLemmas.{between_known, works_both, works_err, works_nothing, works_ok, works_then}
 use Rattle.ferry_carry.specs.Listing.{BeginsName, BeginsNames, IsThere, ListsNames}
 use Rattle.ferry_carry.specs.declared.options.Carried.{Carried}
 use Rattle.ferry_carry.specs.Carrying.{AreCut, CarriesOver, IsApart, IsCarried, Origin, origin}
-use Rattle.ferry_carry.specs.Gather.{BringsOpening, HoldsWithin, NoCollision}
+use Rattle.ferry_piece.specs.Gather.{BringsOpening, HoldsWithin, NoCollision}
 use Rattle.ferry_carry.specs.Grow.{Grown, IsNamedBy, KeepsChunks, KeepsNames, StandsOn}
-use Rattle.ferry_carry.specs.Puts.{Addition, AddsAll, AddsFirst, AtBegin, Border, GoesOn, Within, border_behind}
+use Rattle.ferry_piece.specs.Puts.{Addition, AddsAll, AddsFirst, AtBegin, Border, GoesOn, Within, border_behind}
 use Rattle.ferry_carry.specs.Telling.{BeginsAll, CarriesNames, IsReport, IsReported, KeepsReported, ReportsWhole, ShowsReport, TellsWhole}
 use Rattle.ferry_carry.specs.Lines.{total_line}
-use Rattle.ferry_carry.specs.Work.{Works}
-use Rattle.ferry_carry.specs.declared.fault.CarryFault.{CarryFault}
+use Rattle.ferry_piece.specs.Work.{Works}
+use Rattle.ferry_piece.specs.declared.fault.CarryFault.{CarryFault}
 use Rattle.ferry_carry.specs.Flight.{IsSettled}
-use Rattle.ferry_carry.specs.Fault.{target_failed as depot_failed, target_fault}
+use Rattle.ferry_piece.specs.Fault.{target_failed as depot_failed, target_fault}
 use Rattle.ferry_carry.specs.declared.options.Options.{Options}
 use Rattle.ferry_disk.proofs.ImageLemmas.{plain_read}
 use Rattle.ferry_disk.proofs.MomentLemmas.{between_map}
@@ -62,7 +63,7 @@ use Rattle.ferry_store.specs.declared.store.Store.{Store}
 use Rattle.ferry_top.specs.Transfer.{AddsAllBehind, AddsBehind, AreCutThere, Arrives, BeginsChosen, BringsWhatOpens, IsBegun, IsChosen, IsChosenFront}
 use Rattle.ferry_top.specs.Transfer.{KeepsArchives, ListsChosen, NoneCollide, Request, TransferEach, TransferEnds, TransferShows, asked, chosen_of}
 use Rattle.ferry_top.specs.Transfer.{from_source}
-use Rattle.ferry_top.specs.declared.status.Secrets.{Secrets}
+use Rattle.ferry_status.specs.declared.status.Secrets.{Secrets}
 use Rattle.ferry_write.proofs.LawLemmas.{fits_now}
 use Rattle.ferry_write.specs.Room.{behind}
 use Rattle.ferry_write.specs.Script.{AllDone}

@@ -3,8 +3,8 @@ use Rattle.std.proofs.Common.{◌≡◌, ◌≢◌, ◌⊎◌, inl, inr, ℕ, Li
 use Rattle.std.specs.List.{AllByRecursion}
 use Rattle.ferry_base.specs.Limits.{zero_id}
 use Rattle.ferry_blob.specs.Blob.{OpensTo}
-use Rattle.ferry_carry.proofs.WholeLemmas.{among_all}
-use Rattle.ferry_carry.specs.Gather.{IsAmong}
+use Rattle.ferry_piece.proofs.AmongLemmas.{among_all}
+use Rattle.ferry_piece.specs.Gather.{IsAmong}
 use Rattle.ferry_check.specs.Verify.{AllOpen, FilesVerify, IsNamed, Opens, ReadsWhole, Verifies}
 use Rattle.ferry_disk.specs.Files.{Files, segment_bytes}
 use Rattle.ferry_log.proofs.FitsLemmas.{place_of_blob}

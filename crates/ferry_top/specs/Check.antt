@@ -9,10 +9,10 @@ use Rattle.ferry_repo.specs.Opening.{RepoState, OpensFilesTo}
 use Rattle.ferry_repo.specs.Reason.{reason}
 use Rattle.ferry_repo.specs.declared.fault.RepoFault.{RepoFault}
 use Rattle.ferry_repo.specs.declared.secret.Secret.{Secret}
-use Rattle.ferry_top.specs.Devices.{Written}
+use Rattle.ferry_status.specs.Devices.{Written}
 use Rattle.ferry_top.specs.List.{RefusesOpening}
-use Rattle.ferry_top.specs.declared.status.Status.{Status}
-use Rattle.ferry_top.specs.declared.status.Status.TheVariants.{Done, No, Memory, SourceDevice, OutputDevice, SourceRefused}
+use Rattle.ferry_status.specs.declared.status.Status.{Status}
+use Rattle.ferry_status.specs.declared.status.Status.TheVariants.{Done, No, Memory, SourceDevice, OutputDevice, SourceRefused}
 
 -- the line of a repository that verifies: how many archives and live chunks it has, how many of these no archive uses, and how many
 -- archives have an untagged record

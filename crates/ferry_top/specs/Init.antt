@@ -15,10 +15,10 @@ use Rattle.ferry_store.specs.Key.{RefusesGiven}
 use Rattle.ferry_store.specs.Store.{InitKeeps, InitLeaves, InitShows, MakesFiles, NumbersOn, RefusesInit}
 use Rattle.ferry_store.specs.declared.fault.StoreRefusal.{StoreRefusal}
 use Rattle.ferry_store.specs.declared.fault.StoreRefusal.TheVariants.{Repo, Write, Memory}
-use Rattle.ferry_top.specs.Devices.{Devices}
-use Rattle.ferry_top.specs.Status.{store_status, target_failed, entropy_failed}
-use Rattle.ferry_top.specs.declared.status.Status.{Status}
-use Rattle.ferry_top.specs.declared.status.Status.TheVariants.{Done, Memory as NoMemory}
+use Rattle.ferry_status.specs.Devices.{Devices}
+use Rattle.ferry_status.specs.Status.{store_status, target_failed, entropy_failed}
+use Rattle.ferry_status.specs.declared.status.Status.{Status}
+use Rattle.ferry_status.specs.declared.status.Status.TheVariants.{Done, Memory as NoMemory}
 use Rattle.ferry_write.specs.Session.{SettlesFirst}
 use Rattle.ferry_write.specs.declared.fault.WriteFault.TheVariants as Writes
 

@@ -5,8 +5,8 @@ use Rattle.ferry_repo.specs.Archives.{archive_named}
 use Rattle.ferry_repo.specs.Fault.{IsOfFiles}
 use Rattle.ferry_repo.specs.Opening.{RepoState, OpensFilesTo, RefusesRepo}
 use Rattle.ferry_repo.specs.declared.secret.Secret.{Secret}
-use Rattle.ferry_top.specs.declared.status.Refusal.{Refusal}
-use Rattle.ferry_top.specs.declared.status.Refusal.TheVariants.{Repo}
+use Rattle.ferry_status.specs.declared.status.Refusal.{Refusal}
+use Rattle.ferry_status.specs.declared.status.Refusal.TheVariants.{Repo}
 use Rattle.ferry_view.specs.Items.{IsItemListing, IsItemText, IsFile, IsFileText, LacksFile}
 use Rattle.ferry_view.specs.declared.fault.ViewFault.{ViewFault}
 use Rattle.ferry_view.specs.declared.fault.ViewFault.TheVariants as View

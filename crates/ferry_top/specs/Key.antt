@@ -6,8 +6,8 @@ use Rattle.ferry_repo.specs.Fault.{IsOfFiles}
 use Rattle.ferry_repo.specs.Opening.{UnlocksTo, RefusesKey}
 use Rattle.ferry_repo.specs.declared.secret.Secret.{Secret}
 use Rattle.ferry_top.specs.Keys.{key_line}
-use Rattle.ferry_top.specs.declared.status.Refusal.{Refusal}
-use Rattle.ferry_top.specs.declared.status.Refusal.TheVariants.{Repo}
+use Rattle.ferry_status.specs.declared.status.Refusal.{Refusal}
+use Rattle.ferry_status.specs.declared.status.Refusal.TheVariants.{Repo}
 
 -- The text is the line of the key in a file `config` that the secret opens: its repository id in hex digits, a space, the
 -- iterations of its envelope, and a line feed.

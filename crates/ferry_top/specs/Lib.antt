@@ -1,5 +1,4 @@
 pub mod Check
-pub mod Devices
 pub mod Init
 pub mod Key
 pub mod Keys
@@ -7,7 +6,6 @@ pub mod List
 pub mod MakeKey
 pub mod Items
 pub mod Run
-pub mod Status
 pub mod Words
 pub mod Transfer
 pub mod Rerun

@@ -4,8 +4,8 @@ use Rattle.ferry_disk.specs.Files.{Files}
 use Rattle.ferry_repo.specs.Fault.{IsOfFiles}
 use Rattle.ferry_repo.specs.Opening.{RepoState, OpensFilesTo, RefusesRepo}
 use Rattle.ferry_repo.specs.declared.secret.Secret.{Secret}
-use Rattle.ferry_top.specs.declared.status.Refusal.{Refusal}
-use Rattle.ferry_top.specs.declared.status.Refusal.TheVariants.{Repo}
+use Rattle.ferry_status.specs.declared.status.Refusal.{Refusal}
+use Rattle.ferry_status.specs.declared.status.Refusal.TheVariants.{Repo}
 use Rattle.ferry_view.specs.Lines.{archive_lines}
 
 -- The files open under the secret, and the text has the line of each archive of their manifest, in byte order of names.

@@ -3,9 +3,9 @@ use Rattle.std.specs.Prelude.{◌≡◌, ◌⊎◌, ℕ, List, ◌++◌, Option,
 use Rattle.ferry_disk.specs.Device.{Rose, WritesSome}
 use Rattle.ferry_repo.specs.declared.secret.Secret.{Secret}
 use Rattle.ferry_store.specs.Key.{IsNewKeyFile}
-use Rattle.ferry_top.specs.Devices.{Devices, Written}
-use Rattle.ferry_top.specs.declared.status.Status.{Status}
-use Rattle.ferry_top.specs.declared.status.Status.TheVariants.{Done, Memory, EntropyDevice, OutputDevice}
+use Rattle.ferry_status.specs.Devices.{Devices, Written}
+use Rattle.ferry_status.specs.declared.status.Status.{Status}
+use Rattle.ferry_status.specs.declared.status.Status.TheVariants.{Done, Memory, EntropyDevice, OutputDevice}
 
 -- The text is that of a key file, made of the bytes that the source of random bytes has handed out meanwhile.
 pub record IsDrawnKey (passphrase : List ℕ) (iterations : ℕ) (before after : Option (List ℕ)) (text : List ℕ) : Type 0 where

@@ -1,6 +1,6 @@
 -- A transfer that is run again: what it asks of the archives of its target, and what the stops of earlier runs left.
 use Rattle.std.specs.Prelude.{◌≡◌, ◌⊎◌, ℕ, List, [], ◌∷◌, Option, Some, None, IfSome, IsSome}
-use Rattle.ferry_carry.specs.Gather.{IsAmong}
+use Rattle.ferry_piece.specs.Gather.{IsAmong}
 use Rattle.ferry_disk.specs.Files.{Files, file_at}
 use Rattle.ferry_disk.specs.declared.name.Name.TheVariants.{Nonce as NonceFile}
 use Rattle.ferry_manifest.specs.Manifest.Text.{ManifestText}

@@ -5,10 +5,10 @@ use Rattle.ferry_base.specs.Limits.{zero_id}
 use Rattle.ferry_blob.specs.Blob.{OpensTo, content_id}
 use Rattle.ferry_carry.specs.Carrying.{IsRecordText, Origin}
 use Rattle.ferry_carry.specs.Copied.{IsCopyOf}
-use Rattle.ferry_carry.specs.Gather.{HoldsWithin, IsAmong, NoCollision}
+use Rattle.ferry_piece.specs.Gather.{HoldsWithin, IsAmong, NoCollision}
 use Rattle.ferry_carry.specs.Grow.{IsNamedBy, KeepsNames}
 use Rattle.ferry_carry.specs.Listing.{BeginsNames, ListsNames}
-use Rattle.ferry_carry.specs.Puts.{Addition, AddsAll, AddsFirst, Within, contents_in}
+use Rattle.ferry_piece.specs.Puts.{Addition, AddsAll, AddsFirst, Within, contents_in}
 use Rattle.ferry_carry.specs.Telling.{AreLines, IsReport, TellsWhole}
 use Rattle.ferry_carry.specs.declared.options.Carried.{Carried}
 use Rattle.ferry_carry.specs.declared.options.Options.{Options}
@@ -27,7 +27,7 @@ use Rattle.ferry_stops.specs.Chance.{EachStop}
 use Rattle.ferry_stops.specs.Entries.{Shows}
 use Rattle.ferry_stops.specs.Tells.{lines_of}
 use Rattle.ferry_store.specs.Store.{InitKeeps, NumbersOn}
-use Rattle.ferry_top.specs.declared.status.Secrets.{Secrets}
+use Rattle.ferry_status.specs.declared.status.Secrets.{Secrets}
 use Rattle.ferry_write.specs.Session.{SettlesFirst}
 
 -- ---- what is asked for

@@ -3,14 +3,14 @@ use Rattle.std.specs.Prelude.{◌≡◌, ◌≢◌, ◌⊎◌, ◌++◌, ℕ, fa
 use Rattle.ferry_base.specs.Limits.{zero_id}
 use Rattle.ferry_blob.specs.Blob.{OpensTo, content_id}
 use Rattle.ferry_carry.specs.Chosen.{IsMissingName}
-use Rattle.ferry_carry.specs.Gather.{IsAmong}
+use Rattle.ferry_piece.specs.Gather.{IsAmong}
 use Rattle.ferry_carry.specs.Accepting.{LimitsNames}
 use Rattle.ferry_carry.specs.Listing.{BeginsNames}
-use Rattle.ferry_carry.specs.Puts.{Addition}
+use Rattle.ferry_piece.specs.Puts.{Addition}
 use Rattle.ferry_carry.specs.Refusals.{HasLargeRecord, HasLongItem, is_of_telling}
 use Rattle.ferry_carry.specs.Telling.{AreLines}
-use Rattle.ferry_carry.specs.declared.fault.CarryFault.{CarryFault}
-use Rattle.ferry_carry.specs.declared.fault.CarryFault.TheVariants as Carry
+use Rattle.ferry_piece.specs.declared.fault.CarryFault.{CarryFault}
+use Rattle.ferry_piece.specs.declared.fault.CarryFault.TheVariants as Carry
 use Rattle.ferry_disk.specs.Device.{Told, told_files}
 use Rattle.ferry_disk.specs.Files.{Files, file_at}
 use Rattle.ferry_disk.specs.declared.name.Name.TheVariants.{Nonce as NonceFile}
@@ -29,12 +29,12 @@ use Rattle.ferry_store.specs.Store.{RefusesOpen}
 use Rattle.ferry_store.specs.declared.fault.StoreRefusal.{StoreRefusal}
 use Rattle.ferry_store.specs.declared.fault.StoreRefusal.TheVariants as Store
 use Rattle.ferry_top.specs.Rerun.{IsAbsentOrEqual, LacksName}
-use Rattle.ferry_top.specs.Status.{carry_status}
+use Rattle.ferry_status.specs.Status.{carry_status}
 use Rattle.ferry_top.specs.Transfer.{KeepsArchives, NoneCollide, Request, chosen_of, from_source}
-use Rattle.ferry_top.specs.declared.status.Limit.{Limit}
-use Rattle.ferry_top.specs.declared.status.Limit.TheVariants as Limits
-use Rattle.ferry_top.specs.declared.status.Status.{Status}
-use Rattle.ferry_top.specs.declared.status.Status.TheVariants as Statuses
+use Rattle.ferry_status.specs.declared.status.Limit.{Limit}
+use Rattle.ferry_status.specs.declared.status.Limit.TheVariants as Limits
+use Rattle.ferry_status.specs.declared.status.Status.{Status}
+use Rattle.ferry_status.specs.declared.status.Status.TheVariants as Statuses
 use Rattle.ferry_write.specs.declared.fault.WriteFault.TheVariants as Writes
 
 -- ---- the source

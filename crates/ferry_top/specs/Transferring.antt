@@ -1,12 +1,12 @@
 -- What the command that copies archives does: the whole of what is claimed of it.
 use Rattle.std.specs.Prelude.{◌≡◌, ◌⊎◌, true}
 use Rattle.ferry_disk.specs.Moments.{Between}
-use Rattle.ferry_top.specs.Devices.{Devices}
-use Rattle.ferry_top.specs.Status.{is_of_work}
+use Rattle.ferry_status.specs.Devices.{Devices}
+use Rattle.ferry_status.specs.Status.{is_of_work}
 use Rattle.ferry_top.specs.Transfer.{LeavesTold, Request, TransferEach, TransferEnds, TransferLeaves}
 use Rattle.ferry_top.specs.TransferCauses.{EndsDone, IsRefusedSo}
-use Rattle.ferry_top.specs.declared.status.Status.{Status}
-use Rattle.ferry_top.specs.declared.status.Status.TheVariants.{Done}
+use Rattle.ferry_status.specs.declared.status.Status.{Status}
+use Rattle.ferry_status.specs.declared.status.Status.TheVariants.{Done}
 
 -- Archives are copied into the target. Where what is asked for is there, that is done, unless memory is refused, a device fails or a limit is met; where
 -- it isn't done, the refusal says why. Where it is done, all chosen archives are there and were told. However it ends, each archive that the target had

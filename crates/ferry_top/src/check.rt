@@ -2,21 +2,20 @@
 ghost use Rattle.std.specs.Prelude.{◌≡◌, IfOk, string_bytes};
 ghost use Rattle.ferry_disk.specs.Device.{KeptWhere, RoseWhere, heard};
 ghost use Rattle.ferry_top.specs.Check.{bad_line, good_line, report_line};
-ghost use Rattle.ferry_top.specs.Devices.{written};
+ghost use Rattle.ferry_status.specs.Devices.{written};
 ghost use Rattle.ferry_top.specs.Run.{Shows};
-ghost use Rattle.ferry_top.specs.Status.{source_failed};
+ghost use Rattle.ferry_status.specs.Status.{source_failed};
 ghost use Rattle.ferry_words.specs.declared.command.Command.TheVariants as TheCommand;
 
-use crate::report::append_reason;
-use crate::status::{Status, of_output, of_repo};
 use ferry_check::Report;
 use ferry_disk::{Shelf, Sink};
 use ferry_repo::{Repo, RepoFault, Secret};
+use ferry_status::{Status, append_reason, of_output, of_repo};
 use ferry_view::send;
 use std::alloc::{AllocError, Global};
 
 /// Opens the source with a secret, opens every live chunk and reads every archive, and prints what was found.
-#[tactic(auto, using(crate::proofs::StatusLemmas::causes))]
+#[tactic(auto, using(ferry_status::proofs::StatusLemmas::causes))]
 pub(crate) fn check<S: Shelf, K: Sink>(
     alloc: Global,
     secret: &Secret,

@@ -8,13 +8,13 @@ ghost use Rattle.ferry_store.specs.Fault.{source_failed};
 ghost use Rattle.ferry_store.specs.State.{Did, IsStep};
 ghost use Rattle.ferry_store.specs.Store.{RefusesInit};
 ghost use Rattle.ferry_top.specs.Init.{CommandEach, InitTells, IsRefused, RefusesTelling, initialized_line, time_or};
-ghost use Rattle.ferry_top.specs.Status.{entropy_failed, target_failed};
-ghost use Rattle.ferry_top.specs.declared.status.Status.TheVariants as TheStatus;
+ghost use Rattle.ferry_status.specs.Status.{entropy_failed, target_failed};
+ghost use Rattle.ferry_status.specs.declared.status.Status.TheVariants as TheStatus;
 
-use crate::status::{Status, of_store};
 use ferry_base::{Bytes, Id};
 use ferry_disk::{Depot, Entropy};
 use ferry_repo::{Secret, unlock};
+use ferry_status::{Status, of_store};
 use ferry_store::{Store, StoreRefusal};
 use ferry_text::write_id;
 use std::alloc::{AllocError, Global};
@@ -23,7 +23,7 @@ use std::alloc::{AllocError, Global};
 const NO_TIME: &[u8] = b"1970-01-01T00:00:00.000000";
 
 /// Makes a repository in the target, and tells its id.
-#[tactic(auto, using(crate::proofs::StatusLemmas::causes))]
+#[tactic(auto, using(ferry_status::proofs::StatusLemmas::causes))]
 pub(crate) fn init<D: Depot, E: Entropy>(
     alloc: Global,
     secret: &Secret,

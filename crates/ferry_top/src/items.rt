@@ -1,18 +1,18 @@
 //! The commands that show an archive: its items, or the content of a file.
 ghost use Rattle.ferry_disk.specs.Device.{KeptWhere, RoseWhere, heard};
-ghost use Rattle.ferry_top.specs.Devices.{written};
+ghost use Rattle.ferry_status.specs.Devices.{written};
 ghost use Rattle.ferry_top.specs.Run.{Shows};
-ghost use Rattle.ferry_top.specs.Status.{source_failed};
+ghost use Rattle.ferry_status.specs.Status.{source_failed};
 ghost use Rattle.ferry_words.specs.declared.command.Command.TheVariants as TheCommand;
 
-use crate::status::{Status, of_repo, of_view};
 use ferry_base::Bytes;
 use ferry_disk::{Shelf, Sink};
 use ferry_repo::{Repo, Secret};
+use ferry_status::{Status, of_repo, of_view};
 use std::alloc::Global;
 
 /// Opens the source with a secret and lists the items of the archive of a name.
-#[tactic(auto, using(crate::proofs::StatusLemmas::causes))]
+#[tactic(auto, using(ferry_status::proofs::StatusLemmas::causes))]
 pub(crate) fn list_items<S: Shelf, K: Sink>(
     alloc: Global,
     secret: &Secret,
@@ -36,7 +36,7 @@ pub(crate) fn list_items<S: Shelf, K: Sink>(
 }
 
 /// Opens the source with a secret and writes the content of a path of the archive of a name.
-#[tactic(auto, using(crate::proofs::StatusLemmas::causes))]
+#[tactic(auto, using(ferry_status::proofs::StatusLemmas::causes))]
 pub(crate) fn extract<S: Shelf, K: Sink>(
     alloc: Global,
     secret: &Secret,

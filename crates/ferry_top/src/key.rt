@@ -3,21 +3,21 @@ ghost use Rattle.std.specs.Prelude.{◌≡◌, IfOk};
 ghost use Rattle.ferry_disk.specs.Device.{KeptWhere, RoseWhere, heard};
 ghost use Rattle.ferry_disk.specs.declared.name.Name.TheVariants as FileName;
 ghost use Rattle.ferry_keyblob.specs.Opening.{key_view};
-ghost use Rattle.ferry_top.specs.Devices.{written};
+ghost use Rattle.ferry_status.specs.Devices.{written};
 ghost use Rattle.ferry_top.specs.Keys.{key_line};
 ghost use Rattle.ferry_top.specs.Run.{Shows};
-ghost use Rattle.ferry_top.specs.Status.{source_failed};
+ghost use Rattle.ferry_status.specs.Status.{source_failed};
 ghost use Rattle.ferry_words.specs.declared.command.Command.TheVariants as TheCommand;
 
 use crate::lines::push_line;
-use crate::status::{Status, of_output, of_repo};
 use ferry_disk::{Shelf, Sink};
 use ferry_repo::{Secret, Unlocked, unlock};
+use ferry_status::{Status, of_output, of_repo};
 use ferry_view::send;
 use std::alloc::{AllocError, Global};
 
 /// Opens the source's key, in `config` or in the key file, with a secret, and prints its repository id and iterations.
-#[tactic(auto, using(crate::proofs::StatusLemmas::causes))]
+#[tactic(auto, using(ferry_status::proofs::StatusLemmas::causes))]
 pub(crate) fn key<S: Shelf, K: Sink>(
     alloc: Global,
     secret: &Secret,

@@ -2,24 +2,24 @@
 ghost use Rattle.std.specs.Prelude.{◌≡◌, ◌++◌, OnOk, OnErr, option_map};
 ghost use Rattle.std.specs.FinMap.{entries, empty};
 ghost use Rattle.ferry_disk.specs.Device.{WritesSome, HasCause, KeptWhere, RoseWhere, heard};
-ghost use Rattle.ferry_top.specs.Devices.{written};
+ghost use Rattle.ferry_status.specs.Devices.{written};
 ghost use Rattle.ferry_top.specs.Keys.{key_lines};
 ghost use Rattle.ferry_top.specs.Run.{Shows};
-ghost use Rattle.ferry_top.specs.Status.{source_failed};
+ghost use Rattle.ferry_status.specs.Status.{source_failed};
 ghost use Rattle.ferry_words.specs.declared.command.Command.TheVariants as TheCommand;
 ghost use Rattle.ferry_view.specs.Output.{view_failed};
 
 use crate::lines::push_line;
-use crate::status::{Status, of_log, of_output};
 use ferry_base::Id;
 use ferry_disk::{Shelf, Sink};
 use ferry_log::{Log, open_log};
 use ferry_repo::Secret;
+use ferry_status::{Status, of_log, of_output};
 use ferry_view::{ViewFault, send, send_full};
 use std::alloc::Global;
 
 /// Lists the source's live keys, each with the size of its blob.
-#[tactic(auto, using(crate::proofs::StatusLemmas::causes))]
+#[tactic(auto, using(ferry_status::proofs::StatusLemmas::causes))]
 pub(crate) fn keys<S: Shelf, K: Sink>(
     alloc: Global,
     secret: &Secret,

@@ -3,8 +3,8 @@ ghost use Rattle.std.specs.Prelude.{◌≡◌, ◌≢◌, ◌↔◌, ◌∷◌, 
 ghost use Rattle.std.specs.List.{AllByRecursion};
 ghost use Rattle.ferry_base.specs.Limits.{zero_id};
 ghost use Rattle.ferry_blob.specs.Blob.{OpensTo, content_id};
-ghost use Rattle.ferry_carry.specs.Gather.{IsAmong, NoCollision};
-ghost use Rattle.ferry_carry.specs.Puts.{Addition, contents_in};
+ghost use Rattle.ferry_piece.specs.Gather.{IsAmong, NoCollision};
+ghost use Rattle.ferry_piece.specs.Puts.{Addition, contents_in};
 ghost use Rattle.ferry_check.specs.Verify.{FilesVerify};
 ghost use Rattle.ferry_disk.specs.Device.{Told, told_files};
 ghost use Rattle.ferry_disk.specs.Act.{History};
@@ -22,7 +22,7 @@ ghost use Rattle.ferry_top.specs.Init.{IsFault, IsReady, IsRefused};
 ghost use Rattle.ferry_top.specs.Rerun.{AreLeftInTurn, EachChosen, HasNumber, IsNamedOrChosen, KeepsNonce, LacksName, MeetsConditions};
 ghost use Rattle.ferry_top.specs.Transfer.{KeepsArchives, NoneCollide, Request, chosen_of};
 ghost use Rattle.ferry_top.specs.TransferCauses.{IsOfAdded, IsReadyFor};
-ghost use Rattle.ferry_top.specs.declared.status.Status.{Status as TheStatus};
+ghost use Rattle.ferry_status.specs.declared.status.Status.{Status as TheStatus};
 
 /// Where nothing is committed, the key file reads and opens where there is one, `nonce` has a number, and no limit is met, `init` is refused by
 /// nothing but want of memory and a device that failed.

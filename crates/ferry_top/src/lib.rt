@@ -13,20 +13,12 @@ mod laws;
 mod lines;
 mod list;
 mod make_key;
-mod report;
-mod status;
-#[cfg(test)]
-mod target_tests;
-#[cfg(test)]
-mod tests;
 mod top;
 mod transfer;
-#[cfg(test)]
-mod transfer_tests;
 mod words;
 
 pub use ferry_repo::{RepoFault, Secret};
+pub use ferry_status::{Limit, Refusal, Secrets, Status};
 pub use laws::{init_laws, transfer_laws};
-pub use status::{Limit, Refusal, Secrets, Status};
 pub use top::run;
 pub use words::places_fit;

@@ -1,17 +1,17 @@
 //! The command that lists the archives.
 ghost use Rattle.ferry_disk.specs.Device.{KeptWhere, RoseWhere, heard};
-ghost use Rattle.ferry_top.specs.Devices.{written};
+ghost use Rattle.ferry_status.specs.Devices.{written};
 ghost use Rattle.ferry_top.specs.Run.{Shows};
-ghost use Rattle.ferry_top.specs.Status.{source_failed};
+ghost use Rattle.ferry_status.specs.Status.{source_failed};
 ghost use Rattle.ferry_words.specs.declared.command.Command.TheVariants as TheCommand;
 
-use crate::status::{Status, of_output, of_repo};
 use ferry_disk::{Shelf, Sink};
 use ferry_repo::{Repo, Secret};
+use ferry_status::{Status, of_output, of_repo};
 use std::alloc::Global;
 
 /// Opens the source with a secret and lists its archives.
-#[tactic(auto, using(crate::proofs::StatusLemmas::causes))]
+#[tactic(auto, using(ferry_status::proofs::StatusLemmas::causes))]
 pub(crate) fn list<S: Shelf, K: Sink>(
     alloc: Global,
     secret: &Secret,

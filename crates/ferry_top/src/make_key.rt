@@ -1,18 +1,18 @@
 //! The command that makes a key.
 ghost use Rattle.std.specs.Prelude.{◌≤◌};
 ghost use Rattle.ferry_disk.specs.Device.{RoseWhere};
-ghost use Rattle.ferry_top.specs.Devices.{written};
+ghost use Rattle.ferry_status.specs.Devices.{written};
 ghost use Rattle.ferry_top.specs.MakeKey.{IsDrawnKey, PrintsKey};
-ghost use Rattle.ferry_top.specs.Status.{entropy_failed};
+ghost use Rattle.ferry_status.specs.Status.{entropy_failed};
 
-use crate::status::{Status, of_output, of_store};
 use ferry_disk::{Entropy, Sink};
 use ferry_repo::Secret;
+use ferry_status::{Status, of_output, of_store};
 use ferry_view::send;
 use std::alloc::Global;
 
 /// Makes a key, sealed with the secret's passphrase, and prints the text of its key file.
-#[tactic(auto, using(crate::proofs::StatusLemmas::causes))]
+#[tactic(auto, using(ferry_status::proofs::StatusLemmas::causes))]
 pub(crate) fn make_key<E: Entropy, K: Sink>(
     alloc: Global,
     secret: &Secret,

@@ -1,6 +1,6 @@
 //! The top call.
 ghost use Rattle.std.specs.Prelude.{◌≡◌, ◌⊎◌, ℕ, [], map, string_bytes, Ok, IfErr, IfSome, MatchResult};
-ghost use Rattle.ferry_top.specs.Devices.{HasCauses, devices, store, drawn, written};
+ghost use Rattle.ferry_status.specs.Devices.{HasCauses, devices, store, drawn, written};
 ghost use Rattle.ferry_top.specs.Run.{DoesCommand, Runs};
 ghost use Rattle.ferry_words.specs.Words.{IsInRange, command_of};
 
@@ -11,11 +11,10 @@ use crate::key::key;
 use crate::keys::keys;
 use crate::list::list;
 use crate::make_key::make_key;
-use crate::report::report;
-use crate::status::{Secrets, Status};
 use crate::transfer::transfer;
 use ferry_carry::Options;
 use ferry_disk::{Depot, Entropy, Shelf, Sink};
+use ferry_status::{Secrets, Status, report};
 use ferry_words::{Command, Usage, read_words};
 use std::alloc::Global;
 

@@ -1,28 +1,28 @@
 //! The command that copies archives.
 ghost use Rattle.std.specs.Prelude.{◌≡◌, ◌⊎◌, ℕ, List, [], false, true, map, slice_get, IfErr, IfOk, IfSome, Some};
 ghost use Rattle.ferry_carry.specs.Chosen.{IsMissingName};
-ghost use Rattle.ferry_carry.specs.Fault.{IsOfWork, random_failed, shelf_failed, target_failed as depot_failed};
+ghost use Rattle.ferry_piece.specs.Fault.{IsOfWork, random_failed, shelf_failed, target_failed as depot_failed};
 ghost use Rattle.ferry_carry.specs.Flight.{AreRight};
-ghost use Rattle.ferry_carry.specs.Work.{Works};
+ghost use Rattle.ferry_piece.specs.Work.{Works};
 ghost use Rattle.ferry_disk.specs.Device.{HasCause, KeepsTold, KeptWhere, RoseWhere, heard, told_files};
 ghost use Rattle.ferry_disk.specs.Faults.{FailedWhere};
 ghost use Rattle.ferry_disk.specs.Moments.{Between};
 ghost use Rattle.ferry_manifest.specs.declared.manifest.ArchiveRef.{ArchiveRef};
 ghost use Rattle.ferry_repo.specs.Opening.{FitsRepo, OpensFilesTo, cached_in, repo_view};
-ghost use Rattle.ferry_top.specs.Status.{entropy_failed, is_of_work, output_failed, source_failed, target_failed};
+ghost use Rattle.ferry_status.specs.Status.{entropy_failed, is_of_work, output_failed, source_failed, target_failed};
 ghost use Rattle.ferry_top.specs.Transfer.{LeavesTold, TransferEach, TransferEnds, TransferLeaves, asked, chosen_of};
 ghost use Rattle.ferry_top.specs.TransferCauses.{EndsDone, IsRefusedSo, RefusesAsked};
 
-use crate::status::{Secrets, Status, of_carry, of_repo};
 use ferry_base::Bytes;
 use ferry_carry::{CarryFault, Options, carry, missing_name};
 use ferry_disk::{Depot, Entropy, Shelf};
 use ferry_repo::Repo;
+use ferry_status::{Secrets, Status, of_carry, of_repo};
 use ferry_store::Store;
 use std::alloc::{AllocError, Global};
 
 /// Copies the chosen archives of the source into the target, all of them where no name is chosen.
-#[tactic(auto, using(crate::proofs::StatusLemmas::carried))]
+#[tactic(auto, using(ferry_status::proofs::StatusLemmas::carried))]
 pub(crate) fn transfer<S: Shelf, D: Depot, E: Entropy>(
     alloc: Global,
     secrets: &Secrets,
@@ -60,7 +60,7 @@ pub(crate) fn transfer<S: Shelf, D: Depot, E: Entropy>(
 }
 
 /// Opens the source, and copies.
-#[tactic(auto, using(ferry_carry::proofs::FaultLemmas::conversions))]
+#[tactic(auto, using(ferry_piece::proofs::FaultLemmas::conversions))]
 fn copy<S: Shelf, D: Depot, E: Entropy>(
     alloc: Global,
     secrets: &Secrets,
@@ -90,7 +90,7 @@ fn copy<S: Shelf, D: Depot, E: Entropy>(
 }
 
 /// Looks the names up in the opened source, opens the target, and copies the archives of these names, all of them where there is none.
-#[tactic(auto, using(ferry_carry::proofs::FaultLemmas::conversions))]
+#[tactic(auto, using(ferry_piece::proofs::FaultLemmas::conversions))]
 fn copy_into<S: Shelf, D: Depot, E: Entropy>(
     alloc: Global,
     repo: &mut Repo,

@@ -11,8 +11,6 @@ mod names;
 mod number;
 mod options;
 mod reading;
-#[cfg(test)]
-mod tests;
 mod usage;
 
 pub use command::Command;

@@ -1,6 +1,6 @@
 //! The reader.
 
-ghost use Rattle.std.specs.Prelude.{◌≡◌, ◌≢◌, ℕ, Ok, Err, IfOk, IfErr, map, string_bytes};
+ghost use Rattle.std.specs.Prelude.{◌≡◌, ◌≢◌, ℕ, Ok, Err, IfOk, IfErr, OnOk, map, string_bytes};
 ghost use Rattle.ferry_words.specs.Usage.{IsAnswer};
 ghost use Rattle.ferry_words.specs.Words as spec;
 ghost use Rattle.ferry_words.specs.Words.{IsInRange, command_of};
@@ -37,11 +37,11 @@ fn read_row(alloc: Global, words: &[String]) -> Result<Command, Usage>
         return Err(Usage::Word(1));
     };
     match name.as_str() {
-        "keys" => alone(behind, Command::Keys),
-        "key" => alone(behind, Command::Key),
+        "keys" => alone(behind).map(|()| Command::Keys),
+        "key" => alone(behind).map(|()| Command::Key),
         "list" => list(alloc, behind),
         "extract" => extract(alloc, behind),
-        "check" => alone(behind, Command::Check),
+        "check" => alone(behind).map(|()| Command::Check),
         "init" => init(alloc, behind),
         "make-key" => make_key(behind),
         "transfer" => transfer(alloc, behind),
@@ -49,14 +49,16 @@ fn read_row(alloc: Global, words: &[String]) -> Result<Command, Usage>
     }
 }
 
-/// The command, where it has no option and no operand.
+/// Nothing, where a command has neither an option nor an operand.
 #[tactic(auto, unfolding(crate::specs::Words::made, crate::specs::Words::first_unfit))]
-fn alone(behind: &[String], command: Command) -> Result<Command, Usage>
-    ensures answer { IsAnswer result (spec.meaning_of (spec.alone command) (map string_bytes behind.now)) }
+fn alone(behind: &[String]) -> Result<(), Usage>
+    ensures fits { OnOk result ((command : Command) → spec.meaning_of (spec.alone command) (map string_bytes behind.now) ≡ Ok command) }
+    ensures wrong { IfErr result (λ usage. (command : Command)
+        → IsAnswer (Err usage) (spec.meaning_of (spec.alone command) (map string_bytes behind.now))) }
 {
     let parts = parts_of(Options::None, behind)?;
     match parts.operands {
-        [] => Ok(command),
+        [] => Ok(()),
         [_, ..] => Err(Usage::Word(parts.first)),
     }
 }

@@ -9,8 +9,6 @@ mod laws;
 mod room;
 mod script;
 mod session;
-#[cfg(test)]
-mod tests;
 
 pub use fault::WriteFault;
 pub use laws::session_laws;

@@ -2,9 +2,9 @@ use Rattle.std.proofs.Common.{rules, ◌≡◌, None, Ok, Result, IfErr, IfSome,
 use Rattle.ferry_carry.proofs.AcceptingLemmas.{telling_small}
 use Rattle.ferry_carry.proofs.CauseLemmas.{line_refused, names_refused, none_missing, not_there}
 use Rattle.ferry_carry.proofs.GrowLemmas.{accepts_on}
-use Rattle.ferry_carry.proofs.AddingLemmas.{target_apart}
+use Rattle.ferry_piece.proofs.AddingLemmas.{target_apart}
 use Rattle.ferry_carry.proofs.ReportLemmas.{reports_whole, telling_unbroken, whole_err, whole_nothing, whole_untold}
-use Rattle.ferry_carry.proofs.WorkLemmas.{err_is}
+use Rattle.ferry_piece.proofs.WorkLemmas.{err_is}
 use Rattle.ferry_carry.proofs.chosen.carry.Goals as goal
 use Rattle.ferry_carry.specs.Accepting.{LimitsNames}
 use Rattle.ferry_carry.specs.Carrying.{origin}
@@ -12,14 +12,14 @@ use Rattle.ferry_carry.specs.Lines.{total_line}
 use Rattle.ferry_carry.specs.Refusals.{RefusesNames}
 use Rattle.ferry_carry.specs.Counting.{nothing_carried}
 use Rattle.ferry_carry.specs.Telling.{Reports, ReportsWhole, StopsBehind, TellsNames}
-use Rattle.ferry_carry.specs.declared.fault.CarryFault.{CarryFault}
-use Rattle.ferry_carry.specs.declared.fault.CarryFault.TheVariants.{NotFound, Memory, Target}
+use Rattle.ferry_piece.specs.declared.fault.CarryFault.{CarryFault}
+use Rattle.ferry_piece.specs.declared.fault.CarryFault.TheVariants.{NotFound, Memory, Target}
 use Rattle.ferry_carry.specs.declared.options.Carried.{Carried}
 use Rattle.ferry_repo.specs.Opening.{repo_view}
 use Rattle.ferry_store.specs.Commit.{accepted_in}
 use Rattle.ferry_store.specs.declared.fault.StoreRefusal.TheVariants.{TooLarge}
 use Rattle.ferry_carry.proofs.StandLemmas.{memory_apart, stops_here, telling_apart}
-use Rattle.ferry_carry.specs.Fault.{IsOfWork}
+use Rattle.ferry_piece.specs.Fault.{IsOfWork}
 
 pub returns-in_err-name-clause-works : goal.returns-in_err-name-clause-works
 returns-in_err-name-clause-works g c =

@@ -4,13 +4,13 @@ use Rattle.ferry_carry.proofs.AcceptingLemmas.{next_at, one_large}
 use Rattle.ferry_carry.proofs.FlyLemmas.{origin_kept}
 use Rattle.ferry_carry.proofs.GrowLemmas.{accepts_on, most_here, most_then}
 use Rattle.ferry_carry.proofs.ReportLemmas.{reports_all, reports_begin, reports_front, reports_more}
-use Rattle.ferry_carry.proofs.WorkLemmas.{err_is}
+use Rattle.ferry_piece.proofs.WorkLemmas.{err_is}
 use Rattle.ferry_carry.proofs.chosen.carry_all.Goals as goal
 use Rattle.ferry_carry.specs.Accepting.{AreNextOf, HasLargeNext, LimitsNames}
 use Rattle.ferry_carry.specs.Carrying.{origin}
 use Rattle.ferry_carry.specs.Telling.{CarriesNames, Reports, StopsBehind, TellsNames}
-use Rattle.ferry_carry.specs.declared.fault.CarryFault.{CarryFault}
-use Rattle.ferry_carry.specs.declared.fault.CarryFault.TheVariants.{Target}
+use Rattle.ferry_piece.specs.declared.fault.CarryFault.{CarryFault}
+use Rattle.ferry_piece.specs.declared.fault.CarryFault.TheVariants.{Target}
 use Rattle.ferry_repo.specs.Opening.{RepoState, repo_view}
 use Rattle.ferry_carry.proofs.CauseLemmas.{name_refused, one_refused, split_at, told_still}
 use Rattle.ferry_carry.specs.Refusals.{RefusesOne, is_of_telling}
@@ -19,7 +19,7 @@ use Rattle.ferry_store.specs.Commit.{accepted_in}
 use Rattle.ferry_store.specs.declared.fault.StoreRefusal.TheVariants.{TooLarge}
 use Rattle.ferry_write.specs.Script.{AllDone}
 use Rattle.ferry_carry.proofs.StandLemmas.{stops_behind}
-use Rattle.ferry_carry.specs.Fault.{IsOfWork}
+use Rattle.ferry_piece.specs.Fault.{IsOfWork}
 
 pub loop-place-init : goal.loop-place-init
 loop-place-init g c = record {

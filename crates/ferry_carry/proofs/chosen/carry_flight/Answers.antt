@@ -2,19 +2,19 @@ use Rattle.std.proofs.Common.{◌≡◌, [], ◌∷◌, Bool, false, Result, Ok,
 use Rattle.ferry_carry.proofs.AcceptingLemmas.{telling_small}
 use Rattle.ferry_carry.proofs.FlyLemmas.{takes_begin}
 use Rattle.ferry_carry.proofs.GrowLemmas.{accepts_on}
-use Rattle.ferry_carry.proofs.AddingLemmas.{target_apart}
+use Rattle.ferry_piece.proofs.AddingLemmas.{target_apart}
 use Rattle.ferry_carry.proofs.CountingLemmas.{counts_one}
 use Rattle.ferry_carry.proofs.NamesLemmas.{all_one}
 use Rattle.ferry_carry.proofs.ReportLemmas.{reports_name, reports_silent, telling_unbroken}
-use Rattle.ferry_carry.proofs.WorkLemmas.{err_is}
+use Rattle.ferry_piece.proofs.WorkLemmas.{err_is}
 use Rattle.ferry_carry.proofs.chosen.carry_flight.Goals as goal
 use Rattle.ferry_carry.specs.Flight.{flown_from}
 use Rattle.ferry_carry.specs.Grow.{KeepsGrowing}
 use Rattle.ferry_carry.specs.Refusals.{is_of_telling}
 use Rattle.ferry_carry.specs.Accepting.{HasLargeNext}
 use Rattle.ferry_carry.specs.Telling.{Reports, StopsUnnamed}
-use Rattle.ferry_carry.specs.declared.fault.CarryFault.{CarryFault}
-use Rattle.ferry_carry.specs.declared.fault.CarryFault.TheVariants.{Target}
+use Rattle.ferry_piece.specs.declared.fault.CarryFault.{CarryFault}
+use Rattle.ferry_piece.specs.declared.fault.CarryFault.TheVariants.{Target}
 use Rattle.ferry_disk.proofs.MomentLemmas.{between_map}
 use Rattle.ferry_disk.specs.Moments.{Between}
 use Rattle.ferry_repo.specs.Opening.{repo_view}
@@ -23,7 +23,7 @@ use Rattle.ferry_store.specs.Commit.{accepted_in}
 use Rattle.ferry_store.specs.declared.fault.StoreRefusal.TheVariants.{TooLarge}
 use Rattle.ferry_carry.proofs.StandLemmas.{telling_apart}
 use Rattle.ferry_carry.specs.Counting.{CountsOf}
-use Rattle.ferry_carry.specs.Fault.{IsOfWork}
+use Rattle.ferry_piece.specs.Fault.{IsOfWork}
 
 pub returns-in_err-named-clause-works : goal.returns-in_err-named-clause-works
 returns-in_err-named-clause-works g c =

@@ -4,15 +4,15 @@ use Rattle.ferry_carry.proofs.GrowLemmas.{accepts_on}
 use Rattle.ferry_carry.proofs.HeldLemmas.{begin_apart}
 use Rattle.ferry_carry.proofs.ReportLemmas.{reports_as, reports_nothing}
 use Rattle.ferry_carry.proofs.TellLemmas.{begin_unbroken, begin_still}
-use Rattle.ferry_carry.proofs.WorkLemmas.{err_is}
+use Rattle.ferry_piece.proofs.WorkLemmas.{err_is}
 use Rattle.ferry_carry.proofs.chosen.carry_one.Goals as goal
 use Rattle.ferry_carry.specs.Accepting.{HasLargeNext, IsNextOf}
 use Rattle.ferry_carry.specs.Carrying.{origin, Origin}
 use Rattle.ferry_carry.specs.Flight.{flown_from}
-use Rattle.ferry_carry.specs.Fault.{IsOfWork}
+use Rattle.ferry_piece.specs.Fault.{IsOfWork}
 use Rattle.ferry_carry.specs.Telling.{Reports, StopsUnnamed}
-use Rattle.ferry_carry.specs.declared.fault.CarryFault.{CarryFault}
-use Rattle.ferry_carry.specs.declared.fault.CarryFault.TheVariants.{Target}
+use Rattle.ferry_piece.specs.declared.fault.CarryFault.{CarryFault}
+use Rattle.ferry_piece.specs.declared.fault.CarryFault.TheVariants.{Target}
 use Rattle.ferry_carry.specs.declared.options.Options.{Options}
 use Rattle.ferry_disk.specs.Moments.{Between}
 use Rattle.ferry_repo.specs.Opening.{repo_view}

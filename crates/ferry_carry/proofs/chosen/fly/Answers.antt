@@ -4,13 +4,13 @@ use Rattle.ferry_carry.proofs.AcceptingLemmas.{flown_large, flown_named}
 use Rattle.ferry_carry.proofs.GrowLemmas.{accepts_on, most_here, most_then}
 use Rattle.ferry_carry.proofs.FlightLemmas.{settled_committed}
 use Rattle.ferry_carry.proofs.ThereLemmas.{tells_named, tells_present}
-use Rattle.ferry_carry.proofs.WorkLemmas.{err_is}
+use Rattle.ferry_piece.proofs.WorkLemmas.{err_is}
 use Rattle.ferry_carry.proofs.chosen.fly.Goals as goal
 use Rattle.ferry_carry.specs.Flight.{TakesTurn, flown_from}
-use Rattle.ferry_carry.specs.Puts.{Addition}
+use Rattle.ferry_piece.specs.Puts.{Addition}
 use Rattle.ferry_carry.specs.Accepting.{HasLargeNext}
-use Rattle.ferry_carry.specs.declared.fault.CarryFault.{CarryFault}
-use Rattle.ferry_carry.specs.declared.fault.CarryFault.TheVariants.{Target}
+use Rattle.ferry_piece.specs.declared.fault.CarryFault.{CarryFault}
+use Rattle.ferry_piece.specs.declared.fault.CarryFault.TheVariants.{Target}
 use Rattle.ferry_carry.specs.declared.flight.Turn.{Turn}
 use Rattle.ferry_carry.specs.declared.options.Options.{Options}
 use Rattle.ferry_manifest.specs.declared.manifest.ArchiveRef.{ArchiveRef}

@@ -2,13 +2,13 @@ use Rattle.std.proofs.Common.{◌≡◌, true, Result, IfErr}
 use Rattle.ferry_disk.specs.Act.{TellOf}
 use Rattle.ferry_carry.proofs.AcceptingLemmas.{store_telling}
 use Rattle.ferry_carry.proofs.TellLemmas.{tell_fits, tell_works, untold_works}
-use Rattle.ferry_carry.proofs.WorkLemmas.{err_is}
+use Rattle.ferry_piece.proofs.WorkLemmas.{err_is}
 use Rattle.ferry_carry.proofs.chosen.tell.Goals as goal
 use Rattle.ferry_carry.specs.Chosen.{TellsLine}
-use Rattle.ferry_carry.specs.Fault.{target_fault}
+use Rattle.ferry_piece.specs.Fault.{target_fault}
 use Rattle.ferry_carry.specs.Refusals.{is_of_telling}
-use Rattle.ferry_carry.specs.Work.{Works}
-use Rattle.ferry_carry.specs.declared.fault.CarryFault.{CarryFault}
+use Rattle.ferry_piece.specs.Work.{Works}
+use Rattle.ferry_piece.specs.declared.fault.CarryFault.{CarryFault}
 use Rattle.ferry_store.specs.Fault.{store_refusal}
 use Rattle.ferry_store.specs.State.{IsStep}
 

@@ -1,15 +1,15 @@
 use Rattle.std.proofs.Common.{◌≡◌, ℕ, List, [], inl, inr, Result, IfErr, OnOk, IfSome, refl, sym, subst}
-use Rattle.ferry_carry.proofs.AddingLemmas.{none_refused, source_unbroken}
-use Rattle.ferry_carry.proofs.FaultLemmas.{source_still}
-use Rattle.ferry_carry.proofs.PieceLemmas.{ok_to}
-use Rattle.ferry_carry.proofs.WorkLemmas.{err_is, gathered_nothing}
+use Rattle.ferry_piece.proofs.AddingLemmas.{none_refused, source_unbroken}
+use Rattle.ferry_piece.proofs.FaultLemmas.{source_still}
+use Rattle.ferry_piece.proofs.PieceLemmas.{ok_to}
+use Rattle.ferry_piece.proofs.WorkLemmas.{err_is, gathered_nothing}
 use Rattle.ferry_carry.proofs.copy.write_content.Goals as goal
-use Rattle.ferry_carry.specs.Adding.{AddsOn}
+use Rattle.ferry_piece.specs.Adding.{AddsOn}
 use Rattle.ferry_carry.specs.Copying.{BeginsChunk, WritesContent}
-use Rattle.ferry_carry.specs.Fault.{IsOfSource, source_fault}
-use Rattle.ferry_carry.specs.Piece.{CountsOn, WritesOn}
-use Rattle.ferry_carry.specs.Puts.{Addition, AreOf, Content, contents_in}
-use Rattle.ferry_carry.specs.declared.fault.CarryFault.{CarryFault}
+use Rattle.ferry_piece.specs.Fault.{IsOfSource, source_fault}
+use Rattle.ferry_piece.specs.Piece.{CountsOn, WritesOn}
+use Rattle.ferry_piece.specs.Puts.{Addition, AreOf, Content, contents_in}
+use Rattle.ferry_piece.specs.declared.fault.CarryFault.{CarryFault}
 use Rattle.ferry_disk.specs.Device.{told_files}
 use Rattle.ferry_repo.specs.Archives.{HoldsContent}
 use Rattle.ferry_repo.specs.Opening.{repo_view}

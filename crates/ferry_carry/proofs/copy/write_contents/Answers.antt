@@ -1,19 +1,19 @@
 use Rattle.std.proofs.Common.{◌≤◌, ◌<◌, ◌+◌, ◌++◌, ℕ, List, [], Result, Ok, Err, IfErr, OnOk, length, take, refl, sym, ◌∙◌, ap, subst, arith}
 use Rattle.ferry_carry.proofs.CopyLemmas.{contents_all, contents_behind, contents_full, contents_written, nothing_written}
 use Rattle.ferry_carry.proofs.FillingLemmas.{chunks_filled}
-use Rattle.ferry_carry.proofs.GatherLemmas.{rest_here, rest_then}
-use Rattle.ferry_carry.proofs.PieceLemmas.{counts_none, counts_then, pieces_then}
-use Rattle.ferry_carry.proofs.PutsLemmas.{contents_append, of_append}
+use Rattle.ferry_piece.proofs.GatherLemmas.{rest_here, rest_then}
+use Rattle.ferry_piece.proofs.PieceLemmas.{counts_none, counts_then, pieces_then}
+use Rattle.ferry_piece.proofs.PutsLemmas.{contents_append, of_append}
 use Rattle.ferry_carry.proofs.RefusalLemmas.{contents_refused}
-use Rattle.ferry_carry.proofs.WorkLemmas.{err_is, gathered_none}
+use Rattle.ferry_piece.proofs.WorkLemmas.{err_is, gathered_none}
 use Rattle.ferry_carry.proofs.copy.write_contents.Goals as goal
-use Rattle.ferry_carry.specs.Adding.{AddsOn}
+use Rattle.ferry_piece.specs.Adding.{AddsOn}
 use Rattle.ferry_carry.specs.Copying.{BeginsContents, WritesContents}
 use Rattle.ferry_carry.specs.Filling.{FillsChunks, WhereSource}
-use Rattle.ferry_carry.specs.Piece.{CountsOn}
-use Rattle.ferry_carry.specs.Puts.{AreOf, Content, contents_in}
+use Rattle.ferry_piece.specs.Piece.{CountsOn}
+use Rattle.ferry_piece.specs.Puts.{AreOf, Content, contents_in}
 use Rattle.ferry_carry.specs.Refusals.{RefusesContents}
-use Rattle.ferry_carry.specs.declared.fault.CarryFault.{CarryFault}
+use Rattle.ferry_piece.specs.declared.fault.CarryFault.{CarryFault}
 use Rattle.ferry_repo.specs.Opening.{repo_view}
 
 pub loop-place-init : goal.loop-place-init

@@ -1,10 +1,10 @@
 use Rattle.std.proofs.Common.{◌≡◌, ◌≤◌, ◌<◌, false, List, Ok, IfSome, length, take}
 use Rattle.ferry_carry.proofs.copy.write_contents.Given as goal
-use Rattle.ferry_carry.specs.Adding.{AddsOn}
+use Rattle.ferry_piece.specs.Adding.{AddsOn}
 use Rattle.ferry_carry.specs.Copying.{WritesContents}
-use Rattle.ferry_carry.specs.Gather.{KeepsRest}
-use Rattle.ferry_carry.specs.Piece.{CountsOn}
-use Rattle.ferry_carry.specs.Puts.{Addition, AreOf, Content, contents_in}
+use Rattle.ferry_piece.specs.Gather.{KeepsRest}
+use Rattle.ferry_piece.specs.Piece.{CountsOn}
+use Rattle.ferry_piece.specs.Puts.{Addition, AreOf, Content, contents_in}
 use Rattle.ferry_disk.specs.Device.{heard, told_files}
 use Rattle.ferry_repo.specs.Opening.{FitsRepo, cached_in, repo_view}
 use Rattle.ferry_store.specs.Store.{IsUnspent, StoreFits}

@@ -1,10 +1,10 @@
 use Rattle.std.proofs.Common.{◌≡◌, [], ◌∙◌, Ok, Result, ap, subst}
 use Rattle.ferry_carry.proofs.FlightLemmas.{fits_read, same_read, works_read, works_unread}
-use Rattle.ferry_carry.proofs.WorkLemmas.{err_is}
+use Rattle.ferry_piece.proofs.WorkLemmas.{err_is}
 use Rattle.ferry_carry.proofs.flight.compare_item.Goals as goal
-use Rattle.ferry_carry.specs.Adding.{AddsOn}
-use Rattle.ferry_carry.specs.Fault.{compare_fault}
-use Rattle.ferry_carry.specs.declared.fault.CarryFault.{CarryFault}
+use Rattle.ferry_piece.specs.Adding.{AddsOn}
+use Rattle.ferry_piece.specs.Fault.{compare_fault}
+use Rattle.ferry_piece.specs.declared.fault.CarryFault.{CarryFault}
 use Rattle.ferry_compare.specs.Compare.{AreEqual, comparison_view, Differ}
 use Rattle.ferry_compare.specs.declared.comparison.Compared.{Compared}
 use Rattle.ferry_compare.specs.declared.comparison.Compared.TheVariants.{Equal, Differs}

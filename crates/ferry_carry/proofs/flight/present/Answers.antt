@@ -1,11 +1,11 @@
 use Rattle.std.proofs.Common.{rules, ◌≢◌, [], Result}
 use Rattle.ferry_carry.proofs.FlyLemmas.{nothing_pending, pending_committed, pending_uncommitted}
-use Rattle.ferry_carry.proofs.WorkLemmas.{err_is}
+use Rattle.ferry_piece.proofs.WorkLemmas.{err_is}
 use Rattle.ferry_carry.proofs.flight.present.Goals as goal
-use Rattle.ferry_carry.specs.Gather.{GathersAt, KeepsStandingAt}
-use Rattle.ferry_carry.specs.Puts.{AtBegin}
-use Rattle.ferry_carry.specs.Work.{Works}
-use Rattle.ferry_carry.specs.declared.fault.CarryFault.{CarryFault}
+use Rattle.ferry_piece.specs.Gather.{GathersAt, KeepsStandingAt}
+use Rattle.ferry_piece.specs.Puts.{AtBegin}
+use Rattle.ferry_piece.specs.Work.{Works}
+use Rattle.ferry_piece.specs.declared.fault.CarryFault.{CarryFault}
 use Rattle.ferry_carry.specs.declared.flight.Turn.{Turn}
 use Rattle.ferry_carry.specs.declared.flight.Turn.TheVariants.{Present}
 

@@ -1,10 +1,10 @@
 use Rattle.std.proofs.Common.{false, List, ℕ, [], ◌∷◌, Result, refl, arith}
-use Rattle.ferry_carry.proofs.WorkLemmas.{err_is, gathered_as, gathered_err}
+use Rattle.ferry_piece.proofs.WorkLemmas.{err_is, gathered_as, gathered_err}
 use Rattle.ferry_carry.proofs.naming.add_record.Goals as goal
-use Rattle.ferry_carry.specs.Adding.{AddsOn}
-use Rattle.ferry_carry.specs.Piece.{HasRoom}
-use Rattle.ferry_carry.specs.Puts.{Record, addition}
-use Rattle.ferry_carry.specs.declared.fault.CarryFault.{CarryFault}
+use Rattle.ferry_piece.specs.Adding.{AddsOn}
+use Rattle.ferry_piece.specs.Piece.{HasRoom}
+use Rattle.ferry_piece.specs.Puts.{Record, addition}
+use Rattle.ferry_piece.specs.declared.fault.CarryFault.{CarryFault}
 use Rattle.ferry_store.specs.declared.content.Added.{Added}
 
 pub returns-in_err-added-clause-works : goal.returns-in_err-added-clause-works

@@ -1,13 +1,14 @@
 use Rattle.std.proofs.Common.{◌≡◌, Result, IfErr, refl, sym, ◌∙◌, ap}
-use Rattle.ferry_carry.proofs.FaultLemmas.{target_stops}
+use Rattle.ferry_piece.proofs.FaultLemmas.{target_stops}
 use Rattle.ferry_carry.proofs.GrowLemmas.{commit_fits}
 use Rattle.ferry_carry.proofs.NamingLemmas.{commit_limit, commit_most, commit_works, commit_works_err}
-use Rattle.ferry_carry.proofs.WorkLemmas.{err_is}
+use Rattle.ferry_piece.proofs.WorkLemmas.{err_is}
 use Rattle.ferry_carry.proofs.naming.commit.Goals as goal
-use Rattle.ferry_carry.specs.Fault.{target_fault}
+use Rattle.ferry_piece.specs.Fault.{target_fault}
 use Rattle.ferry_carry.specs.Flight.{NamesArchive}
-use Rattle.ferry_carry.specs.Refusals.{LimitsManifest, StopsTarget}
-use Rattle.ferry_carry.specs.declared.fault.CarryFault.{CarryFault}
+use Rattle.ferry_carry.specs.Refusals.{LimitsManifest}
+use Rattle.ferry_piece.specs.Stops.{StopsTarget}
+use Rattle.ferry_piece.specs.declared.fault.CarryFault.{CarryFault}
 use Rattle.ferry_manifest.specs.Manifest.Writing.{manifest_text}
 use Rattle.ferry_next.specs.Next.{written_at}
 use Rattle.ferry_repo.specs.Opening.{RepoState, repo_view}
@@ -15,8 +16,8 @@ use Rattle.ferry_store.specs.Commit.{CommitsEntry, accepted_in, manifest_entry}
 use Rattle.ferry_store.specs.Content.{blob_for}
 use Rattle.ferry_store.specs.Standing.{with_manifest}
 use Rattle.ferry_carry.proofs.StandLemmas.{StandsAll, commit_stands}
-use Rattle.ferry_carry.proofs.AddingLemmas.{manifest_unbroken}
-use Rattle.ferry_carry.specs.Adding.{IsNoChunk}
+use Rattle.ferry_piece.proofs.AddingLemmas.{manifest_unbroken}
+use Rattle.ferry_piece.specs.Adding.{IsNoChunk}
 
 pub returns-in_err-commit-clause-works : goal.returns-in_err-commit-clause-works
 returns-in_err-commit-clause-works g c accepted named one =

@@ -4,12 +4,12 @@ use Rattle.ferry_mac.specs.declared.keys.Keys.{Keys}
 use Rattle.ferry_next.specs.Next.{next_manifest, written_at}
 use Rattle.ferry_carry.proofs.GrowLemmas.{accepts_one, names_next}
 use Rattle.ferry_carry.proofs.NamingLemmas.{named_behind, names_nothing}
-use Rattle.ferry_carry.proofs.WorkLemmas.{err_is}
+use Rattle.ferry_piece.proofs.WorkLemmas.{err_is}
 use Rattle.ferry_carry.proofs.naming.commit_named.Goals as goal
 use Rattle.ferry_carry.specs.Flight.{NamesArchive}
 use Rattle.ferry_carry.specs.Grow.{KeepsNames}
-use Rattle.ferry_carry.specs.declared.fault.CarryFault.{CarryFault}
-use Rattle.ferry_carry.specs.declared.fault.CarryFault.TheVariants.{Memory}
+use Rattle.ferry_piece.specs.declared.fault.CarryFault.{CarryFault}
+use Rattle.ferry_piece.specs.declared.fault.CarryFault.TheVariants.{Memory}
 use Rattle.ferry_manifest.specs.Manifest.Text.{ManifestText}
 use Rattle.ferry_repo.specs.Opening.{repo_view}
 use Rattle.ferry_store.proofs.UseLemmas.{fits_named}

@@ -1,24 +1,26 @@
 use Rattle.std.proofs.Common.{◌≡◌, ℕ, List, [], ◌∷◌, ◌++◌, Result, Ok, Err, IfErr, sym, ◌∙◌, subst, ap}
 use Rattle.std.proofs.lemmas.List.{append-nil}
-use Rattle.ferry_carry.proofs.AddingLemmas.{stops_unbroken}
+use Rattle.ferry_piece.proofs.AddingLemmas.{stops_unbroken}
 use Rattle.ferry_carry.proofs.AcceptingLemmas.{record_named}
 use Rattle.ferry_carry.proofs.GrowLemmas.{most_from, most_then}
 use Rattle.ferry_carry.proofs.FlightLemmas.{rest_accepts, rest_packable}
-use Rattle.ferry_carry.proofs.FaultLemmas.{stops_of_pieces}
+use Rattle.ferry_piece.proofs.FaultLemmas.{stops_of_pieces}
 use Rattle.ferry_carry.proofs.NamingLemmas.{begins_done, behind_record, counts_done, lists_done, pieces_limit, record_limit, unnamed_rest}
-use Rattle.ferry_carry.proofs.PieceLemmas.{pieces_at}
+use Rattle.ferry_piece.proofs.PieceLemmas.{pieces_at}
 use Rattle.ferry_carry.proofs.ProgressLemmas.{readies}
-use Rattle.ferry_carry.proofs.PutsLemmas.{front_all}
-use Rattle.ferry_carry.proofs.WorkLemmas.{carried_as, carried_err, carried_from, carried_from_err, carried_then, err_is}
+use Rattle.ferry_piece.proofs.PutsLemmas.{front_all}
+use Rattle.ferry_carry.proofs.WorkLemmas.{carried_as, carried_err, carried_from, carried_from_err, carried_then}
+use Rattle.ferry_piece.proofs.WorkLemmas.{err_is}
 use Rattle.ferry_carry.proofs.naming.end_copy.Goals as goal
 use Rattle.ferry_carry.specs.Flight.{Carries, EndsCopy}
 use Rattle.ferry_carry.specs.Naming.{copied_in}
-use Rattle.ferry_carry.specs.Puts.{Addition, AtBegin, AtEnd, border_behind}
-use Rattle.ferry_carry.specs.declared.fault.CarryFault.{CarryFault}
+use Rattle.ferry_piece.specs.Puts.{Addition, AtBegin, AtEnd, border_behind}
+use Rattle.ferry_piece.specs.declared.fault.CarryFault.{CarryFault}
 use Rattle.ferry_carry.specs.declared.options.Carried.{Carried}
 use Rattle.ferry_carry.proofs.CauseLemmas.{record_refused}
-use Rattle.ferry_carry.specs.Gather.{KeepsStanding, chunks_of}
-use Rattle.ferry_carry.specs.Refusals.{IsLimited, RefusesEnd, StopsTarget}
+use Rattle.ferry_piece.specs.Gather.{KeepsStanding, chunks_of}
+use Rattle.ferry_carry.specs.Refusals.{IsLimited, RefusesEnd}
+use Rattle.ferry_piece.specs.Stops.{StopsTarget}
 use Rattle.ferry_disk.specs.Moments.{Between}
 use Rattle.ferry_manifest.specs.Record.Text.{archive_view}
 use Rattle.ferry_rechunk.specs.Cut.{cut}

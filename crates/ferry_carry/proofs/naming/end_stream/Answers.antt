@@ -1,14 +1,14 @@
 use Rattle.std.proofs.Common.{ℕ, inl, List, [], ◌++◌, Result, Err, IfOk, OnOk, Vec, Global, refl, sym, ◌∙◌, subst}
 use Rattle.std.proofs.lemmas.List.{append-nil}
 use Rattle.ferry_carry.proofs.NamingLemmas.{on_any, record_as}
-use Rattle.ferry_carry.proofs.WorkLemmas.{err_is, gathered_err, gathered_then}
+use Rattle.ferry_piece.proofs.WorkLemmas.{err_is, gathered_err, gathered_then}
 use Rattle.ferry_carry.proofs.naming.end_stream.Goals as goal
-use Rattle.ferry_carry.specs.Adding.{AddsOn}
-use Rattle.ferry_carry.specs.Gather.{chunks_of}
+use Rattle.ferry_piece.specs.Adding.{AddsOn}
+use Rattle.ferry_piece.specs.Gather.{chunks_of}
 use Rattle.ferry_carry.specs.Naming.{AddsUnder, BeginsRecord, copied_in}
-use Rattle.ferry_carry.specs.Piece.{CountsOn}
-use Rattle.ferry_carry.specs.Puts.{Addition, ArePieces, Stream}
-use Rattle.ferry_carry.specs.declared.fault.CarryFault.{CarryFault}
+use Rattle.ferry_piece.specs.Piece.{CountsOn}
+use Rattle.ferry_piece.specs.Puts.{Addition, ArePieces, Stream}
+use Rattle.ferry_piece.specs.declared.fault.CarryFault.{CarryFault}
 use Rattle.ferry_item.specs.declared.item.ChunkRef.{ChunkRef}
 use Rattle.ferry_manifest.specs.Record.Text.{archive_view}
 use Rattle.ferry_rechunk.specs.Cut.{cut}

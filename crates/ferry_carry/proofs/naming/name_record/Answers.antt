@@ -1,11 +1,11 @@
 use Rattle.std.proofs.Common.{Result, IfErr, refl}
 use Rattle.ferry_carry.proofs.NamingLemmas.{names_nothing}
-use Rattle.ferry_carry.proofs.WorkLemmas.{err_is}
+use Rattle.ferry_piece.proofs.WorkLemmas.{err_is}
 use Rattle.ferry_carry.proofs.naming.name_record.Goals as goal
 use Rattle.ferry_carry.specs.Flight.{NamesArchive}
 use Rattle.ferry_carry.specs.Naming.{entry_for}
-use Rattle.ferry_carry.specs.declared.fault.CarryFault.{CarryFault}
-use Rattle.ferry_carry.specs.declared.fault.CarryFault.TheVariants.{Memory}
+use Rattle.ferry_piece.specs.declared.fault.CarryFault.{CarryFault}
+use Rattle.ferry_piece.specs.declared.fault.CarryFault.TheVariants.{Memory}
 use Rattle.ferry_store.specs.Commit.{accepted_in}
 use Rattle.ferry_carry.proofs.StandLemmas.{StandsAll, memory_apart}
 

@@ -1,11 +1,11 @@
 use Rattle.std.proofs.Common.{ℕ, inl, List, [], Result, IfOk, refl, subst}
 use Rattle.ferry_carry.proofs.NamingLemmas.{RecordIs}
-use Rattle.ferry_carry.proofs.WorkLemmas.{err_is, gathered_nothing}
+use Rattle.ferry_piece.proofs.WorkLemmas.{err_is, gathered_nothing}
 use Rattle.ferry_carry.proofs.naming.put_copied.Goals as goal
-use Rattle.ferry_carry.specs.Adding.{AddsOn}
+use Rattle.ferry_piece.specs.Adding.{AddsOn}
 use Rattle.ferry_carry.specs.Naming.{AddsUnder, copied_in}
-use Rattle.ferry_carry.specs.declared.fault.CarryFault.{CarryFault}
-use Rattle.ferry_carry.specs.declared.fault.CarryFault.TheVariants.{Memory}
+use Rattle.ferry_piece.specs.declared.fault.CarryFault.{CarryFault}
+use Rattle.ferry_piece.specs.declared.fault.CarryFault.TheVariants.{Memory}
 use Rattle.ferry_manifest.specs.Record.Text.{ArchiveText, archive_view}
 use Rattle.ferry_repo.specs.Opening.{repo_view}
 

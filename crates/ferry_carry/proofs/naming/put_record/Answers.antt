@@ -1,12 +1,12 @@
 use Rattle.std.proofs.Common.{ℕ, inl, List, [], ◌∷◌, Result, IfErr, IfOk, refl}
 use Rattle.ferry_carry.proofs.NamingLemmas.{record_put}
-use Rattle.ferry_carry.proofs.WorkLemmas.{err_is, gathered_nothing}
+use Rattle.ferry_piece.proofs.WorkLemmas.{err_is, gathered_nothing}
 use Rattle.ferry_carry.proofs.naming.put_record.Goals as goal
-use Rattle.ferry_carry.specs.Adding.{AddsOn}
+use Rattle.ferry_piece.specs.Adding.{AddsOn}
 use Rattle.ferry_carry.specs.Naming.{AddsUnder}
-use Rattle.ferry_carry.specs.Puts.{Record, addition}
-use Rattle.ferry_carry.specs.Refusals.{StopsPieces}
-use Rattle.ferry_carry.specs.declared.fault.CarryFault.{CarryFault}
+use Rattle.ferry_piece.specs.Puts.{Record, addition}
+use Rattle.ferry_piece.specs.Stops.{StopsPieces}
+use Rattle.ferry_piece.specs.declared.fault.CarryFault.{CarryFault}
 use Rattle.ferry_manifest.specs.Record.Text.{archive_view}
 use Rattle.ferry_repo.specs.Opening.{repo_view}
 

@@ -2,8 +2,8 @@ use Rattle.std.proofs.Common.{ℕ, List, ◌++◌, option_map, sym, ◌∙◌, a
 use Rattle.ferry_disk.specs.Device.{WritesSome}
 use Rattle.ferry_repo.specs.Opening.{repo_view, cached_in}
 use Rattle.ferry_top.specs.Check.{Checks}
-use Rattle.ferry_top.specs.Devices.{written}
-use Rattle.ferry_top.specs.declared.status.Status.{Status}
+use Rattle.ferry_status.specs.Devices.{written}
+use Rattle.ferry_status.specs.declared.status.Status.{Status}
 use Rattle.ferry_top.proofs.CheckLemmas.{is_checked, cut_line, none_there, some_there}
 use Rattle.ferry_top.proofs.ItemsLemmas.{fits_later}
 use Rattle.ferry_top.proofs.check.check.Goals as goal

@@ -8,10 +8,10 @@ use Rattle.ferry_view.specs.Items.{IsFile, IsFileText, RefusesFile}
 use Rattle.ferry_view.specs.Output.{ShowsAll, ShowsSome}
 use Rattle.ferry_view.specs.declared.fault.ViewFault.{ViewFault}
 use Rattle.ferry_view.specs.declared.fault.ViewFault.TheVariants as View
-use Rattle.ferry_top.specs.Devices.{written}
+use Rattle.ferry_status.specs.Devices.{written}
 use Rattle.ferry_top.specs.Items.{LacksPath, RefusesShowing, ShowsFile, ShowsFileFront}
-use Rattle.ferry_top.specs.Run.{PrintsAsRead}
-use Rattle.ferry_top.specs.declared.status.Status.{Status}
+use Rattle.ferry_status.specs.Output.{PrintsAsRead}
+use Rattle.ferry_status.specs.declared.status.Status.{Status}
 use Rattle.ferry_top.proofs.ItemsLemmas.{all_shown, fits_later, named_there, not_named, not_shown}
 use Rattle.ferry_top.proofs.items.extract.Goals as goal
 

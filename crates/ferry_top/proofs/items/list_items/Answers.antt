@@ -6,10 +6,10 @@ use Rattle.ferry_repo.specs.Opening.{repo_view, cached_in}
 use Rattle.ferry_view.specs.Items.{IsItemListing, IsItemText, RefusesItems}
 use Rattle.ferry_view.specs.Output.{ShowsAll, ShowsSome}
 use Rattle.ferry_view.specs.declared.fault.ViewFault.{ViewFault}
-use Rattle.ferry_top.specs.Devices.{written}
+use Rattle.ferry_status.specs.Devices.{written}
 use Rattle.ferry_top.specs.Items.{OpensWith, LacksArchive, RefusesShowing, ShowsItems, ShowsItemsFront}
-use Rattle.ferry_top.specs.Run.{PrintsAsRead}
-use Rattle.ferry_top.specs.declared.status.Status.{Status}
+use Rattle.ferry_status.specs.Output.{PrintsAsRead}
+use Rattle.ferry_status.specs.declared.status.Status.{Status}
 use Rattle.ferry_top.proofs.ItemsLemmas.{all_shown, fits_later, not_shown, opens_with}
 use Rattle.ferry_top.proofs.items.list_items.Goals as goal
 

@@ -1,12 +1,12 @@
 use Rattle.std.proofs.Common.{sym, subst}
 use Rattle.std.specs.FinMap.{entries}
-use Rattle.ferry_top.specs.Devices.{written}
+use Rattle.ferry_status.specs.Devices.{written}
 use Rattle.ferry_top.specs.Keys.{key_lines, IsListing}
-use Rattle.ferry_top.specs.Run.{Prints}
-use Rattle.ferry_top.specs.Status.{RefusesKeys}
-use Rattle.ferry_top.specs.declared.status.Status.{Status}
+use Rattle.ferry_status.specs.Output.{Prints}
+use Rattle.ferry_top.specs.Keys.{RefusesKeys}
+use Rattle.ferry_status.specs.declared.status.Status.{Status}
 use Rattle.ferry_top.proofs.KeysLemmas.{listing_of}
-use Rattle.ferry_top.proofs.StatusLemmas.{cut_text}
+use Rattle.ferry_status.proofs.StatusLemmas.{cut_text}
 use Rattle.ferry_top.proofs.keys.keys.Goals as goal
 
 pub returns-in-Ok-write_keys-clause-out : goal.returns-in-Ok-write_keys-clause-out

@@ -1,12 +1,12 @@
 use Rattle.std.proofs.Common.{sym, subst}
 use Rattle.ferry_repo.specs.Opening.{repo_view}
 use Rattle.ferry_view.specs.Lines.{archive_lines}
-use Rattle.ferry_top.specs.Devices.{written}
+use Rattle.ferry_status.specs.Devices.{written}
 use Rattle.ferry_top.specs.List.{IsArchiveListing, RefusesOpening}
-use Rattle.ferry_top.specs.Run.{Prints}
-use Rattle.ferry_top.specs.declared.status.Status.{Status}
+use Rattle.ferry_status.specs.Output.{Prints}
+use Rattle.ferry_status.specs.declared.status.Status.{Status}
 use Rattle.ferry_top.proofs.ListLemmas.{archives_of}
-use Rattle.ferry_top.proofs.StatusLemmas.{cut_text}
+use Rattle.ferry_status.proofs.StatusLemmas.{cut_text}
 use Rattle.ferry_top.proofs.list.list.Goals as goal
 
 pub returns-in-Ok-list-clause-out : goal.returns-in-Ok-list-clause-out

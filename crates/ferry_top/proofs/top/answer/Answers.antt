@@ -1,7 +1,7 @@
 use Rattle.std.proofs.Common.{map, string_bytes}
 use Rattle.ferry_top.proofs.RunLemmas.{does_nothing}
 use Rattle.ferry_top.proofs.top.answer.Goals as goal
-use Rattle.ferry_top.specs.Devices.{devices, store, drawn, written}
+use Rattle.ferry_status.specs.Devices.{devices, store, drawn, written}
 use Rattle.ferry_words.specs.Words.{command_of}
 
 pub returns-in-Err-Memory-clause-does : goal.returns-in-Err-Memory-clause-does

@@ -1,7 +1,7 @@
 use Rattle.std.proofs.Common.{map, string_bytes}
 use Rattle.ferry_top.proofs.RunLemmas.{runs_reported}
 use Rattle.ferry_top.proofs.top.run.Goals as goal
-use Rattle.ferry_top.specs.Devices.{devices, store, drawn, written}
+use Rattle.ferry_status.specs.Devices.{devices, store, drawn, written}
 use Rattle.ferry_words.specs.Words.{command_of}
 
 pub returns-clause-runs : goal.returns-clause-runs

@@ -1,9 +1,9 @@
 use Rattle.std.proofs.Common.{Result, subst}
-use Rattle.ferry_carry.proofs.FaultLemmas.{source_still}
-use Rattle.ferry_carry.proofs.WorkLemmas.{err_is}
-use Rattle.ferry_carry.specs.Fault.{IsOfWork, source_fault}
-use Rattle.ferry_carry.specs.Work.{Works}
-use Rattle.ferry_carry.specs.declared.fault.CarryFault.{CarryFault}
+use Rattle.ferry_piece.proofs.FaultLemmas.{source_still}
+use Rattle.ferry_piece.proofs.WorkLemmas.{err_is}
+use Rattle.ferry_piece.specs.Fault.{IsOfWork, source_fault}
+use Rattle.ferry_piece.specs.Work.{Works}
+use Rattle.ferry_piece.specs.declared.fault.CarryFault.{CarryFault}
 use Rattle.ferry_disk.specs.Moments.{Between}
 use Rattle.ferry_repo.specs.Fault.{repo_failed}
 use Rattle.ferry_repo.specs.declared.fault.RepoFault.{RepoFault}

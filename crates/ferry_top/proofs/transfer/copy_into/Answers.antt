@@ -1,9 +1,9 @@
 use Rattle.std.proofs.Common.{Result, refl, ◌∙◌, ap}
-use Rattle.ferry_carry.proofs.WorkLemmas.{err_is}
-use Rattle.ferry_carry.specs.Fault.{IsOfWork, target_fault}
-use Rattle.ferry_carry.specs.Work.{Works}
-use Rattle.ferry_carry.specs.declared.fault.CarryFault.{CarryFault}
-use Rattle.ferry_carry.specs.declared.fault.CarryFault.TheVariants.{Memory}
+use Rattle.ferry_piece.proofs.WorkLemmas.{err_is}
+use Rattle.ferry_piece.specs.Fault.{IsOfWork, target_fault}
+use Rattle.ferry_piece.specs.Work.{Works}
+use Rattle.ferry_piece.specs.declared.fault.CarryFault.{CarryFault}
+use Rattle.ferry_piece.specs.declared.fault.CarryFault.TheVariants.{Memory}
 use Rattle.ferry_disk.specs.Moments.{Between}
 use Rattle.ferry_repo.specs.Opening.{repo_view}
 use Rattle.ferry_store.proofs.UseLemmas.{fits_opened}

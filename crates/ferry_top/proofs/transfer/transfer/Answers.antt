@@ -1,13 +1,13 @@
 use Rattle.ferry_top.proofs.ToldLemmas.{of_work}
 use Rattle.ferry_top.proofs.TransferLemmas.{transfer_ended}
 use Rattle.ferry_top.proofs.transfer.transfer.Goals as goal
-use Rattle.ferry_top.specs.Status.{is_of_work}
+use Rattle.ferry_status.specs.Status.{is_of_work}
 use Rattle.ferry_top.specs.Transfer.{asked}
 use Rattle.std.proofs.Common.{◌≡◌, false, true, inl, inr, refl, subst}
 use Rattle.ferry_disk.proofs.MomentLemmas.{between_map}
 use Rattle.ferry_top.proofs.TransferCauseLemmas.{ends_done, left_of}
 use Rattle.ferry_top.specs.Transfer.{TransferEach, TransferLeaves}
-use Rattle.ferry_top.specs.declared.status.Status.{Status}
+use Rattle.ferry_status.specs.declared.status.Status.{Status}
 
 pub returns-in-Ok-clause-ended : goal.returns-in-Ok-clause-ended
 returns-in-Ok-clause-ended g c done =

@@ -4,9 +4,7 @@ use Rattle.ferry_words.specs.Words as spec
 use Rattle.ferry_words.proofs.OperandLemmas.{many_meant}
 use Rattle.ferry_words.proofs.reading.alone.Goals as goal
 
-pub returns-in-len1-up : goal.returns-in-len1-up
-returns-in-len1-up c = record {
-  answer =
-      many_meant (spec.alone c.args.command) 0 (map string_bytes c.args.behind.now) _ _ refl c.in_ok-parts.ensures.parts
-      (omega (arith, c.in-len1-up.len_at_least, length-map c.in_ok-parts.parts.operands.now string_bytes)) (omega arith);
-}
+pub returns-in-len1-up-clause-wrong : goal.returns-in-len1-up-clause-wrong
+returns-in-len1-up-clause-wrong c command =
+    many_meant (spec.alone command) 0 (map string_bytes c.args.behind.now) _ _ refl c.in_ok-parts.ensures.parts
+    (omega (arith, c.in-len1-up.len_at_least, length-map c.in_ok-parts.parts.operands.now string_bytes)) (omega arith)

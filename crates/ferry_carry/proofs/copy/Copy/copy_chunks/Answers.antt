@@ -1,9 +1,9 @@
 use Rattle.std.proofs.Common.{[], List, Option, None, refl, sym, subst}
-use Rattle.ferry_carry.proofs.PieceLemmas.{counts_none}
-use Rattle.ferry_carry.proofs.WorkLemmas.{gathered_none}
+use Rattle.ferry_piece.proofs.PieceLemmas.{counts_none}
+use Rattle.ferry_piece.proofs.WorkLemmas.{gathered_none}
 use Rattle.ferry_carry.proofs.copy.Copy.copy_chunks.Goals as goal
 use Rattle.ferry_carry.specs.Copying.{BeginsContent, CopiesContent}
-use Rattle.ferry_carry.specs.Puts.{Content}
+use Rattle.ferry_piece.specs.Puts.{Content}
 use Rattle.ferry_item.specs.declared.item.ChunkRef.{ChunkRef}
 use Rattle.ferry_item.specs.declared.item.ChunkRefs.{ChunkRefs}
 use Rattle.ferry_repo.specs.Opening.{repo_view}

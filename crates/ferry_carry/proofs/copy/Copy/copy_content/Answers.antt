@@ -1,17 +1,17 @@
 use Rattle.std.proofs.Common.{◌≡◌, ◌≤◌, ◌++◌, ℕ, List, [], inl, Some, Result, Ok, Err, IfErr, IfOk, OnOk, length, refl, sym, ◌∙◌, ap, subst, arith}
 use Rattle.ferry_carry.proofs.CopyLemmas.{contents_begun, contents_from, content_copied, content_whole}
 use Rattle.ferry_carry.proofs.FillingLemmas.{filled_from, where_target}
-use Rattle.ferry_carry.proofs.PieceLemmas.{counts_then, pieces_then}
-use Rattle.ferry_carry.proofs.PutsLemmas.{contents_append, of_append}
-use Rattle.ferry_carry.proofs.WorkLemmas.{err_is, gathered_as, gathered_err, gathered_fault, gathered_nothing}
+use Rattle.ferry_piece.proofs.PieceLemmas.{counts_then, pieces_then}
+use Rattle.ferry_piece.proofs.PutsLemmas.{contents_append, of_append}
+use Rattle.ferry_piece.proofs.WorkLemmas.{err_is, gathered_as, gathered_err, gathered_fault, gathered_nothing}
 use Rattle.ferry_carry.proofs.copy.Copy.copy_content.Goals as goal
-use Rattle.ferry_carry.specs.Adding.{AddsOn}
+use Rattle.ferry_piece.specs.Adding.{AddsOn}
 use Rattle.ferry_carry.specs.Copying.{BeginsContent, CopiesContent}
 use Rattle.ferry_carry.specs.Filling.{FillsContent, WhereSource}
-use Rattle.ferry_carry.specs.Piece.{CountsOn}
-use Rattle.ferry_carry.specs.Puts.{AreOf, Content, contents_in}
-use Rattle.ferry_carry.specs.declared.fault.CarryFault.{CarryFault}
-use Rattle.ferry_carry.specs.declared.fault.CarryFault.TheVariants.{Memory, Pieces}
+use Rattle.ferry_piece.specs.Piece.{CountsOn}
+use Rattle.ferry_piece.specs.Puts.{AreOf, Content, contents_in}
+use Rattle.ferry_piece.specs.declared.fault.CarryFault.{CarryFault}
+use Rattle.ferry_piece.specs.declared.fault.CarryFault.TheVariants.{Memory, Pieces}
 use Rattle.ferry_item.specs.declared.item.ChunkRef.{ChunkRef}
 use Rattle.ferry_item.specs.declared.item.ChunkRefs.{ChunkRefs}
 use Rattle.ferry_rechunk.specs.Cut.{cut}

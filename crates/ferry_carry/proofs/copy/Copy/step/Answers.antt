@@ -1,19 +1,19 @@
 use Rattle.std.proofs.Common.{◌≡◌, ◌≤◌, ◌++◌, Bool, true, false, [], inl, Option, Result, Ok, Err, IfErr, refl, ◌∙◌, ap, arith}
 use Rattle.ferry_carry.proofs.CopyLemmas.{copied_packable}
 use Rattle.ferry_carry.proofs.FillingLemmas.{item_filled, next_filled, where_target}
-use Rattle.ferry_carry.proofs.GatherLemmas.{rest_here, rest_then}
-use Rattle.ferry_carry.proofs.PieceLemmas.{pieces_at, pieces_then}
+use Rattle.ferry_piece.proofs.GatherLemmas.{rest_here, rest_then}
+use Rattle.ferry_piece.proofs.PieceLemmas.{pieces_at, pieces_then}
 use Rattle.ferry_carry.proofs.RefusalLemmas.{item_refused, next_refused, next_unbroken}
 use Rattle.ferry_carry.proofs.StepLemmas.{StepIs, content_begun, copied_behind, copied_refused, most_added, most_taken, spelling_begun, step_copies}
 use Rattle.ferry_carry.proofs.StepLemmas.{step_counts}
-use Rattle.ferry_carry.proofs.WorkLemmas.{err_is, gathered_as, gathered_err, gathered_none, gathered_nothing}
+use Rattle.ferry_piece.proofs.WorkLemmas.{err_is, gathered_as, gathered_err, gathered_none, gathered_nothing}
 use Rattle.ferry_carry.proofs.copy.Copy.step.Goals as goal
 use Rattle.ferry_carry.specs.Carrying.{origin}
 use Rattle.ferry_carry.specs.Filling.{FillsCopy}
-use Rattle.ferry_carry.specs.Puts.{contents_in}
+use Rattle.ferry_piece.specs.Puts.{contents_in}
 use Rattle.ferry_carry.specs.Refusals.{RefusesStep}
 use Rattle.ferry_carry.specs.declared.copy.Copy.{Copy}
-use Rattle.ferry_carry.specs.declared.fault.CarryFault.{CarryFault}
+use Rattle.ferry_piece.specs.declared.fault.CarryFault.{CarryFault}
 use Rattle.ferry_compare.proofs.StepLemmas.{some_holds}
 use Rattle.ferry_item.specs.Item.{item_view}
 use Rattle.ferry_item.specs.Writing.{IsPackable}

@@ -1,14 +1,14 @@
 use Rattle.std.proofs.Common.{◌≡◌, ◌++◌, ℕ, List, [], Result, OnOk, refl, ◌∙◌, ap, subst}
 use Rattle.std.proofs.lemmas.Result.{on_ok_weaker}
-use Rattle.ferry_carry.proofs.PieceLemmas.{begins_nothing}
-use Rattle.ferry_carry.proofs.WorkLemmas.{err_is, gathered_nothing}
+use Rattle.ferry_piece.proofs.PieceLemmas.{begins_nothing}
+use Rattle.ferry_piece.proofs.WorkLemmas.{err_is, gathered_nothing}
 use Rattle.ferry_carry.proofs.copy.Copy.write_item.Goals as goal
-use Rattle.ferry_carry.specs.Adding.{AddsOn}
+use Rattle.ferry_piece.specs.Adding.{AddsOn}
 use Rattle.ferry_carry.specs.Copying.{WritesItem}
-use Rattle.ferry_carry.specs.Piece.{BeginsOn, CountsOn, WritesOn}
-use Rattle.ferry_carry.specs.Puts.{AreOf, Stream, contents_in}
-use Rattle.ferry_carry.specs.declared.fault.CarryFault.{CarryFault}
-use Rattle.ferry_carry.specs.declared.fault.CarryFault.TheVariants.{Memory}
+use Rattle.ferry_piece.specs.Piece.{BeginsOn, CountsOn, WritesOn}
+use Rattle.ferry_piece.specs.Puts.{AreOf, Stream, contents_in}
+use Rattle.ferry_piece.specs.declared.fault.CarryFault.{CarryFault}
+use Rattle.ferry_piece.specs.declared.fault.CarryFault.TheVariants.{Memory}
 use Rattle.ferry_item.specs.Item.{item_view}
 use Rattle.ferry_item.specs.Writing.{item_text}
 use Rattle.ferry_repo.specs.Opening.{repo_view}

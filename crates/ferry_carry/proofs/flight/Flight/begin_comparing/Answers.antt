@@ -1,10 +1,10 @@
 use Rattle.std.proofs.Common.{[], ◌∙◌, Result, ap}
 use Rattle.ferry_carry.proofs.FlightLemmas.{fits_read, works_read, works_unread}
-use Rattle.ferry_carry.proofs.WorkLemmas.{err_is}
+use Rattle.ferry_piece.proofs.WorkLemmas.{err_is}
 use Rattle.ferry_carry.proofs.flight.Flight.begin_comparing.Goals as goal
-use Rattle.ferry_carry.specs.Adding.{AddsOn}
-use Rattle.ferry_carry.specs.Fault.{compare_fault}
-use Rattle.ferry_carry.specs.declared.fault.CarryFault.{CarryFault}
+use Rattle.ferry_piece.specs.Adding.{AddsOn}
+use Rattle.ferry_piece.specs.Fault.{compare_fault}
+use Rattle.ferry_piece.specs.declared.fault.CarryFault.{CarryFault}
 use Rattle.ferry_compare.specs.declared.comparison.Comparison.{Comparison}
 use Rattle.ferry_repo.specs.Opening.{repo_view}
 use Rattle.ferry_store.specs.declared.store.Store.{Store}

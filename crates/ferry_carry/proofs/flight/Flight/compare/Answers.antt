@@ -7,13 +7,14 @@ use Rattle.ferry_carry.proofs.FlyLemmas.{taken_still, taken_unbroken, turn_prese
 use Rattle.ferry_carry.proofs.GrowLemmas.{most_from}
 use Rattle.ferry_carry.proofs.HeldLemmas.{held_apart, held_within, targets_apart}
 use Rattle.ferry_carry.proofs.ReportLemmas.{told_unbroken}
-use Rattle.ferry_carry.proofs.WorkLemmas.{carried_from, err_is, gathered_fault}
+use Rattle.ferry_carry.proofs.WorkLemmas.{carried_from}
+use Rattle.ferry_piece.proofs.WorkLemmas.{err_is, gathered_fault}
 use Rattle.ferry_carry.proofs.flight.Flight.compare.Goals as goal
 use Rattle.ferry_carry.specs.Flight.{IsSame, flown_from}
-use Rattle.ferry_carry.specs.Gather.{KeepsRest}
+use Rattle.ferry_piece.specs.Gather.{KeepsRest}
 use Rattle.ferry_carry.specs.Grow.{AcceptsMore}
-use Rattle.ferry_carry.specs.Puts.{AtBegin, border_behind}
-use Rattle.ferry_carry.specs.declared.fault.CarryFault.{CarryFault}
+use Rattle.ferry_piece.specs.Puts.{AtBegin, border_behind}
+use Rattle.ferry_piece.specs.declared.fault.CarryFault.{CarryFault}
 use Rattle.ferry_carry.specs.declared.flight.Turn.{Turn}
 use Rattle.ferry_carry.specs.declared.flight.Turn.TheVariants.{More, Present}
 use Rattle.ferry_compare.specs.declared.comparison.Compared.{Compared}
@@ -22,7 +23,8 @@ use Rattle.ferry_repo.specs.Opening.{RepoState, repo_view}
 use Rattle.ferry_carry.proofs.CauseLemmas.{comparing_refused, pending_refused, taken_refused}
 use Rattle.ferry_carry.proofs.NamingLemmas.{pieces_limit, taken_limit}
 use Rattle.ferry_carry.specs.Carrying.{origin}
-use Rattle.ferry_carry.specs.Refusals.{DiffersThere, IsLimited, RefusesComparing, RefusesName, StopsPieces}
+use Rattle.ferry_carry.specs.Refusals.{DiffersThere, IsLimited, RefusesComparing, RefusesName}
+use Rattle.ferry_piece.specs.Stops.{StopsPieces}
 use Rattle.std.proofs.lemmas.Result.{IfErr-weaker}
 use Rattle.ferry_store.specs.Commit.{accepted_in}
 

@@ -7,16 +7,17 @@ use Rattle.ferry_carry.proofs.FlyLemmas.{stands_within, stepped_as, turn_ended, 
 use Rattle.ferry_carry.proofs.GrowLemmas.{most_from, most_then}
 use Rattle.ferry_carry.proofs.HeldLemmas.{held_within}
 use Rattle.ferry_carry.proofs.NamingLemmas.{pieces_limit, rest_limit}
-use Rattle.ferry_carry.proofs.WorkLemmas.{carried_from, err_is}
+use Rattle.ferry_carry.proofs.WorkLemmas.{carried_from}
+use Rattle.ferry_piece.proofs.WorkLemmas.{err_is}
 use Rattle.ferry_carry.proofs.flight.Flight.copy.Goals as goal
-use Rattle.ferry_carry.specs.Adding.{AddsOn}
+use Rattle.ferry_piece.specs.Adding.{AddsOn}
 use Rattle.ferry_carry.specs.Carrying.{origin}
 use Rattle.ferry_carry.specs.Flight.{flown_from}
-use Rattle.ferry_carry.specs.Gather.{KeepsStanding}
+use Rattle.ferry_piece.specs.Gather.{KeepsStanding}
 use Rattle.ferry_carry.specs.Progress.{CopiesOn, IsCopiedSoFar}
-use Rattle.ferry_carry.specs.Puts.{Addition, AtBegin, border_behind}
+use Rattle.ferry_piece.specs.Puts.{Addition, AtBegin, border_behind}
 use Rattle.ferry_carry.specs.Refusals.{IsLimited, RefusesName, RefusesStep}
-use Rattle.ferry_carry.specs.declared.fault.CarryFault.{CarryFault}
+use Rattle.ferry_piece.specs.declared.fault.CarryFault.{CarryFault}
 use Rattle.ferry_carry.specs.declared.flight.Turn.{Turn}
 use Rattle.ferry_carry.specs.declared.flight.Turn.TheVariants.{More, Named}
 use Rattle.ferry_carry.specs.declared.options.Carried.{Carried}

@@ -1,7 +1,7 @@
 use Rattle.std.proofs.Common.{rules, ◌≡◌, [], List, sym, subst}
 use Rattle.ferry_carry.proofs.flight.Flight.step.Goals as goal
 use Rattle.ferry_carry.specs.Flight.{TakesTurn, WorkFits, flown_from}
-use Rattle.ferry_carry.specs.Puts.{Addition}
+use Rattle.ferry_piece.specs.Puts.{Addition}
 use Rattle.ferry_carry.specs.declared.flight.Work.TheVariants.{Waiting, Copying, Comparing}
 use Rattle.ferry_repo.specs.Opening.{repo_view}
 

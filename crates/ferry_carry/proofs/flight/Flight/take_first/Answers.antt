@@ -1,20 +1,21 @@
 use Rattle.std.proofs.Common.{rules, [], ◌∷◌, Result, Err, refl, sym, IfErr, IsSome, subst, ◌∙◌}
 use Rattle.std.proofs.lemmas.Result.{on_ok_weaker}
 use Rattle.ferry_carry.proofs.AcceptingLemmas.{next_rest, next_source}
-use Rattle.ferry_carry.proofs.AddingLemmas.{stops_unbroken}
+use Rattle.ferry_piece.proofs.AddingLemmas.{stops_unbroken}
 use Rattle.ferry_carry.proofs.FlightLemmas.{read_rest}
 use Rattle.ferry_carry.proofs.FlyLemmas.{begins_none, fills_begin, fills_there, flies_err, flies_fault, origin_kept, record_unbroken, stands_within}
 use Rattle.ferry_carry.proofs.FlyLemmas.{turned_behind, turned_err}
 use Rattle.ferry_carry.proofs.GrowLemmas.{most_from, most_then}
 use Rattle.ferry_carry.proofs.HeldLemmas.{held_within, holds_here}
 use Rattle.ferry_carry.proofs.ProgressLemmas.{begin_copied}
-use Rattle.ferry_carry.proofs.WorkLemmas.{carried_nothing, err_is}
+use Rattle.ferry_carry.proofs.WorkLemmas.{carried_nothing}
+use Rattle.ferry_piece.proofs.WorkLemmas.{err_is}
 use Rattle.ferry_carry.proofs.flight.Flight.take_first.Goals as goal
-use Rattle.ferry_carry.specs.Adding.{HoldsAll}
+use Rattle.ferry_piece.specs.Adding.{HoldsAll}
 use Rattle.ferry_carry.specs.Flight.{TakesTurn, flown_from}
 use Rattle.ferry_carry.specs.Grow.{KeepsMost}
-use Rattle.ferry_carry.specs.Puts.{AtBegin, border_behind}
-use Rattle.ferry_carry.specs.declared.fault.CarryFault.{CarryFault}
+use Rattle.ferry_piece.specs.Puts.{AtBegin, border_behind}
+use Rattle.ferry_piece.specs.declared.fault.CarryFault.{CarryFault}
 use Rattle.ferry_carry.specs.declared.flight.Turn.{Turn}
 use Rattle.ferry_compare.specs.declared.comparison.Comparison.{Comparison}
 use Rattle.ferry_repo.specs.Archives.{archive_named}
@@ -22,11 +23,11 @@ use Rattle.ferry_repo.specs.Opening.{RepoState, repo_view}
 use Rattle.ferry_store.specs.Commit.{accepted_in}
 use Rattle.ferry_carry.proofs.CauseLemmas.{begin_refused, comparing_refused, name_refused}
 use Rattle.ferry_carry.specs.Carrying.{Origin, origin}
-use Rattle.ferry_carry.specs.Gather.{KeepsStanding}
+use Rattle.ferry_piece.specs.Gather.{KeepsStanding}
 use Rattle.ferry_carry.specs.Refusals.{IsLimited, RefusesName}
 use Rattle.ferry_carry.proofs.NamingLemmas.{begin_limit, pieces_limit, rest_limit}
 use Rattle.std.proofs.lemmas.Result.{IfErr-weaker}
-use Rattle.ferry_carry.proofs.GatherLemmas.{stands_here}
+use Rattle.ferry_piece.proofs.GatherLemmas.{stands_here}
 use Rattle.ferry_store.proofs.StepLemmas.{here_each}
 
 pub returns-in_err-copy-clause-works : goal.returns-in_err-copy-clause-works

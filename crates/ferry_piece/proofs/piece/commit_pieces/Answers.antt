@@ -1,0 +1,67 @@
+use Rattle.std.proofs.Common.{◌≢◌, Result, IfErr}
+use Rattle.ferry_disk.proofs.DeviceLemmas.{told_any}
+use Rattle.ferry_store.specs.declared.fault.StoreRefusal.TheVariants.{TooLarge}
+use Rattle.ferry_piece.proofs.AddingLemmas.{commits_unbroken}
+use Rattle.ferry_piece.proofs.FaultLemmas.{commits_small, pieces_stop}
+use Rattle.ferry_piece.proofs.GatherLemmas.{checkpoint_fits}
+use Rattle.ferry_piece.proofs.WorkLemmas.{err_is, works_err, works_ok}
+use Rattle.ferry_piece.proofs.piece.commit_pieces.Goals as goal
+use Rattle.ferry_piece.specs.Adding.{IsNoChunk}
+use Rattle.ferry_piece.specs.Fault.{target_fault}
+use Rattle.ferry_piece.specs.Stops.{StopsPieces}
+use Rattle.ferry_piece.specs.Work.{Works}
+use Rattle.ferry_piece.specs.declared.fault.CarryFault.{CarryFault}
+use Rattle.ferry_disk.specs.Act.{History}
+use Rattle.ferry_repo.specs.Opening.{repo_view}
+use Rattle.ferry_store.specs.Adding.{Checkpoints}
+use Rattle.ferry_store.specs.State.{CommitsSound}
+use Rattle.ferry_store.specs.declared.store.Store.{Store}
+use Rattle.ferry_stops.specs.Tells.{TellsNothing}
+
+-- what holds at each moment of a checkpoint
+abbrev commits : Store → History → History → Type 0
+commits store before now = TellsNothing before now × CommitsSound store.session store.counter before now
+
+pub returns-in_err-checkpoint-clause-works : goal.returns-in_err-checkpoint-clause-works
+returns-in_err-checkpoint-clause-works g c =
+    let a = g.D.Shelf.told c.args.depot.now in
+    let b = g.D.Shelf.told c.checkpoint.new.depot in
+    let n = g.D.Shelf.faults c.args.depot.now in
+    let m = g.D.Shelf.faults c.checkpoint.new.depot in
+    let store = c.args.store.now in
+    let now = c.checkpoint.new.self in
+    let refusal = c.in_err-checkpoint.field-0.0 in
+    err_is c.from_residual.result (target_fault refusal) (λ (r : Result (Unit {0}) CarryFault). Works (commits store) (λ _. Checkpoints store now) a b n m r)
+    c.from_residual.ensures.1
+    (works_err {T = Unit {0}} (CommitsSound store.session store.counter) (λ _. Checkpoints store now) (commits store) (λ _. Checkpoints store now) a b n m
+    refusal (λ h k untold e. (untold, e)) c.checkpoint.ensures.untold c.in_err-checkpoint.ensures.did)
+
+pub returns-clause-works : goal.returns-clause-works
+returns-clause-works g c =
+    let store = c.args.store.now in
+    let now = c.checkpoint.new.self in
+    works_ok {T = Unit {0}} {U = Unit {0}} (CommitsSound store.session store.counter) (λ _. Checkpoints store now) (commits store)
+    (λ _. Checkpoints store now) (g.D.Shelf.told c.args.depot.now) (g.D.Shelf.told c.checkpoint.new.depot) (g.D.Shelf.faults c.args.depot.now)
+    (g.D.Shelf.faults c.checkpoint.new.depot) tt tt (λ h k untold e. (untold, e)) (λ h k takes. takes) c.checkpoint.ensures.untold
+    c.in_ok-checkpoint.ensures.did
+
+pub returns-in_err-checkpoint-clause-unbroken : goal.returns-in_err-checkpoint-clause-unbroken
+returns-in_err-checkpoint-clause-unbroken g c =
+    let refusal = c.in_err-checkpoint.field-0.0 in
+    err_is c.from_residual.result (target_fault refusal) (λ (r : Result (Unit {0}) CarryFault). IfErr r IsNoChunk) c.from_residual.ensures.1
+    (commits_unbroken c.args.store.now.session refusal c.in_err-checkpoint.ensures.refused)
+
+pub returns-clause-fits : goal.returns-clause-fits
+returns-clause-fits g c =
+    checkpoint_fits c.args.store.now c.checkpoint.new.self (g.D.Shelf.told c.args.depot.now) (g.D.Shelf.told c.checkpoint.new.depot)
+    (g.D.Shelf.faults c.args.depot.now) (g.D.Shelf.faults c.checkpoint.new.depot) c.requires.fits c.in_ok-checkpoint.ensures.did
+
+pub returns-in_err-checkpoint-clause-stops : goal.returns-in_err-checkpoint-clause-stops
+returns-in_err-checkpoint-clause-stops g c =
+    let b = g.D.Shelf.told c.checkpoint.new.depot in
+    let keys = (repo_view c.args.store.now.repo).keys in
+    let refusal = c.in_err-checkpoint.field-0.0 in
+    err_is c.from_residual.result (target_fault refusal) (λ (r : Result (Unit {0}) CarryFault). IfErr r (StopsPieces b keys)) c.from_residual.ensures.1
+    (pieces_stop b keys refusal
+    (told_any b (λ _. refusal ≢ TooLarge) (λ _. commits_small c.args.store.now.session refusal c.in_err-checkpoint.ensures.refused))
+    (c.in_err-checkpoint.ensures.stops c.requires.fits))

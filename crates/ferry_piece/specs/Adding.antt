@@ -1,0 +1,51 @@
+-- What a body did that adds contents, and which of them stopped it.
+use Rattle.std.specs.Prelude.{◌≡◌, ◌++◌, ℕ, Bool, List, [], ◌∷◌, Option, Result, IfErr, IfSome}
+use Rattle.ferry_blob.specs.Blob.{content_id}
+use Rattle.ferry_disk.specs.Act.{History}
+use Rattle.ferry_disk.specs.Device.{Told}
+use Rattle.ferry_disk.specs.Moments.{Between}
+use Rattle.ferry_mac.specs.declared.keys.Keys.{Keys}
+use Rattle.ferry_repo.specs.Opening.{repo_view}
+use Rattle.ferry_repo.specs.declared.fault.RepoFault.TheVariants as Repos
+use Rattle.ferry_store.specs.Standing.{entries_of}
+use Rattle.ferry_store.specs.Store.{StoreFits}
+use Rattle.ferry_store.specs.declared.fault.StoreRefusal.TheVariants as Stores
+use Rattle.ferry_store.specs.declared.store.Store.{Store}
+use Rattle.ferry_piece.specs.Fault.{IsOfSource}
+use Rattle.ferry_piece.specs.Gather.{Gathers, KeepsStanding}
+use Rattle.ferry_piece.specs.Puts.{Addition, AddsAll, Border, Within}
+use Rattle.ferry_piece.specs.Work.{Works}
+use Rattle.ferry_piece.specs.declared.fault.CarryFault.{CarryFault}
+use Rattle.ferry_piece.specs.declared.fault.CarryFault.TheVariants.{Target}
+
+-- A live chunk that breaks a rule is that of the last of these.
+abbrev pub IsOfLast : Keys → List Addition → CarryFault → Type 0
+IsOfLast keys added (Target (Stores.Repo (Repos.Blob id fault))) = (front : List Addition) × ((one : Addition)
+    × ((added ≡ front ++ one ∷ []) × (id ≡ content_id keys one.content)))
+IsOfLast keys added fault = Unit {0}
+
+-- A fault is none of a chunk.
+abbrev pub IsNoChunk : CarryFault → Type 0
+IsNoChunk (Target (Stores.Repo (Repos.Blob id fault))) = ⊥
+IsNoChunk fault = Unit {0}
+
+-- The same where the target tells its files.
+abbrev pub StopsLast : {T : Type 0} → Option Told → Keys → List Addition → Result T CarryFault → Type 0
+StopsLast before keys added result = IfErr result (λ fault. IfSome before (λ _. IsOfLast keys added fault))
+
+-- A store fits in which all of these were added.
+abbrev pub HoldsAll : Border → ℕ → Store → List Addition → Store → History → History → Type 0
+HoldsAll at most store added store_now before now = (counts : Bool) (fits : StoreFits counts store before) → (fits_now : StoreFits counts store_now now)
+    × AddsAll at (repo_view store.repo).keys most (entries_of fits.written) added (entries_of fits_now.written)
+
+-- The same where the source refused.
+abbrev pub HoldsRefused : {T : Type 0} → Border → ℕ → Store → List Addition → Store → Option Told → Option Told → Result T CarryFault → Type 0
+HoldsRefused at most store added store_now before now result =
+    IfErr result (λ fault. IsOfSource fault → Between before now (HoldsAll at most store added store_now))
+
+-- What a body did that added these, or was refused with the last of them: at each moment, at its end, and what stopped it.
+pub record AddsOn {T : Type 0} (most : ℕ) (store : Store) (more : List Addition) (store_now : Store) (before now : Option Told) (count after : ℕ)
+    (result : Result T CarryFault) : Type 0 where
+  pub works : Works (KeepsStanding most store more) (λ (_ : T). Gathers most store more store_now) before now count after result
+  pub last : StopsLast before (repo_view store.repo).keys more result
+  pub held : HoldsRefused Within most store more store_now before now result
