@@ -2,8 +2,8 @@
 """Holds the papers of the repository to it: docs.py [--write] [CRATE ..]
 
 Each public definition of a crate's specs/ stands in docs/DEFINITIONS.md with its sentence and its file; each named clause of a
-public call stands in the README.md of its crate beside the call, and each that the front page or docs/PROVED.md names is one; crates.txt is the
-table of docs/ARCHITECTURE.md; the links of the papers, and the files, wrong bodies and tests that they name, are there; no line
+public call stands in the README.md of its crate beside the call, and each that the front page or docs/PROMISES.md names is one; crates.txt is the
+table of docs/ARCHITECTURE.md; help, manual page and bash's completion have the commands, options and statuses of docs/FORMATS.md; the links of the papers, and the files, wrong bodies and tests that they name, are there; no line
 of code or proofs has more than 160 columns, texts in quotes apart. One line for each thing that is missing, and at the end 'N passed, M failed';
 status 1 where M isn't 0. With names of crates, those alone are looked at. With --write the rows of definitions that are missing
 are first put at the end of their crate's section, and the table of crates gets what crates.txt says.
@@ -15,6 +15,7 @@ import sys
 
 TOP = os.path.join(os.path.dirname(os.path.abspath(__file__)), "..")
 WIDEST = 160
+HELP_WIDTH = 80
 DEFINITION = re.compile(r"^(?:(?:abbrev|unfoldable) pub|pub (?:record|data)) ([^\s:({]+)")
 DEFINITION_OF_SEVERAL = re.compile(r"^  pub (?:data )?([^\s:({]+)")
 FILE = re.compile(r"(?<![\w/.])((?:src|specs|proofs|must-fail|checks|bench|docs)/[\w./-]+\.(?:rt|antt|py|sh|md|edit)(?:\.in)?)")
@@ -214,19 +215,19 @@ def look_at_clauses(crate):
 
 
 def look_at_front_page(crates):
-    """Each clause that the front page or docs/PROVED.md names `of` a call or a type is one of its clauses, and that page has each crate."""
+    """Each clause that the front page or docs/PROMISES.md names `of` a call or a type is one of its clauses, and that page has each crate."""
     there = {}
     for crate in crates:
         for call, clause in clauses(crate):
             for name in {call, *call.split("::")}:
                 there.setdefault(name, set()).add(clause)
-    for path in ("README.md", "docs/PROVED.md"):
+    for path in ("README.md", "docs/PROMISES.md"):
         for names, call in re.findall(r"((?:`\w+`(?:, )?)+) of `([\w:]+)`", re.sub(r"\s+", " ", read(path))):
             for name in TICKED.findall(names):
                 judge(name in there.get(call, ()), f"{path}: `{call}` has no clause `{name}`")
-    proved = {re.match(r"\[?(\w*)", row[0])[1] for row in rows_of(read("docs/PROVED.md"))}
+    proved = {re.match(r"\[?(\w*)", row[0])[1] for row in rows_of(read("docs/PROMISES.md"))}
     for name in crates:
-        judge(name in proved, f"docs/PROVED.md: no row of {name}")
+        judge(name in proved, f"docs/PROMISES.md: no row of {name}")
 
 
 def look_at_architecture(crates):
@@ -238,6 +239,60 @@ def look_at_architecture(crates):
         judge(got == want, f"docs/ARCHITECTURE.md: {name} stands on {want or 'nothing'}, and the table has {got!r}")
     for name in rows:
         judge(name in crates or rows[name][3].startswith("planned"), f"docs/ARCHITECTURE.md: {name} isn't in crates.txt, and not called planned")
+
+
+def options_in(text):
+    """The names of options in a text, without their dashes."""
+    return set(re.findall(r"(?<![\w-])--?([a-z]+)(?= [A-Z]\b)", text.replace("Fl -", "--").replace("Ar ", "")))
+
+
+def commands_of_formats():
+    """The options of each command, by docs/FORMATS.md."""
+    rows = rows_of(section(read("docs/FORMATS.md"), "Words of a command"))
+    forms = [TICKED.findall(row[0])[0] for row in rows if len(row) == 3 and not row[0].startswith("`--")]
+    return {form.split()[0]: options_in(form) for form in forms}
+
+
+def commands_of_help():
+    """The options of each command, by the lines of the help."""
+    return {form.split()[0]: options_in(form) for form in re.findall(r'(?m)^(?:const \w+: &str = "  |  )([a-z][a-z-]*(?: [\[A-Z].*)?)$', read("crates/borgferry/src/lines.rt"))}
+
+
+def commands_of_manual():
+    """The options of each command, by the synopsis of the manual page."""
+    forms = read("docs/borgferry.1").split(".Sh SYNOPSIS\n")[1].split(".Sh ")[0].split(".Nm\n")
+    return {it[1]: options_in(form) for form in forms if (it := re.search(r"\.Cm (\S+)", form))}
+
+
+def commands_of_completion():
+    """The options of each command, by the completion for bash."""
+    text = read("docs/borgferry.bash")
+    options = dict(re.findall(r'(?m)^    ([a-z-]+)\) options="([^"]*)"', text))
+    return {name: {it.removeprefix("--") for it in options.get(name, "").split()} for name in re.search(r'commands="([^"]*)"', text)[1].split()}
+
+
+def statuses():
+    """The statuses by docs/FORMATS.md, by the help and by the manual page."""
+    formats = section(read("docs/FORMATS.md"), "Printed lines")
+    yield "docs/FORMATS.md", {int(row[0]) for row in rows_of(formats) if row[0].isdigit()} | set(map(int, re.findall(r"status (\d+)", formats)))
+    yield "the help", set(map(int, re.findall(r"(?m)^  (\d+) +\S", read("crates/borgferry/src/lines.rt"))))
+    yield "docs/borgferry.1", set(map(int, re.findall(r"(?m)^\.It (\d+)$", read("docs/borgferry.1"))))
+
+
+def look_at_help():
+    """Help, manual page and completion have the same commands with the same options, and the same statuses."""
+    want = commands_of_formats()
+    judge(len(want) >= 8 and any(want.values()), "docs/FORMATS.md: the words of a command aren't found")
+    for name, got in [("the help", commands_of_help()), ("docs/borgferry.1", commands_of_manual()), ("docs/borgferry.bash", commands_of_completion())]:
+        judge(got == want, f"{name}: the commands are {got}, and docs/FORMATS.md has {want}")
+    numbers = dict(statuses())
+    for name, got in numbers.items():
+        judge(len(got) >= 14 and got == numbers["docs/FORMATS.md"], f"{name}: the statuses are {sorted(got)}, and docs/FORMATS.md has {sorted(numbers['docs/FORMATS.md'])}")
+    variables = {name: set(re.findall(r"BORG_\w+", read(name))) for name in ("crates/borgferry/src/secrets.rt", "crates/borgferry/src/lines.rt", "docs/borgferry.1")}
+    for name, got in variables.items():
+        judge(got == variables["crates/borgferry/src/secrets.rt"], f"{name}: the variables are {sorted(got)}")
+    help_lines = [line for line in re.sub(r'(?m)^.*&str = "', "", read("crates/borgferry/src/lines.rt")).splitlines() if not line.startswith(("/", "pub", "    match", "    \"", "        "))]
+    judge(all(len(line) <= HELP_WIDTH for line in help_lines), "the help: a line is wider than 80 columns")
 
 
 def look_at_links():
@@ -296,6 +351,7 @@ def main(words):
     if not chosen:
         look_at_front_page(crates)
         look_at_architecture(crates)
+        look_at_help()
         look_at_links()
         look_at_files()
         look_at_evidence()

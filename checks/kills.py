@@ -2,14 +2,17 @@
 """Transfers that are killed: kills.py PROGRAM [COUNT [RANDOM [SEED]]]
 
 A plain program of this folder makes a source of three archives. A transfer of them runs under strace, and is killed as it makes one of its calls of the
-system; COUNT calls are taken, 50 where it isn't given, evenly spread over all that there are, or all where COUNT is at least so many. After each kill:
-`list` and `check` of the target end well; the names that were told are there; those that are there are a front of the chosen ones; what `list NAME` and
-`extract` say of them is what they say of the source; and the same words run again end with 0 and leave all three, each told once. The same is looked at
-where a file may not grow beyond a size, where the target's folder can't be written, and where standard output is closed; there the status isn't 0 either.
+system; COUNT calls are taken, 50 where it isn't given, evenly spread over all that there are, one of each name among them, or all where COUNT is at least
+so many; the status has to be that of a kill. After each kill:
+`list` and `check` of the target end well; the names that were told are there; those that are there are a front of the chosen ones; `list NAME` and
+`extract` print of them what the plain program has put into the source; and the same words run again end with 0 and leave all three, each told once. The
+same is looked at where a file may not grow beyond a size, where the target's folder can't be written, and where nobody reads standard output; there the
+status is that of the device that failed.
 Where RANDOM is given, so many transfers are killed besides, each at a random time, as SEED has it, and one path of each archive is extracted; where Borg is
 installed the source of all is one that Borg wrote, and each hundredth target is checked with `borg check --verify-data`. And where file systems may be mounted,
 the target lies on one that is too small, and on one that becomes read only.
-One line for each thing that differs, and at the end 'N passed, M failed'; status 1 where M isn't 0.
+One line for each thing that differs, then what can't be tried here (no strace, no other user, no mounts, no Borg), and at the end
+'N passed, M failed, K skipped'; status 1 where M isn't 0.
 """
 import os
 import random
@@ -22,31 +25,22 @@ import tempfile
 import time
 
 sys.dont_write_bytecode = True
-from repositories import Archive, Item, Keys, fields, repository
+import tracing
+from counting import finish, judge, skip
+from repositories import Archive, Item, Keys, escaped, fields, repository
+from users import give, other_user
 
 PROGRAM = os.path.abspath(sys.argv[1])
 COUNT = int(sys.argv[2]) if len(sys.argv) > 2 else 50
 RANDOM = int(sys.argv[3]) if len(sys.argv) > 3 else 0
 SEED = sys.argv[4] if len(sys.argv) > 4 else "1"
-CALLS = "mkdir,mkdirat,openat,write,fsync,rename,renameat,renameat2,unlink,unlinkat"
 SECRETS = {"BORG_OTHER_PASSPHRASE": "source passphrase", "BORG_PASSPHRASE": "target passphrase"}
 NAMES = ("first", "second", "third")
 WORDS = ("source", "target", "transfer", "--block", "4096", "--checkpoint", "3", *NAMES)
 
-passed = failed = 0
 
-
-def judge(is_right, what):
-    global passed, failed
-    if is_right:
-        passed += 1
-    else:
-        failed += 1
-        print(f"FAIL {what}", flush=True)
-
-
-def archives(keys):
-    """Three archives: the second shares half of its contents with the first."""
+def items_of_archives():
+    """The items of three archives: the second shares half of its contents with the first."""
     some = random.Random(7)
     contents = [[some.randbytes(some.randrange(1, 9000)) for _ in range(some.randrange(1, 4))] for _ in range(8)]
     files = [Item(b"file %d" % number, content) for number, content in enumerate(contents)]
@@ -54,10 +48,14 @@ def archives(keys):
     return {"first": files[:6] + others, "second": files[3:] + others[:1], "third": others}
 
 
+def content_of(item):
+    return b"".join(item.contents)
+
+
 def make_source(root):
-    """Writes the source; answers the paths with content of each archive."""
+    """Writes the source; answers of each archive what `list NAME` has to print, and the content of each path that has one."""
     keys = Keys()
-    items = archives(keys)
+    items = items_of_archives()
     made = {name: Archive(keys, name.encode(), those, length=100) for name, those in items.items()}
     listed = [entry for name, archive in made.items() for entry in archive.named(name.encode())]
     chunks = dict(pair for archive in made.values() for pair in archive.chunks())
@@ -66,44 +64,63 @@ def make_source(root):
         os.makedirs(os.path.dirname(path), exist_ok=True)
         with open(path, "wb") as file:
             file.write(content)
-    return {name: [item.path for item in those if item.contents is not None] for name, those in items.items()}
+    files = {name: {item.path: content_of(item) for item in those if item.contents is not None} for name, those in items.items()}
+    return {name: (made[name].lines(), files[name]) for name in NAMES}
 
 
 def run_borg(root, *words):
     """Runs Borg in a folder, with the secret of the source or the target, whichever the words name."""
     secret = SECRETS["BORG_PASSPHRASE" if "target" in words else "BORG_OTHER_PASSPHRASE"]
     settings = {"BORG_PASSPHRASE": secret, "BORG_BASE_DIR": os.path.join(root, "borg"), "BORG_RELOCATED_REPO_ACCESS_IS_OK": "yes"}
-    return subprocess.run(["borg", *words], cwd=root, env={**os.environ, **settings}, stdout=subprocess.DEVNULL, stderr=subprocess.PIPE)
+    return subprocess.run(["borg", *words], cwd=root, env={**os.environ, **settings}, capture_output=True)
+
+
+def listed_by_borg(root, name):
+    """What `list NAME` has to print of an archive, by what Borg lists of it."""
+    lines = []
+    for line in run_borg(root, "list", "--format", "{type} {size} {path}{NL}", f"source::{name}").stdout.splitlines():
+        kind, size, path = line.split(b" ", 2)
+        shown = {b"-": b"f " + size, b"l": b"l 0"}.get(kind, b"- 0")
+        lines.append(b"%s %s\n" % (shown, escaped(path.split(b" -> ")[0])))
+    return b"".join(lines)
 
 
 def make_borg_source(root):
     """The same of a source that Borg writes, with the contents of the other one."""
-    for name, items in archives(Keys()).items():
+    wanted = {}
+    for name, items in items_of_archives().items():
         folder = os.path.join(root, "tree", name)
         os.makedirs(folder)
+        wanted[name] = {}
         for item in items:
             if item.contents is not None:
+                wanted[name][b"tree/%s/%s" % (name.encode(), item.path)] = content_of(item)
                 with open(os.path.join(folder, item.path.decode()), "wb") as file:
-                    file.write(b"".join(item.contents))
+                    file.write(content_of(item))
         os.symlink("file 0", os.path.join(folder, "symbolic"))
     run_borg(root, "init", "--encryption=repokey", "source")
     for name in NAMES:
         ran = run_borg(root, "create", "--compression=none", "--chunker-params=fixed,3000", f"source::{name}", f"tree/{name}")
         judge(ran.returncode == 0, f"borg create {name} ends with {ran.returncode}: {ran.stderr}")
-    return {name: [f"tree/{name}/{file}" for file in os.listdir(os.path.join(root, "tree", name)) if file != "symbolic"] for name in NAMES}
+    return {name: (listed_by_borg(root, name), wanted[name]) for name in NAMES}
 
 
 class Trial:
     """A folder with a source and a target, which begins as it was made."""
 
-    def __init__(self, root, paths):
-        self.root, self.paths = root, paths
-        self.said = {}
-        self.run("-", "target", "init", "--iterations", "1", stdout=subprocess.DEVNULL)
+    def __init__(self, root, wanted):
+        self.root, self.wanted = root, wanted
+        made = self.run("-", "target", "init", "--iterations", "1")
+        judge(made.returncode == 0, f"init ends with {made.returncode}")
         shutil.copytree(self.path("target"), self.path("made"))
+        self.same("the source", "source", NAMES, self.paths())
 
     def path(self, name):
         return os.path.join(self.root, name)
+
+    def paths(self):
+        """The paths with content of each archive."""
+        return {name: list(files) for name, (_, files) in self.wanted.items()}
 
     def begin(self):
         shutil.rmtree(self.path("target"))
@@ -111,20 +128,17 @@ class Trial:
 
     def start(self, *words, prefix=(), **others):
         secrets = {**SECRETS, "BORG_OTHER_PASSPHRASE": SECRETS["BORG_PASSPHRASE"]} if words[0] == "target" else SECRETS
-        return subprocess.Popen([*prefix, PROGRAM, *words], cwd=self.root, env={**os.environ, **secrets}, stderr=subprocess.DEVNULL, **others)
+        pipes = {"stdin": subprocess.DEVNULL, "stderr": subprocess.DEVNULL}
+        return subprocess.Popen([*prefix, PROGRAM, *words], cwd=self.root, env={**os.environ, **secrets}, **pipes, **others)
 
-    def run(self, *words, **others):
-        process = self.start(*words, **others)
+    def run(self, *words):
+        process = self.start(*words, stdout=subprocess.PIPE)
         out, _ = process.communicate()
         return subprocess.CompletedProcess(words, process.returncode, out)
 
     def reads(self, folder, *words):
-        """What a command says of a folder: that of the source is kept."""
-        if folder == "source" and words in self.said:
-            return self.said[words]
-        ran = self.run(folder, "-", *words, stdout=subprocess.PIPE)
-        if folder == "source":
-            self.said[words] = ran.returncode, ran.stdout
+        """What a command says of a folder."""
+        ran = self.run(folder, "-", *words)
         return ran.returncode, ran.stdout
 
     def transfer(self, meanwhile=None, **others):
@@ -141,6 +155,7 @@ class Trial:
 
     def look(self, what, told, paths=None):
         """Looks at what is there after a transfer that didn't end, and extracts these paths of each archive."""
+        paths = paths or self.paths()
         status, listed = self.reads("target", "list")
         judge(status == 0, f"{what}: list ends with {status}")
         names = [line.split(b" ")[2].decode() for line in listed.splitlines()] if status == 0 else []
@@ -148,30 +163,93 @@ class Trial:
         judge(set(told) <= set(names), f"{what}: {told} were told, and {names} are there")
         status, said = self.reads("target", "check")
         judge(status == 0 and said.startswith(b"ok archives %d " % len(names)), f"{what}: check ends with {status}: {said}")
-        self.same(what, names, paths or self.paths)
+        self.same(what, "target", names, paths)
         status, told = self.transfer()
         judge((status, tuple(told)) == (0, NAMES), f"{what}: the next transfer ends with {status}, and tells {told}")
-        self.same(what, NAMES, paths or self.paths)
+        self.same(what, "target", NAMES, paths)
         status, said = self.reads("target", "check")
         judge(status == 0 and said.startswith(b"ok archives 3 "), f"{what}: check after it ends with {status}: {said}")
 
-    def same(self, what, names, paths):
-        """Whether these archives say what they say in the source, and the files of these paths have what they have there."""
+    def same(self, what, folder, names, paths):
+        """Whether these archives have the items that they have to have, and the files of these paths their contents."""
         for name in names:
-            judge(self.reads("target", "list", name) == self.reads("source", "list", name), f"{what}: list {name} differs")
+            lines, files = self.wanted[name]
+            judge(self.reads(folder, "list", name) == (0, lines), f"{what}: list {name} differs")
             for path in paths[name]:
-                words = ("extract", name, path)
-                judge(self.reads("target", *words) == self.reads("source", *words), f"{what}: extract {name} {path} differs")
+                judge(self.reads(folder, "extract", name, path) == (0, files[path]), f"{what}: extract {name} {path} differs")
 
 
 def calls_of(trial):
-    """How many calls of the system a transfer makes."""
+    """The calls of the system that a transfer makes from the first one on that is about its target: each by its name, and its number among those of it."""
     trial.begin()
     log = trial.path("calls")
-    status, told = trial.transfer(prefix=["strace", "-o", log, "-e", f"trace={CALLS}"])
+    status, told = trial.transfer(prefix=tracing.tracing(log))
     judge((status, tuple(told)) == (0, NAMES), f"a transfer ends with {status}, and tells {told}")
-    with open(log, encoding="utf-8", errors="replace") as file:
-        return sum("(" in line for line in file)
+    return tracing.places(log, "target")
+
+
+def spread(calls, count):
+    """So many of these, evenly spread over all, the first and the last among them, and one of each name at least."""
+    count = min(count, len(calls))
+    chosen = {place * (len(calls) - 1) // max(count - 1, 1) for place in range(count)}
+    names = [name for name, _ in calls]
+    return [(place + 1, calls[place]) for place in sorted(chosen | {names.index(name) for name in names})]
+
+
+def kills_at_calls(trial):
+    """Transfers that are killed at calls of the system."""
+    if shutil.which("strace") is None:
+        skip("kills at calls of the system: there is no strace")
+        return
+    calls = calls_of(trial)
+    judge(len(calls) > 50, f"a transfer makes {len(calls)} calls")
+    for number, place in spread(calls, COUNT):
+        trial.begin()
+        status, told = trial.transfer(prefix=tracing.tracing(trial.path("calls"), *tracing.killing(place)))
+        what = f"killed at call {number} of {len(calls)}, the {place[0]} of number {place[1]}"
+        judge(status == -signal.SIGKILL, f"{what}: status {status}")
+        trial.look(what, told)
+
+
+def small_files(trial):
+    """Files that may not grow beyond a size, those of the target and the one that is told into."""
+    for size in (100, 1000, 9000):
+        trial.begin()
+
+        def small():
+            signal.signal(signal.SIGXFSZ, signal.SIG_IGN)
+            resource.setrlimit(resource.RLIMIT_FSIZE, (size, size))
+
+        status, told = trial.transfer(preexec_fn=small)
+        judge(status == 5, f"files of {size} bytes at most: status {status}")
+        trial.look(f"files of {size} bytes at most", told)
+
+
+def closed_folder(trial):
+    """A folder of the target that can't be written."""
+    what = "a folder that can't be written"
+    other = other_user(PROGRAM, trial.root)
+    if other is None:
+        skip(f"{what}: no other user can be taken")
+        return
+    trial.begin()
+    give(trial.path("target"))
+    os.chmod(trial.path("target/data/0"), 0o500)
+    status, told = trial.transfer(prefix=other)
+    os.chmod(trial.path("target/data/0"), 0o700)
+    judge(status == 5, f"{what}: status {status}")
+    trial.look(what, told)
+
+
+def unread_output(trial):
+    """A pipe as standard output that nobody reads."""
+    trial.begin()
+    reading, writing = os.pipe()
+    os.close(reading)
+    status, told = trial.transfer(stdout=writing)
+    os.close(writing)
+    judge(status in (5, 7), f"standard output closed: status {status}")
+    trial.look("standard output closed", told)
 
 
 def borg_checks(trial, what):
@@ -199,7 +277,7 @@ def random_kills(trial):
         status, told = trial.transfer(kill)
         what = f"killed after {after:.4f} of {lasts:.4f} seconds"
         judge(status in (0, -signal.SIGKILL), f"{what}: status {status}")
-        trial.look(what, told, {name: [some.choice(paths)] if paths else [] for name, paths in trial.paths.items()})
+        trial.look(what, told, {name: [some.choice(paths)] if paths else [] for name, paths in trial.paths().items()})
         if number % 100 == 0:
             borg_checks(trial, what)
 
@@ -209,6 +287,8 @@ def mounted(trial, options):
     trial.begin()
     shutil.rmtree(trial.path("target"))
     os.mkdir(trial.path("target"))
+    if shutil.which("mount") is None:
+        return False
     if subprocess.run(["mount", "-t", "tmpfs", "-o", options, "tmpfs", trial.path("target")], stderr=subprocess.DEVNULL).returncode != 0:
         return False
     shutil.copytree(trial.path("made"), trial.path("target"), dirs_exist_ok=True)
@@ -227,6 +307,7 @@ def small_systems(trial):
     """Targets on file systems that become full, and on one that becomes read only."""
     for size in range(32, 300, 4):
         if not mounted(trial, f"size={size}k"):
+            skip("file systems that are full or read only: none can be mounted")
             return
         status, told = trial.transfer()
         unmounted(trial)
@@ -248,44 +329,19 @@ def small_systems(trial):
 
 
 def main():
+    has_borg = shutil.which("borg") is not None
     with tempfile.TemporaryDirectory() as root:
-        trial = Trial(root, make_borg_source(root) if RANDOM > 0 and shutil.which("borg") else make_source(root))
-        total = calls_of(trial)
-        count = min(COUNT, total)
-        for number in sorted({1 + place * (total - 1) // max(count - 1, 1) for place in range(count)}):
-            trial.begin()
-            inject = f"inject={CALLS}:signal=KILL:when={number}"
-            status, told = trial.transfer(prefix=["strace", "-o", trial.path("calls"), "-e", f"trace={CALLS}", "-e", inject])
-            trial.look(f"killed at call {number} of {total}", told)
-        for size in (100, 1000, 9000):
-            trial.begin()
-
-            def small():
-                signal.signal(signal.SIGXFSZ, signal.SIG_IGN)
-                resource.setrlimit(resource.RLIMIT_FSIZE, (size, size))
-
-            status, told = trial.transfer(preexec_fn=small)
-            judge(status in (5, 7), f"files of {size} bytes at most: status {status}")
-            trial.look(f"files of {size} bytes at most", told)
-        if os.geteuid() != 0:
-            trial.begin()
-            os.chmod(trial.path("target/data/0"), 0o500)
-            status, told = trial.transfer()
-            os.chmod(trial.path("target/data/0"), 0o700)
-            judge(status == 5, f"a folder that can't be written: status {status}")
-            trial.look("a folder that can't be written", told)
-        trial.begin()
-        reading, writing = os.pipe()
-        os.close(reading)
-        status, told = trial.transfer(stdout=writing)
-        os.close(writing)
-        judge(status != 0, f"standard output closed: status {status}")
-        trial.look("standard output closed", told)
+        trial = Trial(root, make_borg_source(root) if RANDOM > 0 and has_borg else make_source(root))
+        kills_at_calls(trial)
+        small_files(trial)
+        closed_folder(trial)
+        unread_output(trial)
         if RANDOM > 0:
+            if not has_borg:
+                skip("a source that Borg wrote: there is no Borg")
             small_systems(trial)
             random_kills(trial)
-    print(f"{passed} passed, {failed} failed")
-    sys.exit(failed > 0)
+    finish()
 
 
 main()

@@ -1,19 +1,21 @@
 #!/usr/bin/env python3
-"""The program's own cases: program.py PROGRAM
+"""The program's own cases: program.py PROGRAM [CASES ..]
 
 Each case makes a folder, runs the program in the folder above it with the words and variables given, and compares status and
-output. What a repository has to print stands in the case, or comes from segments.keys. What standard error has to say beside it
-comes from the table in docs/FORMATS.md, of which each row is met. Where a case doesn't say what is written nothing may be:
-the folder is compared before and after. One line for each case that differs, and at the end 'N passed, M failed'; status 1 where M isn't 0.
+output. What a repository has to print stands in the case, or comes from segments.keys; the help is that of checks/help.txt. What standard error has
+to say beside it comes from the table in docs/FORMATS.md: which row it is follows from the run, and each row is met. Where a case doesn't say what is
+written nothing may be: the folder is compared before and after. With names of cases, those alone are tried. One line for each case that differs, then
+what can't be tried here (no strace, no libcrypto, no repositories of Borg), and at the end 'N passed, M failed, K skipped'; status 1 where M isn't 0.
 """
 import base64
 import concurrent.futures
 import hashlib
+import json
 import os
 import pty
 import random
 import re
-import resource
+import shutil
 import stat
 import struct
 import subprocess
@@ -24,8 +26,12 @@ import time
 import tty
 
 sys.dont_write_bytecode = True
+import counting
+import libcrypto
 import repositories
 import segments
+import tracing
+from counting import finish, skip
 from repositories import Archive, Item, Keys, fields, pack, repository
 from segments import COMMIT, COMMIT_SEGMENT, MAGIC, delete, put, sealed, segment
 
@@ -38,8 +44,8 @@ NOTHING = (0, b"")
 GREATEST = 2**64 - 1
 TEN_A_FOLDER = b"[repository]\nversion = 1\nid = %s\nsegments_per_dir = 10" % (b"00" * 32)
 KEYS = ("source", "-", "keys")
-
-passed = failed = 0
+# How long one run may last, in seconds: what has no end fails.
+LIMIT = 600
 
 
 def plain_words():
@@ -47,12 +53,15 @@ def plain_words():
     formats = os.path.join(os.path.dirname(os.path.abspath(__file__)), "..", "docs", "FORMATS.md")
     with open(formats, encoding="utf-8") as file:
         section = file.read().split("\n## Plain words on standard error\n")[1].split("\n## ")[0]
-    rows = [[cell.strip() for cell in row.strip("| ").split(" | ")] for row in re.findall(r"(?m)^\| (.*) \|$", section)[1:]]
+    table = section[section.index("| Line on standard output |") :]
+    rows = [[cell.strip() for cell in row.strip("| ").split(" | ")] for row in re.findall(r"(?m)^\| (.*) \|$", table)[1:]]
     return {(row[0].strip("`"), row[1] if len(row) == 3 else ""): row[-1] for row in rows}
 
 
 PLAIN = plain_words()
+# The rows that a run came under, each with the repository that it spoke of, and those that nothing can be run for here.
 met = set()
+untried = set()
 
 
 def line(*pairs):
@@ -100,64 +109,162 @@ def environment(variables):
     return {**{name: value for name, value in os.environb.items() if not name.startswith(b"BORG_")}, **variables}
 
 
-def run(words, cwd, variables=None, stdout=subprocess.PIPE, limit=None, stderr=subprocess.PIPE):
-    """The status and the output of one run."""
-    env = environment(variables or {})
-    before = lambda: limit and resource.setrlimit(resource.RLIMIT_AS, (limit, limit))
+def start(words, cwd, variables=None, stdout=subprocess.PIPE, stderr=subprocess.PIPE, prefix=()):
+    """One run: its status, its output, and what it says on standard error."""
+    command = [*prefix, PROGRAM, *words]
     try:
-        ran = subprocess.run([PROGRAM, *words], cwd=cwd, env=env, stdin=subprocess.DEVNULL, stdout=stdout, stderr=stderr, timeout=60, preexec_fn=before)
+        ran = subprocess.run(command, cwd=cwd, env=environment(variables or {}), stdin=subprocess.DEVNULL, stdout=stdout, stderr=stderr, timeout=LIMIT)
     except subprocess.TimeoutExpired:
-        return "no answer", b""
-    if stderr == subprocess.PIPE:
-        explained(words, cwd, ran.returncode, ran.stdout, ran.stderr)
-    return ran.returncode, ran.stdout or b""
+        return "no answer", b"", b""
+    return ran.returncode, ran.stdout or b"", ran.stderr or b""
 
 
-def row_of(words, cwd, status, out):
-    """The row of the table of plain words that a run comes under, None where it says nothing there."""
-    if status in (0, 7):
-        return ("none", "standard output failed, status 7") if status else None
-    if status == 1:
-        return "bad REASON", ""
-    told = re.search(r"(source refused: |target refused: |name taken: |not found: |usage|memory$|key file unreadable$|source device failed$|target device failed$|limit: |BORG_)[^\n]*\n?$", out.decode("utf-8", "replace"))
-    line = re.sub(r"^(name taken|not found): .*", r"\1: NAME", re.sub(r"\b[0-9a-f]{64}$", "ID", told[0].rstrip("\n") if told else ""))
-    line = re.sub(r"segment \d+ at \d+$", "segment S at A", re.sub(r"^usage: word \d+$", "usage: word N", line))
-    where, source = "", os.fsdecode(words[0]) if words else ""
+def run(words, cwd, variables=None, says=b"", is_record=False, prefix=()):
+    """The status and the output of one run, whose standard error is the line of its row, and has this text in it.
+
+    `is_record` says whether the object that it names is an archive's record, which nobody sees from outside.
+    """
+    status, out, err = start(words, cwd, variables, prefix=prefix)
+    explained(words, cwd, status, out, err, variables or {}, says, is_record)
+    return status, out
+
+
+SOURCE_WORDS = {"{place}": "SOURCE", "{passphrase}": "BORG_OTHER_PASSPHRASE", "{key file}": "BORG_OTHER_KEY_FILE", "{init}": ""}
+TARGET_WORDS = {
+    "{place}": "TARGET", "{passphrase}": "BORG_PASSPHRASE", "{key file}": "BORG_KEY_FILE",
+    "{init}": "; borgferry - TARGET init makes a repository there",
+}
+LOCK_ROW = "none", "a lock of Borg lies in TARGET, in front of `init`, `transfer` and `compact`"
+INDEX_ROW = "none", "files of Borg's lie in TARGET, behind `compact`"
+EMPTY_ROW = "none", "`init` or `make-key` is done with an empty passphrase"
+OUTPUT_ROW = "none", "standard output failed, status 7"
+
+
+def filled(row, side):
+    """The text of a row for one of the repositories, the source or the target, as a line."""
+    text = PLAIN.get(row, f"no such row: {row}")
+    for name, word in (TARGET_WORDS if side == "target" else SOURCE_WORDS).items():
+        text = text.replace(name, word)
+    return b"%s\n" % text.encode()
+
+
+def is_remote(word):
+    """Whether a colon stands before the first slash of a place."""
+    return ":" in os.fsdecode(word).split("/")[0]
+
+
+def where_of_usage(words, cwd):
+    """Where `usage` comes from: the row of the table."""
+    if any(isinstance(word, bytes) and not is_text(word) for word in words):
+        return "a word isn't UTF-8"
+    if len(words) < 3 or (words[0] == words[1] and words[0] != "-"):
+        return "no two places and a command"
+    if is_remote(words[0]) or is_remote(words[1]):
+        return "a place has a colon before its first slash"
+    return "both places are one folder, spelled in two ways"
+
+
+def is_text(word):
+    try:
+        return word.decode("utf-8") is not None
+    except UnicodeDecodeError:
+        return False
+
+
+FAULT_LINE = re.compile(
+    r"(source refused: |target refused: |name taken: |not found: |usage|memory$|key file unreadable$|entropy failed$"
+    r"|source device failed$|target device failed$|limit: |BORG_)[^\n]*\n?$"
+)
+
+
+def name_of_line(out):
+    """The fault line of a run as the table has it, with the names, ids and numbers in it as words."""
+    told = FAULT_LINE.search(out.decode("utf-8", "replace"))
+    line = told[0].rstrip("\n") if told else ""
+    line = re.sub(r"^(name taken|not found): .*", r"\1: NAME", re.sub(r"\b[0-9a-f]{64}$", "ID", line))
+    return re.sub(r"segment \d+ at \d+$", "segment S at A", re.sub(r"^usage: word \d+$", "usage: word N", line))
+
+
+def where_of(line, kinds, words, cwd, place, is_zero, is_record):
+    """Which of the rows of a line a run comes under, of those that the table has."""
     if line == "usage":
-        where = "no two places and a command"
-    elif line == "usage: word N":
-        where = f"the command {words[2]}" if words[2] in ("keys", "key", "list", "extract", "check", "init", "make-key", "transfer") else "another word"
-    elif line in ("source refused: no commit", "source refused: config 1") and source in ("-", ""):
-        where = "`-` or an empty word"
-    elif line in ("source refused: no commit", "source refused: config 1") and not os.path.exists(os.path.join(cwd, source)):
-        where = "the folder isn't there"
-    elif line in ("source refused: missing ID", "source refused: blob 4 ID", "source refused: blob 5 ID"):
-        where = "the zero id" if out.endswith(b"0" * 64 + b"\n") else "another id"
-    elif line.startswith("target refused: ") and (line, "") not in PLAIN:
-        line, where = "target refused: REASON", "another reason"
-    return line, where
+        return where_of_usage(words, cwd)
+    if line == "usage: word N":
+        return f"the command {words[2]}" if f"the command {words[2]}" in kinds else "another word"
+    if line == "not found: NAME":
+        return "the command extract" if words[2] == "extract" else "another command"
+    for where, is_so in {
+        "`-` or an empty word": place in ("-", ""),
+        "the folder isn't there": not os.path.exists(os.path.join(cwd, place)),
+        "the zero id": is_zero,
+        "an archive's record": is_record,
+        "another id": True,
+    }.items():
+        if is_so and where in kinds:
+            return where
+    return ""
 
 
-def explained(words, cwd, status, out, err):
-    """Looks whether standard error has what the table says of a run, and no more."""
-    if out is None:
-        want = {b"%s\n" % text.encode() for text in PLAIN.values()}
-        is_right = err in want and (status != 7 or err == b"%s\n" % PLAIN["none", "standard output failed, status 7"].encode())
-    else:
-        row = row_of(words, cwd, status, out)
-        is_right = err == (b"" if row is None else b"%s\n" % PLAIN.get(row, "no such row").encode())
-        met.add(row)
-    if not is_right:
-        judge(f"standard error of {words}", (status, err), (status, b"what docs/FORMATS.md says"))
+def row_of(words, cwd, status, out, variables, is_record):
+    """The row of the table of plain words that a run comes under, `None` where nothing is said, and the repository that it speaks of."""
+    if status in (1, 7):
+        return (("bad REASON", "") if status == 1 else OUTPUT_ROW), "source"
+    if status == 0 and words[2:3] == ("compact",):
+        return (INDEX_ROW if has_index(os.path.join(cwd, words[1])) else None), "target"
+    if status == 0:
+        is_new_key = len(words) > 2 and words[2] in ("init", "make-key") and words[3:4] != ["--help"]
+        return (EMPTY_ROW if is_new_key and not variables.get(b"BORG_PASSPHRASE") else None), "target"
+    line = name_of_line(out)
+    side = "target" if line.startswith("target ") else "source"
+    common = re.sub(r"^(source|target) (?=refused: )", "", line)
+    kinds = {where for name, where in PLAIN if name in (line, common)}
+    place = os.fsdecode(words[side == "target"]) if len(words) > 2 else ""
+    where = where_of(line, kinds, words, cwd, place, out.endswith(b"0" * 64 + b"\n"), is_record)
+    rows = [row for row in PLAIN if row in ((line, where), (common, where))]
+    return (rows[0] if len(rows) == 1 else (line, where)), side
+
+
+def has_index(folder):
+    """Whether files of Borg's lie in a repository that say where its objects are."""
+    return os.path.isdir(folder) and any(name.startswith(("index.", "hints.", "integrity.")) for name in os.listdir(folder))
+
+
+def is_locked(words, cwd):
+    """Whether Borg's lock lies in the target of a command that writes it."""
+    if len(words) < 3 or words[2] not in ("init", "transfer", "compact"):
+        return False
+    target = os.path.join(cwd, os.fsdecode(words[1]))
+    roster = os.path.join(target, "lock.roster")
+    return os.path.lexists(os.path.join(target, "lock.exclusive")) or os.path.isfile(roster) and names_somebody(roster)
+
+
+def names_somebody(roster):
+    """Whether the text of a roster names somebody."""
+    with open(roster, encoding="utf-8") as file:
+        text = file.read()
+    return text != "" and any(json.loads(text).values())
+
+
+def explained(words, cwd, status, out, err, variables, says, is_record):
+    """Looks whether standard error has the line of the row that a run comes under, and no more; where the case says a text, that stands in it."""
+    row, side = row_of(words, cwd, status, out, variables, is_record)
+    before = filled(LOCK_ROW, "target") if is_locked(words, cwd) else b""
+    want = before + (b"" if row is None else filled(row, side))
+    judge(f"standard error of {words}", (status, err), (status, want))
+    if says not in err:
+        judge(f"standard error of {words}", (status, err), (status, says))
+    if err == want:
+        met.update([(row, side)] * (row is not None) + [(LOCK_ROW, "target")] * (before != b""))
 
 
 def judge(name, got, want):
-    global passed, failed
-    if got == want:
-        passed += 1
-    else:
-        failed += 1
-        print(f"FAIL {name}: {got[0]} {got[1][:200]!r} for {want[0]} {want[1][:200]!r}")
+    """Looks whether a status and an output are those that are wanted."""
+    counting.judge(got == want, f"{name}: {got[0]} {got[1][:400]!r} for {want[0]} {want[1][:400]!r}")
+
+
+def holds(is_right, what):
+    """Looks whether something is so."""
+    counting.judge(is_right, what)
 
 
 def case(name, files, want=None, words=KEYS, beside=None, **how):
@@ -178,8 +285,7 @@ def case(name, files, want=None, words=KEYS, beside=None, **how):
         judge(name, got, plain if want is None else want)
         if want is not None and words == KEYS and not how and want != DEVICE:
             judge(f"{name}: the plain reading", plain, want)
-        if state(root) != before:
-            judge(f"{name}: the folder", ("changed", b""), ("the same", b""))
+        holds(state(root) == before, f"{name}: the folder has changed")
 
 
 def log(*contents):
@@ -281,14 +387,43 @@ def damage():
     case("an entry that is too large", log(segment(put(K, largest + b"\0")), commit), damaged(0, 8))
 
 
+# The calls by which a program asks the system for memory, and what they answer where there is none.
+MEMORY = {"brk": "retval=0", "mmap": "error=ENOMEM", "mremap": "error=ENOMEM"}
+
+
+def refusals(log):
+    """What refuses memory, in words of strace: from each call on by which a traced run asks for some, once it has opened a folder `source`."""
+    counts, has_begun = dict.fromkeys(MEMORY, 1), False
+    for line in tracing.lines_of(log):
+        name = line.partition("(")[0]
+        has_begun = has_begun or "source" in line
+        if name in counts:
+            if has_begun:
+                yield [word for other, number in counts.items() for word in ("-e", f"inject={other}:{MEMORY[other]}:when={number}+")]
+            counts[name] += 1
+
+
 def memory():
-    """Less and less memory: each run prints what it should, or the line of want of memory; both come."""
+    """Memory that is refused from some call of the system on: each run prints what it should, or as much of it and the line of want of memory; both come."""
+    with open(PROGRAM, "rb") as program:
+        is_sanitized = b"__asan_init" in program.read()
+    if is_sanitized or shutil.which("strace") is None:
+        skip(f"want of memory: {'a program with a sanitizer ends without memory' if is_sanitized else 'there is no strace'}")
+        untried.add(("memory", ""))
+        return
     with tempfile.TemporaryDirectory() as root:
         keys = [number.to_bytes(32, "big") for number in range(60000)]
         make(root, inside("source", log(segment(*(put(key, b"") for key in keys)), COMMIT_SEGMENT)))
         want = segments.keys(os.path.join(root, "source"))
-        answers = {run(KEYS, root, limit=megabytes << 20) for megabytes in range(6, 26, 2)}
-        judge("want of memory", (len(answers), b"".join(answer[1] for answer in sorted(answers))), (2, want[1] + b"memory\n"))
+        strace = ["strace", "-o", os.path.join(root, "calls"), "-e", f"trace=openat,{','.join(MEMORY)}"]
+        judge("memory that isn't refused", run(KEYS, root, prefix=strace), want)
+        statuses = set()
+        for rules in list(refusals(os.path.join(root, "calls"))):
+            status, out = run(KEYS, root, prefix=[*strace, *rules])
+            is_front = status == 3 and out.endswith(b"memory\n") and want[1].startswith(out.removesuffix(b"memory\n"))
+            holds((status, out) == want or is_front, f"memory is refused: {' '.join(rules)}: {status} {out[-200:]!r}")
+            statuses.add(status)
+        holds(statuses == {0, 3}, f"memory is refused: the statuses are {statuses}")
 
 
 def names():
@@ -324,7 +459,7 @@ def words():
         case(f"words {given}", good, USAGE, given)
     for given, number in {
         ("nothing",): 1, ("",): 1, ("KEYS",): 1, ("keys ",): 1, ("--help",): 1, ("--",): 1,
-        ("keys", "x"): 2, ("keys", ""): 2, ("keys", "--x"): 2, ("keys", "--help"): 2, ("keys", "-"): 2,
+        ("keys", "x"): 2, ("keys", ""): 2, ("keys", "--x"): 2, ("keys", "-h"): 2, ("keys", "-"): 2, ("nothing", "--help"): 1,
         ("keys", "--", "x"): 3, ("keys", "--", "--"): 3,
     }.items():
         case(f"command {given}", good, wrong_word(number), ("source", "-", *given))
@@ -332,14 +467,43 @@ def words():
     case("keys --", good, line((K, 3)), ("source", "-", "keys", "--"))
     case("--version", good, (0, b"borgferry 0.1.0\n"), ["--version"])
     case("a source of the name --version", good, NO_COMMIT, ("--version", "-", "keys"))
-    status, out = run(["--help"], "/")
-    texts = [b"SOURCE TARGET COMMAND", b"  keys  ", b"  key   ", b"  list  ", b"BORG_OTHER_PASSPHRASE", b"BORG_PASSPHRASE", b"status", b"--version"]
-    judge("--help", (status, b" ".join(text for text in texts if text not in out)), (0, b""))
+    helps(good)
     for at in range(3):
         given = [b"source", b"-", b"keys"]
         given[at] = b"\xff"
         case(f"word {at + 1} isn't UTF-8", good, USAGE, given)
-    case("a further word isn't UTF-8", good, USAGE, [b"source", b"-", b"keys", b"\xc3"])
+    case("a further word isn't UTF-8", good, USAGE, [b"source", b"-", b"keys", b"\xc3"], says=b"isn't UTF-8: an archive or a path of other bytes is listed, and can't be named")
+    places(good)
+
+
+def helps(good):
+    """The help as a whole, which `-h` prints too, and the lines of each command, which no folder and no variable is looked at for."""
+    with open(os.path.join(os.path.dirname(os.path.abspath(__file__)), "help.txt"), "rb") as file:
+        text = file.read()
+    judge("--help", run(["--help"], "/"), (0, text))
+    judge("-h", run(["-h"], "/"), (0, text))
+    holds(max(map(len, text.decode().splitlines())) <= 80, "--help: a line is wider than 80 columns")
+    lines = {}
+    for part in re.split(rb"(?m)^(?=  [a-z])", text.split(b"\ncommands:\n")[1].split(b"\nvariables")[0])[1:]:
+        command = re.match(rb"  ([a-z-]+)", part)[1].decode()
+        lines[command] = lines.get(command, b"") + part
+    holds(len(lines) == 10, f"--help: the commands are {list(lines)}")
+    for command, part in lines.items():
+        for given in [(command, "--help"), ("source", "source", command, "--help"), ("u@h:p", "-", command, "--help", "x")]:
+            case(f"words {given}", good, (0, part), given, variables={b"BORG_PASSPHRASE": b"\xff"})
+
+
+def places(good):
+    """Places that are none of this machine, and two that are one folder: nothing is made, and nothing is removed."""
+    for place in ("user@host:path", "host:path", "host:", "ssh://user@host/path", "ssh://host:22/path", "file:///path", "source::a"):
+        case(f"the source {place}", good, USAGE, (place, "-", "keys"), says=b"a place is a folder of this machine")
+        case(f"the target {place}", good, USAGE, ("-", place, "init", "--iterations", "1"), says=b"a place is a folder of this machine")
+    case("a colon behind a slash", None, line((K, 3)), ("./a:b", "-", "keys"), inside("a:b", good))
+    above = {**good, "data/0/2": segment(delete(K))}
+    for other in ("./source", "source/", "source/.", "source/data/..", "other", "other/"):
+        for words in [("source", other, "transfer"), (other, "source", "transfer"), (other, "source", "init"), ("source", other, "keys")]:
+            case(f"one folder: {words}", above, USAGE, words, {"other": "source"}, says=b"SOURCE and TARGET are one folder")
+    case("two folders that aren't there", None, NO_COMMIT, ("there", "./there", "keys"))
 
 
 def raw(content):
@@ -470,9 +634,10 @@ def archives():
     """What `list NAME` and `extract` say of archives, good and bad; a plain program of this folder made them."""
     keys = Keys()
 
-    def showing(name, archive, want, *command, **changed):
+    def showing(name, archive, want, *command, says=b"", **changed):
         made = repository(keys, PASSPHRASE, keys.blob(keys.tagged(fields(archive.named(b"a")))), *archive.chunks(**changed))
-        case(f"{' '.join(map(repr, command))}: {name}", made, want, ("source", "-", *command), variables=OPEN)
+        is_record = changed.get("compressed") == archive.id
+        case(f"{' '.join(map(repr, command))}: {name}", made, want, ("source", "-", *command), variables=OPEN, says=says, is_record=is_record)
 
     files = [Item(b"."), Item(b"empty", []), Item(b"f", [b"hello", b"", b" and more"]), Item(b"l", None, b"f"), Item(b"f", [b"another"]), Item(b"h", [b"x"], b"f")]
     odd = [Item(b"a\nb\\\x7f", [b"odd"]), Item(b"\xff\xfe", [b"\0" * 70000]), Item(b"", [b"none"])]
@@ -484,30 +649,37 @@ def archives():
         there = Archive(keys, b"a", [*files, *odd, Item(b"\xc3\xa9", [b"accent"])])
         showing("a file", there, (0, there.content(path)), "extract", "a", path)
     missing = lambda what: (11, b"not found: %s\n" % what)
+    record, stream, content = good.id, good.pieces[0][0], keys.id(b" and more")
+    reason = lambda text, id: refused(b"%s %s" % (text, id.hex().encode()))
     for words, want in {
         ("list", "b"): missing(b"b"), ("list", "b\n"): missing(b"b\\x0a"), ("list", "--", "--b"): missing(b"--b"), ("extract", "b", "f"): missing(b"b"),
         ("extract", "a", "x"): missing(b"x"), ("extract", "a", "."): missing(b"."), ("extract", "a", "l"): missing(b"l"), ("extract", "a", "f/"): missing(b"f/"),
         ("list", "a", "b"): wrong_word(3), ("extract",): wrong_word(2), ("extract", "a"): wrong_word(3), ("extract", "a", "f", "x"): wrong_word(4), ("list", "--x"): wrong_word(2),
     }.items():
-        showing("words", good, want, *words)
+        showing("words", good, want, *words, says=b"a link (l) has no content of its own" if want == missing(b"l") else b"")
+    showing("its stream is compressed", good, reason(b"blob 4", stream), "list", "a", says=b"or the list of an archive's items is compressed", compressed=stream)
     none = Archive(keys, b"a", [])
     showing("no items", none, NOTHING, "list", "a")
     showing("no items", none, missing(b"x"), "extract", "a", "x")
-    many = Archive(keys, b"a", [Item(b"folder/file %06d" % number, [b"x"] if number % 3 else None) for number in range(20000)], 50000)
+    paths = [Item(b"folder/file %06d" % number, [b"x"] if number % 3 else None) for number in range(20000)]
+    many = Archive(keys, b"a", paths, 50000)
     showing("many items", many, (0, many.lines()), "list", "a")
+    cut = Archive(keys, b"a", paths, 50000, b"\xc1")
+    status, line = reason(b"items 1", cut.id)
+    showing("many items and no value", cut, (status, cut.lines() + line), "list", "a")
     large = Archive(keys, b"a", [Item(b"large", [bytes([number]) * 30000 for number in range(20)])])
     showing("a file of 20 chunks", large, (0, large.content(b"large")), "extract", "a", "large")
-    record, stream, content = good.id, good.pieces[0][0], keys.id(b" and more")
-    reason = lambda text, id: refused(b"%s %s" % (text, id.hex().encode()))
     for name, changed, text, id in [
         ("its record isn't there", {"without": record}, b"missing", record), ("its stream isn't there", {"without": stream}, b"missing", stream),
         ("its record is compressed", {"compressed": record}, b"blob 4", record), ("its stream has another id", {"other": stream}, b"blob 5", stream),
     ]:
-        showing(name, good, reason(text, id), "list", "a", **changed)
-        showing(name, good, reason(text, id), "extract", "a", "f", **changed)
+        says = {b"blob 4": b"an archive's record is compressed, as Borg's own compression and borg rename leave it: borg recreate --recompress"}.get(text, b"")
+        showing(name, good, reason(text, id), "list", "a", says=says, **changed)
+        showing(name, good, reason(text, id), "extract", "a", "f", says=says, **changed)
     for name, changed, text in [("a chunk isn't there", {"without": content}, b"missing"), ("a chunk is compressed", {"compressed": content}, b"blob 4"), ("a chunk has another id", {"other": content}, b"blob 5")]:
         status, line = reason(text, content)
-        showing(name, good, (status, b"hello" + line), "extract", "a", "f", **changed)
+        says = b"a file's content or the list of an archive's items is compressed: borg recreate --recompress" if text == b"blob 4" else b""
+        showing(name, good, (status, b"hello" + line), "extract", "a", "f", says=says, **changed)
         showing(f"{name}, which isn't looked at", good, (0, good.lines()), "list", "a", **changed)
         showing(f"{name}, which isn't the file's", good, (0, b"x"), "extract", "a", "h", **changed)
     sized = Archive(keys, b"a", [Item(b"f", [b"hello"], size=6)])
@@ -522,9 +694,9 @@ def archives():
         ("a healed item", b"\x82\xa4path\xa1a\xaechunks_healthy\xc0", 4), ("the front of an item", b"\x81\xa4p", 5), ("a count of 2^32 - 1 and no more", b"\xdf\xff\xff\xff\xff", 5),
     ]:
         bad = Archive(keys, b"a", files, behind=spelled)
-        showing(f"a stream with {name}", bad, reason(b"items %d" % number, bad.id), "list", "a")
         status, line = reason(b"items %d" % number, bad.id)
-        showing(f"a stream with {name}", bad, (status, good.content(b"f") + line), "extract", "a", "f")
+        showing(f"a stream with {name}", bad, (status, bad.lines() + line), "list", "a")
+        showing(f"a stream with {name}", bad, (status, bad.content(b"f") + line), "extract", "a", "f")
     for name, how, number in [
         ("bytes behind", {"packed": lambda text: text + b"\0"}, 1), ("no map", {"packed": lambda text: pack([1])}, 1), ("no items", {b"items": None}, 2), ("the version 2", {b"version": 2}, 2), ("a name that is a number", {b"name": 1}, 2),
         ("an item's id of 31 bytes", {b"items": [K[1:]]}, 2), ("a tag of another info", {"info": b"borg-metadata-authentication-manifest"}, 4), ("a tag that is nil", {"tam": None}, 2),
@@ -588,14 +760,13 @@ def checked():
 
 
 def every_byte():
-    """A small repository with each of its bytes changed, each byte of a blob changed or the blob cut there under a right checksum."""
+    """A small repository with each of its bytes changed, each byte of a blob changed or the blob cut there under a right checksum: what each command says."""
     keys = Keys()
     archive = Archive(keys, b"a", [Item(b"f", [b"hello"])])
     chunks = [(repositories.ZERO, keys.blob(keys.tagged(fields(archive.named(b"a"))))), *archive.chunks()]
     files = repository(keys, PASSPHRASE, None, *chunks)
     good = {"list": (0, repositories.listing(archive.named(b"a"))), "list a": (0, archive.lines()), "extract a f": (0, b"hello"), "check": (0, b"ok archives 1 chunks 3 orphans 0 untagged 0\n")}
     reads = {"list": 1, "list a": 3, "extract a f": 4, "check": 4}
-    commands = list(reads)
 
     def refusing(place, number):
         """What each command says where the blob of a chunk breaks this rule."""
@@ -603,26 +774,32 @@ def every_byte():
         return lambda command: good[command] if place >= reads[command] else (1, b"bad %s\n" % reason) if place and command == "check" else refused(reason)
 
     def damages():
-        """The byte, the segment with something changed there, and what each command says of it."""
+        """What is damaged, the segment with that, and what each command says of it."""
         data, at, places = files["data/0/0"], 8, [0] * 8
         for _, blob in chunks:
             places += [at] * (41 + len(blob))
             at += 41 + len(blob)
         for byte, at in enumerate(places):
-            yield f"byte {byte} of the segment is changed", byte, data[:byte] + bytes([data[byte] ^ 1]) + data[byte + 1 :], lambda command: damaged(0, at)
+            yield f"byte {byte} of the segment is changed", data[:byte] + bytes([data[byte] ^ 1]) + data[byte + 1 :], lambda command, at=at: damaged(0, at)
         for place, (id, blob) in enumerate(chunks):
             for byte in range(len(blob)):
                 changed, cut = blob[:byte] + bytes([blob[byte] ^ 1]) + blob[byte + 1 :], blob[:byte]
                 for name, other, number in [("changed", changed, 3 if byte else 1), ("the end", cut, 2 if byte < 43 else 3)]:
                     entries = [put(*chunk) for chunk in [*chunks[:place], (id, other), *chunks[place + 1 :]]]
-                    yield f"byte {byte} of blob {place} is {name}", byte, segment(*entries), refusing(place, number)
+                    yield f"byte {byte} of blob {place} is {name}", segment(*entries), refusing(place, number)
 
-    with tempfile.TemporaryDirectory() as root:
-        make(os.path.join(root, "source"), files)
-        for name, byte, data, want in damages():
-            command = commands[byte % 4]
-            make(root, {"source/data/0/0": data})
-            judge(f"{command}: {name}", run(("source", "-", *command.split()), root, OPEN), want(command))
+    def answers(damage):
+        """What the program says to each command."""
+        with tempfile.TemporaryDirectory() as root:
+            make(root, inside("source", {**files, "data/0/0": damage[1]}))
+            return [start(("source", "-", *command.split()), root, OPEN) for command in reads]
+
+    all_of_them = list(damages())
+    with concurrent.futures.ThreadPoolExecutor(os.cpu_count()) as pool:
+        for (name, _, want), those in zip(all_of_them, pool.map(answers, all_of_them)):
+            for command, (status, out, err) in zip(reads, those):
+                judge(f"{command}: {name}", (status, out), want(command))
+                explained(("source", "-", *command.split()), "/", status, out, err, OPEN, b"", False)
 
 
 def key_files():
@@ -675,6 +852,7 @@ def targets():
     told("a repository", (9, b"target refused: committed\n"), {"target/data/0/0": COMMIT_SEGMENT})
     told("a nonce that is no number", (9, b"target refused: nonce 2\n"), {"target/nonce": b"12"})
     case("init: no folder", None, (5, b"target device failed\n"), ("-", "-", "init"))
+    told("a file where the folder should be", (5, b"target device failed\n"), {"target": b"text"})
     key = lambda sealed: b"BORG_KEY %s\n" % ZERO_ID + base64.b64encode(sealed)
     of_file("a short id", b"BORG_KEY 12", b"key file 1")
     of_file("no key", b"BORG_KEY %s\n" % ZERO_ID, b"key file 2")
@@ -720,6 +898,168 @@ def transfers():
     case("transfer: an item is too long", files, (12, b"limit: item\n"), words, beside=beside, variables=how)
 
 
+def plans():
+    """What `plan` prints, which writes nothing, and what it says where it makes no plan."""
+    keys, others = Keys(), Keys(b"other")
+    variables = {**OPEN, b"BORG_PASSPHRASE": PASSPHRASE}
+    files = lambda of, content: Archive(of, b"a", [Item(b"f", [content]), Item(b"e", [])])
+
+    def made(of, content=None):
+        """A repository with one archive, whose file has this content, or without any."""
+        archive = files(of, content) if content is not None else None
+        named = [archive.named(b"a")] if archive else []
+        return repository(of, PASSPHRASE, of.blob(of.tagged(fields(*named))), *(archive.chunks() if archive else []))
+
+    def told(name, want, target, *words, source=made(keys, b"x" * 65), how=variables):
+        beside = inside("target", target)
+        case(f"plan: {name}", source, want, ("source", "target", "plan", *words), beside=beside, variables=how)
+
+    told("all is new", (0, b"1 chunks 65 bytes 1 meta\n"), made(others))
+    told("a name twice, cut into two", (0, b"2 chunks 65 bytes 1 meta\n"), made(others), "--block", "64", "a", "a")
+    told("all is there", (0, b"0 chunks 0 bytes 0 meta\n"), made(others, b"x" * 65))
+    told("another archive of the name", (10, b"name taken: a\n"), made(others, b"x" * 64))
+    told("a name that the source lacks, before the target is opened", (11, b"not found: b\n"), {}, "a", "b")
+    told("a target without a commit", (9, b"target refused: no commit\n"), {"config": b""})
+    told("another passphrase", (9, b"target refused: key 5\n"), made(others), how={**OPEN, b"BORG_PASSPHRASE": b"Passphrase"})
+    for words, number in [(("--block", "63"), 3), (("--checkpoint", "1"), 2), (("--block",), 3)]:
+        told("a wrong word", wrong_word(number), made(others), *words)
+
+
+def compactions():
+    """What `compact` leaves: each live key with its bytes, and no other; where nothing is to be gained all stays, and Borg's own files are told."""
+    config = {"config": TEN_A_FOLDER}
+    dead = {**log(segment(put(K, b"abc")), COMMIT_SEGMENT, segment(delete(K)), COMMIT_SEGMENT), **config}
+    stays = {**log(segment(put(K, b"abc"), put(L, b"x" * 100)), COMMIT_SEGMENT, segment(delete(K)), COMMIT_SEGMENT), **config}
+    moved = {**log(segment(put(K, b"abc"), put(L, b"x" * 100), put(K, b"abcde")), segment(put(K, b"abcdef")), COMMIT_SEGMENT), **config}
+    for name, files, words, want, left in [
+        ("all is dead", dead, ("--threshold", "0"), b"compacted 4\n", [4]),
+        ("a DELETE stays", stays, ("--threshold", "100"), b"compacted 3\n", [0, 4, 5]),
+        ("PUTs are moved", moved, (), b"compacted 3\n", [3, 4]),
+        ("a commit alone", {**log(segment(put(K, b"abc")), COMMIT_SEGMENT), **config}, ("--threshold", "100"), b"compacted 0\n", [0, 1]),
+        ("a lock of Borg", {**dead, "lock.exclusive": b""}, (), b"compacted 4\n", [4]),
+        ("an index of Borg", {**dead, "index.3": b"", "hints.3": b"", "integrity.3": b""}, (), b"compacted 4\n", [4]),
+    ]:
+        with tempfile.TemporaryDirectory() as root:
+            make(root, inside("target", files))
+            live = segments.keys(os.path.join(root, "target"))
+            judge(f"compact: {name}", run(("-", "target", "compact", *words), root), (0, want))
+            judge(f"compact: {name}: what is live", segments.keys(os.path.join(root, "target")), live)
+            numbers = sorted(int(file) for _, _, names in os.walk(os.path.join(root, "target/data")) for file in names)
+            holds(numbers == left, f"compact: {name}: the segments {numbers} are there and not {left}")
+    for name, files, want in [
+        ("no folder", None, (9, b"target refused: no commit\n")),
+        ("no settings", log(segment(put(K, b"abc")), COMMIT_SEGMENT), (9, b"target refused: config 1\n")),
+        ("damaged", {**log(segment(put(K, b"abc"))[:-1] + b"d", COMMIT_SEGMENT), **config}, (9, b"target refused: damaged segment 0 at 8\n")),
+        ("the greatest number", {**log(segment(put(K, b"abc"))), "data/429496729/4294967295": COMMIT_SEGMENT, **config}, (12, b"limit: segment\n")),
+    ]:
+        case(f"compact: {name}", None, want, ("-", "target", "compact", "--threshold", "0"), beside=inside("target", files) if files else None)
+    case("compact: a wrong word", None, wrong_word(3), ("-", "target", "compact", "--threshold", "101"), beside=inside("target", dead))
+
+
+def locks():
+    """A lock of Borg in a target that is to be written is told in one line, and changes nothing; elsewhere nothing is said of it."""
+    keys, others = Keys(), Keys(b"other")
+    made = lambda keys: repository(keys, PASSPHRASE, keys.blob(keys.tagged(fields())))
+    total = (0, b"total 0 transferred 0 present 0 chunks 0 bytes 0 meta\n")
+    nobody, somebody = b'{"exclusive": [], "shared": []}', b'{"exclusive": [], "shared": [["host@1", 2, 0]]}'
+    told = b"TARGET has a lock of Borg"
+    for name, lock, says in [
+        ("a file lock.exclusive", {"lock.exclusive": b""}, told), ("a folder lock.exclusive", {"lock.exclusive/host@1.2-3": b""}, told), ("a link lock.exclusive", {"lock.exclusive": "nowhere"}, told),
+        ("a roster of somebody", {"lock.roster": somebody}, told), ("a roster with blanks", {"lock.roster": b'{"shared": [\n  ["host@1", 2, 0]]}'}, told),
+        ("a roster of nobody", {"lock.roster": nobody}, b""), ("an empty roster", {"lock.roster": b""}, b""), ("a pipe as roster", {"lock.roster": stat.S_IFIFO}, b""), ("another file", {"lock": b""}, b""),
+    ]:
+        beside = inside("target", {**made(others), "nonce": b"00000000000003e8", **lock})
+        how = {"variables": {**OPEN, b"BORG_PASSPHRASE": PASSPHRASE}, "beside": beside}
+        case(f"transfer: {name}", made(keys), total, ("source", "target", "transfer"), says=says, **how)
+        case(f"init: {name}", None, (9, b"target refused: committed\n"), ("-", "target", "init"), says=says, **how)
+        case(f"keys: {name}", None, segments_of(made(others)), ("target", "-", "keys"), **how)
+        case(f"list: {name} in a target that isn't used", made(keys), NOTHING, ("source", "target", "list"), **how)
+
+
+def segments_of(files):
+    """What `keys` prints of these files."""
+    with tempfile.TemporaryDirectory() as root:
+        make(root, files)
+        return segments.keys(root)
+
+
+def refused_targets():
+    """What `transfer` says of a target that doesn't open: the same as of a source, with its words. An archive of a target that doesn't read is one that is taken."""
+    keys, others = Keys(), Keys(b"other")
+    files = [Item(b"f", [b"hello"]), Item(b"l", None, b"f")]
+    source = Archive(keys, b"a", files)
+    made = lambda of, archive, **changed: repository(of, PASSPHRASE, of.blob(of.tagged(fields(archive.named(b"a")))), *archive.chunks(**changed))
+    good = made(others, Archive(others, b"a", files))
+    bare = b"[repository]\nversion = 1\nid = %s\n" % ZERO_ID
+
+    def told(name, reason, target, says=b"", key_file=None, passphrase=PASSPHRASE, words=("source", "target", "transfer")):
+        """A run over this target, None for a folder that isn't there."""
+        beside = {} if target is None else inside("target", {"nonce": b"00000000000003e8", **target})
+        beside.update({} if key_file is None else {"file": key_file})
+        variables = {**OPEN, b"BORG_PASSPHRASE": passphrase, **({} if key_file is None else {b"BORG_KEY_FILE": b"file"})}
+        case(f"a target with {name}", made(keys, source), (9, b"target refused: %s\n" % reason), words, beside=beside, variables=variables, says=says)
+
+    told("no folder", b"no commit", None, b"the folder TARGET isn't there")
+    told("no name", b"no commit", None, b"TARGET is - or empty", words=("source", "-", "transfer"))
+    told("no segment", b"no commit", {"config": good["config"]}, b"borgferry - TARGET init makes a repository there")
+    told("a damaged segment", b"damaged segment 0 at 0", {**good, "data/0/0": b""})
+    changed = lambda **lines: {**good, "config": config(table(ENVELOPE), **lines).encode()}
+    told("no config", b"config 1", {name: content for name, content in good.items() if name != "config"})
+    for number, target in enumerate([changed(version="2"), changed(id="00"), changed(key="***"), changed(max_segment_size="2M")], 2):
+        told(f"config {number}", b"config %d" % number, target, b"TARGET/config")
+    told("an id twice", b"config 6", {**good, "config": good["config"] + b"id = %s\n" % ZERO_ID})
+    envelopes = [table(ENVELOPE)[:-1], table({}), table({**ENVELOPE, "algorithm": raw(b"sha1")}), table({**ENVELOPE, "iterations": b"\x00"})]
+    for number, envelope in enumerate(envelopes, 1):
+        told(f"key {number}", b"key %d" % number, {**good, "config": repositories.config(envelope)}, b"-blake2" if number == 2 else b"")
+    told("another passphrase", b"key 5", good, b"set the variable BORG_PASSPHRASE to that of the repository which is TARGET", passphrase=b"x")
+    told("no key", b"no key", {**good, "config": bare}, b"--encryption none has no key and isn't read")
+    body = base64.b64encode(others.text(PASSPHRASE))
+    for name, file, reason in [("a short id", b"BORG_KEY 12", b"key file 1"), ("no body", b"BORG_KEY %s\n" % ZERO_ID, b"key file 2"), ("another id", b"BORG_KEY %s\n" % (b"11" * 32) + body, b"key file of " + b"11" * 32)]:
+        told(f"a key file of {name}", reason, {**good, "config": bare}, key_file=file)
+    manifest = lambda blob: repository(others, PASSPHRASE, blob)
+    blob = others.blob(others.tagged(fields()))
+    told("no manifest", b"missing " + ZERO_ID, manifest(None), b"borg check --repair makes it anew, and borg create --compression none plain")
+    changed_mac = blob[:9] + bytes([blob[9] ^ 1]) + blob[10:]
+    for number, bad in [(1, b"\x02" + blob[1:]), (2, blob[:42]), (3, changed_mac), (4, others.blob(others.tagged(fields()), b"\1\0"))]:
+        says = b"the manifest of TARGET is compressed: borg create --compression none TARGET::NAME" if number == 4 else b""
+        told(f"a manifest's blob {number}", b"blob %d %s" % (number, ZERO_ID), manifest(bad), says)
+    untagged = b"borg create --compression none TARGET::NAME FOLDER writes one with its tag"
+    for number, content in [(1, b""), (2, pack({b"version": 2})), (3, pack(fields())), (4, others.tagged(fields(), b"borg-metadata-authentication-archive"))]:
+        told(f"manifest {number}", b"manifest %d" % number, manifest(others.blob(content)), untagged if number == 3 else b"")
+    for number, content, header in [(4, b"hello", b"\1\0"), (5, b"hullo", b"\0\0")]:
+        with tempfile.TemporaryDirectory() as root:
+            id, blob = others.id(b"hello"), others.blob(content, header)
+            target = {**repository(others, PASSPHRASE, others.blob(others.tagged(fields())), (id, blob)), "nonce": b"00000000000003e8"}
+            make(root, {**inside("source", made(keys, source)), **inside("target", target)})
+            got = run(("source", "target", "transfer"), root, {**OPEN, b"BORG_PASSPHRASE": PASSPHRASE}, says=b"--target NEW TARGET::OLD makes a plain archive of one" if number == 4 else b"")
+            judge(f"a target with a content that breaks rule {number}", got, (9, b"target refused: blob %d %s\n" % (number, id.hex().encode())))
+    there = Archive(others, b"a", files)
+    for name, archive, changed in [
+        ("without its stream", there, {"without": there.pieces[0][0]}), ("with a compressed record", there, {"compressed": there.id}), ("with a tag of another info", Archive(others, b"a", files, how={"info": b"other"}), {}),
+        ("with a healed item", Archive(others, b"a", files, behind=b"\x82\xa4path\xa1a\xaechunks_healthy\xc0"), {}), ("with a wrong stated size", Archive(others, b"a", [Item(b"f", [b"hello"], size=6), files[1]]), {}),
+    ]:
+        beside = inside("target", {**made(others, archive, **changed), "nonce": b"00000000000003e8"})
+        case(f"a target's archive {name}", made(keys, source), (10, b"name taken: a\n"), ("source", "target", "transfer"), beside=beside, variables={**OPEN, b"BORG_PASSPHRASE": PASSPHRASE}, says=b"that differs, or that doesn't read, as check of TARGET tells")
+
+
+def of_borg():
+    """What is said of repositories that Borg wrote in ways that aren't read, where they lie beside this one."""
+    there = os.path.join(os.path.dirname(os.path.abspath(__file__)), "..", "..", "shared", "fixtures")
+    for words, status, says, is_record in [
+        (("recreated", "-", "list", "packed"), 8, b"borg rename, and borg recreate without --target, leave it so", False),
+        (("recreated", "-", "check"), 1, b"renamed or recreated is blob 4 or record 4", False),
+        (("renamed", "-", "list", "after"), 8, b"an archive's record is compressed, as Borg's own compression and borg rename leave it", True),
+        (("mixed", "-", "list", "old"), 8, b"an archive's record is compressed", True),
+        (("lz4", "-", "list"), 8, b"the manifest of SOURCE is compressed", False), (("anew", "-", "check"), 0, b"", False),
+        (("blake2", "-", "key"), 8, b"one of a -blake2 mode isn't read", False),
+        (("none", "-", "key"), 8, b"a repository of --encryption none has no key and isn't read", False),
+    ]:
+        if os.path.isdir(os.path.join(there, words[0])):
+            judge(f"Borg's {words}", (run(words, there, OPEN, says=says, is_record=is_record)[0], b""), (status, b""))
+        else:
+            skip(f"Borg's {words}: there is no ../shared/fixtures/{words[0]}")
+
+
 def written():
     """What `transfer` leaves where a later chunk of the source isn't there, and where a chunk of the target is damaged that it needs or doesn't need."""
     keys, others = Keys(), Keys(b"other")
@@ -737,7 +1077,7 @@ def written():
         judge("transfer: a target is made", run(("-", "target", "init", "--iterations", "1"), root, variables)[0:1] + (b"",), (0, b""))
         judge("transfer: the second chunk isn't there", run(words, root, variables), refused(b"missing %s" % keys.id(second).hex().encode()))
         # The magic, and the PUT of the first piece: a head of 41 bytes, that of a blob of 43, and 64 bytes.
-        judge("transfer: the first piece is written", (os.path.getsize(os.path.join(root, "target/data/0/2")), b""), (8 + 41 + 43 + 64, b""))
+        holds(os.path.getsize(os.path.join(root, "target/data/0/2")) == 8 + 41 + 43 + 64, "transfer: the first piece isn't written")
     id, blob = others.id(b"hello"), others.blob(b"hello")
     damaged = (id, blob[:-1] + bytes([blob[-1] ^ 1]))
     target = inside("target", {**repository(others, PASSPHRASE, others.blob(others.tagged(fields())), damaged), "nonce": b"00000000000003e8"})
@@ -761,6 +1101,12 @@ def variables():
     case("empty passphrases", good, line((K, 3)), variables={source: b"", target: b""})
     case("the source's passphrase isn't UTF-8", good, not_text(source), variables={source: bad, target: bad})
     case("the target's passphrase isn't UTF-8", good, not_text(target), variables={source: text, target: bad})
+    with tempfile.TemporaryDirectory() as root:
+        for words in [("-", "t", "init", "--iterations", "1"), ("-", "-", "make-key", "--iterations", "1")]:
+            for given, says in [({}, b"the key's passphrase is empty"), ({target: b""}, b"the key's passphrase is empty"), ({target: b"x"}, b"")]:
+                words = (words[0], words[1] + "t" if words[2] == "init" else "-", *words[2:])
+                status, out = run(words, root, given, says=says)
+                judge(f"{words[2]}: a passphrase {given}", (status, b"" if out.startswith((b"initialized ", b"BORG_KEY ")) else out), (0, b""))
     case("wrong words come before a passphrase", good, USAGE, ["source"], variables={source: bad})
     case("--version needs no passphrase", good, (0, b"borgferry 0.1.0\n"), ["--version"], variables={source: bad})
 
@@ -769,19 +1115,22 @@ def outputs():
     """Output that isn't taken: a full device, a closed one, and a pipe that nobody reads."""
     with tempfile.TemporaryDirectory() as root:
         make(root, inside("source", log(segment(put(K, b"abc")), COMMIT_SEGMENT)))
-        for words, want in {("source", "-", "keys"): 7, ("-", "-", "keys"): 8, ("source", "-", "nothing"): 2, ("source",): 2, ("--help",): 7}.items():
+        for words, status in {("source", "-", "keys"): 7, ("-", "-", "keys"): 8, ("source", "-", "nothing"): 2, ("source",): 2, ("--help",): 7}.items():
+            # Where the line of standard output says why, the one on standard error is the same whether that is taken or not.
+            says = filled(OUTPUT_ROW, "source") if status == 7 else start(words, root)[2]
             with open("/dev/full", "wb") as full:
-                judge(f"a full output: {words}", run(words, root, stdout=full), (want, b""))
+                judge(f"a full output: {words}", start(words, root, stdout=full)[::2], (status, says))
             read, write = os.pipe()
             os.close(read)
-            judge(f"a pipe that nobody reads: {words}", run(words, root, stdout=write), (want, b""))
+            judge(f"a pipe that nobody reads: {words}", start(words, root, stdout=write)[::2], (status, says))
             os.close(write)
+        met.add((OUTPUT_ROW, "source"))
         for words in (("-", "-", "keys"), ("source", "-", "nothing"), ("source",)):
             want = run(words, root)
             with open("/dev/full", "wb") as full:
-                judge(f"a full standard error: {words}", run(words, root, stderr=full), want)
-            closed = subprocess.run(["sh", "-c", 'exec "$@" 2>&-', "", PROGRAM, *words], cwd=root, stdin=subprocess.DEVNULL, stdout=subprocess.PIPE, timeout=60)
-            judge(f"a closed standard error: {words}", (closed.returncode, closed.stdout), want)
+                judge(f"a full standard error: {words}", start(words, root, stderr=full)[:2], want)
+            closed = start(words, root, prefix=["sh", "-c", 'exec "$@" 2>&-', ""])
+            judge(f"a closed standard error: {words}", closed[:2], want)
 
 
 def lasting(words, cwd, pause=0.0, most=None, is_shared=False, is_terminal=True):
@@ -822,6 +1171,18 @@ def pieces(reads):
 PROGRESS = re.compile(rb"\rread (\d+) MB, written (\d+) MB, (\d+) s\x1b\[K")
 
 
+def iterations_of(seconds, root, files, keys):
+    """How many iterations of a key's seal this machine does in so many seconds, by what it needs for less and less few."""
+    for iterations in (4**power for power in range(6, 12)):
+        make(root, inside("measured", {**files, "config": repositories.config(keys.text(PASSPHRASE, iterations))}))
+        began = time.monotonic()
+        judge(f"progress: a key of {iterations} iterations", run(("measured", "-", "key"), root, OPEN), (0, b"%s %d\n" % (ZERO_ID, iterations)))
+        took = time.monotonic() - began
+        if took > seconds / 4:
+            break
+    return min(int(iterations * seconds / took), 10000000)
+
+
 def progress():
     """The line of a long run: its form, how often it is written, that it is gone behind the run, and that a terminal alone has it."""
 
@@ -830,20 +1191,21 @@ def progress():
         ended, _, shown, seconds = got
         lines = [tuple(map(int, numbers)) for numbers in PROGRESS.findall(shown)]
         judge(f"progress: {name}", (ended, PROGRESS.sub(b"", shown)), (status, b"\r\x1b[K" + behind))
-        judge(f"progress: {name}: in front", (PROGRESS.match(shown) is not None, b""), (True, b""))
-        judge(f"progress: {name}: {len(lines)} in {seconds:.1f} s", (1 <= len(lines) <= 10 * seconds, b""), (True, b""))
+        holds(PROGRESS.match(shown), f"progress: {name}: {shown[:200]!r} is shown first")
+        holds(1 <= len(lines) <= 10 * seconds, f"progress: {name}: {len(lines)} lines in {seconds:.1f} s")
         grows = all(left <= right for one, after in zip(lines, lines[1:]) for left, right in zip(one, after))
         read, written, lasted = lines[-1] if lines else (0, 0, 0)
-        judge(f"progress: {name}: {lines}", (grows and read >= least[0] and written >= least[1] and lasted <= seconds, b""), (True, b""))
+        holds(grows and read >= least[0] and written >= least[1] and lasted <= seconds, f"progress: {name}: {lines}")
 
-    keys, plain = Keys(), {row: b"%s\n" % text.encode() for row, text in PLAIN.items()}
+    keys = Keys()
     whole = repository(keys, PASSPHRASE, keys.blob(keys.tagged(fields([(b"a", K, b"2020")]))))
     entries = [put(number.to_bytes(32, "big"), b"") for number in range(30000)] + [put(K, bytes(3000000))]
     check, bad = ("slow", "-", "check"), b"bad missing %s\n" % K.hex().encode()
     with tempfile.TemporaryDirectory() as root, concurrent.futures.ThreadPoolExecutor() as pool:
         make(root, inside("source", log(segment(*entries), COMMIT_SEGMENT)))
         make(root, inside("small", log(segment(put(K, b"abc")), COMMIT_SEGMENT)))
-        make(root, inside("slow", {**whole, "config": repositories.config(keys.text(PASSPHRASE, 2000000))}))
+        iterations = iterations_of(1.5, root, whole, keys)
+        make(root, inside("slow", {**whole, "config": repositories.config(keys.text(PASSPHRASE, iterations))}))
         want = run(KEYS, root)
         runs = [
             pool.submit(lasting, KEYS, root, 0.04), pool.submit(lasting, KEYS, root, 0.08, 10 * 65536),
@@ -853,27 +1215,86 @@ def progress():
         slow, ends, piped, both, neither = [one.result() for one in runs]
         judge("progress: standard output", slow[:2], want)
         shows("a slow output", slow, 0, b"", (4, 1))
-        shows("an output that ends", ends, 7, plain["none", "standard output failed, status 7"])
-        shows("a terminal for both", both, 1, bad + plain["bad REASON", ""])
+        shows("an output that ends", ends, 7, filled(OUTPUT_ROW, "source"))
+        shows("a terminal for both", both, 1, bad + filled(("bad REASON", ""), "source"))
         judge("progress: standard error is a pipe", piped[:3], (*want, b""))
-        judge("progress: a pipe for both", (neither[0], neither[2]), (1, bad + plain["bad REASON", ""]))
-        judge("progress: these runs lasted", (min(piped[3], neither[3]) >= 0.6, b""), (True, b""))
+        judge("progress: a pipe for both", (neither[0], neither[2]), (1, bad + filled(("bad REASON", ""), "source")))
+        holds(min(piped[3], neither[3]) >= 0.6, f"progress: the runs in pipes lasted {piped[3]:.1f} and {neither[3]:.1f} s")
         short = lasting(("small", "-", "keys"), root, is_shared=True)
         judge("progress: a short run", (short[0], short[2]), line((K, 3)))
 
 
+def entropy():
+    """Random bytes that the system doesn't hand out."""
+    if shutil.which("strace") is None:
+        skip("entropy failed: there is no strace")
+        untried.add(("entropy failed", ""))
+        return
+    with tempfile.TemporaryDirectory() as root:
+        strace = ["strace", "-o", os.path.join(root, "calls"), "-P", "/dev/urandom", "-e", "trace=openat", "-e", "inject=openat:error=EACCES"]
+        judge("no random bytes", run(("-", "target", "init"), root, prefix=strace), (6, b"entropy failed\n"))
+
+
+# The greatest content of an object: an entry of 20971520 bytes without its head and what a blob has in front of the content.
+LARGEST_CONTENT = segments.LARGEST - 41 - 43
+
+
+def limits():
+    """What `transfer` says where a limit of the target is met."""
+    keys, others = Keys(), Keys(b"other")
+    variables = {**OPEN, b"BORG_PASSPHRASE": PASSPHRASE}
+    files = [Item(b"f", [b"hello"])]
+
+    def source_of(archive, item_keys=(b"path",)):
+        manifest = keys.tagged({**fields(archive.named(b"a")), b"item_keys": list(item_keys)})
+        return inside("source", repository(keys, PASSPHRASE, keys.blob(manifest), *archive.chunks()))
+
+    def target_of(nonce=b"00000000000003e8", item_keys=(b"path",), commit="data/0/1"):
+        made = repository(others, PASSPHRASE, others.blob(others.tagged({**fields(), b"item_keys": list(item_keys)})))
+        return inside("target", {"nonce": nonce, commit: made.pop("data/0/1"), **made})
+
+    def met_limit(name, source, target):
+        with tempfile.TemporaryDirectory() as root:
+            make(root, {**source, **target})
+            got = run(("source", "target", "transfer", "--block", "64", "a"), root, variables)
+            judge(f"limit: {name}", got, (12, b"limit: %s\n" % name.encode()))
+
+    plain = source_of(Archive(keys, b"a", files))
+    met_limit("nonce", plain, target_of(nonce=b"f" * 16))
+    # The commit has the greatest number that a segment of a target may have.
+    met_limit("segment", plain, target_of(commit="data/4294967/4294967295"))
+    if libcrypto.NAME is None:
+        skip("limits of the manifest and of a record: there is no libcrypto")
+        untried.update({("limit: manifest", ""), ("limit: record", "")})
+        return
+    holds(libcrypto.ctr(K, 7, bytes(100)) == repositories.ctr(K, 7, bytes(100)), "libcrypto and the plain program differ")
+    # Each manifest has an item key of its own, and both together are too long for one.
+    long = lambda letter: [b"path", letter * (LARGEST_CONTENT // 2)]
+    met_limit("manifest", source_of(Archive(keys, b"a", files), long(b"x")), target_of(item_keys=long(b"y")))
+    # A record without a tag that is as long as a content may be is longer with its tag.
+    untagged = lambda comment: Archive(keys, b"a", files, how={"tam": "none", b"comment": comment})
+    met_limit("record", source_of(untagged(b"x" * (LARGEST_CONTENT - len(untagged(b"").record)))), target_of())
+
+
 def rows():
-    """Each row of the table of plain words was met."""
-    met.add(("none", "standard output failed, status 7"))
-    # What no run here brings about: the system always has random bytes, a counter that is used up is found after the first write, and no
-    # manifest, record or number of a segment here is that large.
-    met.update({("entropy failed", ""), *((f"limit: {what}", "") for what in ("nonce", "manifest", "record", "segment"))})
+    """Each row of the table of plain words was met, one that serves both repositories for each of them."""
     for row in PLAIN:
-        judge(f"plain words: {row}", (row in met, b""), (True, b""))
+        sides = sorted(side for of, side in met if of == row)
+        if row not in untried:
+            holds(sides == ["source", "target"] if row[0].startswith("refused: ") else len(sides) == 1, f"plain words: {row} is met for {sides}")
 
 
-reading = (folders, logs, damage, memory, names, words, keys_of_configs, listings, archives, checked, every_byte)
-for cases in (*reading, key_files, targets, transfers, written, variables, outputs, progress, rows):
-    cases()
-print(f"{passed} passed, {failed} failed")
-sys.exit(1 if failed or not passed else 0)
+READING = (folders, logs, damage, memory, names, words, keys_of_configs, listings, archives, checked, every_byte)
+CASES = (*READING, key_files, targets, refused_targets, transfers, plans, compactions, locks, written, limits, entropy, variables, of_borg, outputs, progress)
+
+
+def main(chosen):
+    for cases in CASES:
+        if not chosen or cases.__name__ in chosen:
+            cases()
+    if not chosen:
+        rows()
+    finish()
+
+
+main(sys.argv[2:])

@@ -1,16 +1,18 @@
 """Whole repositories, made the plain way: keys, blobs and manifests.
 
 Source: FIPS 197 (AES-256), RFC 2104, 5869 and 8018, and BorgBackup 1.2, Internals, "Data structures and file formats". It
-shares nothing with the program.
+shares nothing with the program. Texts of 4096 bytes and more are encrypted by libcrypto, where it is there.
 """
 import base64
 import hashlib
 import hmac
 import struct
 
+import libcrypto
 import segments
 
 ZERO = b"\0" * 32
+LONG = 4096
 
 
 def doubled(byte):
@@ -71,6 +73,8 @@ def block(rounds, text):
 
 
 def ctr(key, counter, text):
+    if len(text) >= LONG and libcrypto.NAME is not None:
+        return libcrypto.ctr(key, counter, text)
     rounds, stream = schedule(key), b""
     for number in range(-(-len(text) // 16)):
         stream += block(rounds, ((counter + number) % 2**128).to_bytes(16, "big"))
@@ -141,13 +145,13 @@ def fields(archives=(), **others):
 
 
 class Item:
-    """An item of an archive: its path, its contents in chunks where it has content, and what it links to where it does."""
+    """An item of an archive: its path, its contents in chunks where it has content, what it links to where it does, and further fields."""
 
-    def __init__(self, path, contents=None, source=None, size=None, ids=None):
-        self.path, self.contents, self.source, self.size, self.ids = path, contents, source, size, ids
+    def __init__(self, path, contents=None, source=None, size=None, ids=None, more=None):
+        self.path, self.contents, self.source, self.size, self.ids, self.more = path, contents, source, size, ids, more or {}
 
     def spelled(self, keys):
-        others = {} if self.source is None else {b"source": self.source}
+        others = dict(self.more) if self.source is None else {**self.more, b"source": self.source}
         if self.contents is not None:
             ids = self.ids or [keys.id(content) for content in self.contents]
             others[b"chunks"] = [[id, self.stated(content), 43 + len(content)] for id, content in zip(ids, self.contents)]

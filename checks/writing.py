@@ -1,109 +1,185 @@
 #!/usr/bin/env python3
-"""The calls of the system that a command makes on its target: writing.py PROGRAM
+"""The calls of the system that a command makes on its target: writing.py PROGRAM [CASE ..]
 
-`init` runs under strace. Its calls are told in one line each: the folders that it makes, the files that it writes, syncs and renames, each
-by its path in the target. What has to come, and in which order, stands in ORDER. Then each write and each sync is refused in turn: the status
-has to be 5, and an `init` after it has to end with 0, or with 9 where the commit was made. And `init` is killed at each of its calls in turn: the
-next `init` has to end with 0, or with 9 where the commit was made, and `list` and `check` have to open what is there then. One line for each thing
-that differs, and at the end 'N passed, M failed'; status 1 where M isn't 0.
+`init` on a folder that isn't there, `init` over what an earlier one left, and a `transfer` with a commit behind each chunk over a segment that was left run
+under strace. All that each changes or makes stable in the target, in order, each call by its path, has to be the list that stands here: the place is synced
+once a name in it was changed, and what is above it once it was made. Then each write, sync, rename and folder to be made of an `init` is refused in turn: the
+status has to be that of the target's device, no name that is written beside stays, and an `init` after it has to end with 0, or with 9 where the
+commit was made. And `init` is killed at each of its calls in turn, with the status of a kill: the next `init` has to end so too, and `list` and `check` have to
+open what is there then. With names of cases, those alone are tried. One line for each thing that differs, and at the end 'N passed, M failed, K skipped';
+status 1 where M isn't 0. Without strace all of it is skipped.
 """
 import os
-import re
+import shutil
+import signal
 import subprocess
 import sys
 import tempfile
 
+sys.dont_write_bytecode = True
+import tracing
+from counting import finish, judge, skip
+from repositories import Archive, Item, Keys, fields, repository
+
 PROGRAM = os.path.abspath(sys.argv[1])
-CALLS = "mkdir,mkdirat,openat,write,fsync,rename,renameat,renameat2,unlink,unlinkat"
-NAMED = re.compile(r"^(?:\d+ +)?(\w+)\((.*?)\) += (-?\d+)")
-ENVIRONMENT = {**os.environ, "BORG_PASSPHRASE": "passphrase"}
-
-# Of each file: it is written beside, synced, renamed, and then its folder is synced. Data are synced before the commit is appended.
-REPLACED = [("write", "{0}.borgferry-new"), ("fsync", "{0}.borgferry-new"), ("rename", "{0}.borgferry-new {0}"), ("fsync", ".")]
-ORDER = [
-    [(call, path.format(name)) for call, path in REPLACED] for name in ("README", "config", "nonce")
-] + [
-    [("write", "data/0/0"), ("fsync", "data/0/0"), ("fsync", "data/0"), ("write", "data/0/1"), ("fsync", "data/0/1"), ("fsync", "data/0")],
-    [("rename", "README.borgferry-new README"), ("rename", "config.borgferry-new config")],
-    [("rename", "config.borgferry-new config"), ("write", "data/0/0")],
-]
-
-passed = failed = 0
+ENVIRONMENT = {**os.environ, "BORG_PASSPHRASE": "passphrase", "BORG_OTHER_PASSPHRASE": "passphrase"}
+INIT = ("-", "target", "init", "--iterations", "1")
+TRANSFER = ("source", "target", "transfer", "--block", "64", "--checkpoint", "1", "a")
+LEFT = b"BORG_SEG" + b"\0" * 9
+REFUSED = {"write": "ENOSPC", "fsync": "EIO", "rename": "EIO", "mkdir": "EACCES", "openat": "EMFILE"}
 
 
-def judge(is_right, what):
-    global passed, failed
-    if is_right:
-        passed += 1
-    else:
-        failed += 1
-        print(f"FAIL {what}")
+def replaced(name):
+    """A file is written beside, synced, and renamed, and then its folder is synced."""
+    beside = f"{name}.borgferry-new"
+    return [("write", beside), ("fsync", beside), ("rename", f"{beside} {name}"), ("fsync", ".")]
 
 
-def init(root, *inject):
-    """Runs `init` on the folder `target` of `root` under strace: its status, and its calls on the target with what they were about."""
+def appended(path):
+    """A segment is written and synced, and its folder too, which has a new name."""
+    return [("write", path), ("fsync", path), ("fsync", os.path.dirname(path))]
+
+
+# The folders above a new place are synced once it has its first name, those above a new segment once that is synced.
+NEW = [
+    ("mkdir", "."), *replaced("README"), ("fsync", ".."), *replaced("config"), *replaced("nonce"),
+    ("mkdir", "data"), ("mkdir", "data/0"), *appended("data/0/0"), ("fsync", "data"), ("fsync", "."), *appended("data/0/1"),
+]  # fmt: skip
+
+# All that is there is made stable first, and then what isn't committed is removed.
+SETTLED = [("fsync", "data/0"), ("fsync", "data"), ("fsync", "."), ("fsync", "..")]
+OVER = [
+    ("fsync", "data/0/0"), *SETTLED, ("unlink", "data/0/0"), ("fsync", "data/0"), ("unlink", "README.borgferry-new"),
+    *replaced("README"), *replaced("config"), *replaced("nonce"), *appended("data/0/0"), *appended("data/0/1"),
+]  # fmt: skip
+ON = [
+    *[("fsync", name) for name in ("config", "nonce", "README", "data/0/0", "data/0/1", "data/0/2")], *SETTLED,
+    ("unlink", "data/0/2"), ("fsync", "data/0"), *replaced("nonce"),
+    *[call for number in range(2, 8) for call in appended(f"data/0/{number}")],
+]  # fmt: skip
+
+
+def run(root, *words, prefix=(), **others):
+    ran = subprocess.run([*prefix, PROGRAM, *words], cwd=root, env=ENVIRONMENT, stdin=subprocess.DEVNULL, capture_output=True, **others)
+    return ran.returncode
+
+
+def traced(root, words, *inject):
+    """Runs a command in a folder under strace: its status, and the trace."""
     log = os.path.join(root, "calls")
-    words = ["strace", "-y", "-o", log, "-e", f"trace={CALLS}", *inject, PROGRAM, "-", "target", "init", "--iterations", "1"]
-    ran = subprocess.run(words, cwd=root, env=ENVIRONMENT, capture_output=True)
-    with open(log, encoding="utf-8", errors="replace") as file:
-        return ran.returncode, [call for call in map(told, file) if call]
+    return run(root, *words, prefix=tracing.tracing(log, *inject)), log
 
 
-def told(line):
-    """A call and the paths in the target that it is about, None for a call elsewhere or one that only opens."""
-    found = NAMED.match(line)
-    if not found or found[1] == "openat":
-        return None
-    paths = re.findall(r'<[^<>]*/target(/[^<>]*)?>|"target(/[^"]*)?"', found[2])
-    inside = [(open_one or named).strip("/") or "." for open_one, named in paths]
-    return (found[1].removesuffix("at2").removesuffix("at"), " ".join(inside)) if inside else None
+def write(path, content):
+    os.makedirs(os.path.dirname(path), exist_ok=True)
+    with open(path, "wb") as file:
+        file.write(content)
 
 
-def comes_in_order(calls, wanted):
-    """Whether these calls come in this order, with others between."""
-    rest = iter(calls)
-    return all(any(call == want for call in rest) for want in wanted)
-
-
-def refused(call, error, number):
-    """`init` where the system refuses its call of this number; and the next `init`. Answers whether there was such a call."""
+def in_new_folder(look):
     with tempfile.TemporaryDirectory() as root:
-        status, _ = init(root, "-e", f"inject={call}:error={error}:when={number}")
-        with open(os.path.join(root, "calls"), encoding="utf-8", errors="replace") as file:
-            if "INJECTED" not in file.read():
-                return False
-        judge(status == 5, f"{call} {number} refused: status {status}")
-        again, _ = init(root)
-        judge(again in (0, 9), f"{call} {number} refused: the next init ends with {again}")
-    return True
+        # Of a link in its path a trace has the other path.
+        return look(os.path.realpath(root))
 
 
-def killed(number):
-    """`init` killed as it makes its call of this number; and the next `init`. Answers whether there was such a call."""
-    with tempfile.TemporaryDirectory() as root:
-        status, _ = init(root, "-e", f"inject={CALLS}:signal=KILL:when={number}")
-        if status == 0:
-            return False
-        again, _ = init(root)
-        judge(again in (0, 9), f"killed at call {number}: the next init ends with {again}")
-        for command, wanted in (("list", b""), ("check", b"ok archives 0 chunks 0 orphans 0 untagged 0\n")):
-            words = [PROGRAM, "target", "-", command]
-            read = subprocess.run(words, cwd=root, env={**ENVIRONMENT, "BORG_OTHER_PASSPHRASE": "passphrase"}, capture_output=True)
-            judge((read.returncode, read.stdout) == (0, wanted), f"killed at call {number}: {command} ends with {read.returncode}: {read.stdout}")
-    return True
+def lists(what, words, before, wanted):
+    """Whether a command makes these calls on the target that `before` makes."""
+
+    def look(root):
+        before(root)
+        status, log = traced(root, words)
+        made = tracing.changes(log, root, "target")
+        judge(status == 0, f"{what} ends with {status}")
+        judge(made == wanted, f"{what} makes\n  {made}\n  and not\n  {wanted}")
+
+    in_new_folder(look)
 
 
-with tempfile.TemporaryDirectory() as root:
-    status, calls = init(root)
-    judge(status == 0, f"init ends with {status}")
-    for wanted in ORDER:
-        judge(comes_in_order(calls, wanted), f"in this order: {wanted}\n  of {calls}")
-for call, error in [("fsync", "EIO"), ("rename", "EIO"), ("mkdir", "EACCES")]:
-    number = 1
-    while refused(call, error, number):
-        number += 1
-number = 1
-while killed(number):
-    number += 1
-print(f"{passed} passed, {failed} failed")
-sys.exit(failed > 0)
+def leave(root):
+    """What an `init` may leave that was stopped: a segment, and a file that is written beside."""
+    write(os.path.join(root, "target/data/0/0"), LEFT)
+    write(os.path.join(root, "target/README.borgferry-new"), b"This is")
+
+
+def make_both(root):
+    """A source with an archive of two chunks of 64 bytes, and a target with a segment that isn't committed."""
+    keys = Keys()
+    archive = Archive(keys, b"a", [Item(b"file", [b"a" * 64, b"b" * 64])], length=1000)
+    blob = keys.blob(keys.tagged(fields(archive.named(b"a"))))
+    for place, content in repository(keys, b"passphrase", blob, *dict(archive.chunks()).items()).items():
+        write(os.path.join(root, "source", place), content)
+    judge(run(root, *INIT) == 0, "init before a transfer")
+    write(os.path.join(root, "target/data/0/2"), LEFT)
+
+
+def goes_on(root, what):
+    """Whether no file that is written beside was left, and the next `init` ends well or finds the commit."""
+    again = run(root, *INIT)
+    judge(again in (0, 9), f"{what}: the next init ends with {again}")
+    for command, wanted in (("list", b""), ("check", b"ok archives 0 chunks 0 orphans 0 untagged 0\n")):
+        ran = subprocess.run([PROGRAM, "target", "-", command], cwd=root, env=ENVIRONMENT, capture_output=True)
+        judge((ran.returncode, ran.stdout) == (0, wanted), f"{what}: {command} ends with {ran.returncode}: {ran.stdout}")
+
+
+def refuse(place, error):
+    def look(root):
+        what = f"the {place[0]} of number {place[1]} refused with {error}"
+        status, log = traced(root, INIT, *tracing.refusing(place, error))
+        judge(any("INJECTED" in line for line in tracing.lines_of(log)), f"{what}: nothing was refused")
+        judge(status in ((5, 6) if place[0] == "openat" else (5,)), f"{what}: status {status}")
+        beside = [name for _, _, names in os.walk(os.path.join(root, "target")) for name in names if name.endswith(".borgferry-new")]
+        judge(not beside, f"{what}: {beside} stay")
+        goes_on(root, what)
+
+    in_new_folder(look)
+
+
+def kill(place):
+    def look(root):
+        what = f"killed at the {place[0]} of number {place[1]}"
+        status, _ = traced(root, INIT, *tracing.killing(place))
+        judge(status == -signal.SIGKILL, f"{what}: status {status}")
+        goes_on(root, what)
+
+    in_new_folder(look)
+
+
+def calls_of_init():
+    def look(root):
+        status, log = traced(root, INIT)
+        judge(status == 0, f"init ends with {status}")
+        # Its last line is told once all is done.
+        return [place for place in tracing.places(log, "target")][:-1]
+
+    return in_new_folder(look)
+
+
+def lists_of_calls():
+    lists("an init on a folder that isn't there", INIT, lambda root: None, NEW)
+    lists("an init over what was left", INIT, leave, OVER)
+    lists("a transfer over a segment that was left", TRANSFER, make_both, ON)
+
+
+def refusals():
+    for place in calls_of_init():
+        if place[0] in REFUSED:
+            refuse(place, REFUSED[place[0]])
+
+
+def kills():
+    places = calls_of_init()
+    judge(len(places) > 30, f"an init makes {len(places)} calls")
+    for place in places:
+        kill(place)
+
+
+def main(chosen):
+    for case in (lists_of_calls, refusals, kills):
+        if shutil.which("strace") is None:
+            skip(f"{case.__name__}: there is no strace")
+        elif not chosen or case.__name__ in chosen:
+            case()
+    finish()
+
+
+main(sys.argv[2:])

@@ -1,60 +1,129 @@
-//! What the program itself prints.
+//! What the program itself prints: its version and its help, in lines of at most 80 columns.
 
 /// The version, as `--version` prints it.
 pub const VERSION: &str = "borgferry 0.1.0\n";
 
-/// The help, which names every command that is built.
-pub const HELP: &str = "\
-borgferry reads a BorgBackup 1.2 repository, the source, and makes another, the target, or copies archives into it. Only init and transfer write the target.
+/// What stands in front of the commands in the help.
+pub const HEAD: &str = "\
+borgferry reads a BorgBackup 1.2 repository, the source, whose archives were
+made with --compression none, and makes another, the target, or copies archives
+into it. Only init, transfer and compact write the target, nothing the source.
 
 usage: borgferry SOURCE TARGET COMMAND ..
-       borgferry --help
+       borgferry COMMAND --help
+       borgferry --help, or -h
        borgferry --version
 
 SOURCE and TARGET are folders of repositories; the word - stands for no folder.
 
 commands:
-  keys    prints each live key of the source's committed log and the size of its blob
-  key     opens the source's key with its passphrase, and prints the repository's id and the iterations
-  list    prints the id, the time and the name of each archive of the source
-  list NAME
-          prints the kind, the size and the path of each item of an archive
-  extract NAME PATH
-          writes the content of the first item of an archive that has content and this path
-  check   opens every live chunk and reads every archive, and prints their numbers or the first fault
-  init [--iterations N] [--timestamp T]
-          makes a repository in the target, with the key of the target's key file where there is one, and prints its id
-  transfer [--block B] [--checkpoint C] [--timestamp T] [NAME ..]
-          copies these archives of the source, or all, into the target, compares those that it has, and prints a line for each and one of
-          the numbers of all
-  make-key [--iterations N]
-          prints the text of a new key file, sealed with the target's passphrase
+";
 
-N is the iterations that seal a key, 1 to 10000000, and 100000 where none are given; T is the timestamp of the new manifest.
-B is the length in bytes of the pieces that contents are cut into, 64 to 8388608, and 2097152 where none is given; C is how many chunks are put
-before what is done is committed, 1 to 1000000, and 1024 where none is given.
+/// The commands, in the order of the help.
+pub const COMMANDS: [&str; 10] = [
+    "keys", "key", "list", "extract", "check", "init", "plan", "transfer", "compact", "make-key",
+];
 
-variables:
-  BORG_OTHER_PASSPHRASE    the source's passphrase, empty where the variable is absent
-  BORG_PASSPHRASE          the target's passphrase, empty where the variable is absent
-  BORG_OTHER_KEY_FILE      the source's key file, none where the variable is absent or empty
-  BORG_KEY_FILE            the target's key file, none where the variable is absent or empty
+/// What stands behind the commands in the help.
+pub const TAIL: &str = "
+variables, each as if empty where it is absent:
+  BORG_OTHER_PASSPHRASE  the passphrase of SOURCE
+  BORG_PASSPHRASE        the passphrase of TARGET
+  BORG_OTHER_KEY_FILE    the key file of SOURCE, none where empty
+  BORG_KEY_FILE          the key file of TARGET, none where empty
 
-A refusal is one line on standard output, and one in plain words on standard error, which says what it means and what to do.
+A refusal is one line on standard output, and one in plain words on standard
+error, which says what it means and what to do.
 
 status:
-  0    done
-  1    check: the source opens, and a chunk or an archive in it isn't whole
-  2    the words are no command
-  3    memory ran out
-  4    the source can't be read
-  5    the target can't be read or written
-  6    the system gives no random bytes
-  7    standard output can't be written
-  8    the source is refused
-  9    the target is refused
-  10   the target has another archive of the name
-  11   no archive has the name, or no item with content has the path
-  12   a limit of the target is met
-  16   a key file can't be read
+  0   done
+  1   check: the source opens, and a chunk or an archive in it doesn't read
+  2   the words are no command, or a word or a variable isn't UTF-8
+  3   memory ran out
+  4   the source can't be read
+  5   the target can't be read or written
+  6   the system gives no random bytes
+  7   standard output can't be written
+  8   the source is refused
+  9   the target is refused
+  10  the target has another archive of the name
+  11  no archive has the name, or no item with content has the path
+  12  a limit of the target is met
+  16  a key file can't be read
+";
+
+/// The lines of a command in the help, `None` where there is no such command.
+pub fn lines_of(command: &str) -> Option<&'static str> {
+    match command {
+        "keys" => Some(KEYS),
+        "key" => Some(KEY),
+        "list" => Some(LIST),
+        "extract" => Some(EXTRACT),
+        "check" => Some(CHECK),
+        "init" => Some(INIT),
+        "plan" => Some(PLAN),
+        "transfer" => Some(TRANSFER),
+        "compact" => Some(COMPACT),
+        "make-key" => Some(MAKE_KEY),
+        _ => None,
+    }
+}
+
+const KEYS: &str = "  keys
+      prints each live key of the source's committed log and the size of its
+      encrypted object; needs no passphrase
+";
+
+const KEY: &str = "  key
+      opens the source's key with its passphrase, and prints the repository's
+      id and the iterations
+";
+
+const LIST: &str = "  list
+      prints the id, the time and the name of each archive of the source
+  list NAME
+      prints the kind, the size and the path of each item of an archive
+";
+
+const EXTRACT: &str = "  extract NAME PATH
+      writes the content of the first item of an archive that has content and
+      this path; a link has no content of its own
+";
+
+const CHECK: &str = "  check
+      opens every live chunk and reads every archive, and prints their numbers
+      or the first fault
+";
+
+const INIT: &str = "  init [--iterations N] [--timestamp T]
+      makes a repository in the target, with the key of the target's key file
+      where there is one, and prints its id
+      N: the iterations that seal a key, 1 to 10000000, else 100000
+      T: the timestamp of the new manifest
+";
+
+const TRANSFER: &str = "  transfer [--block B] [--checkpoint N] [--timestamp T] [NAME ..]
+      copies these archives of the source, or all, into the target, compares
+      those that it has, and prints a line for each and one of the numbers
+      B: the bytes of a chunk, 64 to 8388608, else 2097152
+      N: the chunks after which what is done is committed, 1 to 1000000,
+         else 1024
+      T: the timestamp of the new manifest, else the later of the two
+";
+
+const PLAN: &str = "  plan [--block B] [NAME ..]
+      prints how many chunks transfer would put of these archives, or of all,
+      their bytes, and how many chunks of item lists; writes nothing
+      B: the bytes of a chunk, as in transfer
+";
+
+const COMPACT: &str = "  compact [--threshold P]
+      writes what is in use in segments of the target again and removes these,
+      where P hundredths of one or more are unused; prints how many it removed
+      P: 0 to 100, else 10
+";
+
+const MAKE_KEY: &str = "  make-key [--iterations N]
+      prints the text of a new key file, sealed with the target's passphrase
+      N: the iterations that seal it, 1 to 10000000, else 100000
 ";

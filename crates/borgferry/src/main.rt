@@ -6,7 +6,13 @@
 #![tactic(auto)]
 
 mod advice;
+mod command;
+mod fault;
 mod lines;
+mod places;
+mod refusal;
+mod secrets;
+mod side;
 mod start;
 mod target;
 

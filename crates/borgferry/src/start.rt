@@ -1,55 +1,37 @@
-//! What the program does before and after its command: words, secrets, devices, and the status at the end.
+//! What the program does with its words: it prints what it says of itself, or runs a command.
 
-use crate::advice::{FORM, MEMORY, NOT_TEXT, OUTPUT, UNREADABLE, advice};
-use crate::lines::{HELP, VERSION};
-use ferry_base::Bytes;
-use ferry_real::{FolderDepot, FolderShelf, Progress, StdSink, SystemEntropy, Terminals};
-use ferry_top::{Secret, Secrets, places_fit, run};
-use std::alloc::{AllocError, AllocGlobal, Global};
-use std::env::VarError;
+use crate::advice::OUTPUT;
+use crate::command::{Places, run_command};
+use crate::fault::{StartFault, refuse};
+use crate::lines::{COMMANDS, HEAD, TAIL, VERSION, lines_of};
+use crate::places::{are_one, is_remote};
+use ferry_real::Terminals;
+use ferry_top::places_fit;
+use std::alloc::AllocGlobal;
+use std::env;
+use std::fs::File;
 use std::io::ErrorKind;
 use std::rt::Runtime;
-use std::{env, fs};
-
-/// The variable with the source's passphrase.
-const SOURCE_PASSPHRASE: &str = "BORG_OTHER_PASSPHRASE";
-
-/// The variable with the target's passphrase.
-const TARGET_PASSPHRASE: &str = "BORG_PASSPHRASE";
-
-/// The variable with the path of the source's key file.
-const SOURCE_KEY_FILE: &str = "BORG_OTHER_KEY_FILE";
-
-/// The variable with the path of the target's key file.
-const TARGET_KEY_FILE: &str = "BORG_KEY_FILE";
 
 /// The status where standard output can't be written.
 const OUTPUT_STATUS: u8 = 7;
 
-/// The status where a key file can't be read.
-const UNREADABLE_STATUS: u8 = 16;
-
-/// Why the program ends before its command.
-#[derive(Drop)]
-enum StartFault {
-    /// The words name no source, target and command.
-    Usage,
-    /// The variable of this name isn't UTF-8.
-    NotText(&'static str),
-    /// A variable names a key file that can't be read.
-    Unreadable,
-    /// Memory was refused.
-    Memory,
-}
-
-impl From<AllocError> for StartFault {
-    fn from(_error: AllocError) -> StartFault {
-        StartFault::Memory
-    }
-}
+/// What is open in the place of a standard stream that is closed: nothing can be written to it.
+const NOTHING: &str = "/dev/null";
 
 /// Does what the words say, and answers the status to end with. `terminals` says which of the program's streams lead to one.
+///
+/// Where a standard stream is closed, the next file that is opened would get its number, and what is printed would go into it. So three
+/// files are opened first, one for each stream, and held to the end.
 pub fn start<R: Runtime + AllocGlobal>(rt: &R, terminals: Terminals) -> u8 {
+    let _input = File::open(rt, NOTHING);
+    let _output = File::open(rt, NOTHING);
+    let _error = File::open(rt, NOTHING);
+    answer(rt, terminals)
+}
+
+/// Does what the words say, and answers the status to end with.
+fn answer<R: Runtime + AllocGlobal>(rt: &R, terminals: Terminals) -> u8 {
     match carry_out(rt, terminals) {
         Ok(status) => status,
         Err(fault) => refuse(rt, &fault),
@@ -59,95 +41,84 @@ pub fn start<R: Runtime + AllocGlobal>(rt: &R, terminals: Terminals) -> u8 {
 /// Does what the words say, or answers why not.
 fn carry_out<R: Runtime + AllocGlobal>(rt: &R, terminals: Terminals) -> Result<u8, StartFault> {
     let words = words(rt)?;
-    match words.as_slice() {
-        [word] if word.as_str() == "--help" => Ok(print(rt, HELP)),
+    do_words(rt, terminals, words.as_slice())
+}
+
+/// Prints what the program says of itself, where the words ask for that, or runs their command.
+fn do_words<R: Runtime + AllocGlobal>(
+    rt: &R,
+    terminals: Terminals,
+    words: &[String],
+) -> Result<u8, StartFault> {
+    match words {
+        [word] if is_help(word) || word.as_str() == "-h" => Ok(print_help(rt)),
         [word] if word.as_str() == "--version" => Ok(print(rt, VERSION)),
-        [source, target, command @ ..] if places_fit(words.as_slice()) => {
-            run_command(rt, terminals, source.as_str(), target.as_str(), command)
+        [command, help] | [_, _, command, help, ..] if is_help(help) => {
+            match lines_of(command.as_str()) {
+                Some(lines) => Ok(print(rt, lines)),
+                None => run_words(rt, terminals, words),
+            }
+        }
+        _ => run_words(rt, terminals, words),
+    }
+}
+
+/// Runs the command of the words, where their places can be those of repositories.
+fn run_words<R: Runtime + AllocGlobal>(
+    rt: &R,
+    terminals: Terminals,
+    words: &[String],
+) -> Result<u8, StartFault> {
+    match words {
+        [source, target, command @ ..] if places_fit(words) => {
+            let places = Places {
+                source: source.as_str(),
+                target: target.as_str(),
+            };
+            look_at_places(rt, places)?;
+            run_command(rt, terminals, places, command)
         }
         _ => Err(StartFault::Usage),
     }
 }
 
-/// Runs a command between the repositories at two places. The line of a long run is gone before anything else is said.
-fn run_command<R: Runtime + AllocGlobal>(
-    rt: &R,
-    terminals: Terminals,
-    source: &str,
-    target: &str,
-    command: &[String],
-) -> Result<u8, StartFault> {
-    let alloc = rt.alloc();
-    let secrets = secrets(rt)?;
-    let progress = Progress::new(rt.clone()?, alloc, terminals)?;
-    let mut source = FolderShelf::new(rt.clone()?, alloc, source, progress.clone()?)?;
-    let mut target = FolderDepot::new(rt.clone()?, alloc, target, progress.clone()?)?;
-    let mut entropy = SystemEntropy::new(rt.clone()?);
-    let mut out = StdSink::new(rt.clone()?, progress.clone()?);
-    let status = run(
-        alloc,
-        command,
-        &secrets,
-        &mut source,
-        &mut target,
-        &mut entropy,
-        &mut out,
-    );
-    progress.end();
-    let word = command.first().map_or("", |word| word.as_str());
-    if let Some(line) = advice(&status, word, source.presence()) {
-        advise(rt, line);
+/// Refuses places that are on another machine, and two that are one folder: what is removed and written in the target would be so in
+/// the source.
+fn look_at_places<R: Runtime>(rt: &R, places: Places) -> Result<(), StartFault> {
+    if is_remote(places.source) || is_remote(places.target) {
+        return Err(StartFault::Remote);
     }
-    Ok(status.number())
+    if are_one(rt, places.source, places.target) {
+        return Err(StartFault::OneFolder);
+    }
+    Ok(())
 }
 
 /// The program's words, without its own name.
 fn words<R: Runtime + AllocGlobal>(rt: &R) -> Result<Vec<String>, StartFault> {
     match env::args(rt) {
         Ok(words) => Ok(words.skip(1).collect(rt.alloc())?),
-        Err(error) if error.kind() == ErrorKind::InvalidData => Err(StartFault::Usage),
+        Err(error) if error.kind() == ErrorKind::InvalidData => Err(StartFault::WordNotText),
         Err(_) => Err(StartFault::Memory),
     }
 }
 
-/// The secrets of the source and of the target. The variables are looked at before the files that they name.
-fn secrets<R: Runtime + AllocGlobal>(rt: &R) -> Result<Secrets, StartFault> {
-    let source = variable(rt, SOURCE_PASSPHRASE)?;
-    let target = variable(rt, TARGET_PASSPHRASE)?;
-    let source_file = variable(rt, SOURCE_KEY_FILE)?;
-    let target_file = variable(rt, TARGET_KEY_FILE)?;
-    Ok(Secrets {
-        source: Secret {
-            passphrase: Bytes::new(source.into_bytes()),
-            key_file: key_file(rt, source_file.as_str())?,
-        },
-        target: Secret {
-            passphrase: Bytes::new(target.into_bytes()),
-            key_file: key_file(rt, target_file.as_str())?,
-        },
-    })
+/// Whether a word asks for help.
+fn is_help(word: &String) -> bool {
+    word.as_str() == "--help"
 }
 
-/// The bytes of the key file at a path, none where the path is empty.
-fn key_file<R: Runtime + AllocGlobal>(rt: &R, path: &str) -> Result<Bytes, StartFault> {
-    if path.is_empty() {
-        return Ok(Bytes::new(Vec::new(rt.alloc())));
+/// Prints the help, and answers the status to end with.
+fn print_help<R: Runtime>(rt: &R) -> u8 {
+    let mut status = print(rt, HEAD);
+    for command in COMMANDS {
+        if status == 0
+            && let Some(lines) = lines_of(command)
+        {
+            status = print(rt, lines);
+        }
     }
-    match fs::read(rt, path) {
-        Ok(bytes) => Ok(Bytes::new(bytes)),
-        Err(error) if error.kind() == ErrorKind::OutOfMemory => Err(StartFault::Memory),
-        Err(_) => Err(StartFault::Unreadable),
-    }
-}
-
-/// What a variable has, nothing where it is absent.
-fn variable<R: Runtime + AllocGlobal>(rt: &R, name: &'static str) -> Result<String, StartFault> {
-    match env::var(rt, name) {
-        Ok(text) => Ok(text),
-        Err(VarError::NotPresent) => Ok(String::new(rt.alloc())),
-        Err(VarError::NotUnicode) => Err(StartFault::NotText(name)),
-        Err(VarError::OutOfMemory) => Err(StartFault::Memory),
-    }
+    if status == 0 { print(rt, TAIL) } else { status }
 }
 
 /// Prints a text, and answers the status to end with.
@@ -161,24 +132,7 @@ fn print<R: Runtime>(rt: &R, text: &str) -> u8 {
     }
 }
 
-/// Prints why the program ends before its command, and answers the status to end with, also where a line isn't taken.
-fn refuse<R: Runtime>(rt: &R, fault: &StartFault) -> u8 {
-    let (said, line, status) = match fault {
-        StartFault::Usage => (rt.println("usage"), FORM, 2),
-        StartFault::NotText(name) => (println!(rt; "{name} isn't UTF-8"), NOT_TEXT, 2),
-        StartFault::Unreadable => (
-            rt.println("key file unreadable"),
-            UNREADABLE,
-            UNREADABLE_STATUS,
-        ),
-        StartFault::Memory => (rt.println("memory"), MEMORY, 3),
-    };
-    let _ = said;
-    advise(rt, line);
-    status
-}
-
 /// Prints a line in plain words on standard error. Where it can't be written, the status and the fault line tell alone.
-fn advise<P: Eprint>(rt: &P, line: &str) {
+pub fn advise<P: Eprint>(rt: &P, line: &str) {
     let _ = rt.eprintln(line);
 }

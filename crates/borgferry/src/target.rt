@@ -1,9 +1,7 @@
-//! What a refusal of the target means and what to do about it, in plain words, and so of a limit that it meets.
+//! What only the target is refused for, and what limits it meets, in plain words.
 
-use ferry_keyblob::KeyFault;
-use ferry_keyfile::KeyFileFault;
 use ferry_nonce::NonceFault;
-use ferry_top::{Limit, Refusal, RepoFault};
+use ferry_top::Limit;
 
 /// Where the target's device failed.
 pub const TARGET: &str =
@@ -13,46 +11,18 @@ pub const TARGET: &str =
 pub const ENTROPY: &str =
     "the system hands out no random bytes, without which no key is made: see that /dev/urandom can be read";
 
-const COMMITTED: &str =
+/// Where a repository is to be made over another.
+pub const COMMITTED: &str =
     "there is a repository in TARGET already, and none is made over it: name a folder that is empty or isn't there";
 
-const UNREAD: &str =
-    "what was written to TARGET doesn't read: see that nothing else writes it and that its disk answers";
-
-/// A target that is refused.
-pub fn of_target(refusal: &Refusal) -> &'static str {
-    match refusal {
-        Refusal::Repo(RepoFault::KeyFile(fault)) => of_key_file(*fault),
-        Refusal::Repo(RepoFault::Key(fault)) => of_key(*fault),
-        Refusal::Repo(_) => UNREAD,
-        Refusal::Nonce(NonceFault::Missing) => {
+/// The file `nonce`.
+pub fn of_nonce(fault: NonceFault) -> &'static str {
+    match fault {
+        NonceFault::Missing => {
             "TARGET has no file nonce, without which nothing is encrypted for it: take the file of the newest copy of TARGET"
         }
-        Refusal::Nonce(_) => {
-            "TARGET/nonce isn't 16 hex digits: take the file of another copy, or remove it where TARGET never was a repository"
-        }
-        Refusal::Committed => COMMITTED,
-    }
-}
-
-fn of_key_file(fault: KeyFileFault) -> &'static str {
-    match fault {
-        KeyFileFault::Header => {
-            "the key file doesn't begin with BORG_KEY and the repository's id: see which file BORG_KEY_FILE names"
-        }
         _ => {
-            "the key file has no key behind its first line: take another copy of it, or make one with make-key"
-        }
-    }
-}
-
-fn of_key(fault: KeyFault) -> &'static str {
-    match fault {
-        KeyFault::Passphrase => {
-            "the passphrase doesn't open the key file: set the variable BORG_PASSPHRASE to the one that it is sealed with"
-        }
-        _ => {
-            "the key in the key file isn't one that Borg 1 writes: take another copy of it, or make one with make-key"
+            "TARGET/nonce isn't 16 hex digits: take the file of the newest copy of TARGET, or remove it where TARGET never was a repository"
         }
     }
 }
@@ -73,7 +43,7 @@ pub fn of_limit(limit: Limit) -> &'static str {
             "the numbers of TARGET's segments are used up: make another repository"
         }
         Limit::Item => {
-            "a file has more pieces than an item may have: a larger block makes them fewer"
+            "a file has more chunks than an item may have: a larger --block makes them fewer"
         }
     }
 }

@@ -1,6 +1,8 @@
-//! Tests of the devices, of the log over them, of the counter, of sessions, and of the devices over the system.
+//! Tests of the devices, of the log over them, of the counter, of sessions, of compaction, and of the devices over the system.
 #![tactic(auto)]
 
+#[cfg(test)]
+mod compact;
 #[cfg(test)]
 mod disk;
 #[cfg(test)]

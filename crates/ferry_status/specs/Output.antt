@@ -9,35 +9,36 @@ use Rattle.ferry_status.specs.declared.status.Refusal.{Refusal}
 use Rattle.ferry_status.specs.declared.status.Status.{Status}
 use Rattle.ferry_status.specs.declared.status.Status.TheVariants.{Done, No, Memory, SourceDevice, OutputDevice, SourceRefused, NotFound}
 
+-- All of such a text was written, and no call of the output failed.
+abbrev pub HasPrinted : (List ℕ → Type 0) → Written → Written → Type 0
+HasPrinted IsText before after =
+    (text : List ℕ) × IsText text × (after.bytes ≡ option_map (λ w. w ++ text) before.bytes) × (after.faults ≡ before.faults)
+
 -- What a command has written that reads and writes by turns and ends before its end: nothing, or a front of such a text.
 abbrev pub HasBegun : (List ℕ → Type 0) → Written → Written → Type 0
 HasBegun IsFront before after = (after ≡ before)
     ⊎ ((text : List ℕ) × IsFront text × WritesSome before.bytes text after.bytes × (after.faults ≡ before.faults))
 
 -- What a command has written when it ends with a status, where it prints such a text in the end, and such a text as far as the source
--- reads; its refusals say this of the source's files, and so does what it doesn't find.
-abbrev pub PrintsAsRead : (IsText IsFront : Files → List ℕ → Type 0) → (Files → Refusal → Type 0) → (Files → List ℕ → Type 0)
+-- reads: all that reads where the source is refused or something isn't found, and a front of that where a device failed or memory was
+-- refused. Its refusals say this of the source's files, and so does what it doesn't find.
+abbrev pub PrintsAsRead : (IsText IsRead : Files → List ℕ → Type 0) → (Files → Refusal → Type 0) → (Files → List ℕ → Type 0)
     → Option Told → Written → Status → Written → Type 0
-PrintsAsRead IsText IsFront Refuses Lacks source before Done after =
-    (text : List ℕ) × IfSome source (λ t. IsText (told_files t) text) × (after.bytes ≡ option_map (λ w. w ++ text) before.bytes)
-    × (after.faults ≡ before.faults)
-PrintsAsRead IsText IsFront Refuses Lacks source before Memory after =
-    HasBegun (λ text. IfSome source (λ t. IsFront (told_files t) text)) before after
-PrintsAsRead IsText IsFront Refuses Lacks source before SourceDevice after =
-    HasBegun (λ text. IfSome source (λ t. IsFront (told_files t) text)) before after
-PrintsAsRead IsText IsFront Refuses Lacks source before OutputDevice after =
-    (text : List ℕ) × IfSome source (λ t. IsFront (told_files t) text) × WritesSome before.bytes text after.bytes × Rose before.faults after.faults
-PrintsAsRead IsText IsFront Refuses Lacks source before (SourceRefused refusal) after =
-    IfSome source (λ t. Refuses (told_files t) refusal) × HasBegun (λ text. IfSome source (λ t. IsFront (told_files t) text)) before after
-PrintsAsRead IsText IsFront Refuses Lacks source before (NotFound what) after =
-    IfSome source (λ t. Lacks (told_files t) what) × HasBegun (λ text. IfSome source (λ t. IsFront (told_files t) text)) before after
-PrintsAsRead IsText IsFront Refuses Lacks source before status after = ⊥
+PrintsAsRead IsText IsRead Refuses Lacks source before Done after = HasPrinted (λ text. IfSome source (λ t. IsText (told_files t) text)) before after
+PrintsAsRead IsText IsRead Refuses Lacks source before Memory after = HasBegun (λ text. IfSome source (λ t. IsRead (told_files t) text)) before after
+PrintsAsRead IsText IsRead Refuses Lacks source before SourceDevice after =
+    HasBegun (λ text. IfSome source (λ t. IsRead (told_files t) text)) before after
+PrintsAsRead IsText IsRead Refuses Lacks source before OutputDevice after =
+    (text : List ℕ) × IfSome source (λ t. IsRead (told_files t) text) × WritesSome before.bytes text after.bytes × Rose before.faults after.faults
+PrintsAsRead IsText IsRead Refuses Lacks source before (SourceRefused refusal) after =
+    IfSome source (λ t. Refuses (told_files t) refusal) × HasPrinted (λ text. IfSome source (λ t. IsRead (told_files t) text)) before after
+PrintsAsRead IsText IsRead Refuses Lacks source before (NotFound what) after =
+    IfSome source (λ t. Lacks (told_files t) what) × HasPrinted (λ text. IfSome source (λ t. IsRead (told_files t) text)) before after
+PrintsAsRead IsText IsRead Refuses Lacks source before status after = ⊥
 
 -- The same of a command that has read all that it needs before it writes: nothing is written where the source fails or is refused.
 abbrev pub Prints : (Files → List ℕ → Type 0) → (Files → Refusal → Type 0) → Option Told → Written → Status → Written → Type 0
-Prints IsText Refuses source before Done after =
-    (text : List ℕ) × IfSome source (λ t. IsText (told_files t) text) × (after.bytes ≡ option_map (λ w. w ++ text) before.bytes)
-    × (after.faults ≡ before.faults)
+Prints IsText Refuses source before Done after = HasPrinted (λ text. IfSome source (λ t. IsText (told_files t) text)) before after
 Prints IsText Refuses source before Memory after = HasBegun (λ text. IfSome source (λ t. IsText (told_files t) text)) before after
 Prints IsText Refuses source before SourceDevice after = after ≡ before
 Prints IsText Refuses source before OutputDevice after =

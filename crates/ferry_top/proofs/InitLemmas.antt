@@ -1,14 +1,10 @@
 -- Lemmas on specs/Init.antt: a line that is told behind a store that was made, and what stands then.
-use Rattle.std.proofs.Common.{◌≡◌, inl, inr, ℕ, Bool, true, false, List, [], ◌∷◌, ◌++◌, Option, Some, None, Result, Ok, Err, IfSome, OnOk}
+use Rattle.std.proofs.Common.{◌≡◌, inl, inr, ℕ, true, false, List, [], Option, Some, None, Result, Ok, Err, IfSome, OnOk}
 use Rattle.std.proofs.Common.{refl, sym, ◌∙◌, ap, subst}
-use Rattle.std.specs.FinMap.{get}
 use Rattle.ferry_config.specs.declared.config.Config.{Config}
-use Rattle.ferry_disk.proofs.FaultLemmas.{acts_end}
-use Rattle.ferry_disk.proofs.ImageLemmas.{applied-push, fate_of-push}
-use Rattle.ferry_disk.proofs.ImageStepLemmas.{tell_step}
 use Rattle.ferry_disk.proofs.MomentLemmas.{between_map, between_both}
-use Rattle.ferry_disk.specs.Act.{Step, TellOf, Act, History, files_now, with_act}
-use Rattle.ferry_disk.specs.Device.{Told, Acts, HasCause, RoseWhere, store_failed, told_files}
+use Rattle.ferry_disk.specs.Act.{TellOf, History, files_now, with_act}
+use Rattle.ferry_disk.specs.Device.{Told, RoseWhere, told_files}
 use Rattle.ferry_disk.specs.Faults.{FailedWhere, failed_told}
 use Rattle.ferry_disk.specs.Files.{Files, contents_at}
 use Rattle.ferry_disk.specs.Image.{settled}
@@ -17,103 +13,31 @@ use Rattle.ferry_disk.specs.declared.name.Name.TheVariants.{Config as ConfigFile
 use Rattle.ferry_disk.specs.declared.shelf.StoreFault.{StoreFault}
 use Rattle.ferry_disk.specs.declared.shelf.StoreFault.TheVariants as Shelf
 use Rattle.ferry_keyblob.specs.Opening.{Opened}
-use Rattle.ferry_nonce.specs.Counter.{KeepsNumbers}
 use Rattle.ferry_nonce.specs.declared.fault.NonceFault.TheVariants as Nonces
 use Rattle.ferry_repo.specs.Fault.{IsOfFiles, repo_failed}
 use Rattle.ferry_repo.specs.Opening.{RefusesKey, UnlockedText, UnlocksTo}
 use Rattle.ferry_repo.specs.declared.fault.RepoFault.{RepoFault}
 use Rattle.ferry_repo.specs.declared.fault.RepoFault.TheVariants as Repo
 use Rattle.ferry_repo.specs.declared.secret.Secret.{Secret}
-use Rattle.ferry_stops.specs.Blobs.{AllTraced, BlobOf}
-use Rattle.ferry_stops.specs.Chance.{EachStop, FileByNoChance, IsLeft}
-use Rattle.ferry_stops.specs.Counters.{IsKept}
-use Rattle.ferry_stops.specs.Entries.{ShowsSomething}
-use Rattle.ferry_store.proofs.StepLemmas.{acts_done, acts_step, before_same, did_then, moments_then, step_done, step_moments}
+use Rattle.ferry_store.proofs.StepLemmas.{before_same, did_then}
 use Rattle.ferry_store.specs.Fault.{depot_failed, repo_refusal, store_refusal}
 use Rattle.ferry_store.specs.New.{IsMade, IsNothingOrNew, OpensNew}
 use Rattle.ferry_store.specs.State.{Did, IsStep}
-use Rattle.ferry_store.specs.Store.{InitEach, InitFits, InitKeeps, InitMakes, InitShows, NumbersOn, RefusesFiles, RefusesInit}
+use Rattle.ferry_store.specs.Store.{InitEach, InitFits, InitMakes, InitShows, RefusesFiles, RefusesInit}
 use Rattle.ferry_store.specs.declared.fault.StoreRefusal.{StoreRefusal}
 use Rattle.ferry_store.specs.declared.fault.StoreRefusal.TheVariants as Store
 use Rattle.ferry_store.specs.declared.store.Store.{Store as StoreValue}
+use Rattle.ferry_top.proofs.TellLemmas.{end_known, fail_as, first_then, keeps_then, numbers_then, repo_is, rose_as, settled_some, stops_then, tells_same}
 use Rattle.ferry_top.specs.Init.{CommandEach, InitTells, IsFault, IsReady, IsRefused, RefusesTelling, initialized_line}
 use Rattle.ferry_status.specs.Status.{store_status, target_status}
 use Rattle.ferry_status.specs.declared.status.Status.{Status}
-use Rattle.ferry_write.proofs.LawLemmas.{beside_blobs, beside_traced}
 use Rattle.ferry_write.specs.Script.{AllDone}
-use Rattle.ferry_write.specs.Session.{BeginBySettle, SettlesFirst}
 use Rattle.ferry_write.specs.declared.fault.WriteFault.TheVariants as Writes
-
--- ---- what a stop leaves behind a Tell
-
-tell_left : (line : List ℕ) (done : Bool) (h : History) (image : Files) → IsLeft (with_act (TellOf line) done h) image → IsLeft h image
-tell_left line done h image left = record {
-  image_is = (tell_step h.start h.acts line done image).0 left.image_is;
-  by_no_chance = λ n.
-      subst (λ f. FileByNoChance f (get image.segments n)) (fate_of-push h.start h.acts (record { step = TellOf line; done = done }) n) (left.by_no_chance n);
-}
-
-tell_each : (P : Files → Type 0) (line : List ℕ) (done : Bool) (h : History) → EachStop P h → EachStop P (with_act (TellOf line) done h)
-tell_each P line done h each image left = each image (tell_left line done h image left)
-
-tell_back : (line : List ℕ) (done : Bool) (h : History) (blob : List ℕ) → BlobOf (with_act (TellOf line) done h) blob → BlobOf h blob
-tell_back line done h blob has = (beside_blobs h (TellOf line) done blob tt).0 has
-
-tell_kept : (line : List ℕ) (done : Bool) (h : History) → IsKept h × AllTraced h
-    → IsKept (with_act (TellOf line) done h) × AllTraced (with_act (TellOf line) done h)
-tell_kept line done h kept = (
-  record {
-    fresh = record {
-      apart = λ a b x y. kept.0.fresh.apart a b (tell_back line done h a x) (tell_back line done h b y);
-      above = λ image is.
-          let above = kept.0.fresh.above image ((tell_step h.start h.acts line done image).0 is) in record {
-            value = above.value;
-            nonce = above.nonce;
-            above = λ blob number has. above.above blob number (tell_back line done h blob has);
-          };
-    };
-    shows = tell_each ShowsSomething line done h kept.0.shows;
-  },
-  beside_traced h (TellOf line) done tt kept.1,
-)
-
-tell_numbers : (line : List ℕ) (done : Bool) (h : History) → KeepsNumbers h → KeepsNumbers (with_act (TellOf line) done h)
-tell_numbers line done h keeps number is =
-    let kept = keeps number is in
-    record {
-      blobs = λ blob known. kept.blobs blob (tell_back line done h blob known);
-      nonce = λ image left. kept.nonce image ((tell_step h.start h.acts line done image).0 left);
-      stays = λ image left some. kept.stays image ((tell_step h.start h.acts line done image).0 left) some;
-    }
 
 -- ---- each moment of `init` and of the Tell behind it
 
 shows_then : (secret : Secret) (line : List ℕ) (h g i : History) → InitShows secret h g → AllDone h g → IsStep (TellOf line) g i → InitShows secret h i
-shows_then secret line h g i shows done is e none =
-    let P = EachStop (IsNothingOrNew secret) in
-    let first = shows e none in
-    moments_then P h g i first done (step_moments P (TellOf line) g i first.last (λ d. tell_each (IsNothingOrNew secret) line d g first.last) is)
-
-keeps_then : (line : List ℕ) (h g i : History) → InitKeeps h g → AllDone h g → IsStep (TellOf line) g i → InitKeeps h i
-keeps_then line h g i keeps done is e kept =
-    let P : History → Type 0 = λ k. IsKept k × AllTraced k in
-    let first = keeps e kept in
-    moments_then P h g i first done (step_moments P (TellOf line) g i first.last (λ d. tell_kept line d g first.last) is)
-
-numbers_then : (line : List ℕ) (h g i : History) → NumbersOn h g → AllDone h g → IsStep (TellOf line) g i → NumbersOn h i
-numbers_then line h g i numbers done is e =
-    let first = numbers e in
-    moments_then KeepsNumbers h g i first done (step_moments KeepsNumbers (TellOf line) g i first.last (λ d. tell_numbers line d g first.last) is)
-
--- acts of which a Settle is done are some
-first_more : (acts more : List Act) → settled acts ≡ true → BeginBySettle acts → BeginBySettle (acts ++ more)
-first_more [] more is first = absurd (let no : ⊥ = cc in no)
-first_more (act ∷ acts) more is first = first
-
-first_then : (step : Step) (h g i : History) → SettlesFirst h g → (h.acts ≡ [] → settled g.acts ≡ true) → IsStep step g i → SettlesFirst h i
-first_then step h g i first is (inl same) e = subst (λ (k : History). BeginBySettle k.acts) (sym same) (first e)
-first_then step h g i first is (inr act) e =
-    subst (λ (k : History). BeginBySettle k.acts) (sym act.1) (first_more g.acts (record { step = step; done = act.0 } ∷ []) (is e) (first e))
+shows_then secret line h g i shows done is e none = stops_then (IsNothingOrNew secret) line h g i (shows e none) done is
 
 fits_settled : (store : StoreValue) (h g : History) → InitFits store h g → h.acts ≡ [] → settled g.acts ≡ true
 fits_settled store h g fits e = (fits false e (λ c. absurd (let no : ⊥ = cc in no))).under_way.fits.own.safe.settled_is
@@ -140,7 +64,7 @@ each_then secret iterations timestamp bytes store line h g i each done fits make
     (
       numbers_then line h g i each.1.1.0 done is,
       (
-        first_then (TellOf line) h g i each.1.1.1.0 (fits_settled store h g fits) is,
+        first_then (TellOf line) h g i each.1.1.1.0 (λ e. settled_some g.acts (fits_settled store h g fits e)) is,
         λ e no. absurd (no (makes e).uncommitted),
       ),
     ),
@@ -170,9 +94,6 @@ pub record HasId (secret : Secret) (id : List ℕ) (files : Files) : Type 0 wher
   pub unlocks : UnlocksTo (contents_at files ConfigFile) secret config iterations key
   pub id_is : id ≡ config.id
 
-tells_same : (line : List ℕ) (g : History) → files_now (with_act (TellOf line) true g) ≡ files_now g
-tells_same line g = applied-push g.start g.acts (record { step = TellOf line; done = true })
-
 pub tells_then : (secret : Secret) (iterations : ℕ) (timestamp bytes id : List ℕ) (h g i : History) → InitMakes secret iterations timestamp bytes h g
     → HasId secret id (files_now g) → i ≡ with_act (TellOf (initialized_line id)) true g → InitTells secret iterations timestamp bytes h i
 tells_then secret iterations timestamp bytes id h g i makes has is e =
@@ -192,43 +113,6 @@ tells_then secret iterations timestamp bytes id h g i makes has is e =
       tells = all.1.1;
     }
 
--- ---- steps over what a device tells
-
--- what is known of the end
-end_known : (P : History → Type 0) (E : History → History → Type 0) (a b : Option Told) → Between a b E → IfSome b (λ t. P t.history)
-    → Between a b (λ h g. E h g × P g)
-end_known P E None b p k = tt
-end_known P E (Some a) b p k = (p.0, p.1, (p.2, subst (λ (x : Option Told). IfSome x (λ t. P t.history)) p.1 k))
-
-fail_as : (d e : Bool) (a b : Option Told) → d ≡ e → FailedWhere e a b → FailedWhere d a b
-fail_as d e a b same f = subst (λ (x : Bool). FailedWhere x a b) (sym same) f
-
-rose_as : (d e : Bool) (n m : ℕ) → d ≡ e → RoseWhere e n m → RoseWhere d n m
-rose_as d e n m same r = subst (λ (x : Bool). RoseWhere x n m) (sym same) r
-
-store_is : (fault : StoreFault) → depot_failed (store_refusal fault) ≡ store_failed fault
-store_is Shelf.Failed = refl
-store_is Shelf.Memory = refl
-
-pub told_line : (step : Step) (a b : Option Told) (n m : ℕ) → Acts {T = Unit {0}} step a b (Ok tt) → HasCause {T = Unit {0}} store_failed n m (Ok tt)
-    → Did {T = Unit {0}} (IsStep step) (λ _ h g. g ≡ with_act step true h) a b n m (Ok tt)
-told_line step a b n m acts cause = record {
-  each = acts_step {T = Unit {0}} step a b (Ok tt) acts;
-  end = between_map a b (λ h g. g ≡ with_act step true h) (λ h g. AllDone h g × (g ≡ with_act step true h)) (λ h g is. (step_done step h g is, is))
-      (acts_done {T = Unit {0}} step a b tt acts);
-  ends = acts_end {T = Unit {0}} step a b (Ok tt) acts;
-  cause = cause;
-}
-
-pub untold_line : (step : Step) (a b : Option Told) (n m : ℕ) (fault : StoreFault) → Acts {T = Unit {0}} step a b (Err fault)
-    → RoseWhere (store_failed fault) n m → Did {T = Unit {0}} (IsStep step) (λ _ h g. g ≡ with_act step true h) a b n m (Err (store_refusal fault))
-untold_line step a b n m fault acts cause = record {
-  each = acts_step {T = Unit {0}} step a b (Err fault) acts;
-  end = tt;
-  ends = fail_as (depot_failed (store_refusal fault)) (store_failed fault) a b (store_is fault) (acts_end {T = Unit {0}} step a b (Err fault) acts);
-  cause = rose_as (depot_failed (store_refusal fault)) (store_failed fault) n m (store_is fault) cause;
-}
-
 pub refuses_telling : (fault : StoreFault) → RefusesTelling (store_refusal fault)
 refuses_telling Shelf.Failed = tt
 refuses_telling Shelf.Memory = tt
@@ -244,23 +128,6 @@ pub has_id : (told : Option Told) (secret : Secret) (config : Config) (iteration
     → IfSome told (λ t. HasId secret config.id (told_files t))
 has_id None secret config iterations key u = tt
 has_id (Some t) secret config iterations key u = record { config = config; iterations = iterations; key = key; unlocks = u; id_is = refl }
-
-repo_is : (fault : RepoFault) → depot_failed (repo_refusal fault) ≡ repo_failed fault
-repo_is Repo.NoCommit = refl
-repo_is (Repo.Damaged segment at) = refl
-repo_is (Repo.Config fault) = refl
-repo_is (Repo.Key fault) = refl
-repo_is (Repo.Missing id) = refl
-repo_is (Repo.Blob id fault) = refl
-repo_is (Repo.Manifest fault) = refl
-repo_is (Repo.Archive id fault) = refl
-repo_is (Repo.Item id fault) = refl
-repo_is (Repo.Size id) = refl
-repo_is (Repo.KeyFile fault) = refl
-repo_is (Repo.Other file config) = refl
-repo_is Repo.NoKey = refl
-repo_is Repo.Device = refl
-repo_is Repo.Memory = refl
 
 -- what is known when the store is made and its `config` was read
 abbrev Made : Secret → ℕ → List ℕ → List ℕ → List ℕ → StoreValue → History → History → Type 0

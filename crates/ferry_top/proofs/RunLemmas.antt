@@ -6,8 +6,10 @@ use Rattle.ferry_disk.specs.Device.{Told, Rose}
 use Rattle.ferry_disk.specs.Files.{Files}
 use Rattle.ferry_disk.specs.Moments.{Between}
 use Rattle.ferry_repo.specs.declared.secret.Secret.{Secret}
+use Rattle.ferry_top.proofs.CompactLemmas.{compacts_nothing}
 use Rattle.ferry_top.proofs.InitLemmas.{each_command}
 use Rattle.ferry_status.proofs.StatusLemmas.{IsOfStore, of_store}
+use Rattle.ferry_top.proofs.PlanLemmas.{plans_nothing}
 use Rattle.ferry_top.proofs.TransferCauseLemmas.{ends_done, left_of, memory_refused}
 use Rattle.ferry_top.proofs.TransferLemmas.{each_untouched}
 use Rattle.ferry_top.specs.Check.{Checks}
@@ -17,6 +19,7 @@ use Rattle.ferry_store.specs.Store.{RefusesInit}
 use Rattle.ferry_store.specs.declared.fault.StoreRefusal.TheVariants as Store
 use Rattle.ferry_top.specs.Init.{CommandEach, IsRefused, time_or}
 use Rattle.ferry_top.specs.MakeKey.{PrintsKey}
+use Rattle.ferry_top.specs.Planning.{planned_for}
 use Rattle.ferry_top.specs.Run.{DoesCommand, Runs}
 use Rattle.ferry_status.specs.Output.{Prints, PrintsAsRead, Reports}
 use Rattle.ferry_status.specs.Status.{source_failed, target_failed, entropy_failed, output_failed}
@@ -28,7 +31,8 @@ use Rattle.ferry_status.specs.declared.status.Status.{Status}
 use Rattle.ferry_status.specs.declared.status.Status.TheVariants.{Done, No, Usage, Memory, SourceDevice, TargetDevice, EntropyDevice, OutputDevice}
 use Rattle.ferry_status.specs.declared.status.Status.TheVariants.{SourceRefused, TargetRefused, Taken, NotFound, Limit}
 use Rattle.ferry_words.specs.declared.command.Command.{Command}
-use Rattle.ferry_words.specs.declared.command.Command.TheVariants.{Keys, Key, List as ListArchives, ListItems, Extract, Check, Init, MakeKey, Transfer}
+use Rattle.ferry_words.specs.declared.command.Command.TheVariants.{Keys, Key, List as ListArchives, ListItems, Extract, Check}
+use Rattle.ferry_words.specs.declared.command.Command.TheVariants.{Init, MakeKey, Transfer, Plan, Compact}
 
 -- ---- a command of the source
 
@@ -271,4 +275,6 @@ does_nothing (Ok (Transfer block checkpoint timestamp names)) secrets all =
       only_told = λ e. absurd (let no : ⊥ = cc in no);
       each = transfer_told request told;
     }
+does_nothing (Ok (Plan block names)) secrets all = plans_nothing (planned_for secrets block names all.source.told) all
+does_nothing (Ok (Compact threshold)) secrets all = compacts_nothing threshold all
 does_nothing (Err word) secrets all = refl

@@ -5,6 +5,8 @@ pub mod Keys
 pub mod List
 pub mod MakeKey
 pub mod Items
+pub mod Compact
+pub mod Planning
 pub mod Run
 pub mod Words
 pub mod Transfer

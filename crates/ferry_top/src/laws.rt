@@ -1,24 +1,29 @@
 //! Laws of what `run` says, each the contract of a function with nothing to do.
-ghost use Rattle.std.specs.Prelude.{◌≡◌, ◌≢◌, ◌↔◌, ◌∷◌, List, [], ℕ, Some};
+ghost use Rattle.std.specs.Prelude.{◌≡◌, ◌≢◌, ◌↔◌, ◌∷◌, List, [], ℕ, Some, Ok};
 ghost use Rattle.std.specs.List.{AllByRecursion};
 ghost use Rattle.ferry_base.specs.Limits.{zero_id};
 ghost use Rattle.ferry_blob.specs.Blob.{OpensTo, content_id};
 ghost use Rattle.ferry_piece.specs.Gather.{IsAmong, NoCollision};
 ghost use Rattle.ferry_piece.specs.Puts.{Addition, contents_in};
 ghost use Rattle.ferry_check.specs.Verify.{FilesVerify};
+ghost use Rattle.ferry_config.specs.Config.{config_of};
+ghost use Rattle.ferry_config.specs.declared.config.Config.{Config};
 ghost use Rattle.ferry_disk.specs.Device.{Told, told_files};
 ghost use Rattle.ferry_disk.specs.Act.{History};
-ghost use Rattle.ferry_disk.specs.Files.{Files, file_at};
+ghost use Rattle.ferry_disk.specs.Files.{Files, contents_at, file_at};
 ghost use Rattle.ferry_disk.specs.Image.{ImageOf};
 ghost use Rattle.ferry_nonce.specs.Counter.{KeepsNumbers};
-ghost use Rattle.ferry_disk.specs.declared.name.Name.TheVariants.{Nonce};
+ghost use Rattle.ferry_disk.specs.declared.name.Name.TheVariants.{Config as ConfigFile, Nonce};
+ghost use Rattle.ferry_log.specs.State.{IsStateOf, LogState};
 ghost use Rattle.ferry_repo.specs.Objects.{HasBlob};
 ghost use Rattle.ferry_repo.specs.Opening.{OpensFilesTo, RepoState};
 ghost use Rattle.ferry_repo.specs.declared.secret.Secret.{Secret};
 ghost use Rattle.ferry_repo.specs.Whole.{HasWhole, WholeArchive};
 ghost use Rattle.ferry_stops.specs.Counters.{SpellsNumber};
 ghost use Rattle.ferry_store.specs.New.{OpensNew};
+ghost use Rattle.ferry_top.specs.Compact.{IsCompactedUnless, RefusesCompacting};
 ghost use Rattle.ferry_top.specs.Init.{IsFault, IsReady, IsRefused};
+ghost use Rattle.ferry_top.specs.Planning.{CanBePlanned, IsPlannedUnless, RefusesPlanning};
 ghost use Rattle.ferry_top.specs.Rerun.{AreLeftInTurn, EachChosen, HasNumber, IsNamedOrChosen, KeepsNonce, LacksName, MeetsConditions};
 ghost use Rattle.ferry_top.specs.Transfer.{KeepsArchives, NoneCollide, Request, chosen_of};
 ghost use Rattle.ferry_top.specs.TransferCauses.{IsOfAdded, IsReadyFor};
@@ -29,6 +34,20 @@ ghost use Rattle.ferry_status.specs.declared.status.Status.{Status as TheStatus}
 pub fn init_laws()
     ensures complete { (secret : Secret) (timestamp : List ℕ) (told : Told) (status : TheStatus) → told.history.acts ≡ []
         → IsReady secret timestamp (told_files told) → IsRefused secret timestamp (Some told) status → IsFault status }
+{}
+
+/// Where both repositories open, each chosen archive is whole in the source and absent in the target or equal, and no item is too long, a plan is refused by
+/// nothing but want of memory and a device that failed.
+pub fn plan_laws()
+    ensures complete { (request : Request) (source target : Told) (status : TheStatus) → CanBePlanned request (told_files source) (told_files target)
+        → RefusesPlanning request source target status → IsPlannedUnless status }
+{}
+
+/// Where the log and the settings of a target read, compaction is refused by nothing but want of memory, a device that failed, and the numbers of segments,
+/// where they are used up.
+pub fn compact_laws()
+    ensures complete { (start image : Files) (state : LogState) (config : Config) (status : TheStatus) → IsStateOf start state
+        → config_of (contents_at start ConfigFile) ≡ Ok config → RefusesCompacting start image status → IsCompactedUnless image status }
 {}
 
 /// What a transfer asks of its target, it finds again in what it left at a stop, with the same words and the same source: the files open, the file

@@ -5,6 +5,7 @@
 #![tactic(auto)]
 
 mod check;
+mod compact;
 mod init;
 mod items;
 mod key;
@@ -13,12 +14,13 @@ mod laws;
 mod lines;
 mod list;
 mod make_key;
+mod plan;
 mod top;
 mod transfer;
 mod words;
 
 pub use ferry_repo::{RepoFault, Secret};
 pub use ferry_status::{Limit, Refusal, Secrets, Status};
-pub use laws::{init_laws, transfer_laws};
+pub use laws::{compact_laws, init_laws, plan_laws, transfer_laws};
 pub use top::run;
 pub use words::places_fit;

@@ -5,12 +5,14 @@ ghost use Rattle.ferry_top.specs.Run.{DoesCommand, Runs};
 ghost use Rattle.ferry_words.specs.Words.{IsInRange, command_of};
 
 use crate::check::check;
+use crate::compact::compact;
 use crate::init::init;
 use crate::items::{extract, list_items};
 use crate::key::key;
 use crate::keys::keys;
 use crate::list::list;
 use crate::make_key::make_key;
+use crate::plan::plan;
 use crate::transfer::transfer;
 use ferry_carry::Options;
 use ferry_disk::{Depot, Entropy, Shelf, Sink};
@@ -20,18 +22,20 @@ use std::alloc::Global;
 
 /// Does what the words say.
 ///
-/// `words` begins with the command. `keys` prints each live key of the source in byte order as 64 hex digits, with a space and
-/// the size of its blob in bytes. `key` opens the repository key, in `config` or the key file, with the source's passphrase and
-/// prints its repository id as 64 hex digits, a space, and its iterations. `list` opens the source with its secret and
-/// prints, for each archive in byte order of names, the id of its record, its time and its name; with a name it prints, for each item of
-/// that archive in the order of its stream, its kind, its size in bytes and its path. `extract` writes the content of the first item of an
-/// archive that has content and a path. `check` opens every live chunk and reads every archive, and prints how many there are, or the first
-/// fault, with which it answers `No`. None of these uses `target` and `entropy`. `init` makes a repository in the target, with the key of the
-/// target's key file where there is one, and tells `initialized ` and its id as 64 hex digits; it uses neither `source` nor `out` but for its
-/// fault line. `transfer` copies the chosen archives of the source, or all, into the target, in pieces of its own length, those that the target
-/// lacks, and compares the others; it tells `transferred ` or `present ` and the name of each, and at the end a line with the numbers of all, and uses
-/// `out` for its fault line alone. `make-key` draws a new key, seals it with the target's passphrase and prints the text of its key file; it uses
-/// neither `source` nor `target`.
+/// `words` begins with the command. `keys` prints each live key of the source in byte order as 64 hex digits, with a space and the size of its
+/// blob in bytes. `key` opens the repository key, in `config` or the key file, with the source's passphrase and prints its repository id as 64
+/// hex digits, a space, and its iterations. `list` opens the source with its secret and prints, for each archive in byte order of names, the id
+/// of its record, its time and its name; with a name it prints, for each item of that archive in the order of its stream, its kind, its size in
+/// bytes and its path. `extract` writes the content of the first item of an archive that has content and a path. `check` opens every live chunk
+/// and reads every archive, and prints how many there are, or the first fault, with which it answers `No`. None of these uses `target` and
+/// `entropy`. `init` makes a repository in the target, with the key of the target's key file where there is one, and tells `initialized ` and
+/// its id as 64 hex digits; it uses neither `source` nor `out` but for its fault line. `transfer` copies the chosen archives of the source, or
+/// all, into the target, in pieces of its own length, those that the target lacks, and compares the others; it tells `transferred ` or `present
+/// ` and the name of each, and at the end a line with the numbers of all, and uses `out` for its fault line alone. `plan` counts what that
+/// would put, and prints how many pieces of contents, their bytes, and how many pieces of item streams; it only reads `target`, and doesn't use
+/// `entropy`. `compact` writes again what is in use in those segments of the target of which a part is unused, removes them, and tells
+/// `compacted ` and how many these were; it uses neither `source` and `entropy` nor `out` but for its fault line. `make-key` draws a new key,
+/// seals it with the target's passphrase and prints the text of its key file; it uses neither `source` nor `target`.
 pub fn run<S: Shelf, D: Depot, E: Entropy, K: Sink>(
     alloc: Global,
     words: &[String],
@@ -151,6 +155,16 @@ fn carry_out<S: Shelf, D: Depot, E: Entropy, K: Sink>(
             target,
             entropy,
         ),
+        Command::Plan { block, names } => plan(
+            alloc,
+            secrets,
+            block,
+            names.as_slice(),
+            source,
+            target,
+            out,
+        ),
+        Command::Compact { threshold } => compact(alloc, threshold, target),
         Command::MakeKey { iterations } => make_key(
             alloc,
             &secrets.target,

@@ -126,7 +126,7 @@ fn copy_into<S: Shelf, D: Depot, E: Entropy>(
 }
 
 /// Answers `NotFound` where the source lacks one of these names.
-fn find_names(alloc: Global, repo: &Repo, names: &[Bytes]) -> Result<(), CarryFault>
+pub(crate) fn find_names(alloc: Global, repo: &Repo, names: &[Bytes]) -> Result<(), CarryFault>
     ensures refused { IfErr result (λ fault. (fault ≡ CarryFault.Memory) ⊎ ((place : ℕ) × ((name : List ℕ)
         × (IsMissingName (repo_view repo.now).manifest names.now place × ((slice_get names.now place ≡ Some name) × (fault ≡ CarryFault.NotFound name)))))) }
     ensures shelf { IfErr result (λ fault. shelf_failed fault ≡ false) }
@@ -141,7 +141,11 @@ fn find_names(alloc: Global, repo: &Repo, names: &[Bytes]) -> Result<(), CarryFa
 }
 
 /// Copies of these names, or of those of all archives where there are none.
-fn chosen_names(alloc: Global, repo: &Repo, names: &[Bytes]) -> Result<Vec<Bytes>, AllocError>
+pub(crate) fn chosen_names(
+    alloc: Global,
+    repo: &Repo,
+    names: &[Bytes],
+) -> Result<Vec<Bytes>, AllocError>
     ensures chosen { IfOk result (λ chosen. chosen.items ≡ chosen_of names.now (repo_view repo.now).manifest) }
 {
     if names.is_empty() {

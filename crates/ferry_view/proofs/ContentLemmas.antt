@@ -14,13 +14,13 @@ use Rattle.ferry_repo.specs.Walk.{WalkState}
 use Rattle.ferry_repo.specs.Whole.{ContentsCome}
 use Rattle.ferry_repo.specs.declared.fault.RepoFault.{RepoFault}
 use Rattle.ferry_repo.specs.declared.fault.RepoFault.TheVariants as Fault
-use Rattle.ferry_view.specs.Output.{ShowsAll, ShowsSome, repo_fault}
+use Rattle.ferry_view.specs.Output.{IsOfArchive, ShowsAll, ShowsSome, repo_fault}
 use Rattle.ferry_view.specs.Steps.{ContentsShown, AllContents, SomeContents, EndsContents, EndsWalk, EndsFile, WritesSoFar}
 use Rattle.ferry_view.specs.declared.fault.ViewFault.{ViewFault}
 use Rattle.ferry_view.specs.declared.fault.ViewFault.TheVariants as View
 use Rattle.ferry_view.proofs.FileLemmas.{joined_one, contents_next, contents_more, contents_refused}
 use Rattle.ferry_view.proofs.OutputLemmas.{more_none, more_twice, writes_all, shows_more}
-use Rattle.ferry_view.proofs.SoFarLemmas.{told_both, sent_front}
+use Rattle.ferry_view.proofs.SoFarLemmas.{told_both, of_files, sent_front}
 
 -- ---- the contents so far
 
@@ -131,9 +131,31 @@ pub writes_refused : (told later : Option Told) (repo after_repo : RepoState) (c
 writes_refused told later repo after_repo chunks place d old out fault same same_repo lt writes refused =
     told_with told later (λ f. ContentsCome f repo.log repo.keys (take place chunks) writes.contents None)
     (λ f. RefusesContent f after_repo.log after_repo.keys (get_or chunks place d) fault) (λ f. EndsContents f repo chunks (repo_fault fault)) same
-    (λ f come refuses. contents_of f repo chunks fault (λ of_files. contents_refused f repo chunks place d writes.contents fault lt come
-    (subst (λ (r : RepoState). RefusesContent f r.log r.keys (get_or chunks place d) fault) same_repo refuses) of_files))
+    (λ f come refuses. contents_of f repo chunks fault (λ of_files. (
+      joined writes.contents,
+      contents_refused f repo chunks place d writes.contents fault lt come
+          (subst (λ (r : RepoState). RefusesContent f r.log r.keys (get_or chunks place d) fault) same_repo refuses) of_files,
+    )))
     writes.come refused
+
+-- the contents before the next are out, which is refused
+pub writes_stopped : (told later : Option Told) (repo after_repo : RepoState) (chunks : List ChunkRef) (place : ℕ) (d : ChunkRef)
+    (old out : Option (List ℕ)) (fault : RepoFault) → heard later ≡ heard told → after_repo ≡ repo → place < length chunks
+    → WritesSoFar told repo (take place chunks) old out
+    → IfSome later (λ t. RefusesContent (told_files t) after_repo.log after_repo.keys (get_or chunks place d) fault)
+    → IsOfArchive (repo_fault fault) → ShowsAll (λ f text. SomeContents f repo chunks text) told old out
+writes_stopped told later repo after_repo chunks place d old out fault same same_repo lt writes refused of = record {
+  text = joined writes.contents;
+  is = told_with told later (λ f. ContentsCome f repo.log repo.keys (take place chunks) writes.contents None)
+      (λ f. RefusesContent f after_repo.log after_repo.keys (get_or chunks place d) fault) (λ f. SomeContents f repo chunks (joined writes.contents)) same
+      (λ f come refuses. (
+        Some fault,
+        contents_refused f repo chunks place d writes.contents fault lt come
+            (subst (λ (r : RepoState). RefusesContent f r.log r.keys (get_or chunks place d) fault) same_repo refuses) (of_files fault of),
+      ))
+      writes.come refused;
+  written = writes.written;
+}
 
 -- ---- the file
 

@@ -17,6 +17,7 @@ use Rattle.ferry_repo.proofs.ContentLemmas.{some_contents, contents_then}
 use Rattle.ferry_repo.proofs.WalkLawLemmas.{some_to_come}
 use Rattle.ferry_repo.proofs.WholeLemmas.{some_wholes}
 use Rattle.ferry_view.specs.Items.{is_file, file_at, IsContentOf, IsFile, IsFileText, RefusesFile, items_shown}
+use Rattle.ferry_view.specs.Output.{IsOfArchive}
 use Rattle.ferry_view.specs.Steps.{Begins, RefusesBegin, FindsFile, FindsNone, EndsBefore, ReachesEnd}
 use Rattle.ferry_view.specs.Steps.{ContentsShown, AllContents, SomeContents, EndsBehind, EndsFile}
 use Rattle.ferry_view.specs.declared.fault.ViewFault.{ViewFault}
@@ -122,22 +123,19 @@ drop_next : (chunks : List ChunkRef) (place : ℕ) (d : ChunkRef) → place < le
     → drop place chunks ≡ get_or chunks place d ∷ drop (place + 1) chunks
 drop_next chunks place d lt = rw (add-one place) (drop-cons chunks place d lt)
 
--- the next content is refused
+-- the next content is refused, behind those that are there
 pub contents_refused : (files : Files) (repo : RepoState) (chunks : List ChunkRef) (place : ℕ) (d : ChunkRef) (contents : List (List ℕ)) (fault : RepoFault)
     → place < length chunks → ContentsCome files repo.log repo.keys (take place chunks) contents None
     → RefusesContent files repo.log repo.keys (get_or chunks place d) fault → IsOfFiles fault
-    → (text : List ℕ) × ContentsShown files repo chunks (Some fault) text
-contents_refused files repo chunks place d contents fault lt come refuses of_files = (
-  joined contents,
-  record {
-    contents = contents ++ [];
-    come = subst (λ (cs : List ChunkRef). ContentsCome files repo.log repo.keys cs (contents ++ []) (Some fault))
-        (ap (λ (k : List ChunkRef). take place chunks ++ k) (sym (drop_next chunks place d lt)) ∙ take-append-drop place chunks)
-        (contents_then files repo.log repo.keys (take place chunks) (get_or chunks place d ∷ drop (place + 1) chunks) contents [] (Some fault) come
-        (of_files, refuses));
-    joined_is = sym (ap joined (append-nil contents));
-  },
-)
+    → ContentsShown files repo chunks (Some fault) (joined contents)
+contents_refused files repo chunks place d contents fault lt come refuses of_files = record {
+  contents = contents ++ [];
+  come = subst (λ (cs : List ChunkRef). ContentsCome files repo.log repo.keys cs (contents ++ []) (Some fault))
+      (ap (λ (k : List ChunkRef). take place chunks ++ k) (sym (drop_next chunks place d lt)) ∙ take-append-drop place chunks)
+      (contents_then files repo.log repo.keys (take place chunks) (get_or chunks place d ∷ drop (place + 1) chunks) contents [] (Some fault) come
+      (of_files, refuses));
+  joined_is = sym (ap joined (append-nil contents));
+}
 
 -- ---- what is shown of a file
 
@@ -214,7 +212,7 @@ file_of files repo name path walk now chunks text b f shown reaches =
       content = refl;
     }
 
--- ---- refusals
+-- ---- no file
 
 -- what an archive reads in which no item is the file
 none_reading : (files : Files) (repo : RepoState) (name path : List ℕ) (walk : WalkState) (b : Begins files repo name walk) (end : Option RepoFault)
@@ -226,6 +224,24 @@ none_reading files repo name path walk b end none = record {
   comes = begin_comes files repo name walk b none.items end none.come;
   contents = subst (λ (is : List ItemText). WholesCome files repo.log repo.keys is end [] end) (sym none.none) refl;
 }
+
+-- where a walk comes to no file there is no content
+pub none_text : (files : Files) (repo : RepoState) (name path : List ℕ) (walk : WalkState) (end : Option RepoFault) → Begins files repo name walk
+    → FindsNone files repo walk path end → IsFileText files repo name path []
+none_text files repo name path walk end b none =
+    items_shown (record { archive = b.archive; items = none.items; wholes = []; end = end }) []
+    (record { named = b.named; named_is = b.named_is; reads = none_reading files repo name path walk b end none })
+    (subst (λ (is : List ItemText). IsContentOf files repo is []) (sym none.none) refl)
+
+-- where it is refused before it comes to the file
+pub before_text : (files : Files) (repo : RepoState) (name path : List ℕ) (walk : WalkState) (fault : ViewFault) → IsOfArchive fault
+    → Begins files repo name walk → EndsBefore files repo walk path fault → IsFileText files repo name path []
+before_text files repo name path walk (View.Repo fault) of b ends = none_text files repo name path walk (Some fault) b (ends of)
+before_text files repo name path walk View.NotFound of b ends = absurd ends
+before_text files repo name path walk View.Output of b ends = absurd ends
+before_text files repo name path walk View.Memory of b ends = absurd of
+
+-- ---- refusals
 
 pub begin_refuses_file : (files : Files) (repo : RepoState) (name path : List ℕ) (fault : ViewFault) → RefusesBegin files repo name fault
     → RefusesFile files repo name path fault

@@ -1,22 +1,27 @@
 -- Lemmas on specs/Items.antt: what the calls show of the files that a shelf tells, and what they refuse.
-use Rattle.std.proofs.Common.{◌≡◌, ℕ, List, Option, None, IfSome, sym, subst}
+use Rattle.std.proofs.Common.{◌≡◌, ℕ, List, [], Option, None, IfSome, sym, subst}
 use Rattle.ferry_disk.specs.Device.{Told, told_files, heard}
 use Rattle.ferry_disk.specs.Files.{Files}
 use Rattle.ferry_disk.proofs.DeviceLemmas.{told_same, told_then, told_with}
+use Rattle.ferry_item.specs.Item.{ItemText}
 use Rattle.ferry_item.specs.declared.item.ChunkRef.{ChunkRef}
 use Rattle.ferry_log.specs.State.{FitsFiles}
 use Rattle.ferry_repo.specs.Cached.{Contents}
 use Rattle.ferry_repo.specs.Opening.{RepoState, FitsRepo}
 use Rattle.ferry_repo.specs.Walk.{WalkState, FitsWalk}
-use Rattle.ferry_view.specs.Items.{IsItemListing, IsItemText, RefusesItems, IsFile, IsFileText, RefusesFile}
-use Rattle.ferry_view.specs.Output.{ShowsAll, ShowsSome}
+use Rattle.ferry_repo.specs.Whole.{no_item}
+use Rattle.ferry_view.specs.Items.{ReadsUpTo, IsItemListing, IsItemText, RefusesItems, IsContentOf, IsFile, IsFileText, RefusesFile, file_at}
+use Rattle.ferry_view.specs.Items.ReadsUpTo.{no_archive, no_record}
+use Rattle.ferry_view.specs.Lines.{item_lines}
+use Rattle.ferry_view.specs.Output.{IsOfArchive, ShowsAll, ShowsSome}
 use Rattle.ferry_view.specs.Steps.{Begins, RefusesBegin, AllLines, SomeLines, ReachesEnd, EndsWalk, FindsFile, FindsNone, EndsBefore}
 use Rattle.ferry_view.specs.Steps.{AllContents, SomeContents, EndsContents, WritesFile, EndsFile}
 use Rattle.ferry_view.specs.declared.fault.ViewFault.{ViewFault}
 use Rattle.ferry_view.specs.declared.fault.ViewFault.TheVariants as View
 use Rattle.ferry_view.proofs.ContentLemmas.{contents_file, behind_file, all_contents}
-use Rattle.ferry_view.proofs.FileLemmas.{file_text, file_of, begin_refuses_file, lacks_file, before_refuses, file_refused, some_file_text}
-use Rattle.ferry_view.proofs.OutputLemmas.{map_all, map_some, all_some, shows_none}
+use Rattle.ferry_view.proofs.FileLemmas.{file_text, file_of, none_text, before_text, begin_refuses_file, lacks_file, before_refuses, file_refused}
+use Rattle.ferry_view.proofs.FileLemmas.{some_file_text}
+use Rattle.ferry_view.proofs.OutputLemmas.{map_all, map_some, all_some, more_none, shows_none}
 use Rattle.ferry_view.proofs.SoFarLemmas.{told_both}
 use Rattle.ferry_view.proofs.WalkLemmas.{begin_fits, listing_of, text_of, items_refused, begin_refuses_items, some_item_text}
 
@@ -52,6 +57,30 @@ pub text_at : (told later : Option Told) (repo after_repo : RepoState) (name : L
 text_at told later repo after_repo name walk before after same same_repo begins some =
     map_some told later (λ f. Begins f repo name walk) (λ f text. SomeLines f after_repo walk text) (λ f text. IsItemText f repo name text) before after same
     (λ f text b lines. text_of f repo name walk text b (subst (λ (r : RepoState). SomeLines f r walk text) same_repo lines)) begins some
+
+pub text_all_at : (told later : Option Told) (repo after_repo : RepoState) (name : List ℕ) (walk : WalkState) (before after : Option (List ℕ))
+    → heard later ≡ heard told → after_repo ≡ repo → IfSome told (λ t. Begins (told_files t) repo name walk)
+    → ShowsAll (λ f text. SomeLines f after_repo walk text) later before after → ShowsAll (λ f text. IsItemText f repo name text) told before after
+text_all_at told later repo after_repo name walk before after same same_repo begins all =
+    map_all told later (λ f. Begins f repo name walk) (λ f text. SomeLines f after_repo walk text) (λ f text. IsItemText f repo name text) before after same
+    (λ f text b lines. text_of f repo name walk text b (subst (λ (r : RepoState). SomeLines f r walk text) same_repo lines)) begins all
+
+-- where no walk begins nothing is shown
+none_shown : (wanted : List ItemText → List ItemText) (IsShown : List ItemText → List ℕ → Type 0) (files : Files) (repo : RepoState) (name : List ℕ)
+    (fault : ViewFault) → IsOfArchive fault → RefusesBegin files repo name fault → ReadsUpTo wanted IsShown files repo name []
+none_shown wanted IsShown files repo name (View.Repo fault) of refuses = no_record refuses.0 fault refuses.1 of refuses.2
+none_shown wanted IsShown files repo name View.NotFound of refuses = no_archive refuses
+none_shown wanted IsShown files repo name View.Output of refuses = absurd of
+none_shown wanted IsShown files repo name View.Memory of refuses = absurd of
+
+pub no_lines_all : (told : Option Told) (repo : RepoState) (name : List ℕ) (before : Option (List ℕ)) (fault : ViewFault) → IsOfArchive fault
+    → IfSome told (λ t. RefusesBegin (told_files t) repo name fault) → ShowsAll (λ f text. IsItemText f repo name text) told before before
+no_lines_all told repo name before fault of refuses = record {
+  text = [];
+  is = told_then told (λ f. RefusesBegin f repo name fault) (λ f. IsItemText f repo name [])
+      (λ f. none_shown no_item (λ items shown. shown ≡ item_lines items) f repo name fault of) refuses;
+  written = more_none before;
+}
 
 pub items_refused_at : (told later : Option Told) (repo after_repo : RepoState) (name : List ℕ) (walk : WalkState) (fault : ViewFault)
     → heard later ≡ heard told → after_repo ≡ repo → IfSome told (λ t. Begins (told_files t) repo name walk)
@@ -113,6 +142,16 @@ pub no_content : (told : Option Told) (repo : RepoState) (name path : List ℕ) 
 no_content told repo name path before after fits same =
     shows_none told (λ f. FitsFiles f repo.log) (λ f text. IsFileText f repo name path text) before after (λ f. some_file_text f repo name path) fits same
 
+-- where no walk begins there is no content
+pub no_content_all : (told : Option Told) (repo : RepoState) (name path : List ℕ) (before : Option (List ℕ)) (fault : ViewFault) → IsOfArchive fault
+    → IfSome told (λ t. RefusesBegin (told_files t) repo name fault) → ShowsAll (λ f text. IsFileText f repo name path text) told before before
+no_content_all told repo name path before fault of refuses = record {
+  text = [];
+  is = told_then told (λ f. RefusesBegin f repo name fault) (λ f. IsFileText f repo name path [])
+      (λ f. none_shown (file_at path) (λ items shown. IsContentOf f repo (file_at path items) shown) f repo name fault of) refuses;
+  written = more_none before;
+}
+
 pub file_unbegun : (told : Option Told) (repo : RepoState) (name path : List ℕ) (fault : ViewFault)
     → IfSome told (λ t. RefusesBegin (told_files t) repo name fault) → IfSome told (λ t. RefusesFile (told_files t) repo name path fault)
 file_unbegun told repo name path fault refuses =
@@ -124,6 +163,29 @@ pub file_before : (told later : Option Told) (repo after_repo : RepoState) (name
 file_before told later repo after_repo name path walk fault same same_repo begins ends =
     told_with told later (λ f. Begins f repo name walk) (λ f. EndsBefore f after_repo walk path fault) (λ f. RefusesFile f repo name path fault) same
     (λ f b e. before_refuses f repo name path walk fault b (subst (λ (r : RepoState). EndsBefore f r walk path fault) same_repo e)) begins ends
+
+-- and there is none where it is refused before it comes to the file, or comes to none
+pub file_before_all : (told later : Option Told) (repo after_repo : RepoState) (name path : List ℕ) (walk : WalkState) (before : Option (List ℕ))
+    (fault : ViewFault) → IsOfArchive fault → heard later ≡ heard told → after_repo ≡ repo → IfSome told (λ t. Begins (told_files t) repo name walk)
+    → IfSome later (λ t. EndsBefore (told_files t) after_repo walk path fault)
+    → ShowsAll (λ f text. IsFileText f repo name path text) told before before
+file_before_all told later repo after_repo name path walk before fault of same same_repo begins ends = record {
+  text = [];
+  is = told_with told later (λ f. Begins f repo name walk) (λ f. EndsBefore f after_repo walk path fault) (λ f. IsFileText f repo name path []) same
+      (λ f b e. before_text f repo name path walk fault of b (subst (λ (r : RepoState). EndsBefore f r walk path fault) same_repo e)) begins ends;
+  written = more_none before;
+}
+
+pub file_missing_all : (told later : Option Told) (repo after_repo : RepoState) (name path : List ℕ) (walk : WalkState) (before : Option (List ℕ))
+    → heard later ≡ heard told → after_repo ≡ repo → IfSome told (λ t. Begins (told_files t) repo name walk)
+    → IfSome later (λ t. FindsNone (told_files t) after_repo walk path None)
+    → ShowsAll (λ f text. IsFileText f repo name path text) told before before
+file_missing_all told later repo after_repo name path walk before same same_repo begins none = record {
+  text = [];
+  is = told_with told later (λ f. Begins f repo name walk) (λ f. FindsNone f after_repo walk path None) (λ f. IsFileText f repo name path []) same
+      (λ f b n. none_text f repo name path walk None b (subst (λ (r : RepoState). FindsNone f r walk path None) same_repo n)) begins none;
+  written = more_none before;
+}
 
 pub file_missing : (told later : Option Told) (repo after_repo : RepoState) (name path : List ℕ) (walk : WalkState)
     → heard later ≡ heard told → after_repo ≡ repo → IfSome told (λ t. Begins (told_files t) repo name walk)
@@ -178,6 +240,17 @@ file_some told later repo after_repo name path walk now chunks before after same
     (λ f text. IsFileText f repo name path text) before after same
     (λ f text h s. file_text f repo name path walk now chunks text h.0 h.1 h.2 (subst (λ (r : RepoState). SomeContents f r chunks text) same_repo s))
     found some
+
+pub file_all : (told later : Option Told) (repo after_repo : RepoState) (name path : List ℕ) (walk now : WalkState) (chunks : List ChunkRef)
+    (before after : Option (List ℕ)) → heard later ≡ heard told → after_repo ≡ repo
+    → IfSome told (λ t. FoundAt (told_files t) repo name path walk now chunks)
+    → ShowsAll (λ f text. SomeContents f after_repo chunks text) later before after
+    → ShowsAll (λ f text. IsFileText f repo name path text) told before after
+file_all told later repo after_repo name path walk now chunks before after same same_repo found all =
+    map_all told later (λ f. FoundAt f repo name path walk now chunks) (λ f text. SomeContents f after_repo chunks text)
+    (λ f text. IsFileText f repo name path text) before after same
+    (λ f text h s. file_text f repo name path walk now chunks text h.0 h.1 h.2 (subst (λ (r : RepoState). SomeContents f r chunks text) same_repo s))
+    found all
 
 pub file_refused_at : (told later : Option Told) (repo after_repo : RepoState) (name path : List ℕ) (walk now : WalkState) (chunks : List ChunkRef)
     (fault : ViewFault) → heard later ≡ heard told → after_repo ≡ repo → IfSome told (λ t. FoundAt (told_files t) repo name path walk now chunks)

@@ -1,5 +1,6 @@
 -- Lemmas on specs/Steps.antt: what a loop over a walk has done so far, one item more, and its end.
-use Rattle.std.proofs.Common.{◌≡◌, ℕ, true, false, List, [], ◌∷◌, ◌++◌, Option, Some, None, IfSome, option_map, refl, sym, subst}
+use Rattle.std.proofs.Common.{◌≡◌, ◌⊎◌, inl, inr, ℕ, true, false, List, [], ◌∷◌, ◌++◌, Option, Some, None, Result, Ok, Err, IfErr, IfSome, option_map}
+use Rattle.std.proofs.Common.{refl, sym, subst}
 use Rattle.std.proofs.lemmas.List.{append-nil}
 use Rattle.ferry_disk.specs.Device.{Told, told_files, heard, WritesSome}
 use Rattle.ferry_disk.specs.Files.{Files}
@@ -14,7 +15,9 @@ use Rattle.ferry_repo.specs.declared.fault.RepoFault.{RepoFault}
 use Rattle.ferry_repo.specs.declared.fault.RepoFault.TheVariants as Fault
 use Rattle.ferry_view.specs.Items.{is_file}
 use Rattle.ferry_view.specs.Lines.{item_line, item_lines}
-use Rattle.ferry_view.specs.Output.{Sends, ShowsAll, ShowsSome, repo_fault}
+use Rattle.ferry_view.specs.Output.{IsOfArchive, IsOutputFault, Sends, ShowsAll, ShowsSome, repo_fault}
+use Rattle.ferry_view.specs.declared.fault.ViewFault.{ViewFault}
+use Rattle.ferry_view.specs.declared.fault.ViewFault.TheVariants.{Repo, NotFound, Output, Memory}
 use Rattle.ferry_view.specs.Steps.{AllLines, SomeLines, ReachesEnd, EndsWalk, EndsBefore, FindsFile, FindsNone, Answers, GoesOn, ListsSoFar, SeeksFile}
 use Rattle.ferry_view.proofs.LinesLemmas.{item_lines-none, item_lines-more}
 use Rattle.ferry_view.proofs.OutputLemmas.{shows_more, sends_none, sends_more, sends_then, sent_all, sent_some, writes_none}
@@ -110,6 +113,19 @@ ends_at told later repo after_repo from now done fault same same_repo answers re
     )))
     answers refused
 
+-- where the answer is that or one of the output, it says why
+pub ends_answer : (told : Option Told) (repo : RepoState) (from : WalkState) (fault : RepoFault) (r : Result (Unit {0}) ViewFault)
+    → IfErr r (λ answer. (answer ≡ repo_fault fault) ⊎ IsOutputFault answer) → IfSome told (λ t. EndsWalk (told_files t) repo from (repo_fault fault))
+    → IfErr r (λ answer. IfSome told (λ t. EndsWalk (told_files t) repo from answer))
+ends_answer told repo from fault (Ok v) is ends = tt
+ends_answer told repo from fault (Err answer) (inl is) ends =
+    subst (λ (f : ViewFault). IfSome told (λ t. EndsWalk (told_files t) repo from f)) (sym is) ends
+ends_answer None repo from fault (Err answer) (inr is) ends = tt
+ends_answer (Some t) repo from fault (Err (Repo f)) (inr is) ends = absurd is
+ends_answer (Some t) repo from fault (Err NotFound) (inr is) ends = absurd is
+ends_answer (Some t) repo from fault (Err Output) (inr is) ends = tt
+ends_answer (Some t) repo from fault (Err Memory) (inr is) ends = tt
+
 -- the stream ends whole
 pub reaches_at : (told later : Option Told) (repo after_repo : RepoState) (from now : WalkState) (done : List ItemText)
     → heard later ≡ heard told → after_repo ≡ repo → IfSome told (λ t. Answers (told_files t) repo from done now)
@@ -166,6 +182,63 @@ lists_all told later repo after_repo from now old out after gathered same same_r
       (reaches_at told later repo after_repo from now lists.done same same_repo lists.answers none);
   written = sent_all old out after gathered (item_lines lists.done) lists.sends went;
 }
+
+-- the fault of an archive is one of the files
+pub of_files : (fault : RepoFault) → IsOfArchive (repo_fault fault) → IsOfFiles fault
+of_files Fault.NoCommit h = h
+of_files (Fault.Damaged segment at) h = h
+of_files (Fault.Config f) h = h
+of_files (Fault.Key f) h = h
+of_files (Fault.Missing id) h = h
+of_files (Fault.Blob id f) h = h
+of_files (Fault.Manifest f) h = h
+of_files (Fault.Archive id f) h = h
+of_files (Fault.Item id f) h = h
+of_files (Fault.Size id) h = h
+of_files (Fault.KeyFile fault) h = h
+of_files (Fault.Other file config) h = h
+of_files Fault.NoKey h = h
+of_files Fault.Device h = h
+of_files Fault.Memory h = absurd h
+
+of_archive : (fault : RepoFault) (answer : ViewFault) → (answer ≡ repo_fault fault) ⊎ IsOutputFault answer → IsOfArchive answer → IsOfFiles fault
+of_archive fault answer (inl is) of = of_files fault (subst IsOfArchive is of)
+of_archive fault (Repo f) (inr is) of = absurd is
+of_archive fault NotFound (inr is) of = absurd is
+of_archive fault Output (inr is) of = absurd of
+of_archive fault Memory (inr is) of = absurd of
+
+-- all is out, and the stream ends with a fault of the files
+lists_end : (told later : Option Told) (repo after_repo : RepoState) (from now : WalkState) (old out after : Option (List ℕ)) (gathered : List ℕ)
+    (fault : RepoFault) → heard later ≡ heard told → after_repo ≡ repo → ListsSoFar told repo from now old out gathered
+    → IfSome later (λ t. IsToCome (told_files t) after_repo.log after_repo.keys now [] (Some fault))
+    → after ≡ option_map (λ w. w ++ gathered) out → ShowsAll (λ f text. SomeLines f repo from text) told old after
+lists_end told later repo after_repo from now old out after gathered fault same same_repo lists ends went = record {
+  text = item_lines lists.done;
+  is = told_with told later (λ f. Answers f repo from lists.done now) (λ f. IsToCome f after_repo.log after_repo.keys now [] (Some fault))
+      (λ f. SomeLines f repo from (item_lines lists.done)) same
+      (λ f a come. (
+        Some fault,
+        record {
+          items = lists.done;
+          come = none_at f repo from now lists.done (Some fault) a
+              (subst (λ (r : RepoState). IsToCome f r.log r.keys now [] (Some fault)) same_repo come);
+          lines = refl;
+        },
+      ))
+      lists.answers ends;
+  written = sent_all old out after gathered (item_lines lists.done) lists.sends went;
+}
+
+pub lists_ended : (told later : Option Told) (repo after_repo : RepoState) (from now : WalkState) (old out after : Option (List ℕ)) (gathered : List ℕ)
+    (fault : RepoFault) (r : Result (Unit {0}) ViewFault) → heard later ≡ heard told → after_repo ≡ repo → ListsSoFar told repo from now old out gathered
+    → (IsOfFiles fault → IfSome later (λ t. IsToCome (told_files t) after_repo.log after_repo.keys now [] (Some fault)))
+    → IfErr r (λ answer. (answer ≡ repo_fault fault) ⊎ IsOutputFault answer)
+    → IfErr r (λ answer. IsOfArchive answer → after ≡ option_map (λ w. w ++ gathered) out)
+    → IfErr r (λ answer. IsOfArchive answer → ShowsAll (λ f text. SomeLines f repo from text) told old after)
+lists_ended told later repo after_repo from now old out after gathered fault (Ok v) same same_repo lists ends is went = tt
+lists_ended told later repo after_repo from now old out after gathered fault (Err answer) same same_repo lists ends is went = λ of.
+    lists_end told later repo after_repo from now old out after gathered fault same same_repo lists (ends (of_archive fault answer is of)) (went of)
 
 pub sent_front : (old out after : Option (List ℕ)) (gathered text : List ℕ) → Sends old out gathered text → WritesSome out gathered after
     → WritesSome old text after

@@ -7,7 +7,7 @@ ghost use Rattle.ferry_repo.specs.Opening.{repo_view, cached_in, FitsRepo};
 ghost use Rattle.ferry_repo.specs.Walk.{walk_view, FitsWalk};
 ghost use Rattle.ferry_view.specs.Lines.{path_of};
 ghost use Rattle.ferry_view.specs.Items.{IsFile, IsFileText, RefusesFile};
-ghost use Rattle.ferry_view.specs.Output.{view_failed, shelf_failed, ShowsAll, ShowsSome};
+ghost use Rattle.ferry_view.specs.Output.{view_failed, shelf_failed, IsOfArchive, ShowsAll, ShowsSome};
 ghost use Rattle.ferry_view.specs.Steps.{FindsFile, FindsNone, EndsBefore, AllContents, SomeContents, EndsContents, ReachesEnd, EndsWalk, WritesFile, EndsFile};
 
 use crate::beginning::begin;
@@ -20,8 +20,8 @@ use ferry_repo::{Repo, Walk};
 /// Writes the content of a file: of the first item of the archive of a name that has content and the path.
 ///
 /// The content goes out chunk by chunk as it is reached, and no other content is read. The item stream is read to its end before the answer
-/// is `Ok`; after a refusal a front of the content may have gone out. `NotFound` comes where no archive has the name, or no such item is
-/// in it.
+/// is `Ok`; where it or the content doesn't read so far, the contents of the chunks in front have gone out, unless a device failed or memory
+/// was refused. `NotFound` comes where no archive has the name, or no such item is in it.
 ///
 /// Source: BorgBackup 1.2, Internals, "Data structures and file formats", Archives.
 pub fn extract<S: Shelf, K: Sink>(
@@ -35,6 +35,8 @@ pub fn extract<S: Shelf, K: Sink>(
     ensures ok { OnOk result (ShowsAll (λ f text. IsFile f (repo_view repo.old) name.now path.now text)
         (S.told shelf.old) (K.written out.old) (K.written out.new)) }
     ensures err { OnErr result (ShowsSome (λ f text. IsFileText f (repo_view repo.old) name.now path.now text)
+        (S.told shelf.old) (K.written out.old) (K.written out.new)) }
+    ensures all { IfErr result (λ fault. IsOfArchive fault → ShowsAll (λ f text. IsFileText f (repo_view repo.old) name.now path.now text)
         (S.told shelf.old) (K.written out.old) (K.written out.new)) }
     ensures refused { IfErr result (λ fault. IfSome (S.told shelf.old) (λ t.
         RefusesFile (told_files t) (repo_view repo.old) name.now path.now fault)) }
@@ -69,6 +71,8 @@ fn write_file<S: Shelf, K: Sink>(
     ensures ok { OnOk result (ShowsAll (λ f text. WritesFile f (repo_view repo.old) (walk_view walk.old) chunks.now text)
         (S.told shelf.old) (K.written out.old) (K.written out.new)) }
     ensures err { OnErr result (ShowsSome (λ f text. SomeContents f (repo_view repo.old) chunks.now text)
+        (S.told shelf.old) (K.written out.old) (K.written out.new)) }
+    ensures all { IfErr result (λ fault. IsOfArchive fault → ShowsAll (λ f text. SomeContents f (repo_view repo.old) chunks.now text)
         (S.told shelf.old) (K.written out.old) (K.written out.new)) }
     ensures refused { IfErr result (λ fault. IfSome (S.told shelf.old) (λ t.
         EndsFile (told_files t) (repo_view repo.old) (walk_view walk.old) chunks.now fault)) }
@@ -139,6 +143,8 @@ fn write_contents<S: Shelf, K: Sink>(
     ensures ok { OnOk result (ShowsAll (λ f text. AllContents f (repo_view repo.old) chunks.now text)
         (S.told shelf.old) (K.written out.old) (K.written out.new)) }
     ensures err { OnErr result (ShowsSome (λ f text. SomeContents f (repo_view repo.old) chunks.now text)
+        (S.told shelf.old) (K.written out.old) (K.written out.new)) }
+    ensures all { IfErr result (λ fault. IsOfArchive fault → ShowsAll (λ f text. SomeContents f (repo_view repo.old) chunks.now text)
         (S.told shelf.old) (K.written out.old) (K.written out.new)) }
     ensures refused { IfErr result (λ fault. IfSome (S.told shelf.old) (λ t.
         EndsContents (told_files t) (repo_view repo.old) chunks.now fault)) }

@@ -1,12 +1,13 @@
 //! The listing of an archive's items.
-ghost use Rattle.std.specs.Prelude.{◌≡◌, ◌<◌, ◌++◌, IfErr, IfSome, OnOk, OnErr, length};
+ghost use Rattle.std.specs.Prelude.{◌≡◌, ◌⊎◌, ◌<◌, ◌++◌, true, IfErr, IfSome, OnOk, OnErr, length, option_map};
 ghost use Rattle.ferry_disk.specs.Device.{KeepsTold, HasCause, WritesSome, told_files};
 ghost use Rattle.ferry_item.specs.Item.{item_view};
+ghost use Rattle.ferry_repo.specs.Fault.{repo_failed};
 ghost use Rattle.ferry_repo.specs.Opening.{repo_view, cached_in, FitsRepo};
 ghost use Rattle.ferry_repo.specs.Walk.{walk_view, FitsWalk};
 ghost use Rattle.ferry_view.specs.Items.{IsItemListing, IsItemText, RefusesItems};
 ghost use Rattle.ferry_view.specs.Lines.{item_line};
-ghost use Rattle.ferry_view.specs.Output.{view_failed, shelf_failed, IsOutputFault, Sends, ShowsAll, ShowsSome};
+ghost use Rattle.ferry_view.specs.Output.{view_failed, shelf_failed, IsOfArchive, IsOutputFault, Sends, ShowsAll, ShowsSome, repo_fault};
 ghost use Rattle.ferry_view.specs.Steps.{AllLines, SomeLines, EndsWalk};
 
 use crate::beginning::begin;
@@ -15,14 +16,14 @@ use crate::line::push_item;
 use crate::output::{send, send_full};
 use ferry_disk::{Shelf, Sink};
 use ferry_item::Item;
-use ferry_repo::{Repo, Walk};
+use ferry_repo::{Repo, RepoFault, Walk};
 use std::alloc::Global;
 
 /// Writes a line for each item of the archive of a name: `f` where it has content, `l` where it has none and has the field `source`, else
 /// `-`; the sum of the stated sizes of its chunks; and its path.
 ///
 /// Paths are escaped, so an item has one line whatever its path is. No content is read. The item stream is read to its end; where it doesn't
-/// read so far, lines of items in front may have gone out. `NotFound` comes where no archive has the name.
+/// read so far, the lines of the items in front have gone out, unless the device failed or memory was refused. `NotFound` comes where no archive has the name.
 ///
 /// Source: BorgBackup 1.2, Internals, "Data structures and file formats", Archives.
 pub fn list_items<S: Shelf, K: Sink>(
@@ -36,6 +37,8 @@ pub fn list_items<S: Shelf, K: Sink>(
     ensures ok { OnOk result (ShowsAll (λ f text. IsItemListing f (repo_view repo.old) name.now text)
         (S.told shelf.old) (K.written out.old) (K.written out.new)) }
     ensures err { OnErr result (ShowsSome (λ f text. IsItemText f (repo_view repo.old) name.now text)
+        (S.told shelf.old) (K.written out.old) (K.written out.new)) }
+    ensures all { IfErr result (λ fault. IsOfArchive fault → ShowsAll (λ f text. IsItemText f (repo_view repo.old) name.now text)
         (S.told shelf.old) (K.written out.old) (K.written out.new)) }
     ensures refused { IfErr result (λ fault. IfSome (S.told shelf.old) (λ t.
         RefusesItems (told_files t) (repo_view repo.old) name.now fault)) }
@@ -67,6 +70,8 @@ fn write_items<S: Shelf, K: Sink>(
         (S.told shelf.old) (K.written out.old) (K.written out.new)) }
     ensures err { OnErr result (ShowsSome (λ f text. SomeLines f (repo_view repo.old) (walk_view walk.old) text)
         (S.told shelf.old) (K.written out.old) (K.written out.new)) }
+    ensures all { IfErr result (λ fault. IsOfArchive fault → ShowsAll (λ f text. SomeLines f (repo_view repo.old) (walk_view walk.old) text)
+        (S.told shelf.old) (K.written out.old) (K.written out.new)) }
     ensures refused { IfErr result (λ fault. IfSome (S.told shelf.old) (λ t.
         EndsWalk (told_files t) (repo_view repo.old) (walk_view walk.old) fault)) }
     ensures fits { IfSome (S.told shelf.new) (λ t. FitsRepo (told_files t) (repo_view repo.new) (cached_in repo.new)) }
@@ -77,12 +82,31 @@ fn write_items<S: Shelf, K: Sink>(
 {
     let mut text = Vec::new(alloc);
     for _ in 0..u64::MAX {
-        match walk.step(repo, shelf)? {
-            Some(item) => add_item(&item, &mut text, out)?,
-            None => return send(&text, out),
+        match walk.step(repo, shelf) {
+            Ok(Some(item)) => add_item(&item, &mut text, out)?,
+            Ok(None) => return send(&text, out),
+            Err(fault) => return end_lines(&text, fault, out),
         }
     }
     Err(ViewFault::Memory)
+}
+
+/// Answers why an archive doesn't read on, and writes what is gathered in front of that, but where the repository's device failed or memory was refused.
+/// Where the output doesn't take it, that is the answer.
+#[tactic(auto, using(crate::proofs::OutputLemmas::conversions))]
+fn end_lines<K: Sink>(text: &[u8], fault: RepoFault, out: &mut K) -> Result<(), ViewFault>
+    ensures refused { OnOk result ⊥ }
+    ensures fault { IfErr result (λ answer. (answer ≡ repo_fault fault) ⊎ IsOutputFault answer) }
+    ensures device { repo_failed fault ≡ true → IfErr result (λ answer. answer ≡ repo_fault fault) }
+    ensures all { IfErr result (λ answer. IsOfArchive answer → K.written out.new ≡ option_map (λ w. w ++ text.now) (K.written out.old)) }
+    ensures err { WritesSome (K.written out.old) text.now (K.written out.new) }
+    ensures cause { HasCause view_failed (K.faults out.old) (K.faults out.new) result }
+{
+    match fault {
+        RepoFault::Device | RepoFault::Memory => {}
+        _ => send(text, out)?,
+    }
+    Err(ViewFault::from(fault))
 }
 
 /// Gathers the line of an item, and writes what is gathered where it is much.

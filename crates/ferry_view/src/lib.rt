@@ -2,7 +2,8 @@
 //!
 //! The layers above may rely on this: `list` writes exactly the lines of the manifest's archives in byte order of their names, `list_items`
 //! those of an archive's items in the order of its stream, and `extract` the content of a file; each of the last two is done exactly
-//! where the archive reads to its end, and what was written before a refusal is a front of what reads.
+//! where the archive reads to its end, and what was written before a refusal is all that reads before it, or a front of that where a device
+//! failed or memory was refused.
 #![tactic(auto)]
 
 mod archives;

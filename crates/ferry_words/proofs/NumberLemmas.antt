@@ -7,7 +7,8 @@ use Rattle.std.specs.Option.{SomeIff, option_and_then}
 use Rattle.std.specs.Result.{OkIff, result_ok}
 use Rattle.std.specs.Str.{all_ascii_digits}
 use Rattle.std.specs.Str.Parse.{ParsesUnsigned, digits_value}
-use Rattle.ferry_words.specs.Words.{block, block_of, checkpoint, checkpoint_of, is_decimal, iterations, iterations_of, number_of, number_or, value_of}
+use Rattle.ferry_words.specs.Words.{block, block_of, checkpoint, checkpoint_of, is_decimal, iterations}
+use Rattle.ferry_words.specs.Words.{iterations_of, number_of, number_or, threshold, threshold_of, value_of}
 
 left : (a b : Bool) → (a && b) ≡ true → a ≡ true
 left true b h = refl
@@ -67,3 +68,6 @@ block_in_range given = number_within 64 8388608 2097152 (value_of given block.na
 
 pub checkpoint_in_range : (given : List (List ℕ)) → (1 ≤ checkpoint_of given) × (checkpoint_of given ≤ 1000000)
 checkpoint_in_range given = number_within 1 1000000 1024 (value_of given checkpoint.name) (omega arith, omega arith)
+
+pub threshold_in_range : (given : List (List ℕ)) → threshold_of given ≤ 100
+threshold_in_range given = (number_within 0 100 10 (value_of given threshold.name) (omega arith, omega arith)).1

@@ -3,10 +3,10 @@ use Rattle.std.proofs.Common.{◌≡◌, ℕ, zero, suc, ◌+◌, ◌<◌, ◌�
 use Rattle.std.proofs.Common.{Option, Some, None, Result, Ok, Err, refl, ap, ◌∙◌, subst, sym, arith}
 use Rattle.std.proofs.lemmas.Bool.{cases_lt, ltb-true, ltb-false, lt-ltb, le-ltb}
 use Rattle.ferry_words.specs.Words.{Form, Parts, any, block_of, checkpoint_of, first_unfit, made, made_by, made_of, meaning_of, parts_of, timestamp_of}
-use Rattle.ferry_words.specs.Words.{transfer_form, up_to}
+use Rattle.ferry_words.specs.Words.{plan_form, transfer_form, up_to}
 use Rattle.ferry_words.specs.Laws.{AreOperands}
 use Rattle.ferry_words.specs.declared.command.Command.{Command}
-use Rattle.ferry_words.specs.declared.command.Command.TheVariants.{Transfer}
+use Rattle.ferry_words.specs.declared.command.Command.TheVariants.{Plan, Transfer}
 
 -- ---- AreOperands
 
@@ -221,3 +221,8 @@ pub transfer_meant : (behind : List (List ℕ)) (parts : Parts) (size count : �
     → text ≡ timestamp_of parts.given → names ≡ parts.operands → meaning_of transfer_form behind ≡ Ok (Transfer size count text names)
 transfer_meant behind parts size count text names read is_size is_count is_text is_names =
     any_meant transfer_form behind parts refl refl read ∙ sym (rw (is_size, is_count, is_text, is_names) refl)
+
+-- what `plan` makes of its option and names
+pub plan_meant : (behind : List (List ℕ)) (parts : Parts) (size : ℕ) (names : List (List ℕ)) → parts_of plan_form.options [] behind ≡ Ok parts
+    → size ≡ block_of parts.given → names ≡ parts.operands → meaning_of plan_form behind ≡ Ok (Plan size names)
+plan_meant behind parts size names read is_size is_names = any_meant plan_form behind parts refl refl read ∙ sym (rw (is_size, is_names) refl)

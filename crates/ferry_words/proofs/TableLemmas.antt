@@ -5,9 +5,9 @@ use Rattle.std.proofs.lemmas.Slice.Eq.{bytes_eq-Decides}
 use Rattle.std.specs.List.{AllByRecursion}
 use Rattle.std.specs.Str.{IsUtf8, bytes_eq}
 use Rattle.ferry_words.specs.Words.{Form, IsInRange, OptionForm, Row, is_known, is_option, is_taken, iterations, listed, number_of, options_end, rows, row_of}
-use Rattle.ferry_words.specs.Words.{block, checkpoint, timestamp, transferred}
+use Rattle.ferry_words.specs.Words.{block, checkpoint, threshold, timestamp, transferred}
 use Rattle.ferry_words.specs.Laws.{AreOperands, IsPlainAhead}
-use Rattle.ferry_words.proofs.NumberLemmas.{block_in_range, checkpoint_in_range, iterations_in_range}
+use Rattle.ferry_words.proofs.NumberLemmas.{block_in_range, checkpoint_in_range, iterations_in_range, threshold_in_range}
 
 -- ---- options
 
@@ -38,6 +38,10 @@ usable_block = record { value = codes "64"; utf8 = utf8_block; taken = refl; for
 usable_checkpoint : IsUsable checkpoint
 unfolding number_of
 usable_checkpoint = record { value = codes "1"; utf8 = utf8_one; taken = refl; formed = refl; other = refl }
+
+usable_threshold : IsUsable threshold
+unfolding number_of
+usable_threshold = record { value = codes "1"; utf8 = utf8_one; taken = refl; formed = refl; other = refl }
 
 usable_timestamp : IsUsable timestamp
 usable_timestamp = record { value = codes "1"; utf8 = utf8_one; taken = refl; formed = refl; other = refl }
@@ -147,7 +151,21 @@ found_at (suc (suc (suc (suc (suc (suc (suc zero))))))) row within e =
       filled = none _ refl;
       in_range = transferred_in_range;
     }
-found_at (suc (suc (suc (suc (suc (suc (suc (suc k)))))))) row within e = absurd (omega arith)
+found_at (suc (suc (suc (suc (suc (suc (suc (suc zero)))))))) row within e =
+    subst IsFound e record {
+      found = refl;
+      usable = (usable_block, tt);
+      filled = none _ refl;
+      in_range = λ given operands. block_in_range given;
+    }
+found_at (suc (suc (suc (suc (suc (suc (suc (suc (suc zero))))))))) row within e =
+    subst IsFound e record {
+      found = refl;
+      usable = (usable_threshold, tt);
+      filled = none _ refl;
+      in_range = λ given operands. threshold_in_range given;
+    }
+found_at (suc (suc (suc (suc (suc (suc (suc (suc (suc (suc k)))))))))) row within e = absurd (omega arith)
 
 pub listed_found : (row : Row) → Contains rows row → IsFound row
 listed_found row h = found_at h.0 row h.1 h.2

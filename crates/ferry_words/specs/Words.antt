@@ -11,7 +11,8 @@ use Rattle.std.specs.Str.Parse.{digits_value}
 use Rattle.std.specs.List.{list_any, starts_with}
 use Rattle.std.specs.Option.{option_and_then}
 use Rattle.ferry_words.specs.declared.command.Command.{Command}
-use Rattle.ferry_words.specs.declared.command.Command.TheVariants.{Keys, Key, List as ListArchives, ListItems, Extract, Check, Init, MakeKey, Transfer}
+use Rattle.ferry_words.specs.declared.command.Command.TheVariants.{Keys, Key, List as ListArchives, ListItems, Extract, Check}
+use Rattle.ferry_words.specs.declared.command.Command.TheVariants.{Init, MakeKey, Transfer, Plan, Compact}
 
 -- ---- values
 
@@ -59,6 +60,10 @@ block = option (codes "--block") (is_number 64 8388608)
 abbrev pub checkpoint : OptionForm
 checkpoint = option (codes "--checkpoint") (is_number 1 1000000)
 
+-- `--threshold P`: how many hundredths of a segment are unused where it is compacted
+abbrev pub threshold : OptionForm
+threshold = option (codes "--threshold") (is_number 0 100)
+
 -- whether one of the options has this name
 abbrev pub is_known : List OptionForm → List ℕ → Bool
 is_known options name = list_any (λ (option : OptionForm). bytes_eq name option.name) options
@@ -93,6 +98,10 @@ block_of given = number_given given block.name 64 8388608 2097152
 -- the chunks between two checkpoints that are given, or 1024
 abbrev pub checkpoint_of : List (List ℕ) → ℕ
 checkpoint_of given = number_given given checkpoint.name 1 1000000 1024
+
+-- the hundredths that are given, or 10
+abbrev pub threshold_of : List (List ℕ) → ℕ
+threshold_of given = number_given given threshold.name 0 100 10
 
 -- the timestamp that is given
 abbrev pub timestamp_of : List (List ℕ) → Option (List ℕ)
@@ -162,11 +171,25 @@ transferred given names = Transfer (block_of given) (checkpoint_of given) (times
 abbrev pub transfer_form : Form
 transfer_form = form (block ∷ checkpoint ∷ timestamp ∷ []) 0 any transferred
 
+-- what `plan` makes: the operands are the names of archives, in the order given
+abbrev pub planned : List (List ℕ) → List (List ℕ) → Command
+planned given names = Plan (block_of given) names
+
+-- the form of `plan [--block B] [NAME ..]`
+abbrev pub plan_form : Form
+plan_form = form (block ∷ []) 0 any planned
+
+-- the form of `compact [--threshold P]`
+abbrev pub compact_form : Form
+compact_form = form (threshold ∷ []) 0 (up_to 0) (λ given operands. Compact (threshold_of given))
+
 -- the numbers of a command are in the ranges of its options
 abbrev pub IsInRange : Command → Type 0
 IsInRange (Init number text) = (1 ≤ number) × (number ≤ 10000000)
 IsInRange (MakeKey number) = (1 ≤ number) × (number ≤ 10000000)
 IsInRange (Transfer size count text names) = (64 ≤ size) × (size ≤ 8388608) × (1 ≤ count) × (count ≤ 1000000)
+IsInRange (Plan size names) = (64 ≤ size) × (size ≤ 8388608)
+IsInRange (Compact hundredths) = hundredths ≤ 100
 IsInRange command = ⊤
 
 -- the row of a command
@@ -184,6 +207,8 @@ rows =
     ∷ row (codes "init") init_form
     ∷ row (codes "make-key") make_key_form
     ∷ row (codes "transfer") transfer_form
+    ∷ row (codes "plan") plan_form
+    ∷ row (codes "compact") compact_form
     ∷ []
 
 -- the row of this word

@@ -49,4 +49,16 @@ pub enum Command {
         /// The archives' names, in the order given; none where no name is given.
         names: Names,
     },
+    /// `plan [--block B] [NAME ..]`: counts what a transfer would put.
+    Plan {
+        /// The size in bytes of the pieces that contents are cut into, 64 to 8388608.
+        block: usize,
+        /// The archives' names, in the order given; none where no name is given.
+        names: Names,
+    },
+    /// `compact [--threshold P]`: writes again what segments of the target hold that is in use, and removes the segments.
+    Compact {
+        /// How many hundredths of a segment's bytes are unused where it is compacted, 0 to 100.
+        threshold: u8,
+    },
 }

@@ -32,6 +32,12 @@ const CHECKPOINT_LIMIT: u32 = 1_000_000;
 /// How many chunks are put before what is done is committed, where no number is given.
 const CHECKPOINT: u32 = 1024;
 
+/// The hundredths of a whole.
+const WHOLE: u32 = 100;
+
+/// How many hundredths of a segment are unused where it is compacted, where no number is given.
+const THRESHOLD: u32 = 10;
+
 /// Which options a command has.
 #[derive(Clone, Copy)]
 pub(crate) enum Options {
@@ -43,6 +49,10 @@ pub(crate) enum Options {
     MakeKey,
     /// `--block B`, `--checkpoint N` and `--timestamp T`.
     Transfer,
+    /// `--block B`.
+    Plan,
+    /// `--threshold P`.
+    Compact,
 }
 
 impl Options {
@@ -53,7 +63,9 @@ impl Options {
         match (self, name) {
             (Options::Init | Options::MakeKey, "--iterations") => true,
             (Options::Init | Options::Transfer, "--timestamp") => true,
-            (Options::Transfer, "--block" | "--checkpoint") => true,
+            (Options::Transfer | Options::Plan, "--block") => true,
+            (Options::Transfer, "--checkpoint") => true,
+            (Options::Compact, "--threshold") => true,
             _ => false,
         }
     }
@@ -74,10 +86,11 @@ impl Options {
                 number_of(value, 1, ITERATIONS_LIMIT).is_some()
             }
             (Options::Init | Options::Transfer, "--timestamp") => !value.is_empty(),
-            (Options::Transfer, "--block") => {
+            (Options::Transfer | Options::Plan, "--block") => {
                 number_of(value, LEAST_BLOCK, GREATEST_BLOCK).is_some()
             }
             (Options::Transfer, "--checkpoint") => number_of(value, 1, CHECKPOINT_LIMIT).is_some(),
+            (Options::Compact, "--threshold") => number_of(value, 0, WHOLE).is_some(),
             _ => false,
         }
     }
@@ -184,6 +197,13 @@ pub(crate) fn checkpoint_of(given: &[String]) -> u64
     ensures checkpoint { result ≡ spec.checkpoint_of (map string_bytes given.now) }
 {
     u64::from(number_given(given, "--checkpoint", 1, CHECKPOINT_LIMIT, CHECKPOINT))
+}
+
+/// The hundredths that are given, or 10.
+pub(crate) fn threshold_of(given: &[String]) -> u8
+    ensures threshold { result ≡ spec.threshold_of (map string_bytes given.now) }
+{
+    number_given(given, "--threshold", 0, WHOLE, THRESHOLD) as u8
 }
 
 /// The timestamp that is given.

@@ -7,7 +7,8 @@ ghost use Rattle.ferry_words.specs.Words.{IsInRange, command_of};
 
 use crate::command::Command;
 use crate::options::{
-    Options, block_of, bytes_of, checkpoint_of, iterations_of, names_of, parts_of, timestamp_of,
+    Options, block_of, bytes_of, checkpoint_of, iterations_of, names_of, parts_of, threshold_of,
+    timestamp_of,
 };
 use crate::usage::Usage;
 use std::alloc::Global;
@@ -45,6 +46,8 @@ fn read_row(alloc: Global, words: &[String]) -> Result<Command, Usage>
         "init" => init(alloc, behind),
         "make-key" => make_key(behind),
         "transfer" => transfer(alloc, behind),
+        "plan" => plan(alloc, behind),
+        "compact" => compact(behind),
         _ => Err(Usage::Word(1)),
     }
 }
@@ -138,4 +141,31 @@ fn transfer(alloc: Global, behind: &[String]) -> Result<Command, Usage>
         timestamp,
         names,
     })
+}
+
+/// `plan` with its option and the archives' names.
+#[tactic(auto, unfolding(crate::specs::Words::made, crate::specs::Words::first_unfit))]
+fn plan(alloc: Global, behind: &[String]) -> Result<Command, Usage>
+    ensures answer { IsAnswer result (spec.meaning_of spec.plan_form (map string_bytes behind.now)) }
+{
+    let parts = parts_of(Options::Plan, behind)?;
+    let names = names_of(alloc, parts.operands)?;
+    Ok(Command::Plan {
+        block: block_of(parts.given),
+        names,
+    })
+}
+
+/// `compact` with its option.
+#[tactic(auto, unfolding(crate::specs::Words::made, crate::specs::Words::first_unfit))]
+fn compact(behind: &[String]) -> Result<Command, Usage>
+    ensures answer { IsAnswer result (spec.meaning_of spec.compact_form (map string_bytes behind.now)) }
+{
+    let parts = parts_of(Options::Compact, behind)?;
+    match parts.operands {
+        [] => Ok(Command::Compact {
+            threshold: threshold_of(parts.given),
+        }),
+        [_, ..] => Err(Usage::Word(parts.first)),
+    }
 }

@@ -5,7 +5,7 @@ use Rattle.ferry_manifest.specs.declared.manifest.ArchiveRef.{ArchiveRef}
 use Rattle.ferry_repo.specs.Archives.{archive_named}
 use Rattle.ferry_repo.specs.Opening.{OpensFilesTo, repo_view, cached_in}
 use Rattle.ferry_view.specs.Items.{IsFile, IsFileText, RefusesFile}
-use Rattle.ferry_view.specs.Output.{ShowsAll, ShowsSome}
+use Rattle.ferry_view.specs.Output.{IsOfArchive, ShowsAll, ShowsSome}
 use Rattle.ferry_view.specs.declared.fault.ViewFault.{ViewFault}
 use Rattle.ferry_view.specs.declared.fault.ViewFault.TheVariants as View
 use Rattle.ferry_status.specs.Devices.{written}
@@ -55,6 +55,10 @@ returns-in-Err-extract-clause-out g c =
     let some = subst (λ (p : List ℕ). ShowsSome (λ f text. IsFileText f repo name p text) later before.bytes after.bytes) c.as_slice-3.ensures
     (subst (λ (n : List ℕ). ShowsSome (λ f text. IsFileText f repo n c.as_slice-3.result.now text) later before.bytes after.bytes) c.as_slice-2.ensures
     c.in-Err-extract.ensures.err) in
+    let all =
+    subst (λ (p : List ℕ). IsOfArchive fault → ShowsAll (λ f text. IsFileText f repo name p text) later before.bytes after.bytes) c.as_slice-3.ensures
+    (subst (λ (n : List ℕ). IsOfArchive fault → ShowsAll (λ f text. IsFileText f repo n c.as_slice-3.result.now text) later before.bytes after.bytes)
+    c.as_slice-2.ensures c.in-Err-extract.ensures.all) in
     let refused : IfSome later (λ t. RefusesFile (told_files t) repo name path fault) =
     subst (λ (p : List ℕ). IfSome later (λ t. RefusesFile (told_files t) repo name p fault)) c.as_slice-3.ensures
     (subst (λ (n : List ℕ). IfSome later (λ t. RefusesFile (told_files t) repo n c.as_slice-3.result.now fault)) c.as_slice-2.ensures
@@ -66,7 +70,7 @@ returns-in-Err-extract-clause-out g c =
     subst (λ (s : Status). PrintsAsRead (ShowsFile pass name path) (ShowsFileFront pass name path) (RefusesShowing pass (λ f r. RefusesFile f r name path))
     (LacksPath pass name path) source before s after) (sym c.of_view.ensures)
     (not_shown (ShowsFile pass name path) (λ f r text. IsFileText f r name path text) (λ f r. RefusesFile f r name path) (LacksPath pass name path) source
-    later pass repo before after fault path (record { same = c.in-Ok.ensures.same; opens = c.in-Ok.ensures.repository }) some refused
+    later pass repo before after fault path (record { same = c.in-Ok.ensures.same; opens = c.in-Ok.ensures.repository }) some all refused
     c.in-Err-extract.ensures.cause
     (λ e. told_with source later (λ f. OpensFilesTo f pass repo) (λ f. RefusesFile f repo name path View.NotFound) (λ f. LacksPath pass name path f path)
     c.in-Ok.ensures.same
@@ -91,6 +95,10 @@ returns-in-Err-2-clause-out g c =
     let some = subst (λ (p : List ℕ). ShowsSome (λ f text. IsFileText f repo name p text) later before.bytes after.bytes) c.as_slice-3.ensures
     (subst (λ (n : List ℕ). ShowsSome (λ f text. IsFileText f repo n c.as_slice-3.result.now text) later before.bytes after.bytes) c.as_slice-2.ensures
     c.in-Err-extract.ensures.err) in
+    let all =
+    subst (λ (p : List ℕ). IsOfArchive fault → ShowsAll (λ f text. IsFileText f repo name p text) later before.bytes after.bytes) c.as_slice-3.ensures
+    (subst (λ (n : List ℕ). IsOfArchive fault → ShowsAll (λ f text. IsFileText f repo n c.as_slice-3.result.now text) later before.bytes after.bytes)
+    c.as_slice-2.ensures c.in-Err-extract.ensures.all) in
     let refused : IfSome later (λ t. RefusesFile (told_files t) repo name path fault) =
     subst (λ (p : List ℕ). IfSome later (λ t. RefusesFile (told_files t) repo name p fault)) c.as_slice-3.ensures
     (subst (λ (n : List ℕ). IfSome later (λ t. RefusesFile (told_files t) repo n c.as_slice-3.result.now fault)) c.as_slice-2.ensures
@@ -102,7 +110,7 @@ returns-in-Err-2-clause-out g c =
     subst (λ (s : Status). PrintsAsRead (ShowsFile pass name path) (ShowsFileFront pass name path) (RefusesShowing pass (λ f r. RefusesFile f r name path))
     (LacksPath pass name path) source before s after) (sym c.of_view-in-Err-2.ensures)
     (not_shown (ShowsFile pass name path) (λ f r text. IsFileText f r name path text) (λ f r. RefusesFile f r name path) (LacksPath pass name path) source
-    later pass repo before after fault name (record { same = c.in-Ok.ensures.same; opens = c.in-Ok.ensures.repository }) some refused
+    later pass repo before after fault name (record { same = c.in-Ok.ensures.same; opens = c.in-Ok.ensures.repository }) some all refused
     c.in-Err-extract.ensures.cause
     (λ e. told_then source (λ f. OpensFilesTo f pass repo) (λ f. LacksPath pass name path f name)
     (λ f opens. inl (refl, record { repo = repo; opens = opens; holds = none })) c.in-Ok.ensures.repository))

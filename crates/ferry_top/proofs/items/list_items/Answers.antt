@@ -4,7 +4,7 @@ use Rattle.ferry_disk.proofs.DeviceLemmas.{told_then}
 use Rattle.ferry_repo.specs.Archives.{archive_named}
 use Rattle.ferry_repo.specs.Opening.{repo_view, cached_in}
 use Rattle.ferry_view.specs.Items.{IsItemListing, IsItemText, RefusesItems}
-use Rattle.ferry_view.specs.Output.{ShowsAll, ShowsSome}
+use Rattle.ferry_view.specs.Output.{IsOfArchive, ShowsAll, ShowsSome}
 use Rattle.ferry_view.specs.declared.fault.ViewFault.{ViewFault}
 use Rattle.ferry_status.specs.Devices.{written}
 use Rattle.ferry_top.specs.Items.{OpensWith, LacksArchive, RefusesShowing, ShowsItems, ShowsItemsFront}
@@ -49,12 +49,14 @@ returns-in-Err-list_items-clause-out g c =
     let after = written (g.K.Sink.written c.list_items.new.out) (g.K.Sink.faults c.list_items.new.out) in
     let some = subst (λ (n : List ℕ). ShowsSome (λ f text. IsItemText f repo n text) later before.bytes after.bytes) c.as_slice.ensures
     c.in-Err-list_items.ensures.err in
+    let all = subst (λ (n : List ℕ). IsOfArchive fault → ShowsAll (λ f text. IsItemText f repo n text) later before.bytes after.bytes) c.as_slice.ensures
+    c.in-Err-list_items.ensures.all in
     let refused : IfSome later (λ t. RefusesItems (told_files t) repo name fault) =
     subst (λ (n : List ℕ). IfSome later (λ t. RefusesItems (told_files t) repo n fault)) c.as_slice.ensures c.in-Err-list_items.ensures.refused in
     subst (λ (s : Status). PrintsAsRead (ShowsItems pass name) (ShowsItemsFront pass name) (RefusesShowing pass (λ f r. RefusesItems f r name))
     (LacksArchive pass name) source before s after) (sym c.of_view.ensures)
     (not_shown (ShowsItems pass name) (λ f r text. IsItemText f r name text) (λ f r. RefusesItems f r name) (LacksArchive pass name) source later pass repo
-    before after fault name (record { same = c.in-Ok.ensures.same; opens = c.in-Ok.ensures.repository }) some refused c.in-Err-list_items.ensures.cause
+    before after fault name (record { same = c.in-Ok.ensures.same; opens = c.in-Ok.ensures.repository }) some all refused c.in-Err-list_items.ensures.cause
     (λ e. told_then source (OpensWith pass (λ f r. archive_named name r.manifest.archives ≡ None)) (λ f. LacksArchive pass name f name)
     (λ f h. (refl, h))
     (opens_with source later pass repo (λ f r. archive_named name r.manifest.archives ≡ None) c.in-Ok.ensures.same c.in-Ok.ensures.repository

@@ -3,9 +3,10 @@ use Rattle.std.proofs.lemmas.List.{take_all}
 use Rattle.ferry_disk.specs.Device.{told_files, WritesSome}
 use Rattle.ferry_repo.specs.Opening.{repo_view}
 use Rattle.ferry_repo.proofs.FaultLemmas.{gives_err}
+use Rattle.ferry_view.specs.Output.{IsOfArchive}
 use Rattle.ferry_view.specs.Steps.{EndsContents}
 use Rattle.ferry_view.specs.declared.fault.ViewFault.{ViewFault}
-use Rattle.ferry_view.proofs.ContentLemmas.{writes_next, writes_some, writes_cut, writes_end, writes_refused}
+use Rattle.ferry_view.proofs.ContentLemmas.{writes_next, writes_some, writes_cut, writes_end, writes_refused, writes_stopped}
 use Rattle.ferry_view.proofs.OutputLemmas.{err_holds}
 use Rattle.ferry_view.proofs.ShownLemmas.{log_fits}
 use Rattle.ferry_view.proofs.extraction.write_contents.Goals as goal
@@ -28,6 +29,16 @@ returns-in_err-content-clause-refused g c =
     subst (λ (f : ViewFault). IfSome told (λ t. EndsContents (told_files t) repo chunks f)) (sym is)
     (writes_refused told later repo now_repo chunks c.loop-place.place _ (g.K.Sink.written c.args.out.now) (g.K.Sink.written c.loop-place.out) lost
     c.loop-place.invariant.same c.loop-place.invariant.repo lt c.loop-place.invariant.writes c.in_err-content.ensures.refused))
+
+pub returns-in_err-content-clause-all : goal.returns-in_err-content-clause-all
+returns-in_err-content-clause-all g c =
+    let chunks = c.args.chunks.now in
+    let lost = c.in_err-content.field-0.0 in
+    let lt : c.loop-place.place < length chunks = omega arith in
+    gives_err c.from_residual.result _ _ c.from_residual.ensures.1 (λ y is of.
+    writes_stopped (g.S.Shelf.told c.args.shelf.now) (g.S.Shelf.told c.loop-place.shelf) (repo_view c.args.repo.now) (repo_view c.loop-place.repo) chunks
+    c.loop-place.place _ (g.K.Sink.written c.args.out.now) (g.K.Sink.written c.loop-place.out) lost c.loop-place.invariant.same c.loop-place.invariant.repo
+    lt c.loop-place.invariant.writes c.in_err-content.ensures.refused (subst IsOfArchive is of))
 
 pub returns-in_err-write-clause-err : goal.returns-in_err-write-clause-err
 returns-in_err-write-clause-err g c =

@@ -1,0 +1,391 @@
+#!/usr/bin/env python3
+"""What the program makes of the system that it runs on: system.py PROGRAM [CASE ..]
+
+No proof speaks of folders, of the random bytes of the system, of standard output and of variables; the cases here do, each by what a user would lose: random
+bytes that fail, end early or come in parts; a folder or a segment that can't be read; modes of files; parents that aren't there; links; an output
+that takes a part; streams that are closed; passphrases; where segments lie; the line of progress. With names of cases, those alone are tried. One line for each
+thing that differs, then what can't be tried here (no strace, no Borg, no other user), and at the end 'N passed, M failed, K skipped'; status 1 where M isn't 0.
+"""
+import itertools
+import os
+import pty
+import re
+import resource
+import shutil
+import signal
+import subprocess
+import sys
+import tempfile
+import threading
+import tty
+
+sys.dont_write_bytecode = True
+import tracing
+from counting import finish, judge, skip
+from repositories import Archive, Item, Keys, fields, repository
+from users import other_user
+
+PROGRAM = os.path.abspath(sys.argv[1])
+VARIABLES = {"BORG_PASSPHRASE": "passphrase", "BORG_OTHER_PASSPHRASE": "passphrase"}
+INIT = ("-", "target", "init", "--iterations", "1")
+PROGRESS = re.compile(rb"\rread (\d+) MB, written (\d+) MB, \d+ s\x1b\[K")
+
+
+def run(root, *words, prefix=(), variables=None, **others):
+    env = {name: value for name, value in os.environ.items() if not name.startswith("BORG_")}
+    pipes = {"stdout": subprocess.PIPE, "stderr": subprocess.PIPE, "stdin": subprocess.DEVNULL}
+    env.update(VARIABLES if variables is None else variables)
+    return subprocess.run([*prefix, PROGRAM, *words], cwd=root, env=env, timeout=120, **{**pipes, **others})
+
+
+def injected(root, *rules):
+    """The words in front of a program of which strace refuses or changes calls, those on some path alone where a rule names one."""
+    return ["strace", "-o", os.path.join(root, "calls"), *rules]
+
+
+def write(path, content):
+    os.makedirs(os.path.dirname(path), exist_ok=True)
+    with open(path, "wb") as file:
+        file.write(content)
+
+
+# What Borg's check wants of a record and of an item, beside what is read of them here.
+RECORD = {b"cmdline": [b"borg"], b"time": b"2020-01-01T00:00:00.000000"}
+ITEM = {b"mtime": 0}
+
+
+def make_source(root, folder="source", contents=4, size=64):
+    """A source with an archive `a` of a file of so many chunks of that size."""
+    keys = Keys()
+    file = Item(b"file", [bytes([65 + number]) * size for number in range(contents)], more=ITEM)
+    archive = Archive(keys, b"a", [file], length=1000, how=RECORD)
+    blob = keys.blob(keys.tagged(fields(archive.named(b"a"))))
+    for place, content in repository(keys, b"passphrase", blob, *dict(archive.chunks()).items()).items():
+        write(os.path.join(root, folder, place), content)
+
+
+def state(root):
+    """All names below a folder, with the contents of files and where links lead."""
+    found = {}
+    for folder, folders, files in os.walk(root):
+        for name in folders + files:
+            path = os.path.join(folder, name)
+            is_file = os.path.isfile(path) and not os.path.islink(path)
+            found[os.path.relpath(path, root)] = open(path, "rb").read() if is_file else os.readlink(path) if os.path.islink(path) else None
+    return found
+
+
+def ended(what, ran, status, out=None):
+    judge(ran.returncode == status, f"{what}: status {ran.returncode} for {status}: {ran.stdout!r} {ran.stderr!r}")
+    if out is not None:
+        judge(ran.stdout == out, f"{what}: {ran.stdout!r} for {out!r}")
+
+
+def random_bytes(root):
+    """Where they can't be had nothing is made; where they come in parts all of them are drawn."""
+    of_urandom = ("-P", "/dev/urandom", "-e", "trace=openat,read", "-e")
+    for what, rule in {
+        "random bytes that can't be opened": "inject=openat:error=EACCES",
+        "random bytes that fail": "inject=read:error=EIO",
+        "random bytes that end": "inject=read:retval=0",
+        "random bytes that end later": "inject=read:retval=0:when=2+",
+    }.items():
+        ran = run(root, *INIT, prefix=injected(root, *of_urandom, rule))
+        ended(what, ran, 6, b"entropy failed\n")
+        judge(not os.path.exists(os.path.join(root, "target")), f"{what}: {state(root)} is there")
+    ran = run(root, *INIT, prefix=injected(root, *of_urandom, "inject=read:retval=20:when=1"))
+    ended("random bytes in parts", ran, 0)
+    first = [re.search(r", (\d+)\) += (\d+)", line) for line in tracing.lines_of(os.path.join(root, "calls")) if "read(" in line][:2]
+    asked = [tuple(map(int, found.groups())) for found in first if found]
+    judge(len(asked) == 2 and asked[0][1] == 20 and asked[1][0] == asked[0][0] - 20, f"random bytes in parts: {asked} were asked and came")
+    shutil.rmtree(os.path.join(root, "target"))
+
+
+def drawn(root):
+    """Two repositories have two ids, and none of what is drawn is zeros for a half of it."""
+    ids = set()
+    for _ in range(2):
+        ran = run(root, *INIT)
+        ended("init", ran, 0)
+        ids.add(ran.stdout)
+        shutil.rmtree(os.path.join(root, "target"))
+    judge(len(ids) == 2, f"two repositories have the ids {ids}")
+    for line in ids:
+        bytes_of = bytes.fromhex(line.split()[-1].decode())
+        judge(bytes_of.count(0) < 16, f"an id is {bytes_of.hex()}")
+
+
+DEVICE = b"source device failed\n"
+LISTED = ("source", "-", "keys")
+
+
+def segment_of(root):
+    """The place of the source's segment that has its objects."""
+    return next(name for name in sorted(state(os.path.join(root, "source"))) if re.fullmatch(r"data/0/\d+", name))
+
+
+def unreadable(root):
+    """What can't be read is told as a failed device, and isn't taken for nothing or for damage."""
+    make_source(root)
+    segment = segment_of(root)
+    of = lambda place, call, rule: injected(root, *(["-P", f"source/{place}"] if place else []), "-e", f"trace={call}", "-e", f"inject={call}:{rule}")
+    for what, prefix in {
+        "the entries of a folder": of("", "getdents64", "error=EIO"),
+        "the entries of a folder below": of("", "getdents64", "error=EIO:when=2"),
+        "the opening of a folder": of("data/", "openat", "error=EACCES"),
+        "the opening of a folder below": of("data/0/", "openat", "error=EMFILE"),
+        "the look at a folder": of("data/0", "statx", "error=EACCES"),
+        "the look at a segment": of(segment, "statx", "error=EIO"),
+        "the second look at a segment": of(segment, "statx", "error=EIO:when=2"),
+        "the last look at a segment": of(segment, "statx", "error=EIO:when=3"),
+        "the opening of a segment": of(segment, "openat", "error=EACCES"),
+        "the opening of one file too many": of(segment, "openat", "error=EMFILE"),
+        "the opening of a segment on a broken disk": of(segment, "openat", "error=EIO"),
+        "the place in a segment": of(segment, "lseek", "error=EIO"),
+        "the bytes of a segment": of(segment, "read", "error=EIO"),
+        "the look at config": of("config", "statx", "error=EACCES"),
+        "the opening of config": of("config", "openat", "error=EACCES"),
+        "the bytes of config": of("config", "read", "error=EIO"),
+    }.items():
+        for words in (LISTED, ("source", "-", "list")):
+            ran = run(root, *words, prefix=prefix)
+            was_refused = any("INJECTED" in line for line in tracing.lines_of(os.path.join(root, "calls")))
+            judge(was_refused, f"{what}: {words[2]} isn't refused a call")
+            ended(f"{what}: {words[2]}", ran, 4, DEVICE)
+    whole = injected(root, "-P", f"source/{segment}", "-e", "trace=read", "-e", "inject=read:error=EINTR:when=1")
+    ended("a read that is interrupted", run(root, *LISTED, prefix=whole), 0)
+
+
+def closed_by_mode(root):
+    """A folder or a file that its mode closes is a failed device, and no absence."""
+    other = other_user(PROGRAM, root)
+    if other is None:
+        skip("modes that close folders and files: no other user can be taken")
+        return
+    make_source(root)
+    judge(run(root, *LISTED, prefix=other).returncode == 0, "another user can't read the source")
+    # Of a folder of mode 444 the names can be listed, and what they are can't be looked at.
+    for name, mode in [*((name, 0) for name in ("", "config", "data", "data/0", "data/0/0")), ("data", 0o444), ("data/0", 0o444)]:
+        place = os.path.join(root, "source", name)
+        before = os.stat(place).st_mode
+        os.chmod(place, mode)
+        ended(f"{name or 'the folder itself'} of mode {mode:o}", run(root, *LISTED, prefix=other), 4, DEVICE)
+        os.chmod(place, before)
+
+
+def modes(root):
+    """The key is for its owner alone, whatever the mask; a config that is replaced keeps its mode."""
+    ended("init", run(root, *INIT, preexec_fn=lambda: os.umask(0)), 0)
+    for folder, folders, files in os.walk(os.path.join(root, "target")):
+        for name in [".", *folders]:
+            mode = os.stat(os.path.join(folder, name)).st_mode & 0o777
+            judge(mode == 0o700, f"the folder {name} has the mode {mode:o}")
+        for name in files:
+            mode = os.stat(os.path.join(folder, name)).st_mode & 0o777
+            judge(mode == 0o600, f"the file {name} has the mode {mode:o}")
+    shutil.rmtree(os.path.join(root, "target"))
+    write(os.path.join(root, "target/config"), b"")
+    os.chmod(os.path.join(root, "target/config"), 0o640)
+    ended("init over a config", run(root, *INIT), 0)
+    mode = os.stat(os.path.join(root, "target/config")).st_mode & 0o777
+    judge(mode == 0o640, f"a config of mode 640 has {mode:o}")
+    shutil.rmtree(os.path.join(root, "target"))
+
+
+def places(root):
+    """No parent is made, and nothing is written through a link."""
+    ended("a place without its parent", run(root, "-", "a/b/c", "init", "--iterations", "1"), 5, b"target device failed\n")
+    judge(not os.path.exists(os.path.join(root, "a")), "a place without its parent: a is there")
+    for link in ("data/0/0", "data/0/1", "config.borgferry-new", "nonce.borgferry-new"):
+        folder = os.path.join(root, "target")
+        os.makedirs(os.path.join(folder, "data/0"))
+        os.symlink(os.path.join(root, "outside"), os.path.join(folder, link))
+        ran = run(root, *INIT)
+        judge(ran.returncode in (0, 5), f"init over the link {link}: status {ran.returncode}")
+        judge(not os.path.lexists(os.path.join(root, "outside")), f"init over the link {link}: a file is made outside")
+        shutil.rmtree(folder)
+
+
+def limited(size):
+    """What lets files grow up to a size."""
+
+    def limit():
+        signal.signal(signal.SIGXFSZ, signal.SIG_IGN)
+        resource.setrlimit(resource.RLIMIT_FSIZE, (size, size))
+
+    return limit
+
+
+def outputs(root):
+    """An output that takes a part is one that failed."""
+    make_source(root)
+    whole = run(root, "source", "-", "keys").stdout
+    judge(len(whole) > 100, f"keys prints {whole!r}")
+    for size in (0, 1, 40, len(whole) - 20, len(whole) - 1):
+        with open(os.path.join(root, "out"), "wb") as out:
+            ended(f"keys into {size} bytes", run(root, "source", "-", "keys", stdout=out, preexec_fn=limited(size)), 7)
+        with open(os.path.join(root, "out"), "rb") as out:
+            judge(out.read() == whole[:size], f"keys into {size} bytes: something else is there")
+    ended("init", run(root, *INIT), 0)
+    # Segments are larger than the lines, so the lines alone go into a file that is nearly full already. The last line ends in it, too.
+    tell = ("source", "target", "transfer", "--block", "64", "a")
+    told = b"present a\ntotal 0 transferred 1 present 0 chunks 0 bytes 0 meta\n"
+    limit = 1 << 20
+    for room in (0, 5, 9, 10, 20, len(told) - 1):
+        with open(os.path.join(root, "out"), "wb") as out:
+            out.truncate(limit - room)
+            out.seek(limit - room)
+            ended(f"a transfer told into {room} bytes", run(root, *tell, stdout=out, preexec_fn=limited(limit)), 5)
+    ended("the next transfer", run(root, *tell), 0, told)
+
+
+CLOSED = {"standard input": "<&-", "standard output": ">&-", "standard error": "2>&-"}
+
+
+def closed(root):
+    """Where streams are closed, no line goes into a file that is opened in the place of one."""
+    make_source(root)
+    before = state(os.path.join(root, "source"))
+    transfer = ("source", "target", "transfer", "--block", "64", "--checkpoint", "1", "a")
+    # The passphrase of the target is the empty one, so that `init` tells a line on standard error.
+    empty = {**VARIABLES, "BORG_PASSPHRASE": ""}
+    for count in (1, 2, 3):
+        for streams in itertools.combinations(CLOSED, count):
+            shell = ["sh", "-c", f'exec "$@" {" ".join(CLOSED[stream] for stream in streams)}', ""]
+            wanted = (5, 7) if "standard output" in streams else (0,)
+            for words in (INIT, transfer):
+                what = f"{words[2]} with {', '.join(streams)} closed"
+                if words == transfer:
+                    ended("init", run(root, *INIT, variables=empty), 0)
+                ran = run(root, *words, prefix=shell, variables=empty)
+                judge(ran.returncode in wanted, f"{what} ends with {ran.returncode}: {ran.stderr!r}")
+                looked = run(root, "target", "-", "check", variables={})
+                ended(f"check after {what}", looked, 0)
+                has_all = looked.stdout.startswith(b"ok archives %d " % (words == transfer))
+                judge(has_all or ran.returncode != 0, f"{what}: check prints {looked.stdout!r}")
+                judge(state(os.path.join(root, "source")) == before, f"{what}: the source has changed")
+                shutil.rmtree(os.path.join(root, "target"))
+
+
+def passphrases(root):
+    """Each side has its own variable, and no byte of it is dropped."""
+    key = ("target", "-", "key")
+    ended("init with the other variable alone", run(root, *INIT, variables={"BORG_OTHER_PASSPHRASE": "other"}), 0)
+    ended("the empty passphrase", run(root, *key, variables={}), 0)
+    ended("the other passphrase", run(root, *key, variables={"BORG_OTHER_PASSPHRASE": "other"}), 8, b"source refused: key 5\n")
+    shutil.rmtree(os.path.join(root, "target"))
+    for text in ("ends with a blank ", " begins with one", "a\ttab", "line\n", "gr\u00fc\u00df e", ""):
+        ended(f"init with {text!r}", run(root, *INIT, variables={"BORG_PASSPHRASE": text}), 0)
+        ended(f"the passphrase {text!r}", run(root, *key, variables={"BORG_OTHER_PASSPHRASE": text}), 0)
+        for other in {text.strip(), text + " ", text.upper()} - {text}:
+            ended(f"the passphrase {other!r} for {text!r}", run(root, *key, variables={"BORG_OTHER_PASSPHRASE": other}), 8)
+        shutil.rmtree(os.path.join(root, "target"))
+
+
+def borders(root):
+    """A segment lies in the folder of its number, at borders too; Borg finds it there."""
+    make_source(root, contents=9)
+    ended("init", run(root, *INIT), 0)
+    path = os.path.join(root, "target/config")
+    with open(path, encoding="ascii") as file:
+        text = file.read()
+    write(path, re.sub(r"segments_per_dir = \d+", "segments_per_dir = 2", text).encode())
+    judge("segments_per_dir = 2\n" in open(path, encoding="ascii").read(), "segments_per_dir isn't in the config")
+    words = ("source", "target", "transfer", "--block", "64", "--checkpoint", "1", "a")
+    ended("a transfer into folders of two segments", run(root, *words), 0)
+    numbers = [name.split("/")[1:] for name in state(os.path.join(root, "target")) if re.fullmatch(r"data/\d+/\d+", name)]
+    judge(len(numbers) >= 20, f"folders of two segments: {numbers}")
+    judge(all(int(number) // 2 == int(folder) for folder, number in numbers), f"folders of two segments: {sorted(numbers)}")
+    ended("check of folders of two segments", run(root, "target", "-", "check"), 0)
+    if shutil.which("borg") is None:
+        skip("borg check of folders of two segments: there is no Borg")
+        return
+    settings = {**os.environ, **VARIABLES, "BORG_BASE_DIR": os.path.join(root, "borg"), "BORG_RELOCATED_REPO_ACCESS_IS_OK": "yes"}
+    ran = subprocess.run(["borg", "check", "--verify-data", "target"], cwd=root, env=settings, capture_output=True)
+    judge(ran.returncode == 0, f"borg check of folders of two segments: {ran.stderr!r}")
+
+
+def pieces(terminal):
+    """What comes to a terminal until it is closed."""
+    try:
+        while piece := os.read(terminal, 65536):
+            yield piece
+    except OSError:
+        return
+
+
+def on_terminal(root, words, rule):
+    """A run with both outputs on a terminal, and with a rule of strace that makes it slow: how it ended, all that was shown, and the numbers of the lines of progress."""
+    control, terminal = pty.openpty()
+    tty.setraw(terminal)
+    shown = []
+    listener = threading.Thread(target=lambda: shown.extend(pieces(control)))
+    listener.start()
+    call = rule.split(":")[0]
+    ran = run(root, *words, prefix=injected(root, "-e", f"trace={call}", "-e", f"inject={rule}"), stdout=terminal, stderr=terminal)
+    os.close(terminal)
+    listener.join()
+    os.close(control)
+    all_of_it = b"".join(shown)
+    return ran, all_of_it, [tuple(map(int, numbers)) for numbers in PROGRESS.findall(all_of_it)]
+
+
+def progress(root):
+    """On a terminal the line of progress is erased before a line is told, and what the target moves is counted in it."""
+    make_source(root, contents=20, size=100000)
+    ended("init", run(root, *INIT), 0)
+    words = ("source", "target", "transfer", "--block", "100000", "--checkpoint", "4", "a")
+    # Each sync takes a while, so that a line of progress is there when the archive is told.
+    ran, shown, lines = on_terminal(root, words, "fsync:delay_exit=60000")
+    ended("a slow transfer", ran, 0)
+    judge(lines and lines[-1][0] >= 2 and lines[-1][1] >= 2, f"the lines of progress are {lines}")
+    told = re.sub(rb"\r\x1b\[K", b"", PROGRESS.sub(b"", shown))
+    judge(told == b"transferred a\ntotal 1 transferred 0 present 20 chunks 2000000 bytes 1 meta\n", f"beside the progress {told!r} is shown")
+    for line in (b"transferred a", b"total 1"):
+        judge(b"\r\x1b[K" + line in shown or b"\n" + line in shown, f"the line {line!r} stands behind a line of progress: {shown!r}")
+    # Each repository has 2 MB, which are read twice, so that one alone doesn't come to 6 MB; the last line is of the last fifth of a second, in which few reads are made.
+    ran, shown, lines = on_terminal(root, words, "lseek:delay_exit=40000")
+    ended("a slow comparison", ran, 0)
+    judge(lines and lines[-1][0] >= 6 and lines[-1][1] == 0, f"the lines of progress of a comparison are {lines}")
+
+
+def short_writes(root):
+    """Where a file takes a part of what is written the rest is written too, or the call fails; nothing that was there is lost."""
+    make_source(root)
+    for size in (5, 16, 20, 100, 400):
+        what = f"files of {size} bytes at most"
+        ended(f"{what}: init", run(root, *INIT, preexec_fn=limited(size)), 5)
+        left = [name for name in state(root) if name.endswith(".borgferry-new")]
+        judge(not left, f"{what}: {left} stay")
+        if os.path.exists(os.path.join(root, "target")):
+            shutil.rmtree(os.path.join(root, "target"))
+    ended("init", run(root, *INIT), 0)
+    # Each chunk has a segment of 156 bytes for itself, whose last write is cut, and its commit another one.
+    words = ("source", "target", "transfer", "--block", "64", "--checkpoint", "1", "a")
+    for size in (10, 17, 50, 100, 155, 300, 500):
+        ended(f"files of {size} bytes at most: transfer", run(root, *words, stdout=subprocess.DEVNULL, preexec_fn=limited(size)), 5)
+    ended("the next transfer", run(root, *words), 0)
+    contents = run(root, "source", "-", "extract", "a", "file").stdout
+    judge(len(contents) == 256, f"the file has {len(contents)} bytes")
+    ended("its file", run(root, "target", "-", "extract", "a", "file"), 0, contents)
+    ended("check after it", run(root, "target", "-", "check"), 0)
+
+
+NEED_STRACE = (random_bytes, unreadable, progress)
+CASES = (*NEED_STRACE, closed_by_mode, drawn, modes, places, outputs, short_writes, closed, passphrases, borders)
+
+
+def main(chosen):
+    for case in CASES:
+        if chosen and case.__name__ not in chosen:
+            continue
+        if case in NEED_STRACE and shutil.which("strace") is None:
+            skip(f"{case.__name__}: there is no strace")
+            continue
+        with tempfile.TemporaryDirectory() as root:
+            # Of a link in its path a trace has the other path.
+            case(os.path.realpath(root))
+    finish()
+
+
+main(sys.argv[2:])

@@ -1,0 +1,37 @@
+use Rattle.std.proofs.Common.{◌+◌, Result, ap, length}
+use Rattle.ferry_compact.proofs.ReadingLemmas.{err_is}
+use Rattle.ferry_compact.proofs.WentLemmas.{fault_of, put_did, put_refused}
+use Rattle.ferry_compact.specs.Fault.{write_fault}
+use Rattle.ferry_compact.specs.Steps.{Did, EachPut, PutsOne, RefusesPut}
+use Rattle.ferry_compact.specs.declared.fault.CompactFault.{CompactFault}
+use Rattle.ferry_log.specs.declared.place.Place.{Place}
+use Rattle.ferry_segment.specs.Entry.{PutEntry}
+use Rattle.ferry_compact.proofs.moving.put_again.Goals as goal
+
+pub returns-in_err-put-clause-did : goal.returns-in_err-put-clause-did
+returns-in_err-put-clause-did g c =
+    let a = g.D.Shelf.told c.args.depot.now in
+    let b = g.D.Shelf.told c.put.new.depot in
+    let n = g.D.Shelf.faults c.args.depot.now in
+    let m = g.D.Shelf.faults c.put.new.depot in
+    let session = c.args.session.now in
+    let entry = PutEntry c.args.key.now c.args.blob.now in
+    let fault = c.in_err-put.field-0.0 in
+    let said = c.in_err-put.ensures in
+    err_is c.from_residual.result (write_fault fault)
+    (λ (r : Result (Unit {0}) CompactFault). Did (EachPut entry session) (PutsOne entry session c.put.new.self) (RefusesPut session) a b n m r)
+    c.from_residual.ensures.1
+    (put_refused session c.put.new.self entry fault a b n m said.moments said.gains said.stays said.beside said.untold
+    (λ is. (said.numbers.0 (ap (fault_of {T = Place}) is)).1) said.cause said.ends)
+
+pub returns-clause-did : goal.returns-clause-did
+returns-clause-did g c =
+    let a = g.D.Shelf.told c.args.depot.now in
+    let b = g.D.Shelf.told c.put.new.depot in
+    let n = g.D.Shelf.faults c.args.depot.now in
+    let m = g.D.Shelf.faults c.put.new.depot in
+    let session = c.args.session.now in
+    let entry = PutEntry c.args.key.now c.args.blob.now in
+    let said = c.in_ok-put.ensures in
+    put_did session c.put.new.self entry (41 + length c.args.blob.now) a b n m said.moments said.gains said.stays said.beside said.untold said.put said.rows
+    said.done said.ok said.cause said.ends

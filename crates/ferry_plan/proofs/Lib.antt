@@ -1,0 +1,10 @@
+pub mod FaultLemmas
+pub mod TallyLemmas
+pub mod StepLemmas
+pub mod ArchiveLemmas
+pub mod PresentLemmas
+pub mod NamesLemmas
+pub mod AlikeLemmas
+pub mod TransferLemmas
+pub mod LawLemmas
+pub mod AnswerLemmas
