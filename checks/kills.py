@@ -7,7 +7,7 @@ so many; the status has to be that of a kill. After each kill:
 `list` and `check` of the target end well; the names that were told are there; those that are there are a front of the chosen ones; `list NAME` and
 `extract` print of them what the plain program has put into the source; and the same words run again end with 0 and leave all three, each told once. The
 same is looked at where a file may not grow beyond a size, where the target's folder can't be written, and where nobody reads standard output; there the
-status is that of the device that failed.
+status is that of the device that failed. A compaction is killed at each of its calls, and done again: what is live stays.
 Where RANDOM is given, so many transfers are killed besides, each at a random time, as SEED has it, and one path of each archive is extracted; where Borg is
 installed the source of all is one that Borg wrote, and each hundredth target is checked with `borg check --verify-data`. And where file systems may be mounted,
 the target lies on one that is too small, and on one that becomes read only.
@@ -25,6 +25,7 @@ import tempfile
 import time
 
 sys.dont_write_bytecode = True
+import segments
 import tracing
 from counting import finish, judge, skip
 from repositories import Archive, Item, Keys, escaped, fields, repository
@@ -328,11 +329,50 @@ def small_systems(trial):
         trial.look("a file system that becomes read only", told)
 
 
+def kills_of_compaction(root):
+    """A compaction that is killed at any of its calls of the system leaves each key its object, and no other; the same words then end well."""
+    if shutil.which("strace") is None:
+        return
+    target, calls = os.path.join(root, "compacted"), os.path.join(root, "calls")
+    gone, moved, kept = (bytes([number]) * 32 for number in (1, 2, 3))
+    contents = [
+        segments.segment(segments.put(gone, b"x" * 900), segments.put(kept, b"y" * 5000)),
+        segments.segment(segments.put(moved, b"z" * 100), segments.put(gone, b"x" * 900)),
+        segments.segment(segments.delete(gone)),
+        segments.COMMIT_SEGMENT,
+    ]
+
+    def make():
+        shutil.rmtree(target, ignore_errors=True)
+        os.makedirs(os.path.join(target, "data/0"))
+        for name, content in {"config": b"[repository]\nversion = 1\nid = %s\n" % (b"00" * 32), **{f"data/0/{number}": it for number, it in enumerate(contents)}}.items():
+            with open(os.path.join(target, name), "wb") as file:
+                file.write(content)
+
+    def compact(*prefix):
+        ran = subprocess.run([*prefix, PROGRAM, "-", target, "compact", "--threshold", "20"], stdin=subprocess.DEVNULL, stdout=subprocess.PIPE, stderr=subprocess.DEVNULL)
+        return ran.returncode, ran.stdout
+
+    make()
+    live = segments.keys(target)
+    judge(compact(*tracing.tracing(calls)) == (0, b"compacted 3\n"), "a compaction isn't done")
+    judge(segments.keys(target) == live, "a compaction has changed what is live")
+    for place in tracing.places(calls, target):
+        make()
+        status, _ = compact(*tracing.tracing(calls, *tracing.killing(place)))
+        judge(status == -signal.SIGKILL, f"a compaction isn't killed at {place}: status {status}")
+        judge(segments.keys(target) == live, f"a compaction that is killed at {place} has changed what is live")
+        status, told = compact()
+        judge(status == 0 and told.startswith(b"compacted "), f"behind a compaction that is killed at {place}: {status} {told!r}")
+        judge(segments.keys(target) == live, f"behind a compaction that is killed at {place} and done again something else is live")
+
+
 def main():
     has_borg = shutil.which("borg") is not None
     with tempfile.TemporaryDirectory() as root:
         trial = Trial(root, make_borg_source(root) if RANDOM > 0 and has_borg else make_source(root))
         kills_at_calls(trial)
+        kills_of_compaction(root)
         small_files(trial)
         closed_folder(trial)
         unread_output(trial)

@@ -1,5 +1,5 @@
 #!/usr/bin/env bash
-# Kills a transfer at fifty of its calls of the system, and looks at what is there then, and at the transfer that goes on.
+# Kills a transfer at fifty of its calls of the system, and a compaction at each of its own, and looks at what is there then, and at the run that goes on.
 set -eu
 cd "$(dirname "$0")/.."
 ./build
