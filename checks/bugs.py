@@ -113,6 +113,9 @@ BUGS = [
         "the folder above a new one isn't synced", WRITER, "if self.made_place\n            && let Some(place)", "if self.made_place\n            && !BUG(&self.folder.rt)\n            && let Some(place)",
         "writing lists_of_calls",
     ),
+    bug(
+        "a folder above that may not be looked into is a failure", WRITER, "if self.made_place {", "if self.made_place || BUG(&self.folder.rt) {", "system unsynced",
+    ),
     passed_over("an open segment isn't synced", WRITER, "open.file.sync_all().map_err(failed)?;", "&self.folder.rt", "writing lists_of_calls"),
     passed_over("the folder of a new segment isn't synced", WRITER, "self.sync_folder_of(segment)?;", OF_WRITER, "writing lists_of_calls"),
     bug(
@@ -163,7 +166,7 @@ BUGS = [
     bug(
         "a refused sync of a folder is passed over", STABLE, "path: &str) -> Result<(), StoreFault> {\n    match File::open(rt, path) {\n        Ok(folder) => sync_names(&folder),",
         "path: &str) -> Result<(), StoreFault> {\n    match File::open(rt, path) {\n        Ok(folder) => match sync_names(&folder) {\n            Err(_) if BUG(rt) => Ok(()),\n            outcome => outcome,\n        },",
-        "writing refusals",
+        "writing refusals", "system unsynced",
     ),
     # outputs
     bug(

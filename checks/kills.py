@@ -234,6 +234,7 @@ def closed_folder(trial):
         skip(f"{what}: no other user can be taken")
         return
     trial.begin()
+    give(trial.path("source"))
     give(trial.path("target"))
     os.chmod(trial.path("target/data/0"), 0o500)
     status, told = trial.transfer(prefix=other)

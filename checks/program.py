@@ -17,7 +17,6 @@ import random
 import re
 import shutil
 import stat
-import struct
 import subprocess
 import sys
 import tempfile
@@ -1153,7 +1152,7 @@ def lasting(words, cwd, pause=0.0, most=None, is_shared=False, is_terminal=True)
         time.sleep(pause)
     if not is_shared:
         running.stdout.close()
-    status = running.wait(60)
+    status = running.wait(LIMIT)
     listener.join()
     os.close(reads)
     return status, out, b"".join(shown), time.monotonic() - began

@@ -35,7 +35,7 @@ def run(root, *words, prefix=(), variables=None, **others):
     env = {name: value for name, value in os.environ.items() if not name.startswith("BORG_")}
     pipes = {"stdout": subprocess.PIPE, "stderr": subprocess.PIPE, "stdin": subprocess.DEVNULL}
     env.update(VARIABLES if variables is None else variables)
-    return subprocess.run([*prefix, PROGRAM, *words], cwd=root, env=env, timeout=120, **{**pipes, **others})
+    return subprocess.run([*prefix, PROGRAM, *words], cwd=root, env=env, timeout=600, **{**pipes, **others})
 
 
 def injected(root, *rules):
@@ -206,6 +206,30 @@ def places(root):
         shutil.rmtree(folder)
 
 
+def unsynced(root):
+    """A sync that the system doesn't know, and that of a folder above which nobody may look into, are passed over; others that fail are told."""
+
+    def synced(what, call, place, error, wanted, is_new):
+        if not is_new:
+            write(os.path.join(root, "target/data/0/0"), b"BORG_SEG")
+        rule = ("-P", place, "-e", f"trace={call}", "-e", f"inject={call}:error={error}")
+        ran = run(root, *INIT, prefix=injected(root, *rule))
+        judge(any("INJECTED" in line for line in tracing.lines_of(os.path.join(root, "calls"))), f"{what}: no call is refused")
+        ended(what, ran, wanted)
+        shutil.rmtree(os.path.join(root, "target"))
+
+    os.mkdir(os.path.join(root, "target"))
+    synced("no sync of a folder is known", "fsync", "target", "EINVAL", 0, False)
+    synced("a sync of a folder fails", "fsync", "target", "EIO", 5, False)
+    synced("the folder above may not be looked into", "openat", "target/..", "EACCES", 0, False)
+    synced("the folder above can't be opened", "openat", "target/..", "EIO", 5, False)
+    synced("the folder above a new one may not be looked into", "openat", "target/..", "EACCES", 5, True)
+    for name, wanted in {"README": 5, "config": 5, "nonce": 5}.items():
+        os.makedirs(os.path.join(root, "target"))
+        write(os.path.join(root, "target", name), b"0000000000000000")
+        synced(f"no sync of {name} is known", "fsync", f"target/{name}", "EINVAL", wanted, False)
+
+
 def limited(size):
     """What lets files grow up to a size."""
 
@@ -322,10 +346,12 @@ def on_terminal(root, words, rule):
     listener = threading.Thread(target=lambda: shown.extend(pieces(control)))
     listener.start()
     call = rule.split(":")[0]
-    ran = run(root, *words, prefix=injected(root, "-e", f"trace={call}", "-e", f"inject={rule}"), stdout=terminal, stderr=terminal)
-    os.close(terminal)
-    listener.join()
-    os.close(control)
+    try:
+        ran = run(root, *words, prefix=injected(root, "-e", f"trace={call}", "-e", f"inject={rule}"), stdout=terminal, stderr=terminal)
+    finally:
+        os.close(terminal)
+        listener.join()
+        os.close(control)
     all_of_it = b"".join(shown)
     return ran, all_of_it, [tuple(map(int, numbers)) for numbers in PROGRESS.findall(all_of_it)]
 
@@ -371,7 +397,7 @@ def short_writes(root):
     ended("check after it", run(root, "target", "-", "check"), 0)
 
 
-NEED_STRACE = (random_bytes, unreadable, progress)
+NEED_STRACE = (random_bytes, unreadable, unsynced, progress)
 CASES = (*NEED_STRACE, closed_by_mode, drawn, modes, places, outputs, short_writes, closed, passphrases, borders)
 
 

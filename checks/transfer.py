@@ -5,7 +5,7 @@ Borg makes a source: trees with links, special files, sparse files, extended att
 prune and a compaction between. The program makes targets and transfers into them, by several block sizes. Of each transfer are looked at: the
 lines, whose numbers are those of the files cut into pieces; that the source stays as it was; that a second one puts nothing; the program's `check`;
 and Borg's `list`, `check --verify-data` and `extract`, whose trees are compared with those out of the source. At last Borg goes on in a target.
-One line for each thing that differs, and at the end 'N passed, M failed'; status 1 where M isn't 0. Without Borg 1.2 it says `skipped`.
+One line for each thing that differs, and at the end 'N passed, M failed, K skipped'; status 1 where M isn't 0. Without Borg 1.2 all of it is skipped.
 """
 import hashlib
 import os
@@ -18,6 +18,7 @@ import sys
 import tempfile
 
 sys.dont_write_bytecode = True
+from counting import finish, judge, skip
 from repositories import escaped
 
 PROGRAM = os.path.abspath(sys.argv[1])
@@ -25,17 +26,6 @@ DEFAULT_BLOCK = 2097152
 SECRETS = {"source": "the source's passphrase", "target": "the target's passphrase"}
 TOTAL = re.compile(rb"total (\d+) transferred (\d+) present (\d+) chunks (\d+) bytes (\d+) meta\n")
 FORMAT = "{mode} {user} {group} {uid} {gid} {size} {isomtime} {health} {extra} {bpath}{NL}"
-
-passed = failed = 0
-
-
-def judge(is_right, what):
-    global passed, failed
-    if is_right:
-        passed += 1
-    else:
-        failed += 1
-        print(f"FAIL {what}", flush=True)
 
 
 def has_borg():
@@ -389,14 +379,13 @@ def transfers(source):
 
 def main():
     if not has_borg():
-        print("skipped: there is no borg of 1.2")
-        return 0
+        skip("transfers out of a repository that Borg wrote: there is no Borg of 1.2")
+        finish()
     with tempfile.TemporaryDirectory() as root:
         source = Source(Place(root))
         transfers(source)
         refusals(source)
-    print(f"{passed} passed, {failed} failed")
-    return 1 if failed or not passed else 0
+    finish()
 
 
-sys.exit(main())
+main()
