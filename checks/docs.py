@@ -18,6 +18,7 @@ WIDEST = 160
 HELP_WIDTH = 80
 DEFINITION = re.compile(r"^(?:(?:abbrev|unfoldable) pub|pub (?:record|data)) ([^\s:({]+)")
 DEFINITION_OF_SEVERAL = re.compile(r"^  pub (?:data )?([^\s:({]+)")
+EDITS = ["crates/*/must-fail", "checks/edits/*"]
 FILE = re.compile(r"(?<![\w/.])((?:src|specs|proofs|must-fail|checks|bench|docs)/[\w./-]+\.(?:rt|antt|py|sh|md|edit)(?:\.in)?)")
 SHORT_HEAD = "| Name | One sentence | File |"
 QUOTED = re.compile(r'"(?:[^"\\]|\\.)*"')
@@ -316,7 +317,7 @@ def look_at_files():
 
 def look_at_evidence():
     """The wrong bodies and the tests that a page names are there."""
-    edits = {os.path.basename(path).removesuffix(".edit") for path in glob.glob("crates/*/must-fail/*.edit", root_dir=TOP)}
+    edits = {os.path.basename(path).removesuffix(".edit") for place in EDITS for path in glob.glob(f"{place}/*.edit", root_dir=TOP)}
     code = "".join(read(path) for path in glob.glob("crates/*/src/**/*.rt", root_dir=TOP, recursive=True))
     for path in ["docs/DECISIONS.md", *sorted(glob.glob("crates/*/*.md", root_dir=TOP))]:
         page = re.sub(r"\s+", " ", read(path))
@@ -324,6 +325,22 @@ def look_at_evidence():
             for name in TICKED.findall(names):
                 is_there = name in edits if kind.startswith("wrong") else name in code
                 judge(is_there, f"{path}: there is no {kind.replace('bodies', 'body').removesuffix('s')} `{name}`")
+
+
+def look_at_edits():
+    """Each wrong body that the gate leaves out fits the code: its old lines stand there once, and the new ones are others."""
+    for path in sorted(glob.glob("checks/edits/*/*.edit", root_dir=TOP)):
+        file, old, fits = "", "", False
+        for line in read(path).splitlines():
+            kind, _, text = line.partition(":")
+            if kind == "file":
+                file = f"crates/{path.split('/')[2]}/{text.strip()}"
+            elif kind == "old":
+                old = text[1:]
+            elif kind == "new":
+                fits = os.path.exists(os.path.join(TOP, file)) and read(file).count(old) == 1 and text[1:] != old
+                judge(fits, f"{path}: it doesn't fit {file}")
+        judge(fits, f"{path}: it changes nothing")
 
 
 def look_at_widths(crate):
@@ -355,6 +372,7 @@ def main(words):
         look_at_links()
         look_at_files()
         look_at_evidence()
+        look_at_edits()
     print(*missing, sep="\n", end="\n" if missing else "")
     print(f"{passed} passed, {len(missing)} failed")
     return 1 if missing or not passed else 0

@@ -7,7 +7,8 @@ so many; the status has to be that of a kill. After each kill:
 `list` and `check` of the target end well; the names that were told are there; those that are there are a front of the chosen ones; `list NAME` and
 `extract` print of them what the plain program has put into the source; and the same words run again end with 0 and leave all three, each told once. The
 same is looked at where a file may not grow beyond a size, where the target's folder can't be written, and where nobody reads standard output; there the
-status is that of the device that failed. A compaction is killed at each of its calls, and done again: what is live stays.
+status is that of the device that failed. A compaction is killed at each of its calls, and done again: what is live stays. A deletion of an archive is killed at each
+of its calls too: the archive is there as it was or is gone, each other one is there, and the same words then delete it or don't find it.
 Where RANDOM is given, so many transfers are killed besides, each at a random time, as SEED has it, and one path of each archive is extracted; where Borg is
 installed the source of all is one that Borg wrote, and each hundredth target is checked with `borg check --verify-data`. And where file systems may be mounted,
 the target lies on one that is too small, and on one that becomes read only.
@@ -368,12 +369,71 @@ def kills_of_compaction(root):
         judge(segments.keys(target) == live, f"behind a compaction that is killed at {place} and done again something else is live")
 
 
+DELETED = "second"
+
+
+def kills_of_deletion(trial):
+    """A deletion that is killed at any of its calls of the system leaves each other archive, and the one of its name as it was or not at all."""
+    if shutil.which("strace") is None:
+        return
+    target, calls = trial.path("lessened"), trial.path("calls")
+    # One file of each archive is extracted: `check` opens all chunks.
+    paths = {name: those[:1] for name, those in trial.paths().items()}
+    secrets = {**os.environ, "BORG_PASSPHRASE": SECRETS["BORG_OTHER_PASSPHRASE"]}
+
+    def make():
+        shutil.rmtree(target, ignore_errors=True)
+        shutil.copytree(trial.path("source"), target)
+        if not os.path.exists(os.path.join(target, "nonce")):
+            with open(os.path.join(target, "nonce"), "wb") as file:
+                file.write(b"00000000000f4240")
+
+    def delete(*prefix):
+        ran = subprocess.run([*prefix, PROGRAM, "-", target, "delete", DELETED], env=secrets, stdin=subprocess.DEVNULL, stdout=subprocess.PIPE, stderr=subprocess.DEVNULL)
+        return ran.returncode, ran.stdout
+
+    def there(what):
+        """The archives that are there, each of which is looked at."""
+        status, listed = trial.reads(target, "list")
+        names = [line.split(b" ")[2].decode() for line in listed.splitlines()] if status == 0 else []
+        judge([name for name in names if name != DELETED] == [name for name in NAMES if name != DELETED], f"{what}: {names} are there")
+        trial.same(what, target, names, paths)
+        return names
+
+    def numbers():
+        """What `check` says: how many chunks are there, and how many of them no archive uses."""
+        return trial.reads(target, "check")
+
+    make()
+    before = numbers()
+    status, told = delete(*tracing.tracing(calls))
+    judge(status == 0 and told.startswith(b"deleted second chunks "), f"a deletion ends with {status}: {told}")
+    judge(DELETED not in there("a deletion"), "a deletion leaves its archive")
+    done, places = numbers(), tracing.places(calls, target)
+    judge(done[0] == 0 and b" orphans 0 " in done[1], f"check behind a deletion says {done}")
+    judge(len(places) > 15, f"a deletion makes {len(places)} calls")
+    for place in places:
+        make()
+        what = f"a deletion that is killed at the {place[0]} of number {place[1]}"
+        status, _ = delete(*tracing.tracing(calls, *tracing.killing(place)))
+        judge(status == -signal.SIGKILL, f"{what}: status {status}")
+        is_there = DELETED in there(what)
+        said = numbers()
+        judge(said == (before if is_there else done), f"{what}: check says {said}")
+        wanted = (0, told) if is_there else (11, b"not found: second\n")
+        again = delete()
+        judge(again == wanted, f"behind {what}: {again}")
+        said = numbers()
+        judge(said == done, f"behind {what} and done again: check says {said}")
+
+
 def main():
     has_borg = shutil.which("borg") is not None
     with tempfile.TemporaryDirectory() as root:
         trial = Trial(root, make_borg_source(root) if RANDOM > 0 and has_borg else make_source(root))
         kills_at_calls(trial)
         kills_of_compaction(root)
+        kills_of_deletion(trial)
         small_files(trial)
         closed_folder(trial)
         unread_output(trial)

@@ -133,10 +133,11 @@ TARGET_WORDS = {
     "{place}": "TARGET", "{passphrase}": "BORG_PASSPHRASE", "{key file}": "BORG_KEY_FILE",
     "{init}": "; borgferry - TARGET init makes a repository there",
 }
-LOCK_ROW = "none", "a lock of Borg lies in TARGET, in front of `init`, `transfer` and `compact`"
-INDEX_ROW = "none", "files of Borg's lie in TARGET, behind `compact`"
+LOCK_ROW = "none", "a lock of Borg lies in TARGET, in front of `init`, `transfer`, `delete` and `compact`"
+INDEX_ROW = "none", "files of Borg's lie in TARGET, behind `delete` and `compact`"
 EMPTY_ROW = "none", "`init` or `make-key` is done with an empty passphrase"
 OUTPUT_ROW = "none", "standard output failed, status 7"
+UNREAD_ROW = "target refused: REASON", "an archive, the command delete"
 
 
 def filled(row, side):
@@ -191,7 +192,7 @@ def where_of(line, kinds, words, cwd, place, is_zero, is_record):
     if line == "usage: word N":
         return f"the command {words[2]}" if f"the command {words[2]}" in kinds else "another word"
     if line == "not found: NAME":
-        return "the command extract" if words[2] == "extract" else "another command"
+        return f"the command {words[2]}" if f"the command {words[2]}" in kinds else "another command"
     for where, is_so in {
         "`-` or an empty word": place in ("-", ""),
         "the folder isn't there": not os.path.exists(os.path.join(cwd, place)),
@@ -208,12 +209,14 @@ def row_of(words, cwd, status, out, variables, is_record):
     """The row of the table of plain words that a run comes under, `None` where nothing is said, and the repository that it speaks of."""
     if status in (1, 7):
         return (("bad REASON", "") if status == 1 else OUTPUT_ROW), "source"
-    if status == 0 and words[2:3] == ("compact",):
+    if status == 0 and words[2:3] in (("delete",), ("compact",)) and words[3:4] != ("--help",):
         return (INDEX_ROW if has_index(os.path.join(cwd, words[1])) else None), "target"
     if status == 0:
         is_new_key = len(words) > 2 and words[2] in ("init", "make-key") and words[3:4] != ["--help"]
         return (EMPTY_ROW if is_new_key and not variables.get(b"BORG_PASSPHRASE") else None), "target"
     line = name_of_line(out)
+    if words[2:3] == ("delete",) and is_of_archive(line, out):
+        return UNREAD_ROW, "target"
     side = "target" if line.startswith("target ") else "source"
     common = re.sub(r"^(source|target) (?=refused: )", "", line)
     kinds = {where for name, where in PLAIN if name in (line, common)}
@@ -223,6 +226,11 @@ def row_of(words, cwd, status, out, variables, is_record):
     return (rows[0] if len(rows) == 1 else (line, where)), side
 
 
+def is_of_archive(line, out):
+    """Whether a target is refused for an object of one of its archives."""
+    return re.match(r"target refused: (missing|blob \d|record \d|items \d) ID$", line) is not None and not out.endswith(ZERO_ID + b"\n")
+
+
 def has_index(folder):
     """Whether files of Borg's lie in a repository that say where its objects are."""
     return os.path.isdir(folder) and any(name.startswith(("index.", "hints.", "integrity.")) for name in os.listdir(folder))
@@ -230,7 +238,7 @@ def has_index(folder):
 
 def is_locked(words, cwd):
     """Whether Borg's lock lies in the target of a command that writes it."""
-    if len(words) < 3 or words[2] not in ("init", "transfer", "compact"):
+    if len(words) < 3 or words[2] not in ("init", "transfer", "delete", "compact"):
         return False
     target = os.path.join(cwd, os.fsdecode(words[1]))
     roster = os.path.join(target, "lock.roster")
@@ -486,7 +494,7 @@ def helps(good):
     for part in re.split(rb"(?m)^(?=  [a-z])", text.split(b"\ncommands:\n")[1].split(b"\nvariables")[0])[1:]:
         command = re.match(rb"  ([a-z-]+)", part)[1].decode()
         lines[command] = lines.get(command, b"") + part
-    holds(len(lines) == 10, f"--help: the commands are {list(lines)}")
+    holds(len(lines) == 11, f"--help: the commands are {list(lines)}")
     for command, part in lines.items():
         for given in [(command, "--help"), ("source", "source", command, "--help"), ("u@h:p", "-", command, "--help", "x")]:
             case(f"words {given}", good, (0, part), given, variables={b"BORG_PASSPHRASE": b"\xff"})
@@ -924,6 +932,172 @@ def plans():
         told("a wrong word", wrong_word(number), made(others), *words)
 
 
+class Deletion:
+    """A target with these archives by name, from which some are deleted; and what each command has to say of it, by the plain program."""
+
+    def __init__(self, root, archives, behind=(), **changed):
+        self.root, self.keys, self.archives = root, next(iter(archives.values())).keys, dict(archives)
+        named = [entry for name, archive in archives.items() for entry in archive.named(name)]
+        chunks = dict([chunk for archive in archives.values() for chunk in archive.chunks(**changed)] + list(behind))
+        self.live = set(chunks) | {repositories.ZERO}
+        made = repository(self.keys, PASSPHRASE, self.keys.blob(self.keys.tagged(fields(named))), *chunks.items())
+        make(root, inside("target", {**made, "nonce": b"00000000000f4240"}))
+
+    def ids(self, archive):
+        """The ids that an archive uses."""
+        of = {archive.id, *(id for id, _ in archive.pieces)}
+        for item in archive.items:
+            of.update(item.ids or [self.keys.id(content) for content in item.contents or []])
+        return of
+
+    def going(self, name):
+        """The chunks that go with the archive of a name."""
+        stays = {id for other, archive in self.archives.items() if other != name for id in self.ids(archive)}
+        return {id for id in self.ids(self.archives[name]) - stays - {repositories.ZERO} if id in self.live}
+
+    def delete(self, what, name, *options, says=b""):
+        """Deletes an archive; then what is live, listed and read is looked at."""
+        gone = self.going(name)
+        words = ("-", "target", "delete", *options, os.fsdecode(name))
+        told = b"deleted %s chunks %d\n" % (repositories.escaped(name), len(gone))
+        before = state(os.path.join(self.root, "target/data/0"))
+        judge(f"delete: {what}", run(words, self.root, {b"BORG_PASSPHRASE": PASSPHRASE}, says=says), (0, told))
+        del self.archives[name]
+        self.live -= gone
+        left = state(os.path.join(self.root, "target/data/0"))
+        holds(all(left.get(path) == of for path, of in before.items()), f"delete: {what}: a segment that was there has changed")
+        holds(self.deletes() == sorted(gone), f"delete: {what}: the DELETE entries aren't those of the ids that go, in their order")
+        self.reads(what)
+
+    def deletes(self):
+        """The ids of the DELETE entries of the segment before the last one."""
+        files = segments.segments(os.path.join(self.root, "target"))
+        with open(files[max(files) - 1], "rb") as file:
+            entries, _ = segments.split(file.read())
+        return [key for tag, key, _, _ in entries if tag == segments.DELETE]
+
+    def reads(self, what):
+        """What is live, and what each other archive has, is as it was."""
+        live = segments.keys(os.path.join(self.root, "target"))[1]
+        holds({bytes.fromhex(line.split()[0].decode()) for line in live.splitlines()} == self.live, f"delete: {what}: something else is live")
+        named = [entry for name, archive in self.archives.items() for entry in archive.named(name)]
+        judge(f"delete: {what}: list", run(("target", "-", "list"), self.root, OPEN), (0, repositories.listing(named)))
+        for name, archive in self.archives.items():
+            judge(f"delete: {what}: list {name}", run(("target", "-", "list", "--", os.fsdecode(name)), self.root, OPEN), (0, archive.lines()))
+            for path in {item.path for item in archive.items if item.contents is not None}:
+                words = ("target", "-", "extract", "--", os.fsdecode(name), os.fsdecode(path))
+                judge(f"delete: {what}: extract {name} {path}", run(words, self.root, OPEN), (0, archive.content(path)))
+
+
+def deletions():
+    """What `delete` takes out of a target: an archive and each chunk that no other uses, and nothing else."""
+    keys = Keys(b"other")
+    files = [Item(b"f", [b"hello", b"", b" and more"]), Item(b"e", []), Item(b"g", [b"hello"])]
+    one, own = Archive(keys, b"a", files), Archive(keys, b"b", [Item(b"f", [b"hello"]), Item(b"h", [b"own"])], 40)
+    orphan = (keys.id(b"orphan"), keys.blob(b"orphan"))
+
+    def deleted(what, archives, *names, options=(), says=b"", files=(), **how):
+        with tempfile.TemporaryDirectory() as root:
+            made = Deletion(root, archives, **how)
+            make(root, inside("target", dict(files)))
+            for name in names:
+                made.delete(f"{what}: {name}", name, *options, says=says)
+
+    deleted("the only archive", {b"a": one}, b"a")
+    deleted("two that share chunks", {b"a": one, b"b": own}, b"a", b"b")
+    deleted("two that share chunks, the other first", {b"a": one, b"b": own}, b"b", b"a")
+    deleted("two of the same items", {b"a": one, b"b": Archive(keys, b"b", files)}, b"a", b"b")
+    deleted("two names of one record", {b"a": one, b"b": one}, b"b", b"a")
+    deleted("a chunk that no archive uses", {b"a": one}, b"a", behind=[orphan])
+    deleted("a chunk that is a piece of another's items", {b"a": Archive(keys, b"a", [Item(b"f", [own.pieces[0][1]])]), b"b": own}, b"a", b"b")
+    deleted("a record that is another's content", {b"a": Archive(keys, b"a", [Item(b"f", [own.record])]), b"b": own}, b"b", b"a")
+    deleted("the zero id as a chunk", {b"a": Archive(keys, b"a", [Item(b"f", [b"hello"], ids=[repositories.ZERO])]), b"b": own}, b"a")
+    deleted("a content that isn't there", {b"a": one, b"b": own}, b"a", without=keys.id(b" and more"))
+    odd = {b"--x": one, b"a\n": own, b"\\": Archive(keys, b"z", files[:1])}
+    deleted("odd names", odd, b"a\n", b"\\", options=("--timestamp", "noon"))
+    deleted("a name that begins with --", odd, b"--x", options=("--",))
+    deleted("a lock of Borg", {b"a": one}, b"a", files=[("lock.exclusive", b"")], says=b"TARGET has a lock of Borg")
+    deleted("an index of Borg", {b"a": one}, b"a", files=[("index.1", b""), ("hints.1", b"")], says=b"remove them before a Borg command")
+    many = Archive(keys, b"a", [Item(b"%d" % number, [b"x%d" % (number % 700)]) for number in range(2000)], 5000)
+    deleted("many items", {b"a": many, b"b": Archive(keys, b"b", many.items[500:600])}, b"a")
+    times()
+    undeleted()
+    cut_short()
+
+
+def times():
+    """The manifest's time behind a deletion is that of the words, or else the old one."""
+    keys = Keys(b"other")
+    archives = {name: Archive(keys, name, [Item(b"f", [name])]) for name in (b"a", b"b")}
+    with tempfile.TemporaryDirectory() as root:
+        made = Deletion(root, archives)
+        for options, name, time in [((), b"a", b"2020-01-01T00:00:00.000000"), (("--timestamp", "noon"), b"b", b"noon")]:
+            made.delete(f"the time {time}", name, *options)
+            holds(raw(b"timestamp") + raw(time) in made_manifest(root, keys), f"delete: the manifest hasn't the time {time}")
+
+
+def made_manifest(root, keys):
+    """The packed manifest of a target, as it lies in the last of its segments that puts one."""
+    files = segments.segments(os.path.join(root, "target"))
+    blobs = []
+    for path in files.values():
+        with open(path, "rb") as file:
+            blobs += [blob for tag, key, blob, _ in segments.split(file.read())[0] if tag == segments.PUT and key == repositories.ZERO]
+    return repositories.ctr(keys.enc_key, int.from_bytes(blobs[-1][33:41], "big"), blobs[-1][41:])[2:]
+
+
+def undeleted():
+    """What `delete` says where it deletes nothing, and that it writes nothing then."""
+    keys = Keys(b"other")
+    files = [Item(b"f", [b"hello"]), Item(b"l", None, b"f")]
+    good, other = Archive(keys, b"a", files), Archive(keys, b"b", [Item(b"g", [b"own"])])
+
+    def told(name, want, archives, *words, says=b"", passphrase=PASSPHRASE, nonce=b"00000000000f4240", removed=(), **changed):
+        named = [entry for of, archive in archives.items() for entry in archive.named(of)]
+        chunks = dict(chunk for archive in archives.values() for chunk in archive.chunks(**changed))
+        made = repository(keys, PASSPHRASE, keys.blob(keys.tagged(fields(named))), *chunks.items())
+        made.update({} if nonce is None else {"nonce": nonce})
+        beside = inside("target", {place: content for place, content in made.items() if place not in removed})
+        case(f"delete: {name}", None, want, ("-", "target", "delete", *words), beside=beside, variables={b"BORG_PASSPHRASE": passphrase}, says=says)
+
+    both = {b"a": good, b"b": other}
+    told("a name that isn't there", (11, b"not found: c\n"), both, "c", says=b"no archive of TARGET has this name")
+    told("an odd name that isn't there", (11, b"not found: --\\x0a\n"), both, "--", "--\n")
+    told("another passphrase", (9, b"target refused: key 5\n"), both, "a", passphrase=b"x")
+    told("no nonce", (9, b"target refused: nonce 1\n"), both, "a", nonce=None)
+    told("a nonce that is no number", (9, b"target refused: nonce 2\n"), both, "a", nonce=b"12")
+    told("no commit", (9, b"target refused: no commit\n"), both, "a", removed=("data/0/1",))
+    told("no config", (9, b"target refused: config 1\n"), both, "a", removed=("config",))
+    for words, number in [((), 2), (("a", "b"), 3), (("--timestamp",), 3), (("--timestamp", "", "a"), 3), (("--timestamp", "x"), 4), (("--block", "64", "a"), 2), (("--",), 3), (("--", "a", "b"), 4), (("--timestamp", "x", "--timestamp", "x", "a"), 4)]:
+        told(f"words {words}", wrong_word(number), both, *words)
+    in_the_way = b"TARGET has an archive that doesn't read, and while it has one none is deleted"
+    reason = lambda text, id: (9, b"target refused: %s %s\n" % (text, id.hex().encode()))
+    for id in (good.id, good.pieces[0][0]):
+        for name in ("a", "b"):
+            told(f"{name} where something of a isn't there", reason(b"missing", id), both, name, says=in_the_way, without=id)
+            told(f"{name} where something of a is compressed", reason(b"blob 4", id), both, name, says=in_the_way, compressed=id)
+            told(f"{name} where something of a has another id", reason(b"blob 5", id), both, name, says=in_the_way, other=id)
+    for text, how in [(b"record 1", {"packed": lambda text: text + b"\0"}), (b"record 2", {b"version": 2}), (b"record 4", {"info": b"other"})]:
+        bad = Archive(keys, b"a", files, how=how)
+        told(f"an archive with {text}", reason(text, bad.id), {b"a": bad, b"b": other}, "b", says=in_the_way)
+    for number, behind in [(1, b"\xc1"), (2, b"\x80"), (3, b"\x82\xa4path\xa1a\xa6chunks\xc3"), (4, b"\x82\xa4path\xa1a\xaechunks_healthy\xc0"), (5, b"\x81\xa4p")]:
+        bad = Archive(keys, b"a", files, behind=behind)
+        told(f"an archive with items {number}", reason(b"items %d" % number, bad.id), {b"a": bad, b"b": other}, "b", says=in_the_way)
+    case("delete: no folder", None, (9, b"target refused: no commit\n"), ("-", "-", "delete", "a"), says=b"TARGET is - or empty")
+    case("delete: a folder that isn't there", None, (9, b"target refused: no commit\n"), ("-", "target", "delete", "a"))
+    case("delete: a file where the folder should be", None, (5, b"target device failed\n"), ("-", "target", "delete", "a"), beside={"target": b"text"})
+
+
+def cut_short():
+    """Where the cipher has no numbers left for the manifest, DELETEs that aren't committed may be written, and all that was there stays."""
+    keys = Keys(b"other")
+    with tempfile.TemporaryDirectory() as root:
+        made = Deletion(root, {b"a": Archive(keys, b"a", [Item(b"f", [b"hello"])])})
+        make(root, {"target/nonce": b"f" * 16})
+        judge("delete: no numbers left", run(("-", "target", "delete", "a"), root, {b"BORG_PASSPHRASE": PASSPHRASE}), (12, b"limit: nonce\n"))
+        made.reads("no numbers left")
+
+
 def compactions():
     """What `compact` leaves: each live key with its bytes, and no other; where nothing is to be gained all stays, and Borg's own files are told."""
     config = {"config": TEN_A_FOLDER}
@@ -1284,7 +1458,7 @@ def rows():
 
 
 READING = (folders, logs, damage, memory, names, words, keys_of_configs, listings, archives, checked, every_byte)
-CASES = (*READING, key_files, targets, refused_targets, transfers, plans, compactions, locks, written, limits, entropy, variables, of_borg, outputs, progress)
+CASES = (*READING, key_files, targets, refused_targets, transfers, plans, deletions, compactions, locks, written, limits, entropy, variables, of_borg, outputs, progress)
 
 
 def main(chosen):

@@ -28,6 +28,7 @@ from users import other_user
 PROGRAM = os.path.abspath(sys.argv[1])
 VARIABLES = {"BORG_PASSPHRASE": "passphrase", "BORG_OTHER_PASSPHRASE": "passphrase"}
 INIT = ("-", "target", "init", "--iterations", "1")
+DELETE = ("-", "target", "delete", "a")
 PROGRESS = re.compile(rb"\rread (\d+) MB, written (\d+) MB, \d+ s\x1b\[K")
 
 
@@ -98,6 +99,11 @@ def random_bytes(root):
     first = [re.search(r", (\d+)\) += (\d+)", line) for line in tracing.lines_of(os.path.join(root, "calls")) if "read(" in line][:2]
     asked = [tuple(map(int, found.groups())) for found in first if found]
     judge(len(asked) == 2 and asked[0][1] == 20 and asked[1][0] == asked[0][0] - 20, f"random bytes in parts: {asked} were asked and came")
+    make_source(root)
+    ended("a transfer", run(root, "source", "target", "transfer"), 0)
+    for rule in ("inject=openat:error=EACCES", "inject=read:error=EIO", "inject=read:retval=0"):
+        ended(f"delete: {rule}", run(root, *DELETE, prefix=injected(root, *of_urandom, rule)), 6, b"entropy failed\n")
+        ended(f"check behind that: {rule}", run(root, "target", "-", "check"), 0, b"ok archives 1 chunks 3 orphans 0 untagged 0\n")
     shutil.rmtree(os.path.join(root, "target"))
 
 
@@ -261,6 +267,16 @@ def outputs(root):
             out.seek(limit - room)
             ended(f"a transfer told into {room} bytes", run(root, *tell, stdout=out, preexec_fn=limited(limit)), 5)
     ended("the next transfer", run(root, *tell), 0, told)
+    # The four chunks of the file, the items and the record. What isn't told is done.
+    told = b"deleted a chunks 6\n"
+    for room in (0, 5, len(told) - 1):
+        with open(os.path.join(root, "out"), "wb") as out:
+            out.truncate(limit - room)
+            out.seek(limit - room)
+            ended(f"a deletion told into {room} bytes", run(root, *DELETE, stdout=out, preexec_fn=limited(limit)), 5)
+        ended(f"the next deletion, told into {room} bytes", run(root, *DELETE), 11, b"not found: a\n")
+        ended("a transfer behind it", run(root, *tell), 0)
+    ended("a deletion that is told", run(root, *DELETE), 0, told)
 
 
 CLOSED = {"standard input": "<&-", "standard output": ">&-", "standard error": "2>&-"}
@@ -277,10 +293,10 @@ def closed(root):
         for streams in itertools.combinations(CLOSED, count):
             shell = ["sh", "-c", f'exec "$@" {" ".join(CLOSED[stream] for stream in streams)}', ""]
             wanted = (5, 7) if "standard output" in streams else (0,)
-            for words in (INIT, transfer):
+            for words, earlier in ((INIT, ()), (transfer, (INIT,)), (DELETE, (INIT, transfer))):
                 what = f"{words[2]} with {', '.join(streams)} closed"
-                if words == transfer:
-                    ended("init", run(root, *INIT, variables=empty), 0)
+                for one in earlier:
+                    ended(f"{one[2]} before {what}", run(root, *one, variables=empty), 0)
                 ran = run(root, *words, prefix=shell, variables=empty)
                 judge(ran.returncode in wanted, f"{what} ends with {ran.returncode}: {ran.stderr!r}")
                 looked = run(root, "target", "-", "check", variables={})
@@ -395,6 +411,12 @@ def short_writes(root):
     judge(len(contents) == 256, f"the file has {len(contents)} bytes")
     ended("its file", run(root, "target", "-", "extract", "a", "file"), 0, contents)
     ended("check after it", run(root, "target", "-", "check"), 0)
+    # The number of the cipher's counter, the DELETEs, and the manifest behind them are cut.
+    for size in (10, 17, 100, 300, 500):
+        ended(f"files of {size} bytes at most: delete", run(root, *DELETE, preexec_fn=limited(size)), 5)
+        ended(f"files of {size} bytes at most: its file", run(root, "target", "-", "extract", "a", "file"), 0, contents)
+    ended("the next delete", run(root, *DELETE), 0)
+    ended("check after that", run(root, "target", "-", "check"), 0, b"ok archives 0 chunks 0 orphans 0 untagged 0\n")
 
 
 NEED_STRACE = (random_bytes, unreadable, unsynced, progress)

@@ -1,11 +1,11 @@
 #!/usr/bin/env python3
 """The calls of the system that a command makes on its target: writing.py PROGRAM [CASE ..]
 
-`init` on a folder that isn't there, `init` over what an earlier one left, and a `transfer` with a commit behind each chunk over a segment that was left run
-under strace. All that each changes or makes stable in the target, in order, each call by its path, has to be the list that stands here: the place is synced
+`init` on a folder that isn't there, `init` over what an earlier one left, a `transfer` with a commit behind each chunk and a `delete`, both over a segment that was
+left, run under strace. All that each changes or makes stable in the target, in order, each call by its path, has to be the list that stands here: the place is synced
 once a name in it was changed, and what is above it once it was made. Then each write, sync, rename and folder to be made of an `init` is refused in turn: the
 status has to be that of the target's device, no name that is written beside stays, and an `init` after it has to end with 0, or with 9 where the
-commit was made. And `init` is killed at each of its calls in turn, with the status of a kill: the next `init` has to end so too, and `list` and `check` have to
+commit was made. So is each write, sync, rename and removal of a `delete`: the one after it has to end with 0, or with 11 where the archive is gone. And `init` is killed at each of its calls in turn, with the status of a kill: the next `init` has to end so too, and `list` and `check` have to
 open what is there then. With names of cases, those alone are tried. One line for each thing that differs, and at the end 'N passed, M failed, K skipped';
 status 1 where M isn't 0. Without strace all of it is skipped.
 """
@@ -25,8 +25,10 @@ PROGRAM = os.path.abspath(sys.argv[1])
 ENVIRONMENT = {**os.environ, "BORG_PASSPHRASE": "passphrase", "BORG_OTHER_PASSPHRASE": "passphrase"}
 INIT = ("-", "target", "init", "--iterations", "1")
 TRANSFER = ("source", "target", "transfer", "--block", "64", "--checkpoint", "1", "a")
+DELETE = ("-", "target", "delete", "a")
 LEFT = b"BORG_SEG" + b"\0" * 9
 REFUSED = {"write": "ENOSPC", "fsync": "EIO", "rename": "EIO", "mkdir": "EACCES", "openat": "EMFILE"}
+REFUSED_OF_DELETE = {"write": "ENOSPC", "fsync": "EIO", "rename": "EIO", "unlink": "EACCES", "openat": "EMFILE"}
 
 
 def replaced(name):
@@ -56,6 +58,11 @@ ON = [
     *[("fsync", name) for name in ("config", "nonce", "README", "data/0/0", "data/0/1", "data/0/2")], *SETTLED,
     ("unlink", "data/0/2"), ("fsync", "data/0"), *replaced("nonce"),
     *[call for number in range(2, 8) for call in appended(f"data/0/{number}")],
+]  # fmt: skip
+# The DELETEs are written before the manifest's numbers are reserved: nothing of them counts until the commit.
+GONE = [
+    *[("fsync", name) for name in ("config", "nonce", "README", *(f"data/0/{number}" for number in range(9)))], *SETTLED,
+    ("unlink", "data/0/8"), ("fsync", "data/0"), ("write", "data/0/8"), *replaced("nonce"), *appended("data/0/8"), *appended("data/0/9"),
 ]  # fmt: skip
 
 
@@ -112,6 +119,13 @@ def make_both(root):
     write(os.path.join(root, "target/data/0/2"), LEFT)
 
 
+def make_filled(root):
+    """A target with that archive, and a segment that isn't committed."""
+    make_both(root)
+    judge(run(root, *TRANSFER) == 0, "transfer before a deletion")
+    write(os.path.join(root, "target/data/0/8"), LEFT)
+
+
 def goes_on(root, what):
     """Whether no file that is written beside was left, and the next `init` ends well or finds the commit."""
     again = run(root, *INIT)
@@ -121,15 +135,29 @@ def goes_on(root, what):
         judge((ran.returncode, ran.stdout) == (0, wanted), f"{what}: {command} ends with {ran.returncode}: {ran.stdout}")
 
 
-def refuse(place, error):
+def deletes_on(root, what):
+    """Whether the archive is there as it was, and the next `delete` takes it out, or it is gone."""
+    ran = subprocess.run([PROGRAM, "target", "-", "extract", "a", "file"], cwd=root, env=ENVIRONMENT, capture_output=True)
+    is_there = ran.returncode == 0
+    judge(ran.stdout == (b"a" * 64 + b"b" * 64 if is_there else b"not found: a\n"), f"{what}: extract ends with {ran.returncode}: {ran.stdout}")
+    again = run(root, *DELETE)
+    judge(again == (0 if is_there else 11), f"{what}: the next delete ends with {again}")
+    ran = subprocess.run([PROGRAM, "target", "-", "check"], cwd=root, env=ENVIRONMENT, capture_output=True)
+    judge((ran.returncode, ran.stdout) == (0, b"ok archives 0 chunks 0 orphans 0 untagged 0\n"), f"{what}: check ends with {ran.returncode}: {ran.stdout}")
+
+
+def refuse(words, before, place, error, look_on):
+    """A command over what `before` makes, with a call of it refused, and what is there then."""
+
     def look(root):
-        what = f"the {place[0]} of number {place[1]} refused with {error}"
-        status, log = traced(root, INIT, *tracing.refusing(place, error))
+        before(root)
+        what = f"{words[2]}: the {place[0]} of number {place[1]} refused with {error}"
+        status, log = traced(root, words, *tracing.refusing(place, error))
         judge(any("INJECTED" in line for line in tracing.lines_of(log)), f"{what}: nothing was refused")
         judge(status in ((5, 6) if place[0] == "openat" else (5,)), f"{what}: status {status}")
         beside = [name for _, _, names in os.walk(os.path.join(root, "target")) for name in names if name.endswith(".borgferry-new")]
         judge(not beside, f"{what}: {beside} stay")
-        goes_on(root, what)
+        look_on(root, what)
 
     in_new_folder(look)
 
@@ -144,30 +172,38 @@ def kill(place):
     in_new_folder(look)
 
 
-def calls_of_init():
+def nothing(root):
+    """Makes nothing."""
+
+
+def calls_of(words, before):
+    """The calls of a command over what `before` makes, but the last one: a line, or what is looked at for one, once all is done."""
+
     def look(root):
-        status, log = traced(root, INIT)
-        judge(status == 0, f"init ends with {status}")
-        # Its last line is told once all is done.
+        before(root)
+        status, log = traced(root, words)
+        judge(status == 0, f"{words[2]} ends with {status}")
         return [place for place in tracing.places(log, "target")][:-1]
 
     return in_new_folder(look)
 
 
 def lists_of_calls():
-    lists("an init on a folder that isn't there", INIT, lambda root: None, NEW)
+    lists("an init on a folder that isn't there", INIT, nothing, NEW)
     lists("an init over what was left", INIT, leave, OVER)
     lists("a transfer over a segment that was left", TRANSFER, make_both, ON)
+    lists("a deletion over a segment that was left", DELETE, make_filled, GONE)
 
 
 def refusals():
-    for place in calls_of_init():
-        if place[0] in REFUSED:
-            refuse(place, REFUSED[place[0]])
+    for words, before, refused, look_on in ((INIT, nothing, REFUSED, goes_on), (DELETE, make_filled, REFUSED_OF_DELETE, deletes_on)):
+        for place in calls_of(words, before):
+            if place[0] in refused:
+                refuse(words, before, place, refused[place[0]], look_on)
 
 
 def kills():
-    places = calls_of_init()
+    places = calls_of(INIT, nothing)
     judge(len(places) > 30, f"an init makes {len(places)} calls")
     for place in places:
         kill(place)

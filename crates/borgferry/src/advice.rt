@@ -6,7 +6,7 @@ ghost use Rattle.ferry_status.specs.declared.status.Status.TheVariants as TheSta
 
 use crate::refusal::{DEVICE, UNNAMED, of_repo};
 use crate::side::Side;
-use crate::target::{COMMITTED, ENTROPY, TARGET, of_limit, of_nonce};
+use crate::target::{COMMITTED, ENTROPY, TARGET, of_deletion, of_limit, of_nonce};
 use ferry_real::Presence;
 use ferry_top::{Refusal, Status};
 
@@ -30,7 +30,7 @@ pub const ONE_FOLDER: &str =
 pub const LOCKED: &str =
     "TARGET has a lock of Borg, lock.exclusive or lock.roster, which isn't heeded: see that no Borg command runs on TARGET, nor borg with-lock around this one";
 
-/// Where files of Borg lie in a target that was compacted. The command is done.
+/// Where files of Borg lie in a target that something was taken out of. The command is done.
 pub const OUTDATED: &str =
     "TARGET has files index.*, hints.* or integrity.* of Borg that are out of date now: remove them before a Borg command uses TARGET";
 
@@ -55,6 +55,9 @@ pub const OUTPUT: &str =
     "standard output can't be written, so lines are missing: see whether its disk is full or the program behind the pipe has ended";
 
 const MISSING: &str = "no archive of SOURCE has this name: list prints the names";
+
+const MISSING_IN_TARGET: &str =
+    "no archive of TARGET has this name: list prints the names, with TARGET in the place of SOURCE";
 
 const MISSING_PATH: &str =
     "no archive of SOURCE has this name, or no file in it this path: list prints the names, list NAME the paths; a link (l) has no content of its own, so extract the path that borg list shows it to lead to";
@@ -95,7 +98,7 @@ pub fn advice(
         Status::EntropyDevice => Some(ENTROPY),
         Status::OutputDevice => Some(OUTPUT),
         Status::SourceRefused(refusal) | Status::TargetRefused(refusal) => {
-            Some(of_refusal(refusal, presence, is_record))
+            Some(of_refusal(refusal, command, presence, is_record))
         }
         Status::Taken(_) => Some(TAKEN),
         Status::NotFound(_) => Some(of_missing_name(command)),
@@ -112,18 +115,25 @@ fn of_target_device(presence: Presence) -> &'static str {
 }
 
 /// A repository that is refused.
-fn of_refusal(refusal: &Refusal, presence: Presence, is_record: bool) -> &'static str {
+fn of_refusal(
+    refusal: &Refusal,
+    command: &str,
+    presence: Presence,
+    is_record: bool,
+) -> &'static str {
     match refusal {
+        Refusal::Repo(fault) if command == "delete" => of_deletion(fault, presence),
         Refusal::Repo(fault) => of_repo(fault, presence, is_record),
         Refusal::Nonce(fault) => of_nonce(*fault),
         Refusal::Committed => COMMITTED,
     }
 }
 
-/// A name or a path that isn't there. Paths are named by `extract` alone.
+/// A name or a path that isn't there. Paths are named by `extract` alone, archives of the target by `delete` alone.
 fn of_missing_name(command: &str) -> &'static str {
     match command {
         "extract" => MISSING_PATH,
+        "delete" => MISSING_IN_TARGET,
         _ => MISSING,
     }
 }
@@ -149,6 +159,9 @@ fn form_of(command: &str) -> &'static str {
         "plan" => {
             "the form is borgferry SOURCE TARGET plan, with --block B behind it, or without, and then the names, none for all; names that begin with -- stand behind --"
         }
+        "delete" => {
+            "the form is borgferry SOURCE TARGET delete NAME, with --timestamp T in front of the name, or without; a NAME that begins with -- stands behind --"
+        }
         "compact" => {
             "the form is borgferry SOURCE TARGET compact, with --threshold P, from 0 to 100, behind it, or without"
         }
@@ -156,7 +169,7 @@ fn form_of(command: &str) -> &'static str {
             "the form is borgferry SOURCE TARGET make-key, with --iterations N, from 1 to 10000000, behind it, or without"
         }
         _ => {
-            "the form is borgferry SOURCE TARGET COMMAND, and the commands are keys, key, list, extract, check, init, plan, transfer, compact and make-key; borgferry --help says what they do"
+            "the form is borgferry SOURCE TARGET COMMAND, and the commands are keys, key, list, extract, check, init, plan, transfer, delete, compact and make-key; borgferry --help says what they do"
         }
     }
 }

@@ -74,7 +74,8 @@ fn with_source<R: Runtime + AllocGlobal>(
     task: &Task,
     progress: &Rc<Progress<R>>,
 ) -> Result<u8, StartFault> {
-    let mut source = source(rt, task.places.source, progress)?;
+    let own = rt.clone()?;
+    let mut source = FolderShelf::new(own, rt.alloc(), task.places.source, progress.clone()?)?;
     with_target(rt, task, progress, &mut source)
 }
 
@@ -85,7 +86,8 @@ fn with_target<R: Runtime + AllocGlobal>(
     progress: &Rc<Progress<R>>,
     source: &mut FolderShelf<R>,
 ) -> Result<u8, StartFault> {
-    let mut target = target(rt, task.places.target, progress)?;
+    let own = rt.clone()?;
+    let mut target = FolderDepot::new(own, rt.alloc(), task.places.target, progress.clone()?)?;
     with_output(rt, task, progress, source, &mut target)
 }
 
@@ -97,7 +99,8 @@ fn with_output<R: Runtime + AllocGlobal>(
     source: &mut FolderShelf<R>,
     target: &mut FolderDepot<R>,
 ) -> Result<u8, StartFault> {
-    let mut out = output(rt, progress)?;
+    let own = rt.clone()?;
+    let mut out = StdSink::new(own, progress.clone()?);
     let status = with_entropy(rt, task, source, target, &mut out)?;
     let is_record = names_record(rt.alloc(), &status, task.secrets, source, target);
     progress.end();
@@ -123,32 +126,6 @@ fn with_entropy<R: Runtime + AllocGlobal>(
         &mut entropy,
         out,
     ))
-}
-
-/// The files of the source.
-fn source<R: Runtime + AllocGlobal>(
-    rt: &R,
-    place: &str,
-    progress: &Rc<Progress<R>>,
-) -> Result<FolderShelf<R>, AllocError> {
-    let own = rt.clone()?;
-    FolderShelf::new(own, rt.alloc(), place, progress.clone()?)
-}
-
-/// The files of the target.
-fn target<R: Runtime + AllocGlobal>(
-    rt: &R,
-    place: &str,
-    progress: &Rc<Progress<R>>,
-) -> Result<FolderDepot<R>, AllocError> {
-    let own = rt.clone()?;
-    FolderDepot::new(own, rt.alloc(), place, progress.clone()?)
-}
-
-/// Standard output.
-fn output<R: Runtime>(rt: &R, progress: &Rc<Progress<R>>) -> Result<StdSink<R>, AllocError> {
-    let own = rt.clone()?;
-    Ok(StdSink::new(own, progress.clone()?))
 }
 
 /// Whether the compressed object that a status names is an archive's record of the repository that the status speaks of.
@@ -202,12 +179,17 @@ fn warn_of_lock<R: Runtime + AllocGlobal>(
 
 /// Whether a command writes the target.
 fn writes_target(name: &str) -> bool {
-    name == "init" || name == "transfer" || name == "compact"
+    name == "init" || name == "transfer" || removes(name)
+}
+
+/// Whether a command takes objects or segments out of the target, after which Borg's own files are out of date.
+fn removes(name: &str) -> bool {
+    name == "delete" || name == "compact"
 }
 
 /// Says what is to be known behind a command that is done.
 fn note<R: Runtime>(rt: &R, name: &str, task: &Task) {
-    if name == "compact" && has_index(rt, task.places.target) {
+    if removes(name) && has_index(rt, task.places.target) {
         advise(rt, OUTDATED);
     }
     note_passphrase(rt, name, task.secrets);

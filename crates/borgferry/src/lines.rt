@@ -7,7 +7,8 @@ pub const VERSION: &str = "borgferry 0.1.0\n";
 pub const HEAD: &str = "\
 borgferry reads a BorgBackup 1.2 repository, the source, whose archives were
 made with --compression none, and makes another, the target, or copies archives
-into it. Only init, transfer and compact write the target, nothing the source.
+into it. Only init, transfer, delete and compact write the target, nothing the
+source.
 
 usage: borgferry SOURCE TARGET COMMAND ..
        borgferry COMMAND --help
@@ -20,8 +21,9 @@ commands:
 ";
 
 /// The commands, in the order of the help.
-pub const COMMANDS: [&str; 10] = [
-    "keys", "key", "list", "extract", "check", "init", "plan", "transfer", "compact", "make-key",
+pub const COMMANDS: [&str; 11] = [
+    "keys", "key", "list", "extract", "check", "init", "plan", "transfer", "delete", "compact",
+    "make-key",
 ];
 
 /// What stands behind the commands in the help.
@@ -63,6 +65,7 @@ pub fn lines_of(command: &str) -> Option<&'static str> {
         "init" => Some(INIT),
         "plan" => Some(PLAN),
         "transfer" => Some(TRANSFER),
+        "delete" => Some(DELETE),
         "compact" => Some(COMPACT),
         "make-key" => Some(MAKE_KEY),
         _ => None,
@@ -115,6 +118,12 @@ const PLAN: &str = "  plan [--block B] [NAME ..]
       prints how many chunks transfer would put of these archives, or of all,
       their bytes, and how many chunks of item lists; writes nothing
       B: the bytes of a chunk, as in transfer
+";
+
+const DELETE: &str = "  delete [--timestamp T] NAME
+      takes an archive out of the target, with the chunks that no other archive
+      uses, and prints how many these were; compact gives back their space
+      T: the timestamp of the new manifest, else that of the old one
 ";
 
 const COMPACT: &str = "  compact [--threshold P]

@@ -1,7 +1,10 @@
 //! What only the target is refused for, and what limits it meets, in plain words.
 
+use crate::refusal::of_repo;
+use ferry_base::ZERO_ID;
 use ferry_nonce::NonceFault;
-use ferry_top::Limit;
+use ferry_real::Presence;
+use ferry_top::{Limit, RepoFault};
 
 /// Where the target's device failed.
 pub const TARGET: &str =
@@ -14,6 +17,19 @@ pub const ENTROPY: &str =
 /// Where a repository is to be made over another.
 pub const COMMITTED: &str =
     "there is a repository in TARGET already, and none is made over it: name a folder that is empty or isn't there";
+
+/// Where an archive is to be deleted and one of the target doesn't read, it or another.
+const UNREAD: &str =
+    "TARGET has an archive that doesn't read, and while it has one none is deleted, since a chunk might go that it uses: list NAME, with TARGET in the place of SOURCE, is refused for it; borg recreate --recompress --compression none --chunker-params fixed,65536 --target NEW TARGET::NAME makes a plain one where Borg reads it, borg delete --force TARGET::NAME takes it out, and then one borg create --compression none makes a plain manifest";
+
+/// A target of which no archive is deleted. All archives have to read for that, so what the fault names may be an object of any.
+pub fn of_deletion(fault: &RepoFault, presence: Presence) -> &'static str {
+    match fault {
+        RepoFault::Missing(id) | RepoFault::Blob(id, _) if *id != ZERO_ID => UNREAD,
+        RepoFault::Archive(_, _) | RepoFault::Item(_, _) => UNREAD,
+        _ => of_repo(fault, presence, false),
+    }
+}
 
 /// The file `nonce`.
 pub fn of_nonce(fault: NonceFault) -> &'static str {

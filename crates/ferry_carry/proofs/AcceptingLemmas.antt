@@ -15,14 +15,13 @@ use Rattle.ferry_manifest.specs.declared.manifest.ArchiveRef.{ArchiveRef}
 use Rattle.ferry_next.specs.Next.{next_manifest, written_at}
 use Rattle.ferry_repo.specs.Archives.{archive_named}
 use Rattle.ferry_repo.specs.Opening.{RepoState, repo_view}
-use Rattle.ferry_store.specs.Commit.{accepted_in}
+use Rattle.ferry_store.specs.Commit.{accepted_in, IsSettled}
 use Rattle.ferry_store.specs.Fault.{store_refusal}
 use Rattle.ferry_store.specs.Standing.{with_manifest}
 use Rattle.ferry_store.specs.declared.fault.StoreRefusal.TheVariants.{TooLarge}
 use Rattle.ferry_store.specs.declared.store.Store.{Store}
 use Rattle.ferry_carry.specs.Accepting.{AreNextOf, HasLargeNext, IsNextOf, LimitsNames, next_named}
 use Rattle.ferry_piece.specs.Fault.{target_fault}
-use Rattle.ferry_carry.specs.Flight.{IsSettled}
 use Rattle.ferry_piece.specs.Gather.{KeepsRest}
 use Rattle.ferry_carry.specs.Naming.{entry_for}
 use Rattle.ferry_carry.specs.Refusals.{IsLimited, is_of_telling, named_next}

@@ -26,7 +26,7 @@ use Rattle.ferry_repo.specs.Whole.{RefusesWhole}
 use Rattle.ferry_stops.specs.Tells.{TellsNothing}
 use Rattle.ferry_store.specs.Commit.{accepted_in}
 use Rattle.ferry_store.specs.declared.store.Store.{Store}
-use Rattle.ferry_carry.proofs.FlightLemmas.{known_read}
+use Rattle.ferry_store.proofs.ReadLemmas.{known_read}
 use Rattle.ferry_carry.proofs.GrowLemmas.{most_then}
 use Rattle.ferry_carry.proofs.ProgressLemmas.{any_told, stream_ids}
 use Rattle.ferry_piece.proofs.AmongLemmas.{among_next}

@@ -1,5 +1,5 @@
 -- Lemmas on specs/Flight.antt: a target that is only read, and what holds of a store of which nothing was named.
-use Rattle.std.proofs.Common.{◌≡◌, ◌≢◌, ◌⊎◌, inl, inr, ◌<◌, ℕ, Bool, true, false, List, [], ◌∷◌, Option, Some, None, Result, Ok, Err, IfSome, IsSome}
+use Rattle.std.proofs.Common.{◌≡◌, ◌≢◌, ◌⊎◌, inl, ℕ, Bool, true, false, List, [], ◌∷◌, Option, Some, None, Result, Ok, Err, IfSome, IsSome}
 use Rattle.std.proofs.Common.{refl, sym, ◌∙◌, ap, subst, arith, ◌^◌, ◌-◌, ◌++◌, min, length}
 use Rattle.std.proofs.lemmas.List.{append-nil}
 use Rattle.std.proofs.lemmas.Option.{IfSome_then}
@@ -14,7 +14,7 @@ use Rattle.ferry_compare.specs.declared.fault.CompareFault.TheVariants as Compar
 use Rattle.ferry_disk.proofs.FaultLemmas.{keeps_end}
 use Rattle.ferry_disk.proofs.MomentLemmas.{between_map}
 use Rattle.ferry_disk.specs.Act.{History, files_now}
-use Rattle.ferry_disk.specs.Device.{Told, HasCause, Heard, KeepsTold, KeptWhere, RoseWhere, failed_at, heard, heard_of, told_files}
+use Rattle.ferry_disk.specs.Device.{Told, HasCause, KeepsTold, RoseWhere, told_files}
 use Rattle.ferry_disk.specs.Faults.{FailedWhere}
 use Rattle.ferry_disk.specs.Moments.{Between}
 use Rattle.ferry_mac.specs.declared.keys.Keys.{Keys}
@@ -31,15 +31,14 @@ use Rattle.ferry_repo.specs.declared.fault.RepoFault.TheVariants as Repos
 use Rattle.ferry_repo.specs.Whole.{WholeArchive}
 use Rattle.ferry_repo.specs.declared.repo.Repo.{Repo}
 use Rattle.ferry_segment.specs.Entry.{LogEntry}
+use Rattle.ferry_store.proofs.ReadLemmas.{between_end, known_read, read_fits, with_repo}
 use Rattle.ferry_store.proofs.StepLemmas.{done_here, same_told}
-use Rattle.ferry_store.specs.Commit.{accepted_in, accepted_or}
-use Rattle.ferry_store.specs.Content.{IsThere}
+use Rattle.ferry_store.specs.Commit.{accepted_in, IsSettled, ReadsStore}
 use Rattle.ferry_store.specs.Fault.{depot_failed}
 use Rattle.ferry_store.specs.Standing.{CommitsManifest, HoldsLive, committed_of, entries_of, live_in}
-use Rattle.ferry_store.specs.Store.{IsKnown, StoreFits}
+use Rattle.ferry_store.specs.Store.{StoreFits}
 use Rattle.ferry_store.specs.declared.fault.StoreRefusal.TheVariants as Stores
 use Rattle.ferry_store.specs.declared.store.Store.{Store}
-use Rattle.ferry_write.specs.Room.{behind}
 use Rattle.ferry_write.specs.Script.{AllDone}
 use Rattle.ferry_piece.proofs.AddingLemmas.{gathers_all, stops_unbroken}
 use Rattle.ferry_carry.proofs.CarryLemmas.{same_over}
@@ -50,7 +49,7 @@ use Rattle.ferry_piece.proofs.PutsLemmas.{adds_here, goes_same}
 use Rattle.ferry_piece.specs.Adding.{AddsOn, HoldsAll, IsNoChunk}
 use Rattle.ferry_piece.specs.Fault.{compare_fault, target_failed}
 use Rattle.ferry_carry.specs.Carrying.{IsCarried, Origin, SaysIn, origin}
-use Rattle.ferry_carry.specs.Flight.{IsCommitted, IsSame, IsSettled, ReadsStore}
+use Rattle.ferry_carry.specs.Flight.{IsCommitted, IsSame}
 use Rattle.ferry_piece.proofs.WorkLemmas.{between_known}
 use Rattle.ferry_piece.specs.Gather.{Gathered, Gathers, GathersAt, HoldsWithin, KeepsRest, KeepsStanding, KeepsStandingAt}
 use Rattle.ferry_carry.specs.Grow.{AcceptsMore, Grows, KeepsGrowing, KeepsNames}
@@ -105,51 +104,17 @@ compared_unbroken (Compares.Source fault) refused = tt
 compared_unbroken (Compares.Target fault) refused = repo_unbroken fault refused
 compared_unbroken Compares.Memory refused = tt
 
--- ---- what a device told that is only read
+-- ---- a target whose repository is read
 
-known_where : (P : History → Type 0) (failed : Bool) (a b : Option Told) → KeptWhere failed (heard a) b → IfSome a (λ t. P t.history)
-    → IfSome b (λ t. P t.history)
-known_where P failed a None kept known = tt
-known_where P false None (Some now) kept known = absurd (let no : ⊥ = cc in no)
-known_where P true None (Some now) kept known = absurd (let no : ⊥ = cc in no)
-known_where P false (Some told) (Some now) kept known =
-    let same : heard_of now ≡ heard_of told = cc in subst P (sym (ap (λ (h : Heard). h.history) same)) known
-known_where P true (Some told) (Some now) kept known =
-    let same : heard_of now ≡ failed_at now.calls (heard_of told) = cc in subst P (sym (ap (λ (h : Heard). h.history) same)) known
-
--- what was known is known still
-pub known_read : {T F : Type 0} (P : History → Type 0) (is_device : F → Bool) (a b : Option Told) (result : Result T F) → KeepsTold is_device a b result
-    → IfSome a (λ t. P t.history) → IfSome b (λ t. P t.history)
-known_read P is_device a b (Ok x) kept known = known_where P false a b kept known
-known_read P is_device a b (Err fault) kept known = known_where P (is_device fault) a b kept known
-
--- what is known at the end of what was done
-between_end : (P : History → Type 0) (E : History → History → Type 0) (a b : Option Told) → IfSome b (λ t. P t.history) → Between a b E
-    → Between a b (λ h g. E h g × P g)
-between_end P E None b known p = tt
-between_end P E (Some told) b known p =
-    let at : IfSome (Some p.0) (λ t. P t.history) = subst (λ (o : Option Told). IfSome o (λ t. P t.history)) p.1 known in (p.0, p.1, (p.2, at))
-
--- ---- a store whose repository was read
-
--- a store whose repository has kept another content
-abbrev pub with_repo : Store → Repo → Store
-with_repo store repo = record store { repo = repo }
-
-known_with : (store : Store) (repo : Repo) (id : List ℕ) → repo_view repo ≡ repo_view store.repo → IsKnown (with_repo store repo) id → IsKnown store id
-known_with store repo id same (inl zero) = inl zero
-known_with store repo id same (inr (inl put)) = inr (inl (subst (λ (r : RepoState). IsSome (get r.log.learnt id)) same put))
-known_with store repo id same (inr (inr has)) = inr (inr has)
-
-read_fits : (counts : Bool) (store : Store) (repo : Repo) (h : History) → repo_view repo ≡ repo_view store.repo
+-- it fits as it did, by what was written
+read_as : (counts : Bool) (store : Store) (repo : Repo) (h : History) → repo_view repo ≡ repo_view store.repo
     → FitsRepo (files_now h) (repo_view repo) (cached_in repo) → StoreFits counts store h → StoreFits counts (with_repo store repo) h
-read_fits counts store repo h same repo_fits fits = record {
+read_as counts store repo h same repo_fits fits = let now = read_fits counts store repo h same repo_fits fits in record {
   written = fits.written;
   under_way = fits.under_way;
   repo = repo_fits;
-  below = subst (λ (r : RepoState). r.log.transaction < behind store.session.after) (sym same) fits.below;
-  there = λ id apart known.
-      subst (λ (r : RepoState). IsThere (files_now h) r id) (sym same) (fits.there id apart (known_with store repo id same known));
+  below = now.below;
+  there = now.there;
   holds = subst (λ (r : RepoState). HoldsLive (files_now h) r.log (entries_of fits.written)) (sym same) fits.holds;
   manifest = subst (λ (r : RepoState). CommitsManifest r fits.written.committed) (sym same) fits.manifest;
   keeps = fits.keeps;
@@ -162,11 +127,11 @@ read_fits counts store repo h same repo_fits fits = record {
 
 read_gathers : (most : ℕ) (store : Store) (repo : Repo) (h g : History) → repo_view repo ≡ repo_view store.repo
     → (g ≡ h) × FitsRepo (files_now g) (repo_view repo) (cached_in repo) → Gathers most store [] (with_repo store repo) h g
-unfolding read_fits
+unfolding read_as
 read_gathers most store repo h g same reads counts fits =
     subst (λ (k : History). FitsRepo (files_now k) (repo_view repo) (cached_in repo) → Gathered Within most counts store [] (with_repo store repo) h k fits)
     (sym reads.0) (λ repo_fits. record {
-      fits_now = read_fits counts store repo h same repo_fits fits;
+      fits_now = read_as counts store repo h same repo_fits fits;
       moved = moved_here (repo_view store.repo).keys fits.written;
       puts = adds_here Within (repo_view store.repo).keys most (entries_of fits.written);
       committed = goes_same Within (repo_view store.repo).keys most [] fits.written;
@@ -247,7 +212,7 @@ read_rest store now reads = record {
   keys = ap (λ (r : RepoState). r.keys) reads.repo;
   config = ap (λ (r : RepoState). r.config) reads.repo;
   manifest = ap (λ (r : RepoState). r.manifest) reads.repo;
-  accepted = ap (λ (s : Store). accepted_in s) reads.rest ∙ ap (λ (r : RepoState). accepted_or r.manifest store.accepted) reads.repo;
+  accepted = ap (λ (s : Store). accepted_in s) reads.rest;
 }
 
 pub rest_packable : (store now : Store) → KeepsRest store now → IsPackable (accepted_in store) → IsPackable (accepted_in now)

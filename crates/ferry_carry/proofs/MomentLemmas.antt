@@ -11,7 +11,7 @@ use Rattle.ferry_stops.proofs.TellLemmas.{line_told, lines-append}
 use Rattle.ferry_stops.specs.Tells.{TellsNothing, line_of, lines_of}
 use Rattle.ferry_store.proofs.SoundLemmas.{stands_now}
 use Rattle.ferry_store.proofs.StepLemmas.{moments_map, moments_then, step_moments}
-use Rattle.ferry_store.specs.Commit.{accepted_in}
+use Rattle.ferry_store.specs.Commit.{accepted_in, IsSettled}
 use Rattle.ferry_store.specs.State.{IsSound, IsStep, ShowsStanding, Written}
 use Rattle.ferry_store.specs.Store.{StoreFits}
 use Rattle.ferry_store.specs.declared.store.Store.{Store}
@@ -26,7 +26,6 @@ use Rattle.ferry_carry.proofs.LinesLemmas.{lines_then, report_none, report_then,
 use Rattle.ferry_carry.specs.Carrying.{Origin}
 use Rattle.ferry_carry.specs.Chosen.{TellsLine}
 use Rattle.ferry_carry.specs.Counting.{IsTotalOf, TellsNew}
-use Rattle.ferry_carry.specs.Flight.{IsSettled}
 use Rattle.ferry_piece.specs.Gather.{StandsFrom}
 use Rattle.ferry_carry.specs.Grow.{AcceptsMore, Grows, KeepsGrowing, StandsOn}
 use Rattle.ferry_carry.specs.Lines.{name_line, told_of, total_line}

@@ -9,7 +9,7 @@ use Rattle.ferry_disk.specs.Moments.{Between}
 use Rattle.ferry_mac.specs.declared.keys.Keys.{Keys}
 use Rattle.ferry_manifest.specs.Manifest.Text.{ManifestText}
 use Rattle.ferry_repo.specs.Opening.{repo_view}
-use Rattle.ferry_store.specs.Commit.{accepted_in}
+use Rattle.ferry_store.specs.Commit.{accepted_in, IsSettled}
 use Rattle.ferry_store.specs.State.{IsStep}
 use Rattle.ferry_store.specs.Store.{StoreFits}
 use Rattle.ferry_store.specs.declared.fault.StoreRefusal.TheVariants as Stores
@@ -33,7 +33,7 @@ use Rattle.ferry_carry.specs.Chosen.{TellsLine}
 use Rattle.ferry_carry.specs.Counting.{CountsMore, TellsNew, nothing_carried}
 use Rattle.ferry_piece.specs.Fault.{IsOfSource, target_failed}
 use Rattle.ferry_carry.specs.Filling.{FillsAll, FillsNames}
-use Rattle.ferry_carry.specs.Flight.{BeginsDone, Carries, IsSettled, ListsDone, TakesAll}
+use Rattle.ferry_carry.specs.Flight.{BeginsDone, Carries, ListsDone, TakesAll}
 use Rattle.ferry_carry.specs.Grow.{AcceptsMore, Grows, KeepsGrowing}
 use Rattle.ferry_carry.specs.Lines.{name_line, told_of, total_line}
 use Rattle.ferry_carry.specs.Listing.{ListsNames}
@@ -252,6 +252,19 @@ whole_untold from before carried names line store middle a b c n m k fault is se
       held = λ source. absurd (apart source);
       fills = heard_apart a fault (λ refusal. FillsNames from (repo_view store.repo).keys (accepted_in store) [] names refusal added) apart;
     }
+
+-- memory is refused for that line
+pub whole_unwritten : (from : Origin) (before carried : Carried) (names : List (List ℕ)) (store middle : Store) (a b : Option Told) (n m : ℕ)
+    → Reports from names store middle before carried a b n m (Ok tt) → ReportsWhole from names store middle a b n m (Err Carry.Memory)
+whole_unwritten from before carried names store middle a b n m p = record {
+  added = p.added;
+  begins = p.begins;
+  works = record { each = p.works.each; end = tt; ends = p.works.ends; cause = p.works.cause };
+  last = stops_unbroken a (repo_view store.repo).keys p.added Carry.Memory tt;
+  held = λ source. absurd source;
+  fills = heard_apart a Carry.Memory (λ refusal. FillsNames from (repo_view store.repo).keys (accepted_in store) [] names refusal p.added)
+      (λ source. source);
+}
 
 -- what was reported of one source was reported of another that is the same, under a name that is the same
 pub reports_as : (from other : Origin) (some others : List (List ℕ)) (store now : Store) (carried after : Carried) (a b : Option Told) (n m : ℕ)

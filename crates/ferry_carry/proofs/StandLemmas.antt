@@ -7,7 +7,7 @@ use Rattle.ferry_disk.specs.Moments.{Between}
 use Rattle.ferry_repo.specs.Opening.{repo_view}
 use Rattle.ferry_stops.specs.Tells.{TellsNothing}
 use Rattle.ferry_store.proofs.StepLemmas.{here_each}
-use Rattle.ferry_store.specs.Commit.{accepted_in}
+use Rattle.ferry_store.specs.Commit.{accepted_in, IsSettled}
 use Rattle.ferry_store.specs.Fault.{depot_failed}
 use Rattle.ferry_store.specs.State.{KeepsSound}
 use Rattle.ferry_store.specs.declared.fault.StoreRefusal.{StoreRefusal}
@@ -24,7 +24,6 @@ use Rattle.ferry_carry.proofs.ThereLemmas.{extends_next}
 use Rattle.ferry_carry.specs.Accepting.{AreNextOf}
 use Rattle.ferry_carry.specs.Carrying.{Origin}
 use Rattle.ferry_piece.specs.Fault.{IsOfWork, target_fault}
-use Rattle.ferry_carry.specs.Flight.{IsSettled}
 use Rattle.ferry_piece.specs.Gather.{Gathers, KeepsStanding, KeepsStandingAt}
 use Rattle.ferry_carry.specs.Grow.{AcceptsMore, Grows, KeepsGrowing}
 use Rattle.ferry_piece.specs.Puts.{Addition, AtBegin, Within, border_behind}

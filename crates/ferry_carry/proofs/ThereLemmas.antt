@@ -11,7 +11,7 @@ use Rattle.ferry_next.proofs.PlaceLemmas.{with_named}
 use Rattle.ferry_blob.specs.Blob.{content_id}
 use Rattle.ferry_repo.specs.Archives.{archive_named}
 use Rattle.ferry_repo.specs.Opening.{repo_view}
-use Rattle.ferry_store.specs.Commit.{accepted_in}
+use Rattle.ferry_store.specs.Commit.{accepted_in, IsSettled}
 use Rattle.ferry_store.specs.declared.store.Store.{Store}
 use Rattle.ferry_carry.proofs.CauseLemmas.{not_there}
 use Rattle.ferry_carry.proofs.CutLemmas.{among_either, among_none, among_one}
@@ -20,7 +20,6 @@ use Rattle.ferry_carry.proofs.GrowLemmas.{has_kept}
 use Rattle.ferry_piece.proofs.AmongLemmas.{among_all, among_behind, among_front}
 use Rattle.ferry_carry.specs.Accepting.{AreNextOf, IsNextOf}
 use Rattle.ferry_carry.specs.Counting.{TellsNew}
-use Rattle.ferry_carry.specs.Flight.{IsSettled}
 use Rattle.ferry_piece.specs.Gather.{IsAmong}
 use Rattle.ferry_carry.specs.Grow.{AcceptsMore, IsNamedBy, KeepsMost}
 use Rattle.ferry_carry.specs.Listing.{IsThere}

@@ -20,6 +20,16 @@ use Rattle.ferry_piece.specs.Gather.{chunks_of}
 use Rattle.ferry_piece.specs.Piece.{BeginsOn, WritesOn}
 use Rattle.ferry_piece.specs.Puts.{IsCheckpoint}
 use Rattle.ferry_carry.specs.declared.copy.Copy.{Copy}
+use Rattle.ferry_piece.specs.declared.piece.PieceWriter.{PieceWriter}
+
+-- A writer with this block size and checkpoint has written nothing.
+pub record IsUnused (writer : PieceWriter) (block most : ℕ) : Type 0 where
+  pub block_is : writer.cutter.block ≡ block
+  pub most_is : writer.checkpoint ≡ most
+  pub piece : writer.cutter.piece ≡ []
+  pub chunks : writer.chunks.items ≡ []
+  pub put : writer.put ≡ 0
+  pub bytes : writer.bytes ≡ 0
 
 -- No content is under way, and the block size, the checkpoint and the record are those of an archive that can be written.
 pub record IsReady (copy : Copy) : Type 0 where

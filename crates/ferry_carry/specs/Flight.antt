@@ -160,12 +160,3 @@ NamesArchive accepted entry store store_now before now count after result = (fro
 abbrev pub IsCommitted : Store → List ℕ → Type 0
 IsCommitted store name = (entry : ArchiveRef) → archive_named name (accepted_in store).archives ≡ Some entry
     → archive_named name (repo_view store.repo).manifest.archives ≡ Some entry
-
--- All that was accepted is committed.
-abbrev pub IsSettled : Store → Type 0
-IsSettled store = accepted_in store ≡ (repo_view store.repo).manifest
-
--- Nothing of a store changed but which contents its repository keeps in memory.
-pub record ReadsStore (store store_now : Store) : Type 0 where
-  pub repo : repo_view store_now.repo ≡ repo_view store.repo
-  pub rest : store_now ≡ record store { repo = store_now.repo }

@@ -5,7 +5,7 @@ ghost use Rattle.ferry_carry.specs.Chosen.{IsMissingName, TellsLine};
 ghost use Rattle.ferry_piece.specs.Fault.{IsOfWork, random_failed, shelf_failed};
 ghost use Rattle.ferry_carry.specs.Carrying.{origin};
 ghost use Rattle.ferry_carry.specs.Counting.{TellsNew};
-ghost use Rattle.ferry_carry.specs.Flight.{AreRight, FlightFits, IsSettled, TakesAll, flown_from};
+ghost use Rattle.ferry_carry.specs.Flight.{AreRight, FlightFits, TakesAll, flown_from};
 ghost use Rattle.ferry_carry.specs.Grow.{KeepsMost};
 ghost use Rattle.ferry_carry.specs.Lines.{name_line, told_of};
 ghost use Rattle.ferry_piece.specs.Puts.{Addition};
@@ -20,7 +20,7 @@ ghost use Rattle.ferry_manifest.specs.Manifest.Writing.{IsPackable};
 ghost use Rattle.ferry_repo.specs.Archives.{archive_named};
 ghost use Rattle.ferry_repo.specs.Opening.{FitsRepo, cached_in, repo_view};
 ghost use Rattle.ferry_stops.specs.Tells.{TellsNothing};
-ghost use Rattle.ferry_store.specs.Commit.{accepted_in};
+ghost use Rattle.ferry_store.specs.Commit.{accepted_in, IsSettled};
 ghost use Rattle.ferry_store.specs.State.{IsStep};
 ghost use Rattle.ferry_store.specs.Store.{IsUnspent, StoreFits};
 ghost use Rattle.ferry_store.specs.declared.fault.StoreRefusal.{StoreRefusal};
@@ -219,7 +219,7 @@ fn carry_one<S: Shelf, D: Depot, E: Entropy>(
     ensures entropy { HasCause random_failed (E.faults entropy.old) (E.faults entropy.new) result }
 {
     let mut flight = Flight::begin(alloc, source, name, options)?;
-    carry_flight(
+    let done = carry_flight(
         alloc,
         &mut flight,
         source,
@@ -229,7 +229,10 @@ fn carry_one<S: Shelf, D: Depot, E: Entropy>(
         entropy,
         name,
         carried,
-    )
+    );
+    // By a call: at a scope's end each of its parts would have to be gone through here.
+    drop(flight);
+    done
 }
 
 /// Takes a flight to its end, tells the archive of its name, and counts what was done.

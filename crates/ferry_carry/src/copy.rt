@@ -1,10 +1,11 @@
 //! An archive that the target lacks.
 ghost use Rattle.std.specs.Prelude.{◌≡◌, ◌≤◌, ◌<◌, ◌^◌, ◌-◌, ◌++◌, [], List, Some, None, Ok, true, false, length, min, IfErr, IfOk, IfSome, OnOk};
 ghost use Rattle.ferry_disk.specs.Device.{HasCause, KeepsTold, told_files};
+ghost use Rattle.ferry_disk.specs.Files.{Files};
 ghost use Rattle.ferry_piece.specs.Adding.{AddsOn};
 ghost use Rattle.ferry_carry.specs.Carrying.{origin};
-ghost use Rattle.ferry_carry.specs.Copied.{IsRead};
-ghost use Rattle.ferry_carry.specs.Copying.{BeginsChunk, BeginsContent, BeginsContents, CopiesContent, IsReady, TakesItem};
+ghost use Rattle.ferry_carry.specs.Copied.{IsRead, stream_block};
+ghost use Rattle.ferry_carry.specs.Copying.{BeginsChunk, BeginsContent, BeginsContents, CopiesContent, IsReady, IsUnused, TakesItem};
 ghost use Rattle.ferry_carry.specs.Copying.{WritesContent, WritesContents, WritesItem};
 ghost use Rattle.ferry_piece.specs.Fault.{IsOfSource, random_failed, shelf_failed, target_failed};
 ghost use Rattle.ferry_carry.specs.Filling.{FillsChunks, FillsContent, FillsOne, FillsStep, WhereHeard, WhereSource};
@@ -90,15 +91,20 @@ impl Copy {
         ensures drawn { IfErr result (λ fault. random_failed fault ≡ false) }
     {
         let archive = read_record(alloc, source, shelf, id)?;
-        let walk = source.walk(id, &archive)?;
-        Ok(Copy {
-            alloc,
-            block: options.block,
-            walk,
-            archive,
-            contents: PieceWriter::new(alloc, options.block, options.checkpoint)?,
-            stream: PieceWriter::new(alloc, STREAM_BLOCK, options.checkpoint)?,
-        })
+        match begin_parts(alloc, source, id, &archive, options) {
+            Ok((walk, contents, stream)) => Ok(Copy {
+                alloc,
+                block: options.block,
+                walk,
+                archive,
+                contents,
+                stream,
+            }),
+            Err(fault) => {
+                drop(archive);
+                Err(fault)
+            }
+        }
     }
 
     /// Copies one further item, and answers whether there was one.
@@ -332,6 +338,30 @@ impl Copy {
         }
         Ok(ChunkRefs::new(copied))
     }
+}
+
+/// The walk over the items of an archive that is copied, and the writers of its contents and of its stream.
+#[tactic(auto, using(ferry_piece::proofs::FaultLemmas::conversions))]
+fn begin_parts(
+    alloc: Global,
+    source: &Repo,
+    id: &Id,
+    archive: &Archive,
+    options: &Options,
+) -> Result<(Walk, PieceWriter, PieceWriter), CarryFault>
+    requires least { 64 ≤ options.now.block }
+    requires most { options.now.block ≤ 8388608 }
+    ensures walk { IfOk result (λ (walk, contents, stream). walk_view walk ≡ begin_walk id.now (archive_view archive.now).items) }
+    ensures fits { IfOk result (λ (walk, contents, stream). (files : Files)
+        → FitsWalk files (repo_view source.now).log (repo_view source.now).keys (walk_view walk)) }
+    ensures contents { IfOk result (λ (walk, contents, stream). IsUnused contents options.now.block options.now.checkpoint) }
+    ensures stream { IfOk result (λ (walk, contents, stream). IsUnused stream stream_block options.now.checkpoint) }
+    ensures memory { IfErr result (λ fault. fault ≡ CarryFault.Memory) }
+{
+    let contents = PieceWriter::new(alloc, options.block, options.checkpoint)?;
+    let stream = PieceWriter::new(alloc, STREAM_BLOCK, options.checkpoint)?;
+    let walk = source.walk(id, archive)?;
+    Ok((walk, contents, stream))
 }
 
 /// Writes the contents of these chunks, one after another.

@@ -4,7 +4,7 @@ ghost use Rattle.ferry_blob.specs.Blob.{content_id};
 ghost use Rattle.ferry_piece.specs.Adding.{AddsOn, IsNoChunk};
 ghost use Rattle.ferry_piece.specs.Fault.{random_failed, shelf_failed};
 ghost use Rattle.ferry_carry.specs.Counting.{nothing_carried};
-ghost use Rattle.ferry_carry.specs.Flight.{AreRight, FlightFits, FlightStands, IsCommitted, IsSame, IsSettled, ReadsStore, TakesTurn, flown_from};
+ghost use Rattle.ferry_carry.specs.Flight.{AreRight, FlightFits, FlightStands, IsCommitted, IsSame, TakesTurn, flown_from};
 ghost use Rattle.ferry_carry.specs.Carrying.{origin};
 ghost use Rattle.ferry_carry.specs.Copying.{IsReady};
 ghost use Rattle.ferry_piece.specs.Gather.{GathersAt, KeepsRest, KeepsStandingAt};
@@ -20,7 +20,7 @@ ghost use Rattle.ferry_manifest.specs.Manifest.Writing.{IsPackable};
 ghost use Rattle.ferry_repo.specs.Archives.{archive_named};
 ghost use Rattle.ferry_repo.specs.Opening.{FitsRepo, cached_in, repo_view};
 ghost use Rattle.ferry_repo.specs.Walk.{FitsWalk, walk_view};
-ghost use Rattle.ferry_store.specs.Commit.{accepted_in};
+ghost use Rattle.ferry_store.specs.Commit.{accepted_in, IsSettled, ReadsStore};
 ghost use Rattle.ferry_store.specs.Store.{IsUnspent, StoreFits};
 
 use crate::copy::Copy;
@@ -68,6 +68,15 @@ pub(crate) enum Work {
     Copying(Copy),
     /// The archive is compared.
     Comparing(Comparison),
+}
+
+impl Work {
+    /// Goes on with other work. What was there is dropped by a call, and not part by part as at an assignment.
+    fn renew(&mut self, work: Work)
+        ensures { self.new ≡ work }
+    {
+        drop(mem::replace(self, work));
+    }
 }
 
 impl Flight {
@@ -279,21 +288,30 @@ impl Flight {
         ensures options { self.new.options ≡ self.old.options }
     {
         let mut copy = copy;
-        let more = copy.step(source, shelf, store, depot)?;
-        if more {
-            self.work = Work::Copying(copy);
-            return Ok(Turn::More);
+        match copy.step(source, shelf, store, depot) {
+            Ok(true) => {
+                self.work.renew(Work::Copying(copy));
+                Ok(Turn::More)
+            }
+            Ok(false) => {
+                let put = end_copy(
+                    &mut copy,
+                    source,
+                    store,
+                    depot,
+                    entropy,
+                    &self.named,
+                    &self.options.timestamp,
+                );
+                drop(copy);
+                self.put = put?;
+                Ok(Turn::Named)
+            }
+            Err(fault) => {
+                drop(copy);
+                Err(fault)
+            }
         }
-        self.put = end_copy(
-            copy,
-            source,
-            store,
-            depot,
-            entropy,
-            &self.named,
-            &self.options.timestamp,
-        )?;
-        Ok(Turn::Named)
     }
 
     /// Compares one further item, or answers that the archive is there.
@@ -347,11 +365,10 @@ impl Flight {
         ensures options { self.new.options ≡ self.old.options }
     {
         let mut comparison = comparison;
-        match compare_item(source, shelf, store, depot, &mut comparison)? {
-            Compared::More => {
-                self.work = Work::Comparing(comparison);
-                Ok(Turn::More)
-            }
+        let compared = compare_item(source, shelf, store, depot, &mut comparison);
+        self.work.renew(Work::Comparing(comparison));
+        match compared? {
+            Compared::More => Ok(Turn::More),
             Compared::Equal => present(store, depot),
             Compared::Differs => Err(taken(self.alloc, self.named.name.as_slice())),
         }

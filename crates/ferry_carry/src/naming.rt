@@ -69,25 +69,22 @@ fn fixed_params(alloc: Global, block: usize) -> Result<Value, AllocError>
     Ok(Value::Array(params))
 }
 
-/// The record of an archive whose stream has these pieces.
+/// Makes of a record that of an archive whose stream has these pieces.
 fn copied_archive(
     alloc: Global,
-    archive: Archive,
+    archive: &mut Archive,
     block: usize,
     pieces: &[ChunkRef],
-) -> Result<Archive, AllocError>
-    requires packable { IsPackableArchive (archive_view archive) }
-    ensures archive { IfOk result (λ copied. archive_view copied
-        ≡ copied_archive (archive_view archive) block (map (λ chunk. chunk.id) pieces.now)) }
-    ensures packable { IfOk result (λ copied. IsPackableArchive (archive_view copied)) }
+) -> Result<(), AllocError>
+    requires packable { IsPackableArchive (archive_view archive.old) }
+    ensures archive { OnOk result (archive_view archive.new
+        ≡ copied_archive (archive_view archive.old) block (map (λ chunk. chunk.id) pieces.now)) }
+    ensures packable { OnOk result (IsPackableArchive (archive_view archive.new)) }
 {
-    Ok(Archive {
-        name: archive.name,
-        items: ids_of(alloc, pieces)?,
-        params: Some(fixed_params(alloc, block)?),
-        fields: archive.fields,
-        tagged: true,
-    })
+    archive.items = ids_of(alloc, pieces)?;
+    archive.params = Some(fixed_params(alloc, block)?);
+    archive.tagged = true;
+    Ok(())
 }
 
 /// The packed bytes of a record.
@@ -202,29 +199,29 @@ fn put_copied<D: Depot, E: Entropy>(
     store: &mut Store,
     depot: &mut D,
     entropy: &mut E,
-    archive: Archive,
+    archive: &mut Archive,
     block: usize,
     pieces: &[ChunkRef],
 ) -> Result<Id, CarryFault>
-    requires packable { IsPackableArchive (archive_view archive) }
+    requires packable { IsPackableArchive (archive_view archive.old) }
     requires unspent { IsUnspent store.old }
     requires fits { IfSome (D.told depot.old) (λ t. StoreFits false store.old t.history) }
     ensures put { (more : List Addition) × (((most : ℕ) → IsCheckpoint most → store.old.pending ≤ most
         → AddsOn most store.old more store.new
         (D.told depot.old) (D.told depot.new) (D.faults depot.old) (D.faults depot.new) result)
-        × (BeginsRecord (repo_view store.old.repo).keys (copied_in (archive_view archive) block pieces.now) more
-        × IfOk result (AddsUnder (repo_view store.old.repo).keys (copied_in (archive_view archive) block pieces.now) more))) }
+        × (BeginsRecord (repo_view store.old.repo).keys (copied_in (archive_view archive.old) block pieces.now) more
+        × IfOk result (AddsUnder (repo_view store.old.repo).keys (copied_in (archive_view archive.old) block pieces.now) more))) }
     ensures rest { OnOk result (KeepsRest store.old store.new) }
     ensures fits { OnOk result (IfSome (D.told depot.new) (λ t. StoreFits false store.new t.history)) }
     ensures stops { IfErr result (StopsPieces (D.told depot.new) (repo_view store.old.repo).keys) }
     ensures unspent { OnOk result (IsUnspent store.new) }
     ensures entropy { HasCause random_failed (E.faults entropy.old) (E.faults entropy.new) result }
     ensures refused { IfErr result (RefusesRecordText (repo_view store.old.repo).keys
-        (copied_archive (archive_view archive) block (map (λ chunk. chunk.id) pieces.now))) }
+        (copied_archive (archive_view archive.old) block (map (λ chunk. chunk.id) pieces.now))) }
     ensures shelf { IfErr result (λ fault. shelf_failed fault ≡ false) }
 {
-    let copied = copied_archive(alloc, archive, block, pieces)?;
-    put_record(alloc, store, depot, entropy, &copied)
+    copied_archive(alloc, archive, block, pieces)?;
+    put_record(alloc, store, depot, entropy, archive)
 }
 
 /// Adds what is left of an archive's stream, and its record.
@@ -233,11 +230,11 @@ fn end_stream<D: Depot, E: Entropy>(
     store: &mut Store,
     depot: &mut D,
     entropy: &mut E,
-    archive: Archive,
+    archive: &mut Archive,
     block: usize,
     stream: &mut PieceWriter,
 ) -> Result<Id, CarryFault>
-    requires packable { IsPackableArchive (archive_view archive) }
+    requires packable { IsPackableArchive (archive_view archive.old) }
     requires least { 1 ≤ stream.old.cutter.block }
     requires most { stream.old.cutter.block ≤ 8388608 }
     requires within { length stream.old.cutter.piece ≤ stream.old.cutter.block }
@@ -248,9 +245,9 @@ fn end_stream<D: Depot, E: Entropy>(
     ensures ended { (last : List Addition) × ((more : List Addition) × (AddsOn stream.old.checkpoint store.old (last ++ more) store.new
         (D.told depot.old) (D.told depot.new) (D.faults depot.old) (D.faults depot.new) result
         × (ArePieces Stream (cut stream.old.cutter.block stream.old.cutter.piece) last
-        × (BeginsRecord (repo_view store.old.repo).keys (copied_in (archive_view archive) block (stream.old.chunks.items
+        × (BeginsRecord (repo_view store.old.repo).keys (copied_in (archive_view archive.old) block (stream.old.chunks.items
         ++ chunks_of (repo_view store.old.repo).keys (cut stream.old.cutter.block stream.old.cutter.piece))) more
-        × (IfOk result (AddsUnder (repo_view store.old.repo).keys (copied_in (archive_view archive) block (stream.old.chunks.items
+        × (IfOk result (AddsUnder (repo_view store.old.repo).keys (copied_in (archive_view archive.old) block (stream.old.chunks.items
         ++ chunks_of (repo_view store.old.repo).keys (cut stream.old.cutter.block stream.old.cutter.piece))) more)
         × OnOk result (CountsOn Stream stream.old last stream.new)))))) }
     ensures rest { OnOk result (KeepsRest store.old store.new) }
@@ -258,7 +255,7 @@ fn end_stream<D: Depot, E: Entropy>(
     ensures stops { IfErr result (StopsPieces (D.told depot.new) (repo_view store.old.repo).keys) }
     ensures unspent { OnOk result (IsUnspent store.new) }
     ensures entropy { HasCause random_failed (E.faults entropy.old) (E.faults entropy.new) result }
-    ensures refused { IfErr result (RefusesRecordText (repo_view store.old.repo).keys (copied_archive (archive_view archive) block
+    ensures refused { IfErr result (RefusesRecordText (repo_view store.old.repo).keys (copied_archive (archive_view archive.old) block
         (map (λ chunk. chunk.id) (stream.old.chunks.items
         ++ chunks_of (repo_view store.old.repo).keys (cut stream.old.cutter.block stream.old.cutter.piece))))) }
     ensures shelf { IfErr result (λ fault. shelf_failed fault ≡ false) }
@@ -317,7 +314,7 @@ fn name_record<D: Depot, E: Entropy>(
 /// Ends an archive all of whose items were copied: adds what is left of its stream and its record, and commits it under its name. It answers
 /// the pieces that were put for it.
 pub(crate) fn end_copy<D: Depot, E: Entropy>(
-    copy: Copy,
+    copy: &mut Copy,
     source: &Repo,
     store: &mut Store,
     depot: &mut D,
@@ -325,14 +322,14 @@ pub(crate) fn end_copy<D: Depot, E: Entropy>(
     named: &ArchiveRef,
     timestamp: &Option<Bytes>,
 ) -> Result<Carried, CarryFault>
-    requires ready { IsReady copy }
-    requires pending { store.old.pending ≤ copy.contents.checkpoint }
+    requires ready { IsReady copy.old }
+    requires pending { store.old.pending ≤ copy.old.contents.checkpoint }
     requires unspent { IsUnspent store.old }
     requires fits { IfSome (D.told depot.old) (λ t. StoreFits false store.old t.history) }
     requires packable { IsPackable (accepted_in store.old) }
     requires accepts { AcceptsMore store.old }
     requires unnamed { archive_named named.now.name (accepted_in store.old).archives ≡ None }
-    ensures works { (from : Origin) (added : List Addition) → IsAllCopied from named.now (D.told depot.old) store.old copy added
+    ensures works { (from : Origin) (added : List Addition) → IsAllCopied from named.now (D.told depot.old) store.old copy.old added
         → (more : List Addition) × EndsCopy from named.now.name added more store.old store.new
         (D.told depot.old) (D.told depot.new) (D.faults depot.old) (D.faults depot.new) result }
     ensures most { OnOk result (KeepsMost store.old store.new) }
@@ -346,22 +343,22 @@ pub(crate) fn end_copy<D: Depot, E: Entropy>(
     ensures limit { IfErr result (IsLimited (D.told depot.new) timestamp.now (repo_view source.now) store.old named.now) }
     ensures unspent { OnOk result (IsUnspent store.new) }
     ensures entropy { HasCause random_failed (E.faults entropy.old) (E.faults entropy.new) result }
-    ensures refused { (from : Origin) (added : List Addition) → IsAllCopied from named.now (D.told depot.old) store.old copy added
+    ensures refused { (from : Origin) (added : List Addition) → IsAllCopied from named.now (D.told depot.old) store.old copy.old added
         → IfErr result (RefusesEnd from (D.told depot.old) (repo_view store.old.repo).keys named.now.name) }
     ensures shelf { IfErr result (λ fault. shelf_failed fault ≡ false) }
 {
-    let Copy {
+    let alloc = copy.alloc;
+    let id = end_stream(
         alloc,
-        block,
-        archive,
-        contents,
-        stream,
-        ..
-    } = copy;
-    let mut stream = stream;
-    let id = end_stream(alloc, store, depot, entropy, archive, block, &mut stream)?;
+        store,
+        depot,
+        entropy,
+        &mut copy.archive,
+        copy.block,
+        &mut copy.stream,
+    )?;
     name_record(alloc, source, store, depot, entropy, named, id, timestamp)?;
-    Ok(Carried::of_pieces(contents.put(), stream.put().0))
+    Ok(Carried::of_pieces(copy.contents.put(), copy.stream.put().0))
 }
 
 /// Accepts an archive whose record was added, and commits it.

@@ -4,12 +4,20 @@
 #[cfg(test)]
 mod compact;
 #[cfg(test)]
+mod devices;
+#[cfg(test)]
 mod disk;
+#[cfg(test)]
+mod layout;
 #[cfg(test)]
 mod log;
 #[cfg(test)]
 mod nonce;
 #[cfg(test)]
+mod place;
+#[cfg(test)]
 mod real;
+#[cfg(test)]
+mod stop;
 #[cfg(test)]
 mod write;

@@ -5,7 +5,6 @@ use ferry_disk::{MemoryShelf, Name};
 use ferry_log::{Extent, Head, Log, LogFault, Place, head_at, open_log};
 use ferry_segment::{COMMIT, MAGIC, delete_entry, put_head};
 use std::alloc::{AllocError, Global};
-use std::test::Fail;
 
 const KEY: Id = [0x11; 32];
 
@@ -14,7 +13,6 @@ const OTHER: Id = [0x10; 32];
 
 /// What a segment of a case holds behind its magic: a PUT of the key with a blob of so many bytes 7, the same with its last byte
 /// changed, a DELETE of the key, or a COMMIT.
-#[derive(Clone, Copy)]
 enum Part {
     Put(usize),
     Changed(usize),
@@ -22,17 +20,14 @@ enum Part {
     Commit,
 }
 
-fn segment(alloc: Global, part: Part) -> Result<Vec<u8>, AllocError> {
-    let mut bytes = Vec::from_slice(alloc, &MAGIC)?;
+/// Adds the entry of a part.
+fn add(alloc: Global, bytes: &mut Vec<u8>, part: &Part) -> Result<(), AllocError> {
     match part {
-        Part::Put(size) | Part::Changed(size) => add_put(alloc, &mut bytes, size)?,
-        Part::Delete => bytes.extend_from_slice(&delete_entry(&KEY))?,
-        Part::Commit => bytes.extend_from_slice(&COMMIT)?,
+        Part::Put(size) => add_put(alloc, bytes, *size),
+        Part::Changed(size) => add_changed(alloc, bytes, *size),
+        Part::Delete => bytes.extend_from_slice(&delete_entry(&KEY)),
+        Part::Commit => bytes.extend_from_slice(&COMMIT),
     }
-    if let (Part::Changed(_), Some(last)) = (part, bytes.last_mut()) {
-        *last ^= 1;
-    }
-    Ok(bytes)
 }
 
 /// Adds a PUT of the key with a blob of so many bytes 7.
@@ -42,45 +37,78 @@ fn add_put(alloc: Global, bytes: &mut Vec<u8>, size: usize) -> Result<(), AllocE
     bytes.extend_from_slice(&blob)
 }
 
-/// A shelf of segments, from number 0 on, that hold one part each.
-fn shelf_of(alloc: Global, parts: &[Part]) -> Result<MemoryShelf, AllocError> {
+/// Adds such a PUT, and changes its last byte.
+fn add_changed(alloc: Global, bytes: &mut Vec<u8>, size: usize) -> Result<(), AllocError> {
+    add_put(alloc, bytes, size)?;
+    if let Some(last) = bytes.last_mut() {
+        *last ^= 1;
+    }
+    Ok(())
+}
+
+/// The bytes of a segment of one part.
+fn segment(alloc: Global, part: &Part) -> Result<Vec<u8>, AllocError> {
+    let mut bytes = Vec::from_slice(alloc, &MAGIC)?;
+    add(alloc, &mut bytes, part)?;
+    Ok(bytes)
+}
+
+/// The files of segments, from number 0 on, that hold one part each.
+fn files_of(alloc: Global, parts: &[Part]) -> Result<Vec<(Name, Vec<u8>)>, AllocError> {
     let mut files = Vec::new(alloc);
     let mut number = 0u64;
     for part in parts {
-        files.push((Name::Segment(number), segment(alloc, *part)?))?;
+        files.push((Name::Segment(number), segment(alloc, part)?))?;
         number = number.wrapping_add(1);
     }
+    Ok(files)
+}
+
+/// A shelf of such segments.
+fn shelf_of(alloc: Global, parts: &[Part]) -> Result<MemoryShelf, AllocError> {
+    let files = files_of(alloc, parts)?;
     MemoryShelf::new(alloc, files, Vec::new(alloc))
+}
+
+/// The size of the key's blob in the log of a shelf, where it is live.
+fn size_on(alloc: Global, shelf: &mut MemoryShelf) -> Result<Option<u32>, LogFault> {
+    let log = open_log(alloc, shelf)?;
+    Ok(match log.find(&KEY) {
+        Some(place) => Some(place.size),
+        None => None,
+    })
 }
 
 /// The size of the key's blob in the log of these segments, where it is live.
 fn size_in(alloc: Global, parts: &[Part]) -> Result<Option<u32>, LogFault> {
     let mut shelf = shelf_of(alloc, parts)?;
-    let log = open_log(alloc, &mut shelf)?;
-    Ok(log.find(&KEY).map(|place| place.size))
+    size_on(alloc, &mut shelf)
 }
 
-/// Whether the logs of these parts have the key's blob at these sizes, or are refused so.
-fn sizes_are(alloc: Global, cases: &[(&[Part], Result<Option<u32>, LogFault>)]) -> bool {
-    cases
-        .iter()
-        .all(|(parts, want)| size_in(alloc, parts) == *want)
-}
+/// Logs of these parts: the size of the key's blob in them, where it is live, or why they are refused.
+const CASES: [(&[Part], Result<Option<u32>, LogFault>); 6] = [
+    (&[Part::Commit], Ok(None)),
+    (
+        &[Part::Put(3), Part::Delete, Part::Put(140_000), Part::Commit],
+        Ok(Some(140_000)),
+    ),
+    (&[Part::Put(140_000), Part::Delete, Part::Commit], Ok(None)),
+    (&[Part::Put(3), Part::Delete], Err(LogFault::NoCommit)),
+    (
+        &[Part::Put(3), Part::Commit, Part::Changed(140_000)],
+        Ok(Some(3)),
+    ),
+    (
+        &[Part::Changed(140_000), Part::Commit],
+        Err(LogFault::Damaged { segment: 0, at: 8 }),
+    ),
+];
 
 #[test]
 fn the_last_entry_of_a_key_counts_up_to_the_last_commit(rt: HostRuntime) {
-    let (short, long) = (Part::Put(3), Part::Put(140_000));
-    let (delete, commit) = (Part::Delete, Part::Commit);
-    let damaged = LogFault::Damaged { segment: 0, at: 8 };
-    let cases: [(&[Part], Result<Option<u32>, LogFault>); 6] = [
-        (&[commit], Ok(None)),
-        (&[short, delete, long, commit], Ok(Some(140_000))),
-        (&[long, delete, commit], Ok(None)),
-        (&[short, delete], Err(LogFault::NoCommit)),
-        (&[short, commit, Part::Changed(140_000)], Ok(Some(3))),
-        (&[Part::Changed(140_000), commit], Err(damaged)),
-    ];
-    assert!(rt; sizes_are(rt.alloc(), &cases));
+    for (parts, want) in &CASES {
+        assert!(rt; size_in(rt.alloc(), parts) == *want);
+    }
 }
 
 /// Where the key's empty blob lies.
@@ -131,28 +159,45 @@ fn learns(log: &mut Log) -> bool {
         && has_both_keys(log)
 }
 
-/// Whether the heads at these places of these segments are so.
+/// The head of the key's PUT.
+const HEAD: Head = Head {
+    tag: 0,
+    key: KEY,
+    size: 41,
+};
+
+/// Places of segments, and what head is there.
+const HEADS: [(u64, u64, Result<Option<Head>, LogFault>); 5] = [
+    (0, 8, Ok(Some(HEAD))),
+    (0, 49, Ok(None)),
+    (0, 9, Err(LogFault::Damaged { segment: 0, at: 9 })),
+    (0, 50, Err(LogFault::Damaged { segment: 0, at: 50 })),
+    (7, 0, Ok(None)),
+];
+
+/// Whether the heads at these places are so.
 fn heads_are(alloc: Global, shelf: &mut MemoryShelf) -> bool {
-    let head = Head {
-        tag: 0,
-        key: KEY,
-        size: 41,
-    };
-    let cases: [(u64, u64, Result<Option<Head>, LogFault>); 5] = [
-        (0, 8, Ok(Some(head))),
-        (0, 49, Ok(None)),
-        (0, 9, Err(LogFault::Damaged { segment: 0, at: 9 })),
-        (0, 50, Err(LogFault::Damaged { segment: 0, at: 50 })),
-        (7, 0, Ok(None)),
-    ];
-    cases.iter().all(|(segment, at, want)| head_at(alloc, shelf, *segment, *at) == *want)
+    for (segment, at, want) in &HEADS {
+        if head_at(alloc, shelf, *segment, *at) != *want {
+            return false;
+        }
+    }
+    true
+}
+
+/// Whether the log of a shelf has the key, learns the other, and then has both.
+fn learns_over(alloc: Global, shelf: &mut MemoryShelf) -> Result<bool, LogFault> {
+    let mut log = open_log(alloc, shelf)?;
+    Ok(learns(&mut log))
+}
+
+/// Whether each call answers so over a segment of the key's PUT with an empty blob, and one of a COMMIT.
+fn answers_for_an_empty_blob(alloc: Global) -> Result<bool, LogFault> {
+    let mut shelf = shelf_of(alloc, &[Part::Put(0), Part::Commit])?;
+    Ok(learns_over(alloc, &mut shelf) == Ok(true) && heads_are(alloc, &mut shelf))
 }
 
 #[test]
-fn an_empty_blob_by_each_call(rt: HostRuntime) -> Result<(), Fail> {
-    let mut shelf = shelf_of(rt.alloc(), &[Part::Put(0), Part::Commit])?;
-    let mut log = open_log(rt.alloc(), &mut shelf)?;
-    assert!(rt; learns(&mut log));
-    assert!(rt; heads_are(rt.alloc(), &mut shelf));
-    Ok(())
+fn an_empty_blob_by_each_call(rt: HostRuntime) {
+    assert!(rt; answers_for_an_empty_blob(rt.alloc()) == Ok(true));
 }

@@ -2,6 +2,7 @@
 ghost use Rattle.std.specs.Prelude.{◌≡◌, true, OnOk};
 ghost use Rattle.ferry_disk.specs.Image.{settled};
 
+use crate::devices::depot_of;
 use ferry_disk::{Depot, MemoryDepot, Name, Shelf, StoreFault};
 use ferry_nonce::{Counter, NonceFault};
 use std::alloc::{AllocError, Global};
@@ -9,18 +10,19 @@ use std::alloc::{AllocError, Global};
 /// Two draws: the first numbers of one block and of five, how many calls they took, and the text that they leave.
 type Draws = Result<(u64, u64, u64, [u8; 16]), NonceFault>;
 
-/// A depot whose file `nonce` has this text, absent where there is none, and of which this call fails.
-fn depot_of(alloc: Global, text: &[u8], failing: u64) -> Result<MemoryDepot, AllocError> {
-    let failing = vec![in alloc; failing]?;
-    MemoryDepot::new(alloc, files(alloc, text)?, failing)
-}
-
+/// A file `nonce` of this text, absent where there is none.
 fn files(alloc: Global, text: &[u8]) -> Result<Vec<(Name, Vec<u8>)>, AllocError> {
     if text.is_empty() {
         return Ok(Vec::new(alloc));
     }
     let text = Vec::from_slice(alloc, text)?;
     Ok(vec![in alloc; (Name::Nonce, text)]?)
+}
+
+/// A depot whose file `nonce` has this text, absent where there is none, and of which this call fails.
+fn nonce_depot(alloc: Global, text: &[u8], failing: u64) -> Result<MemoryDepot, AllocError> {
+    let files = files(alloc, text)?;
+    depot_of(alloc, files, failing)
 }
 
 /// Settles a depot.
@@ -56,7 +58,7 @@ fn draws_over(depot: &mut MemoryDepot, committed: bool) -> Draws {
 
 /// Whether two draws answer so over a file of this text, with this call failing, where something is committed or not.
 fn answers(alloc: Global, text: &[u8], failing: u64, committed: bool, want: &Draws) -> bool {
-    match depot_of(alloc, text, failing) {
+    match nonce_depot(alloc, text, failing) {
         Ok(mut depot) => draws_over(&mut depot, committed) == *want,
         Err(_) => false,
     }

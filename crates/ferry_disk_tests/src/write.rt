@@ -6,7 +6,6 @@ use ferry_log::Place;
 use ferry_segment::{COMMIT_SEGMENT, MAGIC};
 use ferry_write::{Session, WriteFault};
 use std::alloc::{AllocError, Global};
-use std::test::Fail;
 
 /// A committed segment 1, and a segment 2 that was left behind it.
 const FILES: [(u64, &[u8]); 2] = [(1, &COMMIT_SEGMENT), (2, &MAGIC)];
@@ -50,12 +49,19 @@ fn are_there(depot: &mut MemoryDepot) -> bool {
     true
 }
 
-#[test]
-fn entries_are_put_and_committed(rt: HostRuntime) -> Result<(), Fail> {
-    let alloc = rt.alloc();
+/// Whether entries are put and committed behind the commit of a depot, and are there then.
+fn is_committed(alloc: Global, depot: &mut MemoryDepot) -> Result<bool, WriteFault> {
+    let mut session = Session::begin(alloc, depot, Some(1), 100)?;
+    Ok(commits(&mut session, depot) == Ok(true) && are_there(depot))
+}
+
+/// Whether they are over a depot of those files.
+fn a_depot_commits(alloc: Global) -> Result<bool, AllocError> {
     let mut depot = MemoryDepot::new(alloc, files(alloc)?, Vec::new(alloc))?;
-    let mut session = Session::begin(alloc, &mut depot, Some(1), 100)?;
-    let is_right = commits(&mut session, &mut depot) == Ok(true);
-    assert!(rt; is_right && are_there(&mut depot));
-    Ok(())
+    Ok(is_committed(alloc, &mut depot) == Ok(true))
+}
+
+#[test]
+fn entries_are_put_and_committed(rt: HostRuntime) {
+    assert!(rt; a_depot_commits(rt.alloc()) == Ok(true));
 }

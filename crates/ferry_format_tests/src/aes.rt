@@ -75,10 +75,14 @@ fn begins_again(schedule: &Schedule) -> bool {
     schedule.block(&[0; 16]).starts_with(&wrapped[144..])
 }
 
+/// Whether the streams are.
+fn are_streams() -> bool {
+    let schedule = Schedule::new(&KEY);
+    is_stream(&schedule) && passes_64_bits(&schedule) && begins_again(&schedule)
+}
+
 #[test]
 fn blocks_and_stream_of_fips_197_and_sp_800_38a(rt: HostRuntime) {
     assert!(rt; is_block(&COUNTED_KEY, &TEXT, &BLOCK) && is_block(&KEY, &FIRST_TEXT, &FIRST_BLOCK));
-    let schedule = Schedule::new(&KEY);
-    assert!(rt; is_stream(&schedule));
-    assert!(rt; passes_64_bits(&schedule) && begins_again(&schedule));
+    assert!(rt; are_streams());
 }

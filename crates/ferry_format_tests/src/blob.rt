@@ -4,6 +4,7 @@
 ghost use Rattle.std.specs.Prelude.{◌≡◌, ℕ, ◌+◌, ◌<◌, ◌≤◌, IsTrue, length, slice_index};
 ghost use Rattle.ferry_blob.specs.Batch.{IsSealable, bytes_at};
 
+use crate::bytes::joined;
 use ferry_base::{Id, ZERO_ID};
 use ferry_blob::{
     BlobFault, Mode, blob_laws, block_laws, blocks_of, id_of, ids_of, open_blob, open_blobs, seal,
@@ -11,7 +12,6 @@ use ferry_blob::{
 };
 use ferry_mac::Keys;
 use std::alloc::{AllocError, Global};
-use std::test::Fail;
 
 /// The 32 bytes from `first` on.
 fn key_from(first: u8) -> [u8; 32]
@@ -158,13 +158,21 @@ fn four_are_opened_as_one(keys: &Keys, blobs: &mut [Vec<u8>], first: usize) -> b
     true
 }
 
-#[test]
-fn each_blob_in_each_of_four_places_is_opened_as_alone(rt: HostRuntime) -> Result<(), Fail> {
-    for first in 0..8usize {
-        let mut blobs = four_of(rt.alloc(), first)?;
-        assert!(rt; four_are_opened_as_one(&keys(), blobs.as_mut_slice(), first));
+/// Whether the four blobs from number `first` on are.
+fn four_are_opened(alloc: Global, first: usize) -> bool
+    requires { first ≤ 7 }
+{
+    match four_of(alloc, first) {
+        Ok(mut blobs) => four_are_opened_as_one(&keys(), blobs.as_mut_slice(), first),
+        Err(_) => false,
     }
-    Ok(())
+}
+
+#[test]
+fn each_blob_in_each_of_four_places_is_opened_as_alone(rt: HostRuntime) {
+    for first in 0..8usize {
+        assert!(rt; four_are_opened(rt.alloc(), first));
+    }
 }
 
 static FOX_CONTENT: &[u8; 43] = b"The quick brown fox jumps over the lazy dog";
@@ -192,10 +200,14 @@ fn fox_is_sealed_and_opened(keys: &Keys) -> bool {
     is_sealed && is_opened && is_content && buffer[0] == 0 && buffer[1..] == FOX[1..]
 }
 
+/// Whether that content has its id, and takes three blocks.
+fn fox_is_named(keys: &Keys) -> bool {
+    id_of(keys, FOX_CONTENT).as_slice() == FOX_ID && blocks_of(43) == 3
+}
+
 #[test]
 fn a_content_is_sealed_named_and_opened_as_by_python(rt: HostRuntime) {
-    assert!(rt; fox_is_sealed_and_opened(&keys()));
-    assert!(rt; id_of(&keys(), FOX_CONTENT).as_slice() == FOX_ID && blocks_of(43) == 3);
+    assert!(rt; fox_is_sealed_and_opened(&keys()) && fox_is_named(&keys()));
     blob_laws();
     block_laws();
 }
@@ -265,18 +277,11 @@ fn seal_few(keys: &Keys, nonces: &[u64], buffers: &mut [Vec<u8>]) -> bool {
     true
 }
 
-/// A content behind 43 bytes that are not read.
-fn buffer_of(alloc: Global, content: &[u8]) -> Result<Vec<u8>, AllocError> {
-    let mut buffer = Vec::from_slice(alloc, &[0xa5; 43])?;
-    buffer.extend_from_slice(content)?;
-    Ok(buffer)
-}
-
 /// Contents, each behind 43 bytes that are not read.
 fn buffers_of(alloc: Global, contents: &[&[u8]]) -> Result<Vec<Vec<u8>>, AllocError> {
     let mut buffers = Vec::new(alloc);
     for content in contents {
-        buffers.push(buffer_of(alloc, content)?)?;
+        buffers.push(joined(alloc, &[&[0xa5u8; 43], content])?)?;
     }
     Ok(buffers)
 }
@@ -324,22 +329,47 @@ fn are_ids(keys: &Keys, long: &[u8]) -> bool {
     are_two && ids[2].as_slice() == EMPTY_ID && ids[3].as_slice() == FOX_ID
 }
 
-#[test]
-fn up_to_four_are_sealed_named_and_opened_as_by_python(rt: HostRuntime) -> Result<(), Fail> {
-    let mut even = buffers_of(rt.alloc(), &[b"hello", FOX_CONTENT, b"hello", FOX_CONTENT])?;
-    assert!(rt; seal_few(&keys(), &[NONCE; 4], even.as_mut_slice()));
-    assert!(rt; are_bytes(even.as_slice(), &[CASES[0].blob, FOX, CASES[0].blob, FOX]));
-    Ok(())
+/// Whether `hello`, the fox, and both again are sealed as those blobs.
+fn even_are_sealed(buffers: &mut [Vec<u8>]) -> bool {
+    let blobs = [CASES[0].blob, FOX, CASES[0].blob, FOX];
+    seal_few(&keys(), &[NONCE; 4], buffers) && are_bytes(buffers, &blobs)
+}
+
+/// Whether those four contents are sealed so.
+fn four_are_sealed(alloc: Global) -> bool {
+    match buffers_of(alloc, &[b"hello", FOX_CONTENT, b"hello", FOX_CONTENT]) {
+        Ok(mut even) => even_are_sealed(even.as_mut_slice()),
+        Err(_) => false,
+    }
 }
 
 #[test]
-fn two_of_unequal_lengths_are_sealed_named_and_opened(rt: HostRuntime) -> Result<(), Fail> {
+fn up_to_four_are_sealed_named_and_opened_as_by_python(rt: HostRuntime) {
+    assert!(rt; four_are_sealed(rt.alloc()));
+}
+
+/// Whether `hello` and this content are sealed and opened.
+fn uneven_are_sealed(long: &[u8; 1000], buffers: &mut [Vec<u8>]) -> bool {
+    let keys = keys();
+    let ids = [HELLO_ID, id_of(&keys, long)];
+    seal_few(&keys, &[NONCE; 2], buffers)
+        && are_two_blobs(buffers)
+        && are_opened(&keys, &ids, buffers)
+        && are_two_contents(buffers, long)
+}
+
+/// Whether two contents of unequal lengths are sealed, named and opened.
+fn two_are_sealed(alloc: Global) -> bool {
     let long = [b'a'; 1000];
-    let ids = [HELLO_ID, id_of(&keys(), &long)];
-    let mut uneven = buffers_of(rt.alloc(), &[b"hello", &long])?;
-    assert!(rt; seal_few(&keys(), &[NONCE; 2], uneven.as_mut_slice()));
-    assert!(rt; are_two_blobs(uneven.as_slice()) && are_ids(&keys(), &long));
-    assert!(rt; are_opened(&keys(), &ids, uneven.as_mut_slice()));
-    assert!(rt; are_two_contents(uneven.as_slice(), &long));
-    Ok(())
+    match buffers_of(alloc, &[b"hello", &long]) {
+        Ok(mut uneven) => {
+            uneven_are_sealed(&long, uneven.as_mut_slice()) && are_ids(&keys(), &long)
+        }
+        Err(_) => false,
+    }
+}
+
+#[test]
+fn two_of_unequal_lengths_are_sealed_named_and_opened(rt: HostRuntime) {
+    assert!(rt; two_are_sealed(rt.alloc()));
 }

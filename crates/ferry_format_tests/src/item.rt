@@ -1,8 +1,9 @@
 //! Streams by hand from the msgpack specification, "Formats", and streams that others packed.
 
+use crate::bytes::joined;
 use ferry_item::{ChunkRef, ItemFault, ItemReader, item_laws, write_item};
 use std::alloc::{AllocError, Global};
-use std::test::Fail;
+use std::process::Abort;
 
 /// What a reader answers: 0 for an item, 9 for none, or the number of the fault.
 fn answer(reader: &mut ItemReader) -> u8 {
@@ -13,16 +14,21 @@ fn answer(reader: &mut ItemReader) -> u8 {
     }
 }
 
-/// Whether a reader that is fed the first bytes and the second ones answers so, and no item twice.
-fn answers(alloc: Global, number: u8, before: &[u8], bytes: &[u8]) -> Result<bool, ItemFault> {
-    let mut reader = ItemReader::new(alloc);
-    reader.feed(before)?;
-    reader.feed(bytes)?;
-    if answer(&mut reader) != number {
-        return Ok(false);
+/// Whether a new reader that is fed the first bytes and the second ones answers so, and no item twice.
+fn answers(reader: &mut ItemReader, number: u8, before: &[u8], bytes: &[u8]) -> bool {
+    reader.feed(before).is_ok()
+        && reader.feed(bytes).is_ok()
+        && answer(reader) == number
+        && reader.feed(b"").is_ok()
+        && (number == 0 || answer(reader) == number)
+}
+
+/// Asserts that readers that are fed these bytes and those of a row answer as the row says.
+fn answers_are(rt: &impl Abort, alloc: Global, before: &[u8], rows: &[(u8, &[u8])]) {
+    for (number, bytes) in rows {
+        let is_right = answers(&mut ItemReader::new(alloc), *number, before, bytes);
+        assert!(rt; is_right, "at {bytes:?}");
     }
-    reader.feed(b"")?;
-    Ok(number == 0 || answer(&mut reader) == number)
 }
 
 /// What readers answer, and the bytes.
@@ -76,18 +82,14 @@ static CHUNK_ANSWERS: &[(u8, &[u8])] = &[
 ];
 
 #[test]
-fn each_fault_has_its_number_and_comes_again(rt: HostRuntime) -> Result<(), Fail> {
-    let alloc = rt.alloc();
-    for (number, bytes) in ANSWERS {
-        assert!(rt; answers(alloc, *number, b"", bytes)?, "at {bytes:?}");
-    }
-    for (number, bytes) in CHUNK_ANSWERS {
-        assert!(rt;
-            answers(alloc, *number, b"\x82\xa4path\xa1a\xa6chunks", bytes)?,
-            "at {bytes:?}"
-        );
-    }
-    Ok(())
+fn each_fault_has_its_number_and_comes_again(rt: HostRuntime) {
+    answers_are(&rt, rt.alloc(), b"", ANSWERS);
+    answers_are(
+        &rt,
+        rt.alloc(),
+        b"\x82\xa4path\xa1a\xa6chunks",
+        CHUNK_ANSWERS,
+    );
 }
 
 /// The first three items of an archive that `borg create` of BorgBackup 1.2.4 wrote, as its
@@ -104,91 +106,129 @@ static PACKED: &[u8] =
 static IN_ORDER: &[u8] =
     b"\x89\xa6chunks\x93\x93\xda\x00 \x00\x01\x02\x03\x04\x05\x06\x07\x08\x09\x0a\x0b\x0c\x0d\x0e\x0f\x10\x11\x12\x13\x14\x15\x16\x17\x18\x19\x1a\x1b\x1c\x1d\x1e\x1f\xce\x00\x01\x00\x00\xce\x00\x01\x00+\x93\xda\x00 \x11\x11\x11\x11\x11\x11\x11\x11\x11\x11\x11\x11\x11\x11\x11\x11\x11\x11\x11\x11\x11\x11\x11\x11\x11\x11\x11\x11\x11\x11\x11\x11\x00+\x93\xda\x00 \"\"\"\"\"\"\"\"\"\"\"\"\"\"\"\"\"\"\"\"\"\"\"\"\"\"\"\"\"\"\"\"\xce\x01?\xff\xac\xcf\xff\xff\xff\xff\xff\xff\xff\xff\xafhardlink_master\xc3\xa4mode\xcd\x81\xa4\xa5mtime\xcf\x17\x97\x9c\xfe=\x85\xcd\x15\xa4part\x93\xff\x90\x81\xa1n\x92\xa1x\xc2\xa4path\xa6home/a\xa3uid\xcd\x03\xe8\xa4user\xc0\xa6xattrs\x82\xaauser.empty\xc0\xa6user.k\xa1v";
 
-/// Writes the next item again, where there is one.
-fn write_next(reader: &mut ItemReader, text: &mut Vec<u8>) -> Result<(), ItemFault> {
-    if let Some(item) = reader.next()? {
-        write_item(&item, text)?;
+/// Whether the next item is written again, where there is one.
+fn writes_next(reader: &mut ItemReader, text: &mut Vec<u8>) -> bool {
+    match reader.next() {
+        Ok(Some(item)) => write_item(&item, text).is_ok(),
+        Ok(None) => true,
+        Err(_) => false,
     }
-    Ok(())
 }
 
-/// Writes the items again that come from a stream in pieces of so many bytes, up to three after a piece.
-fn write_again(
-    alloc: Global,
+/// Whether a piece is fed, and up to three items that come then are written again.
+fn writes_piece(reader: &mut ItemReader, piece: &[u8], text: &mut Vec<u8>) -> bool {
+    reader.feed(piece).is_ok()
+        && writes_next(reader, text)
+        && writes_next(reader, text)
+        && writes_next(reader, text)
+}
+
+/// Whether the items of a stream that comes in pieces of so many bytes are written again, up to three after a piece.
+fn writes_pieces(
+    reader: &mut ItemReader,
     stream: &[u8],
     length: usize,
     text: &mut Vec<u8>,
-) -> Result<(), ItemFault> {
-    let mut reader = ItemReader::new(alloc);
+) -> bool {
     for piece in stream.chunks(length.max(1)) {
-        reader.feed(piece)?;
-        for _ in 0..3usize {
-            write_next(&mut reader, text)?;
+        if !writes_piece(reader, piece, text) {
+            return false;
         }
     }
-    if reader.next()?.is_none() {
-        reader.finish()?;
+    true
+}
+
+/// Ends a stream, where no item is to come.
+fn end(mut reader: ItemReader) -> Result<(), ItemFault> {
+    match reader.next() {
+        Ok(None) => reader.finish(),
+        Ok(Some(_)) => Ok(()),
+        Err(fault) => Err(fault),
     }
-    Ok(())
+}
+
+/// Whether a stream in pieces of so many bytes is written again, and ends.
+fn writes_again(alloc: Global, stream: &[u8], length: usize, text: &mut Vec<u8>) -> bool {
+    let mut reader = ItemReader::new(alloc);
+    let is_written = writes_pieces(&mut reader, stream, length, text);
+    end(reader) == Ok(()) && is_written
 }
 
 /// Whether a stream in pieces of so many bytes is written again as these bytes.
-fn is_written(
-    alloc: Global,
-    stream: &[u8],
-    length: usize,
-    written: &[u8],
-) -> Result<bool, ItemFault> {
+fn is_written(alloc: Global, stream: &[u8], length: usize, written: &[u8]) -> bool {
     let mut text = Vec::new(alloc);
-    write_again(alloc, stream, length, &mut text)?;
-    Ok(text.as_slice() == written)
+    writes_again(alloc, stream, length, &mut text) && text.as_slice() == written
 }
 
-/// An item with so many chunks behind these bytes, and these behind them.
-fn with_chunks(
-    alloc: Global,
-    front: &[u8],
-    count: usize,
-    back: &[u8],
-) -> Result<Vec<u8>, AllocError> {
-    let mut bytes = Vec::from_slice(alloc, front)?;
-    for _ in 0..count {
+/// Whether the streams of others are written again, the first of them however it is cut.
+fn streams_are_written(alloc: Global) -> bool {
+    for length in [1, 77, 337] {
+        if !is_written(alloc, BORG, length, BORG) {
+            return false;
+        }
+    }
+    is_written(alloc, PACKED, 77, IN_ORDER)
+}
+
+/// The spelling of 1000 chunks.
+fn many_chunks(alloc: Global) -> Result<Vec<u8>, AllocError> {
+    let mut bytes = Vec::new(alloc);
+    for _ in 0..1000usize {
         bytes.extend_from_slice(
             b"\x93\xda\x00 iiiiiiiiiiiiiiiiiiiiiiiiiiiiiiii\xcd\x10\x00\xcd\x10\x2b",
         )?;
     }
-    bytes.extend_from_slice(back)?;
     Ok(bytes)
 }
 
-#[test]
-fn items_come_in_order_however_they_are_cut_and_are_written(rt: HostRuntime) -> Result<(), Fail> {
-    let alloc = rt.alloc();
-    for length in [1, 77, 337] {
-        assert!(rt; is_written(alloc, BORG, length, BORG)?);
+/// Whether the item of this stream is written again with its names in byte order, where it has these chunks.
+fn is_put_in_order(alloc: Global, stream: &[u8], chunks: &[u8]) -> bool {
+    match joined(
+        alloc,
+        &[b"\x82\xa6chunks\xdc\x03\xe8", chunks, b"\xa4path\xa1a"],
+    ) {
+        Ok(written) => is_written(alloc, stream, 1000, &written),
+        Err(_) => false,
     }
-    assert!(rt; is_written(alloc, PACKED, 77, IN_ORDER)?);
-    let stream = with_chunks(alloc, b"\x82\xa4path\xa1a\xa6chunks\xdc\x03\xe8", 1000, b"")?;
-    let written = with_chunks(alloc, b"\x82\xa6chunks\xdc\x03\xe8", 1000, b"\xa4path\xa1a")?;
-    assert!(rt; is_written(alloc, stream.as_slice(), 1000, written.as_slice())?);
-    item_laws();
-    Ok(())
 }
 
-/// The first answer that isn't none, and how many bytes were fed by then, one at a time.
-fn told_at(alloc: Global, stream: &[u8]) -> Result<(u8, usize), ItemFault> {
-    let mut reader = ItemReader::new(alloc);
+/// Whether an item of these 1000 chunks is.
+fn are_put_in_order(alloc: Global, chunks: &[u8]) -> bool {
+    match joined(alloc, &[b"\x82\xa4path\xa1a\xa6chunks\xdc\x03\xe8", chunks]) {
+        Ok(stream) => is_put_in_order(alloc, &stream, chunks),
+        Err(_) => false,
+    }
+}
+
+/// Whether an item of 1000 chunks is.
+fn many_are_written(alloc: Global) -> bool {
+    match many_chunks(alloc) {
+        Ok(chunks) => are_put_in_order(alloc, &chunks),
+        Err(_) => false,
+    }
+}
+
+#[test]
+fn items_come_in_order_however_they_are_cut_and_are_written(rt: HostRuntime) {
+    assert!(rt; streams_are_written(rt.alloc()) && many_are_written(rt.alloc()));
+    item_laws();
+}
+
+/// The first answer of a new reader that isn't none, and how many bytes were fed by then, one at a time.
+fn told_at(reader: &mut ItemReader, stream: &[u8]) -> Option<(u8, usize)> {
     for (at, byte) in stream.iter().enumerate() {
-        reader.feed(&[*byte])?;
-        let number = answer(&mut reader);
+        if reader.feed(&[*byte]).is_err() {
+            return None;
+        }
+        let number = answer(reader);
         if number != 9 {
-            return Ok((number, at + 1));
+            return Some((number, at + 1));
         }
     }
-    Ok((9, stream.len()))
+    Some((9, stream.len()))
 }
 
-/// Numbers, how many bytes were fed, and the bytes.
+/// Numbers, how many bytes were fed, and the bytes; last 64 arrays inside a map, of which the last has depth 65.
 static TOLD: &[(u8, usize, &[u8])] = &[
     (0, 8, b"\x81\xa4path\xa1a\xc1"),
     (0, 9, b"\x81\xa4path\xc4\x01a\xc1"),
@@ -199,35 +239,26 @@ static TOLD: &[(u8, usize, &[u8])] = &[
     (2, 4, b"\x81\xa0\x91\x01"),
     (3, 16, b"\x82\xa4path\xa1a\xa6chunks\xc2"),
     (9, 12, b"\x82\xa4path\xa1a\xdb\xff\xff\xff"),
+    (
+        1,
+        66,
+        b"\x81\xa0\x91\x91\x91\x91\x91\x91\x91\x91\x91\x91\x91\x91\x91\x91\x91\x91\x91\x91\x91\x91\x91\x91\x91\x91\x91\x91\x91\x91\x91\x91\x91\x91\x91\x91\x91\x91\x91\x91\x91\x91\x91\x91\x91\x91\x91\x91\x91\x91\x91\x91\x91\x91\x91\x91\x91\x91\x91\x91\x91\x91\x91\x91\x91\x91\x01",
+    ),
 ];
 
-/// 64 arrays inside a map: the last one has depth 65.
-fn deep(alloc: Global) -> Result<Vec<u8>, AllocError> {
-    let mut bytes = Vec::from_slice(alloc, b"\x81\xa0")?;
-    bytes.extend_from_slice(&[0x91; 64])?;
-    bytes.push(1)?;
-    Ok(bytes)
-}
-
 #[test]
-fn a_fault_is_told_at_the_byte_that_shows_it(rt: HostRuntime) -> Result<(), Fail> {
-    let alloc = rt.alloc();
+fn a_fault_is_told_at_the_byte_that_shows_it(rt: HostRuntime) {
     for (number, at, stream) in TOLD {
-        assert!(rt; told_at(alloc, stream)? == (*number, *at), "at {stream:?}");
+        let told = told_at(&mut ItemReader::new(rt.alloc()), stream);
+        assert!(rt; told == Some((*number, *at)), "at {stream:?}");
     }
-    let deep = deep(alloc)?;
-    assert!(rt; told_at(alloc, deep.as_slice())? == (1, 66));
-    Ok(())
 }
 
 /// What ends a stream of these bytes, in which no item is whole.
 fn ended(alloc: Global, bytes: &[u8]) -> Result<(), ItemFault> {
     let mut reader = ItemReader::new(alloc);
     reader.feed(bytes)?;
-    match reader.next()? {
-        None => reader.finish(),
-        Some(_) => Ok(()),
-    }
+    end(reader)
 }
 
 #[test]
@@ -249,20 +280,29 @@ fn have_sizes(chunks: &[ChunkRef], sizes: &[u64]) -> bool {
 }
 
 /// Whether a reader of two streams tells the chunks ahead: one of a file's, and two of the three of the item behind it.
-/// An item that isn't whole ends the look, and the first item is still to come.
-fn tells_ahead(reader: &mut ItemReader, chunks: &mut Vec<ChunkRef>) -> Result<bool, ItemFault> {
-    reader.feed(BORG)?;
-    reader.feed(PACKED)?;
-    reader.chunks_ahead(3, chunks)?;
-    let are_three = have_sizes(chunks.as_slice(), &[64, 65_536, 0]);
-    reader.feed(b"\x82\xa4path\xa1a\xa6chunks")?;
-    reader.chunks_ahead(9, chunks)?;
-    Ok(are_three && chunks.len() == 7 && answer(reader) == 0)
+fn tells_three(reader: &mut ItemReader, chunks: &mut Vec<ChunkRef>) -> bool {
+    reader.feed(BORG).is_ok()
+        && reader.feed(PACKED).is_ok()
+        && reader.chunks_ahead(3, chunks).is_ok()
+        && have_sizes(chunks.as_slice(), &[64, 65_536, 0])
+}
+
+/// Whether an item that isn't whole then ends the look, and the first item is still to come.
+fn tells_the_rest(reader: &mut ItemReader, chunks: &mut Vec<ChunkRef>) -> bool {
+    reader.feed(b"\x82\xa4path\xa1a\xa6chunks").is_ok()
+        && reader.chunks_ahead(9, chunks).is_ok()
+        && chunks.len() == 7
+        && answer(reader) == 0
+}
+
+/// Whether a new reader does both.
+fn tells_ahead(alloc: Global) -> bool {
+    let mut chunks = Vec::new(alloc);
+    let mut reader = ItemReader::new(alloc);
+    tells_three(&mut reader, &mut chunks) && tells_the_rest(&mut reader, &mut chunks)
 }
 
 #[test]
-fn the_chunks_ahead_are_those_of_the_items_that_come(rt: HostRuntime) -> Result<(), Fail> {
-    let mut chunks = Vec::new(rt.alloc());
-    assert!(rt; tells_ahead(&mut ItemReader::new(rt.alloc()), &mut chunks)?);
-    Ok(())
+fn the_chunks_ahead_are_those_of_the_items_that_come(rt: HostRuntime) {
+    assert!(rt; tells_ahead(rt.alloc()));
 }

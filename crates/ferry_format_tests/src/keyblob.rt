@@ -6,12 +6,11 @@ ghost use Rattle.ferry_msgpack.specs.Tree.{flag, nil, no_pairs, pair, table};
 ghost use Rattle.ferry_msgpack.specs.View.{value_view};
 
 use ferry_keyblob::{
-    Envelope, KeyFault, KeyText, key_laws, open_envelope, open_key, read_envelope, seal_key,
+    Envelope, KeyText, key_laws, open_envelope, open_key, read_envelope, seal_key,
 };
 use ferry_mac::Keys;
 use ferry_msgpack::Value;
 use std::alloc::{AllocError, Global};
-use std::test::Fail;
 
 /// A key text and the number of its fault under the passphrase `password`.
 struct Case {
@@ -132,25 +131,50 @@ fn sealed(alloc: Global) -> Result<Vec<u8>, AllocError> {
     seal_key(alloc, &key, b"password", &[b's'; 32], 2)
 }
 
+/// Whether that is the key.
+fn is_that_key(key: &KeyText) -> bool {
+    key.keys == secrets() && key.repository_id == [b'r'; 32] && key.chunk_seed == -7
+}
+
 /// Whether an envelope has those iterations and that salt, and opens to that key.
-fn opens(alloc: Global, envelope: &Envelope) -> Result<bool, KeyFault> {
+fn opens(alloc: Global, envelope: &Envelope) -> bool {
     if envelope.iterations != 2 || envelope.salt != [b's'; 32] {
-        return Ok(false);
+        return false;
     }
-    let key = open_envelope(alloc, envelope, b"password")?;
-    Ok(key.keys == secrets() && key.repository_id == [b'r'; 32] && key.chunk_seed == -7)
+    match open_envelope(alloc, envelope, b"password") {
+        Ok(key) => is_that_key(&key),
+        Err(_) => false,
+    }
+}
+
+/// Whether the sealed key is that text.
+fn is_sealed(alloc: Global) -> bool {
+    match sealed(alloc) {
+        Ok(text) => text.as_slice() == SEALED,
+        Err(_) => false,
+    }
+}
+
+/// Whether that text opens to that key.
+fn is_opened(alloc: Global) -> bool {
+    match read_envelope(alloc, SEALED) {
+        Ok(envelope) => opens(alloc, &envelope),
+        Err(_) => false,
+    }
+}
+
+/// Whether the key texts have their faults.
+fn faults_are(alloc: Global) -> bool {
+    for case in &CASES {
+        if fault_of(alloc, case.text) != case.fault {
+            return false;
+        }
+    }
+    true
 }
 
 #[test]
-fn a_key_is_sealed_as_by_python_and_opened(rt: HostRuntime) -> Result<(), Fail> {
-    let alloc = rt.alloc();
-    for case in &CASES {
-        assert!(rt; fault_of(alloc, case.text) == case.fault);
-    }
-    let text = sealed(alloc)?;
-    assert!(rt; text.as_slice() == SEALED);
-    let envelope = read_envelope(alloc, SEALED)?;
-    assert!(rt; opens(alloc, &envelope)?);
+fn a_key_is_sealed_as_by_python_and_opened(rt: HostRuntime) {
+    assert!(rt; faults_are(rt.alloc()) && is_sealed(rt.alloc()) && is_opened(rt.alloc()));
     key_laws();
-    Ok(())
 }

@@ -6,6 +6,8 @@ mod aes;
 #[cfg(test)]
 mod blob;
 #[cfg(test)]
+mod bytes;
+#[cfg(test)]
 mod config;
 #[cfg(test)]
 mod fields;

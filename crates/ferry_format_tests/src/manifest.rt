@@ -4,12 +4,11 @@
 
 use ferry_mac::Keys;
 use ferry_manifest::{
-    MetaFault, archive_laws, manifest_laws, read_archive, read_manifest, write_archive,
+    Archive, Manifest, archive_laws, manifest_laws, read_archive, read_manifest, write_archive,
     write_manifest,
 };
 use ferry_msgpack::Value;
 use std::alloc::{AllocError, Global};
-use std::test::Fail;
 
 static BORG_MANIFEST: &[u8] =
     b"\x86\xa8archives\x81\xa1a\x82\xa2id\xda\x00 b^&\x8f\xa0Ip\xf798}w\x7f)\xa1/\xaa\xf1v\xa3\x08\x7f\xe9\xfb\xd4jq\x9b\x1d\x0e\xe6'\xa4time\xba2020-01-01T00:00:00.000000\xa6config\x81\xactam_required\xc3\xa9item_keys\xdc\x00\x17\xaaacl_access\xabacl_default\xacacl_extended\xa8acl_nfs4\xa5atime\xa9birthtime\xa8bsdflags\xa6chunks\xaechunks_healthy\xa5ctime\xa3gid\xa5group\xafhardlink_master\xa4mode\xa5mtime\xa4part\xa4path\xa4rdev\xa4size\xa6source\xa3uid\xa4user\xa6xattrs\xa3tam\x83\xa4hmac\xda\x00@\x1c\xe9q\xc3\xf6}\xde\xb2H\x84a:\xfb.\xaba\xc6\x02O.\x96\xfb\x9bE-\x9e\x0c\xab\xa3\x16\x03u+[^\xc7>\xc1\x0a7!\xb3\xb1^fp\xc3\x13\x03\x95\xe7U\x5ct\x8e\x9cJ\xef\xfcx\xc7\x12i1\xa4salt\xda\x00@\xa8\x04\x85\xa7\xab\xdfp\xb1~K\xcb\xeb%\xf2\xc0ch\x12L^1H\x080!d\xac5_K\xe2t&\xf6\xdd\xc4T\x0eL\xf8\x80\xb7\xd5 \x04V\x17\x85\x0c?\x9c\xc8\x0b\x0dD\xc7\xbc\xf0\xbc \xd1\xfd\x04\x92\xa4type\xb0HKDF_HMAC_SHA512\xa9timestamp\xba2026-11-26T21:52:19.019005\xa7version\x01";
@@ -214,74 +213,71 @@ fn record_fault(alloc: Global, keys: &Keys, bytes: &[u8]) -> u8 {
     }
 }
 
-#[test]
-fn the_first_fault_of_a_manifest_and_of_a_record_is_told(rt: HostRuntime) -> Result<(), Fail> {
-    let alloc = rt.alloc();
-    let keys = borg_keys();
+/// The number of the fault of Borg's manifest with the edit of a case.
+fn manifest_fault_of(alloc: Global, keys: &Keys, case: &Case) -> Option<u8> {
+    match edited(alloc, BORG_MANIFEST, case) {
+        Ok(bytes) => Some(manifest_fault(alloc, keys, &bytes)),
+        Err(_) => None,
+    }
+}
+
+/// The number of the fault of Borg's record with the edit of a case.
+fn record_fault_of(alloc: Global, keys: &Keys, case: &Case) -> Option<u8> {
+    match edited(alloc, BORG_RECORD, case) {
+        Ok(bytes) => Some(record_fault(alloc, keys, &bytes)),
+        Err(_) => None,
+    }
+}
+
+/// Whether a manifest of Borg's has the fault of each case, with its edit.
+fn manifest_faults_are(alloc: Global, keys: &Keys) -> bool {
     for case in &MANIFESTS {
-        let bytes = edited(alloc, BORG_MANIFEST, case)?;
-        assert!(rt; manifest_fault(alloc, &keys, bytes.as_slice()) == case.fault);
+        if manifest_fault_of(alloc, keys, case) != Some(case.fault) {
+            return false;
+        }
     }
+    true
+}
+
+/// Whether a record of Borg's has.
+fn record_faults_are(alloc: Global, keys: &Keys) -> bool {
     for case in &RECORDS {
-        let bytes = edited(alloc, BORG_RECORD, case)?;
-        assert!(rt; record_fault(alloc, &keys, bytes.as_slice()) == case.fault);
+        if record_fault_of(alloc, keys, case) != Some(case.fault) {
+            return false;
+        }
     }
-    let no_tag = b"\x84\xa5items\x90\xa4name\xa1a\xa3tam\xc0\xa7version\x01";
-    assert!(rt; record_fault(alloc, &keys, no_tag) == 2);
+    true
+}
+
+/// A record whose tag is nil.
+static NO_TAG: &[u8] = b"\x84\xa5items\x90\xa4name\xa1a\xa3tam\xc0\xa7version\x01";
+
+#[test]
+fn the_first_fault_of_a_manifest_and_of_a_record_is_told(rt: HostRuntime) {
+    let (alloc, keys) = (rt.alloc(), borg_keys());
+    assert!(rt; manifest_faults_are(alloc, &keys) && record_faults_are(alloc, &keys));
+    assert!(rt; record_fault(alloc, &keys, NO_TAG) == 2);
     manifest_laws();
     archive_laws();
-    Ok(())
-}
-
-/// What a manifest is read as, written again.
-fn manifest_again(
-    alloc: Global,
-    keys: &Keys,
-    bytes: &[u8],
-    salt: &[u8; 64],
-) -> Result<Vec<u8>, MetaFault> {
-    let manifest = read_manifest(alloc, keys, bytes)?;
-    write_manifest(alloc, keys, &manifest, salt)
-}
-
-/// What a record is read as, written again.
-fn record_again(
-    alloc: Global,
-    keys: &Keys,
-    bytes: &[u8],
-    salt: &[u8; 64],
-) -> Result<Vec<u8>, MetaFault> {
-    let archive = read_archive(alloc, keys, bytes)?;
-    write_archive(alloc, keys, &archive, salt)
 }
 
 /// How many archives, item keys and other names a manifest has, and whether it has a timestamp.
-fn manifest_counts(
-    alloc: Global,
-    keys: &Keys,
-    bytes: &[u8],
-) -> Result<(usize, usize, usize, bool), MetaFault> {
-    let manifest = read_manifest(alloc, keys, bytes)?;
-    Ok((
+fn manifest_counts(manifest: &Manifest) -> (usize, usize, usize, bool) {
+    (
         manifest.archives.as_slice().len(),
         manifest.item_keys.as_slice().len(),
         pairs_count(&manifest.more),
         manifest.timestamp.is_some(),
-    ))
+    )
 }
 
 /// How many streams of items a record has, and whether it has a tag and parameters of a chunker.
-fn record_counts(
-    alloc: Global,
-    keys: &Keys,
-    bytes: &[u8],
-) -> Result<(usize, bool, bool), MetaFault> {
-    let archive = read_archive(alloc, keys, bytes)?;
-    Ok((
+fn record_counts(archive: &Archive) -> (usize, bool, bool) {
+    (
         archive.items.as_slice().len(),
         archive.tagged,
         archive.params.is_some(),
-    ))
+    )
 }
 
 /// How many pairs a table has.
@@ -292,17 +288,61 @@ fn pairs_count(value: &Value) -> usize {
     }
 }
 
+/// What a manifest of these counts is read as, written again.
+fn manifest_again(
+    alloc: Global,
+    keys: &Keys,
+    bytes: &[u8],
+    counts: (usize, usize, usize, bool),
+    salt: &[u8; 64],
+) -> Option<Vec<u8>> {
+    match read_manifest(alloc, keys, bytes) {
+        Ok(manifest) => {
+            if manifest_counts(&manifest) == counts {
+                write_manifest(alloc, keys, &manifest, salt).ok()
+            } else {
+                None
+            }
+        }
+        Err(_) => None,
+    }
+}
+
+/// What a record of these counts is read as, written again.
+fn record_again(
+    alloc: Global,
+    keys: &Keys,
+    bytes: &[u8],
+    counts: (usize, bool, bool),
+    salt: &[u8; 64],
+) -> Option<Vec<u8>> {
+    match read_archive(alloc, keys, bytes) {
+        Ok(archive) => {
+            if record_counts(&archive) == counts {
+                write_archive(alloc, keys, &archive, salt).ok()
+            } else {
+                None
+            }
+        }
+        Err(_) => None,
+    }
+}
+
+/// Whether these are the bytes.
+fn are_bytes(text: Option<Vec<u8>>, bytes: &[u8]) -> bool {
+    match text {
+        Some(text) => text.as_slice() == bytes,
+        None => false,
+    }
+}
+
 #[test]
-fn what_borg_wrote_is_read_and_written_as_it_was(rt: HostRuntime) -> Result<(), Fail> {
-    let alloc = rt.alloc();
-    let keys = borg_keys();
-    assert!(rt; manifest_counts(alloc, &keys, BORG_MANIFEST)? == (1, 23, 0, true));
-    let text = manifest_again(alloc, &keys, BORG_MANIFEST, MANIFEST_SALT)?;
-    assert!(rt; text.as_slice() == BORG_MANIFEST);
-    assert!(rt; record_counts(alloc, &keys, BORG_RECORD)? == (1, true, true));
-    let text = record_again(alloc, &keys, BORG_RECORD, RECORD_SALT)?;
-    assert!(rt; text.as_slice() == BORG_RECORD);
-    Ok(())
+fn what_borg_wrote_is_read_and_written_as_it_was(rt: HostRuntime) {
+    let (alloc, keys) = (rt.alloc(), borg_keys());
+    let manifest = manifest_again(alloc, &keys, BORG_MANIFEST, (1, 23, 0, true), MANIFEST_SALT);
+    assert!(rt; are_bytes(manifest, BORG_MANIFEST));
+    let record = record_again(alloc, &keys, BORG_RECORD, (1, true, true), RECORD_SALT);
+    assert!(rt; are_bytes(record, BORG_RECORD));
 }
 
 /// Heads of other lengths, fields out of order, a repeated item key, no timestamp, and two other names, one of them `hmac`.
@@ -316,14 +356,33 @@ static UNTAGGED: &[u8] =
 static UNTAGGED_WRITTEN: &[u8] =
     b"\x87\xa7cmdline\x92\xa4borg\xa6create\xa7comment\xa0\xa5items\x92\xda\x00 11111111111111111111111111111111\xda\x00 22222222222222222222222222222222\xa4name\xa5first\xa3tam\x83\xa4hmac\xda\x00@5\xc5K\x02\x92\x09<\x96\xda\x02\xd7\x7f\xc6\xc9\x04\xfe*\xed\xdc1\x0f\x1b\xc0%\xd4\x5c\xd1\xc3[I\x1d\xcc*#\xff;\x02p(\x8a\xad\x9e\xb2}\xbf \xde\xa5\xf5\x1c7\x04\xd1$\x82\xcf\xc7\x18\xa6\x1bS\xb4\x1e?\xa4salt\xda\x00@ssssssssssssssssssssssssssssssssssssssssssssssssssssssssssssssss\xa4type\xb0HKDF_HMAC_SHA512\xa4time\xba2020-01-01T00:00:00.000000\xa7version\x01";
 
+/// Whether that manifest has its counts, and has them again as it is written, with its fields in order.
+fn unordered_is_put_in_order(alloc: Global) -> bool {
+    let (counts, salt) = ((2, 3, 2, false), [b's'; 64]);
+    match manifest_again(alloc, &keys(), UNORDERED, counts, &salt) {
+        Some(text) => is_written_as_it_is(alloc, &text, counts, &salt),
+        None => false,
+    }
+}
+
+/// Whether a manifest has these counts, and is written again as it is.
+fn is_written_as_it_is(
+    alloc: Global,
+    bytes: &[u8],
+    counts: (usize, usize, usize, bool),
+    salt: &[u8; 64],
+) -> bool {
+    are_bytes(manifest_again(alloc, &keys(), bytes, counts, salt), bytes)
+}
+
+/// Whether that record gets a tag.
+fn untagged_gets_a_tag(alloc: Global) -> bool {
+    let counts = (2, false, false);
+    let record = record_again(alloc, &keys(), UNTAGGED, counts, &[b's'; 64]);
+    are_bytes(record, UNTAGGED_WRITTEN)
+}
+
 #[test]
-fn fields_are_put_in_order_and_a_record_gets_a_tag(rt: HostRuntime) -> Result<(), Fail> {
-    let alloc = rt.alloc();
-    assert!(rt; manifest_counts(alloc, &keys(), UNORDERED)? == (2, 3, 2, false));
-    let text = manifest_again(alloc, &keys(), UNORDERED, &[b's'; 64])?;
-    assert!(rt; manifest_counts(alloc, &keys(), text.as_slice())? == (2, 3, 2, false));
-    assert!(rt; record_counts(alloc, &keys(), UNTAGGED)? == (2, false, false));
-    let text = record_again(alloc, &keys(), UNTAGGED, &[b's'; 64])?;
-    assert!(rt; text.as_slice() == UNTAGGED_WRITTEN);
-    Ok(())
+fn fields_are_put_in_order_and_a_record_gets_a_tag(rt: HostRuntime) {
+    assert!(rt; unordered_is_put_in_order(rt.alloc()) && untagged_gets_a_tag(rt.alloc()));
 }

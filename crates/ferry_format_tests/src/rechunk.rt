@@ -8,7 +8,6 @@ ghost use Rattle.ferry_rechunk.specs.Cutting.{IsFed};
 use ferry_base::Bytes;
 use ferry_rechunk::{Cutter, MOST_BLOCK};
 use std::alloc::{AllocError, Global};
-use std::test::Fail;
 
 /// Takes each piece that a part of a content makes whole.
 fn feed_part(
@@ -152,22 +151,30 @@ static CASES: [Case; 8] = [
     },
 ];
 
-/// Whether the parts of a case are cut into its pieces.
-fn is_cut(alloc: Global, case: &Case) -> Result<bool, AllocError> {
-    if case.block < 64 || MOST_BLOCK < case.block {
-        return Ok(false);
+/// Whether parts are cut into these pieces.
+fn are_cut(alloc: Global, block: usize, parts: &[Bytes], lengths: &[usize]) -> bool {
+    if block < 64 || MOST_BLOCK < block {
+        return false;
     }
-    let parts = parts_of(alloc, case.parts)?;
-    let found = pieces_of(alloc, case.block, parts.as_slice())?;
-    Ok(have_lengths(found.as_slice(), case.pieces))
+    match pieces_of(alloc, block, parts) {
+        Ok(found) => have_lengths(found.as_slice(), lengths),
+        Err(_) => false,
+    }
+}
+
+/// Whether the parts of a case are cut into its pieces.
+fn is_cut(alloc: Global, case: &Case) -> bool {
+    match parts_of(alloc, case.parts) {
+        Ok(parts) => are_cut(alloc, case.block, parts.as_slice(), case.pieces),
+        Err(_) => false,
+    }
 }
 
 #[test]
-fn each_piece_but_the_last_is_whole(rt: HostRuntime) -> Result<(), Fail> {
+fn each_piece_but_the_last_is_whole(rt: HostRuntime) {
     for case in &CASES {
-        assert!(rt; is_cut(rt.alloc(), case)?);
+        assert!(rt; is_cut(rt.alloc(), case));
     }
-    Ok(())
 }
 
 /// Whether a cutter takes 100 bytes as no whole piece, lends room of 43 bytes before them, and takes what is written there.
@@ -181,11 +188,22 @@ fn lends_the_piece(cutter: &mut Cutter) -> bool {
     is_fed && cutter.last() == Some(&[2; 100][..])
 }
 
-#[test]
-fn what_is_written_where_a_piece_was_lent_is_the_piece(rt: HostRuntime) -> Result<(), Fail> {
-    let mut cutter = Cutter::new(rt.alloc(), MOST_BLOCK)?;
-    assert!(rt; lends_the_piece(&mut cutter));
+/// Whether a cutter does, and has no piece behind it.
+fn lends_and_clears(cutter: &mut Cutter) -> bool {
+    let is_lent = lends_the_piece(cutter);
     cutter.clear();
-    assert!(rt; cutter.last().is_none());
-    Ok(())
+    is_lent && cutter.last().is_none()
+}
+
+/// Whether a new cutter does.
+fn a_cutter_lends(alloc: Global) -> bool {
+    match Cutter::new(alloc, MOST_BLOCK) {
+        Ok(mut cutter) => lends_and_clears(&mut cutter),
+        Err(_) => false,
+    }
+}
+
+#[test]
+fn what_is_written_where_a_piece_was_lent_is_the_piece(rt: HostRuntime) {
+    assert!(rt; a_cutter_lends(rt.alloc()));
 }

@@ -1,11 +1,11 @@
 //! Values that are published, and entries by hand.
 
+use crate::bytes::joined;
 use ferry_segment::{
     COMMIT, COMMIT_SEGMENT, Entry, EntryFault, crc32, crc32_more, delete_entry, is_committed,
     put_head, read_entry, read_head,
 };
-use std::alloc::{AllocError, Global};
-use std::test::Fail;
+use std::alloc::Global;
 
 /// Whether the values are right that are published for the CRC-32 of IEEE 802.3: its check value, and that of a text of 43
 /// bytes, at once and in two parts.
@@ -16,13 +16,6 @@ fn are_checksums() -> bool {
         && crc32_more(crc32(&text[..5]), &text[5..]) == 0x414f_a339
 }
 
-/// The PUT of a short blob.
-fn put(alloc: Global, key: u8, blob: &[u8; 6]) -> Result<Vec<u8>, AllocError> {
-    let mut bytes = Vec::from_slice(alloc, &put_head(&[key; 32], blob))?;
-    bytes.extend_from_slice(blob)?;
-    Ok(bytes)
-}
-
 /// Whether the bytes begin with the PUT of `abcdef`, which ends at byte 47.
 fn is_put(bytes: &[u8]) -> bool {
     match read_entry(bytes, 0) {
@@ -30,6 +23,15 @@ fn is_put(bytes: &[u8]) -> bool {
             end == 47 && key == [0x11; 32] && blob == b"abcdef".as_slice()
         }
         _ => false,
+    }
+}
+
+/// Whether the PUT of that blob is read.
+fn put_is_read(alloc: Global) -> bool {
+    let head = put_head(&[0x11; 32], b"abcdef");
+    match joined(alloc, &[&head, b"abcdef"]) {
+        Ok(entry) => is_put(&entry),
+        Err(_) => false,
     }
 }
 
@@ -63,26 +65,43 @@ static FAULTS: [(&[u8], EntryFault); 6] = [
     (&[0xd6, 0xc4, 0x3b, 0x52, 9, 0, 0, 0, 3], EntryFault::Tag),
 ];
 
+/// Whether each has its fault.
+fn faults_are_told() -> bool {
+    for (bytes, fault) in &FAULTS {
+        if read_entry(bytes, 0) != Err(*fault) {
+            return false;
+        }
+    }
+    true
+}
+
 /// Entries that are read, and a fault for each rule.
 #[test]
-fn entries_and_faults(rt: HostRuntime) -> Result<(), Fail> {
-    let entry = put(rt.alloc(), 0x11, b"abcdef")?;
-    assert!(rt; is_put(entry.as_slice()) && is_delete(&delete_entry(&[7; 32])) && is_commit());
-    assert!(rt; are_checksums() && has_head() == Ok(true));
-    for (bytes, fault) in &FAULTS {
-        assert!(rt; read_entry(bytes, 0) == Err(*fault));
+fn entries_and_faults(rt: HostRuntime) {
+    assert!(rt; put_is_read(rt.alloc()) && is_delete(&delete_entry(&[7; 32])) && is_commit());
+    assert!(rt; are_checksums() && has_head() == Ok(true) && faults_are_told());
+}
+
+/// Whether these parts, one behind the other, are a committed segment.
+fn are_committed(alloc: Global, parts: &[&[u8]]) -> Option<bool> {
+    match joined(alloc, parts) {
+        Ok(segment) => Some(is_committed(&segment)),
+        Err(_) => None,
     }
-    Ok(())
+}
+
+/// Whether two COMMITs at the end commit, and neither a magic alone does nor those where a PUT and a COMMIT follow.
+fn the_end_commits(alloc: Global) -> bool {
+    let head = put_head(&[0x11; 32], b"COMMIT");
+    !is_committed(b"BORG_SEG")
+        && are_committed(alloc, &[&COMMIT_SEGMENT, &COMMIT]) == Some(true)
+        && are_committed(
+            alloc,
+            &[&COMMIT_SEGMENT, &COMMIT, &head, b"COMMIT", &COMMIT],
+        ) == Some(false)
 }
 
 #[test]
-fn a_commit_at_the_end_alone_commits(rt: HostRuntime) -> Result<(), Fail> {
-    let mut segment = Vec::from_slice(rt.alloc(), &COMMIT_SEGMENT)?;
-    segment.extend_from_slice(&COMMIT)?;
-    assert!(rt; is_committed(&segment) && !is_committed(b"BORG_SEG"));
-    segment.extend_from_slice(&put_head(&[0x11; 32], b"COMMIT"))?;
-    segment.extend_from_slice(b"COMMIT")?;
-    segment.extend_from_slice(&COMMIT)?;
-    assert!(rt; !is_committed(&segment));
-    Ok(())
+fn a_commit_at_the_end_alone_commits(rt: HostRuntime) {
+    assert!(rt; the_end_commits(rt.alloc()));
 }

@@ -1,8 +1,7 @@
 //! What is expected is worked out by hand from the rule.
 
 use ferry_text::{text_laws, write_id, write_number, write_text};
-use std::alloc::AllocError;
-use std::test::Fail;
+use std::alloc::{AllocError, Global};
 
 /// A line of a text with each kind of byte, two numbers and an id.
 static LINE: &[u8] =
@@ -18,11 +17,16 @@ fn write_line(line: &mut Vec<u8>) -> Result<(), AllocError> {
     write_id(&[0x0a; 32], line)
 }
 
+/// Whether that line is written.
+fn is_written(alloc: Global) -> bool {
+    match Vec::from_slice(alloc, b"f ") {
+        Ok(mut line) => write_line(&mut line).is_ok() && line.as_slice() == LINE,
+        Err(_) => false,
+    }
+}
+
 #[test]
-fn a_line_is_made_of_a_text_numbers_and_an_id(rt: HostRuntime) -> Result<(), Fail> {
-    let mut line = Vec::from_slice(rt.alloc(), b"f ")?;
-    write_line(&mut line)?;
-    assert!(rt; line.as_slice() == LINE);
+fn a_line_is_made_of_a_text_numbers_and_an_id(rt: HostRuntime) {
+    assert!(rt; is_written(rt.alloc()));
     text_laws();
-    Ok(())
 }

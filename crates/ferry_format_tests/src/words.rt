@@ -3,7 +3,6 @@
 use ferry_base::Bytes;
 use ferry_words::{Command, Usage, read_words, words_laws};
 use std::alloc::{AllocError, Global};
-use std::test::Fail;
 
 /// The words of a text, which spaces part.
 fn words_of(alloc: Global, text: &str) -> Result<Vec<String>, AllocError> {
@@ -60,91 +59,13 @@ fn command_of(alloc: Global, text: &str) -> Result<Command, Usage> {
     read_words(alloc, words.as_slice())
 }
 
-/// Whether a text has these operands.
-fn has_operands(alloc: Global, text: &str, operands: (&[u8], &[u8])) -> Result<bool, Usage> {
-    let command = command_of(alloc, text)?;
-    let (name, path) = operands_of(&command);
-    Ok(name == operands.0 && path == operands.1)
-}
-
-#[test]
-fn words_are_a_command_with_operands(rt: HostRuntime) -> Result<(), Fail> {
-    let alloc = rt.alloc();
-    assert!(rt; has_operands(alloc, "list \u{e9}t\u{e9}", (b"\xc3\xa9t\xc3\xa9", b""))?);
-    assert!(rt; has_operands(alloc, "extract -- a --p", (b"a", b"--p"))?);
-    words_laws();
-    assert!(rt; Usage::Word(7).number() == 1);
-    let text = format!(in alloc; "{}", Usage::Word(7))?;
-    assert!(rt; text.as_str() == "word 7 is wrong or missing");
-    Ok(())
-}
-
-/// Texts, with their iterations and timestamps.
-static OPTIONS: [(&str, u32, &[u8]); 3] = [
-    ("init", 100_000, b""),
-    ("init --timestamp -- --iterations 7 --", 7, b"--"),
-    ("make-key --iterations 10000000", 10_000_000, b""),
-];
-
-/// Whether a text has these options.
-fn has_options(
-    alloc: Global,
-    text: &str,
-    iterations: u32,
-    timestamp: &[u8],
-) -> Result<bool, Usage> {
-    let command = command_of(alloc, text)?;
-    let (given, stamp) = options_of(&command);
-    Ok(given == iterations && stamp == timestamp)
-}
-
-#[test]
-fn options_stand_in_any_order_or_are_left_out(rt: HostRuntime) -> Result<(), Fail> {
-    for (text, iterations, timestamp) in &OPTIONS {
-        assert!(rt; has_options(rt.alloc(), text, *iterations, timestamp)?);
-    }
-    Ok(())
-}
-
-/// A text, and the transfer that it is.
+/// The numbers, the timestamp and the names of a transfer.
 struct Transfer {
-    text: &'static str,
     block: usize,
     checkpoint: u64,
     timestamp: &'static [u8],
     names: &'static [&'static [u8]],
 }
-
-static TRANSFERS: [Transfer; 4] = [
-    Transfer {
-        text: "transfer",
-        block: 2_097_152,
-        checkpoint: 1024,
-        timestamp: b"",
-        names: &[],
-    },
-    Transfer {
-        text: "transfer b \u{e9} b",
-        block: 2_097_152,
-        checkpoint: 1024,
-        timestamp: b"",
-        names: &[b"b", b"\xc3\xa9", b"b"],
-    },
-    Transfer {
-        text: "transfer --block 64 --checkpoint 1 -- --block",
-        block: 64,
-        checkpoint: 1,
-        timestamp: b"",
-        names: &[b"--block"],
-    },
-    Transfer {
-        text: "transfer --timestamp now --checkpoint 1000000 --block 8388608 a",
-        block: 8_388_608,
-        checkpoint: 1_000_000,
-        timestamp: b"now",
-        names: &[b"a"],
-    },
-];
 
 /// Whether these are the names.
 fn are_names(given: &[Bytes], names: &[&[u8]]) -> bool {
@@ -166,18 +87,145 @@ fn is_transfer(command: &Command, wanted: &Transfer) -> bool {
     has_numbers && timestamp == wanted.timestamp && are_names(names, wanted.names)
 }
 
-#[test]
-fn a_transfer_has_its_names_in_the_order_given(rt: HostRuntime) -> Result<(), Fail> {
-    for transfer in &TRANSFERS {
-        let command = command_of(rt.alloc(), transfer.text)?;
-        assert!(rt; is_transfer(&command, transfer));
+/// What a command has.
+enum Want {
+    Any,
+    /// A name, and a path.
+    Operands(&'static [u8], &'static [u8]),
+    /// Iterations, and a timestamp.
+    Options(u32, &'static [u8]),
+    Transfer(Transfer),
+}
+
+/// Whether a command has these operands.
+fn has_operands(command: &Command, name: &[u8], path: &[u8]) -> bool {
+    let given = operands_of(command);
+    given.0 == name && given.1 == path
+}
+
+/// Whether a command has these options.
+fn has_options(command: &Command, iterations: u32, timestamp: &[u8]) -> bool {
+    let given = options_of(command);
+    given.0 == iterations && given.1 == timestamp
+}
+
+/// Whether a command has that.
+fn has(command: &Command, want: &Want) -> bool {
+    match want {
+        Want::Any => true,
+        Want::Operands(name, path) => has_operands(command, name, path),
+        Want::Options(iterations, timestamp) => has_options(command, *iterations, timestamp),
+        Want::Transfer(transfer) => is_transfer(command, transfer),
     }
-    Ok(())
+}
+
+/// Whether the words of a text are a command that has that.
+fn is_read(alloc: Global, text: &str, want: &Want) -> Result<bool, Usage> {
+    match command_of(alloc, text) {
+        Ok(command) => Ok(has(&command, want)),
+        Err(usage) => Err(usage),
+    }
+}
+
+/// Whether the words of each text are a command that has what stands beside it.
+fn are_read(alloc: Global, table: &[(&str, Want)]) -> bool {
+    for (text, want) in table {
+        if is_read(alloc, text, want) != Ok(true) {
+            return false;
+        }
+    }
+    true
+}
+
+/// Texts, with their names and paths.
+static OPERANDS: [(&str, Want); 2] = [
+    (
+        "list \u{e9}t\u{e9}",
+        Want::Operands(b"\xc3\xa9t\xc3\xa9", b""),
+    ),
+    ("extract -- a --p", Want::Operands(b"a", b"--p")),
+];
+
+/// Whether a fault has its number, and is printed with the number of its word.
+fn is_printed(alloc: Global) -> bool {
+    match format!(in alloc; "{}", Usage::Word(7)) {
+        Ok(text) => Usage::Word(7).number() == 1 && text.as_str() == "word 7 is wrong or missing",
+        Err(_) => false,
+    }
+}
+
+#[test]
+fn words_are_a_command_with_operands(rt: HostRuntime) {
+    assert!(rt; are_read(rt.alloc(), &OPERANDS) && is_printed(rt.alloc()));
+    words_laws();
+}
+
+/// Texts, with their iterations and timestamps.
+static OPTIONS: [(&str, Want); 3] = [
+    ("init", Want::Options(100_000, b"")),
+    (
+        "init --timestamp -- --iterations 7 --",
+        Want::Options(7, b"--"),
+    ),
+    (
+        "make-key --iterations 10000000",
+        Want::Options(10_000_000, b""),
+    ),
+];
+
+#[test]
+fn options_stand_in_any_order_or_are_left_out(rt: HostRuntime) {
+    assert!(rt; are_read(rt.alloc(), &OPTIONS));
+}
+
+/// Texts, with the transfers that they are.
+static TRANSFERS: [(&str, Want); 4] = [
+    (
+        "transfer",
+        Want::Transfer(Transfer {
+            block: 2_097_152,
+            checkpoint: 1024,
+            timestamp: b"",
+            names: &[],
+        }),
+    ),
+    (
+        "transfer b \u{e9} b",
+        Want::Transfer(Transfer {
+            block: 2_097_152,
+            checkpoint: 1024,
+            timestamp: b"",
+            names: &[b"b", b"\xc3\xa9", b"b"],
+        }),
+    ),
+    (
+        "transfer --block 64 --checkpoint 1 -- --block",
+        Want::Transfer(Transfer {
+            block: 64,
+            checkpoint: 1,
+            timestamp: b"",
+            names: &[b"--block"],
+        }),
+    ),
+    (
+        "transfer --timestamp now --checkpoint 1000000 --block 8388608 a",
+        Want::Transfer(Transfer {
+            block: 8_388_608,
+            checkpoint: 1_000_000,
+            timestamp: b"now",
+            names: &[b"a"],
+        }),
+    ),
+];
+
+#[test]
+fn a_transfer_has_its_names_in_the_order_given(rt: HostRuntime) {
+    assert!(rt; are_read(rt.alloc(), &TRANSFERS));
 }
 
 /// The number of the word that is wrong or missing, 0 where the words are a command.
 fn wrong_word(alloc: Global, text: &str) -> Option<u64> {
-    match command_of(alloc, text) {
+    match is_read(alloc, text, &Want::Any) {
         Ok(_) => Some(0),
         Err(Usage::Word(number)) => Some(number),
         Err(Usage::Memory) => None,
@@ -202,9 +250,17 @@ static WRONG_WORDS: [(&str, u64); 14] = [
     ("transfer a b", 0),
 ];
 
+/// Whether each text has that number.
+fn wrong_words_are_told(alloc: Global) -> bool {
+    for (text, number) in &WRONG_WORDS {
+        if wrong_word(alloc, text) != Some(*number) {
+            return false;
+        }
+    }
+    true
+}
+
 #[test]
 fn the_first_wrong_word_is_told(rt: HostRuntime) {
-    for (text, number) in &WRONG_WORDS {
-        assert!(rt; wrong_word(rt.alloc(), text) == Some(*number));
-    }
+    assert!(rt; wrong_words_are_told(rt.alloc()));
 }

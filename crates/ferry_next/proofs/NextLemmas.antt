@@ -4,8 +4,8 @@ use Rattle.ferry_manifest.specs.Manifest.Text.{ManifestText}
 use Rattle.ferry_manifest.specs.Manifest.Writing.{AreIncreasing, IsPackable, archive_names}
 use Rattle.ferry_manifest.specs.declared.manifest.ArchiveRef.{ArchiveRef}
 use Rattle.ferry_manifest.proofs.Manifests.OrderLemmas.{in_order-increasing}
-use Rattle.ferry_next.specs.Next.{union, next_manifest, with_archive, with_entry, with_item_keys}
-use Rattle.ferry_next.proofs.PlaceLemmas.{with_increasing}
+use Rattle.ferry_next.specs.Next.{union, next_manifest, with_archive, with_entry, with_item_keys, without_archive, without_entry}
+use Rattle.ferry_next.proofs.PlaceLemmas.{with_increasing, without_increasing}
 
 -- with other archives and names of items, which increase
 others_packable : (manifest : ManifestText) (archives : List ArchiveRef) (item_keys : List (List ℕ)) → AreIncreasing (archive_names archives)
@@ -24,6 +24,10 @@ others_packable manifest archives item_keys named keyed is = record {
 pub entry_packable : (manifest : ManifestText) (entry : ArchiveRef) → IsPackable manifest → IsPackable (with_entry manifest entry)
 entry_packable manifest entry is =
     others_packable manifest (with_archive manifest.archives entry) manifest.item_keys (with_increasing manifest.archives entry is.archives) is.item_keys is
+
+pub without_packable : (manifest : ManifestText) (name : List ℕ) → IsPackable manifest → IsPackable (without_entry manifest name)
+without_packable manifest name is =
+    others_packable manifest (without_archive manifest.archives name) manifest.item_keys (without_increasing manifest.archives name is.archives) is.item_keys is
 
 pub item_keys_packable : (manifest : ManifestText) (item_keys : List (List ℕ)) → IsPackable manifest → IsPackable (with_item_keys manifest item_keys)
 item_keys_packable manifest item_keys is =

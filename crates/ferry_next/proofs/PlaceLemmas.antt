@@ -11,7 +11,7 @@ use Rattle.std.proofs.lemmas.Map.Text.{is_eq-slice_cmp}
 use Rattle.std.proofs.lemmas.Slice.Eq.{bytes_eq-Decides}
 use Rattle.ferry_manifest.specs.Manifest.Writing.{AreIncreasing, archive_names}
 use Rattle.ferry_manifest.specs.declared.manifest.ArchiveRef.{ArchiveRef}
-use Rattle.ferry_next.specs.Next.{is_below, with_archive}
+use Rattle.ferry_next.specs.Next.{is_below, with_archive, without_archive}
 use Rattle.ferry_next.proofs.OrderLemmas.{apart, bytes_eq_turned, below_next, filter_increasing, filter_below, filter_above, itself, joined, same_name}
 use Rattle.ferry_repo.specs.Archives.{archive_named}
 
@@ -149,6 +149,31 @@ with_named name archives entry =
     kept_named name (λ n. is_below entry.name n) archives ∙ ap (λ b. cond (is_lt b) all None) turned in
     let same : bytes_eq entry.name name ≡ is_eq o = bytes_eq_turned name entry.name ∙ sym (is_eq-slice_cmp name entry.name) in
     named_append name before (entry ∷ behind) ∙ rw (first, second, same) (with_by entry all o)
+
+-- ---- the laws of `without_archive`
+
+without_by : (b : Bool) (all : Option ArchiveRef) → cond (not b) all None ≡ cond b None all
+without_by true all = refl
+without_by false all = refl
+
+pub without_named : (name other : List ℕ) (archives : List ArchiveRef)
+    → archive_named other (without_archive archives name) ≡ cond (bytes_eq name other) None (archive_named other archives)
+unfolding without_archive
+without_named name other archives =
+    kept_named other (λ n. not (bytes_eq n name)) archives
+    ∙ (ap (λ (b : Bool). cond (not b) (archive_named other archives) None) (bytes_eq_turned name other)
+    ∙ without_by (bytes_eq name other) (archive_named other archives))
+
+-- those that are kept by another name are those without it
+pub without_is : (archives kept : List ArchiveRef) (name : List ℕ) → kept ≡ filter (λ a. not (bytes_eq a.name name)) archives
+    → kept ≡ without_archive archives name
+unfolding without_archive
+without_is archives kept name e = e
+
+pub without_increasing : (archives : List ArchiveRef) (name : List ℕ) → AreIncreasing (archive_names archives)
+    → AreIncreasing (archive_names (without_archive archives name))
+unfolding without_archive
+without_increasing archives name inc = filter_increasing (λ a. not (bytes_eq a.name name)) archives inc
 
 -- ---- archives in byte order are told by what their names have
 

@@ -1,6 +1,6 @@
 -- The next manifest of a repository: one more archive in its place, and more names of items (BorgBackup 1.2, Internals, "Data
 -- structures and file formats", The manifest). A packed map has its keys in byte order, so a manifest that is written has its archives so.
-use Rattle.std.specs.Prelude.{◌≡◌, ℕ, Bool, ◌||◌, List, ◌∷◌, ◌++◌, Some}
+use Rattle.std.specs.Prelude.{◌≡◌, ℕ, Bool, ◌||◌, not, List, ◌∷◌, ◌++◌, Some}
 use Rattle.std.specs.Cmp.Lexicographic.{slice_cmp}
 use Rattle.std.specs.List.{filter, list_any}
 use Rattle.std.specs.Ordering.{is_lt, nat_cmp}
@@ -21,6 +21,10 @@ unfoldable pub with_archive : List ArchiveRef → ArchiveRef → List ArchiveRef
 with_archive archives entry =
     filter (λ archive. is_below archive.name entry.name) archives ++ (entry ∷ filter (λ archive. is_below entry.name archive.name) archives)
 
+-- the archives without the one of a name: without "b", "a", "b" and "c" are "a" and "c"
+unfoldable pub without_archive : List ArchiveRef → List ℕ → List ArchiveRef
+without_archive archives name = filter (λ archive. not (bytes_eq archive.name name)) archives
+
 -- ---- names of items
 
 -- A list has the names of two lists, each once, in byte order: "a", "b" and "c" those of "a", "c" and of "b", "c".
@@ -37,6 +41,10 @@ union names more = in_order (names ++ more)
 -- the manifest with one more archive
 abbrev pub with_entry : ManifestText → ArchiveRef → ManifestText
 with_entry manifest entry = record manifest { archives = with_archive manifest.archives entry }
+
+-- the manifest without the archive of a name
+abbrev pub without_entry : ManifestText → List ℕ → ManifestText
+without_entry manifest name = record manifest { archives = without_archive manifest.archives name }
 
 -- the manifest with more names of items
 abbrev pub with_item_keys : ManifestText → List (List ℕ) → ManifestText

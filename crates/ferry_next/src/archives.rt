@@ -4,7 +4,7 @@ ghost use Rattle.std.specs.Prelude.{◌≡◌, ◌≤◌, length, take, drop, no
 ghost use Rattle.std.specs.List.{filter};
 ghost use Rattle.ferry_manifest.specs.Manifest.Text.{manifest_view};
 ghost use Rattle.ferry_manifest.specs.Manifest.Writing.{AreIncreasing, IsPackable, archive_names};
-ghost use Rattle.ferry_next.specs.Next.{is_below, with_entry};
+ghost use Rattle.ferry_next.specs.Next.{is_below, with_entry, without_entry};
 ghost use Rattle.ferry_repo.specs.Archives.{archive_named};
 
 use ferry_manifest::{ArchiveRef, ArchiveRefs, Manifest};
@@ -55,4 +55,15 @@ pub fn add_archive(
     manifest.archives = ArchiveRefs::new(archives);
     inserted?;
     Ok(())
+}
+
+/// Takes the archive of a name out of a manifest, where there is one. Nothing is allocated.
+pub fn drop_archive(alloc: Global, manifest: &mut Manifest, name: &[u8])
+    ensures dropped { manifest_view manifest.new ≡ without_entry (manifest_view manifest.old) name.now }
+    ensures packable { IsPackable (manifest_view manifest.old) → IsPackable (manifest_view manifest.new) }
+{
+    let listed = mem::replace(&mut manifest.archives, ArchiveRefs::new(Vec::new(alloc)));
+    let mut archives = listed.into_vec();
+    archives.retain(|archive| archive.name.as_slice() != name);
+    manifest.archives = ArchiveRefs::new(archives);
 }

@@ -13,11 +13,10 @@ use Rattle.ferry_disk.specs.Device.{Told}
 use Rattle.ferry_disk.specs.Moments.{Moments}
 use Rattle.ferry_mac.specs.declared.keys.Keys.{Keys}
 use Rattle.ferry_repo.specs.Objects.{HoldsChunk}
-use Rattle.ferry_manifest.specs.Manifest.Text.{ManifestText}
+use Rattle.ferry_manifest.specs.Manifest.Text.{manifest_view}
 use Rattle.ferry_manifest.specs.declared.manifest.Manifest.{Manifest}
 use Rattle.ferry_repo.specs.Opening.{RepoState, repo_view}
 use Rattle.ferry_repo.specs.declared.repo.Repo.{Repo}
-use Rattle.ferry_store.specs.Commit.{accepted_or}
 use Rattle.ferry_segment.specs.Entry.{LogEntry, PutEntry}
 use Rattle.ferry_stops.proofs.TellLemmas.{untold_then}
 use Rattle.ferry_stops.specs.Entries.{Shows}
@@ -356,8 +355,7 @@ rest_by store now keys config manifest accepted = record {
   keys = keys;
   config = config;
   manifest = manifest;
-  accepted = ap (λ (a : Option Manifest). accepted_or (repo_view now.repo).manifest a) accepted
-      ∙ ap (λ (m : ManifestText). accepted_or m store.accepted) manifest;
+  accepted = ap (λ (m : Manifest). manifest_view m) accepted;
 }
 
 pub added_rest : (store now : Store) (content : List ℕ) (added : Added) → AddedSo store content now added → KeepsRest store now

@@ -4,7 +4,7 @@ use Rattle.std.proofs.Common.{refl, sym, ◌∙◌, subst, arith}
 use Rattle.std.specs.List.{AllByRecursion}
 use Rattle.ferry_base.specs.Limits.{zero_id}
 use Rattle.ferry_carry.specs.Counting.{CountsOf}
-use Rattle.ferry_carry.specs.Flight.{IsSettled}
+use Rattle.ferry_store.specs.Commit.{IsSettled}
 use Rattle.ferry_carry.specs.Listing.{ListsNames}
 use Rattle.ferry_carry.specs.Telling.{ReportsWhole}
 use Rattle.ferry_carry.specs.declared.options.Carried.{Carried}

@@ -2,7 +2,7 @@
 ghost use Rattle.std.specs.Prelude.{◌≡◌, ℕ, List, [], Option, Some, Ok, false};
 ghost use Rattle.std.specs.List.{AllByRecursion};
 ghost use Rattle.ferry_carry.specs.Counting.{CountsOf};
-ghost use Rattle.ferry_carry.specs.Flight.{IsSettled};
+ghost use Rattle.ferry_store.specs.Commit.{IsSettled};
 ghost use Rattle.ferry_carry.specs.Listing.{ListsNames};
 ghost use Rattle.ferry_carry.specs.Telling.{ReportsWhole};
 ghost use Rattle.ferry_carry.specs.declared.options.Carried.{Carried as TheCarried};

@@ -113,10 +113,15 @@ impl<R: Runtime> Folder<R> {
             return Ok(());
         }
         self.opened = None;
-        let Some(path) = self.path_of(name)? else {
-            return Ok(());
-        };
-        match open_to_read(&self.rt, path.as_str()) {
+        match self.path_of(name)? {
+            Some(path) => self.open_at(name, path.as_str()),
+            None => Ok(()),
+        }
+    }
+
+    /// Opens a file at its path, where it is there.
+    fn open_at(&mut self, name: Name, path: &str) -> Result<(), StoreFault> {
+        match open_to_read(&self.rt, path) {
             Ok(Some(file)) => {
                 self.opened = Some(Opened { name, file });
                 Ok(())
@@ -181,29 +186,47 @@ impl<R: Runtime> Folder<R> {
 
     /// How many segments a folder of `data` holds.
     fn per_folder(&self) -> Result<NonZeroU64, StoreFault> {
-        let said = match &self.place {
-            Some(place) => self.per_folder_in(place.path_to("config")?.as_str())?,
-            None => None,
-        };
-        let number = said.unwrap_or(SEGMENTS_PER_FOLDER);
+        let number = self.said_per_folder()?.unwrap_or(SEGMENTS_PER_FOLDER);
         Ok(NonZeroU64::new(number).unwrap_or(NonZeroU64::MIN))
+    }
+
+    /// The same as `config` says it, `None` where there is none or it doesn't read.
+    fn said_per_folder(&self) -> Result<Option<u64>, StoreFault> {
+        let Some(place) = &self.place else {
+            return Ok(None);
+        };
+        let path = place.path_to("config")?;
+        self.per_folder_in(path.as_str())
     }
 
     /// The same as the file at a path says it, `None` where it isn't there or doesn't read as `config`.
     fn per_folder_in(&self, path: &str) -> Result<Option<u64>, StoreFault> {
-        if length_of(&self.rt, path)?.is_none() {
-            return Ok(None);
+        match length_of(&self.rt, path)? {
+            Some(_) => read_per_folder(&self.rt, self.alloc, path),
+            None => Ok(None),
         }
-        let text = match fs::read(&self.rt, path) {
-            Ok(text) => text,
-            Err(error) if error.kind() == ErrorKind::NotFound => return Ok(None),
-            Err(error) => return Err(store_fault(&error)),
-        };
-        match read_config(self.alloc, text.as_slice()) {
-            Ok(config) => Ok(Some(config.per_dir)),
-            Err(ConfigFault::Memory) => Err(StoreFault::Memory),
-            Err(_) => Ok(None),
-        }
+    }
+}
+
+/// How many segments a folder holds by the file at a path, `None` where it isn't there or doesn't read as `config`.
+fn read_per_folder<R: Runtime>(
+    rt: &R,
+    alloc: Global,
+    path: &str,
+) -> Result<Option<u64>, StoreFault> {
+    match fs::read(rt, path) {
+        Ok(text) => per_folder_of(alloc, text.as_slice()),
+        Err(error) if error.kind() == ErrorKind::NotFound => Ok(None),
+        Err(error) => Err(store_fault(&error)),
+    }
+}
+
+/// How many segments a folder holds by the text of `config`, `None` where it doesn't read.
+fn per_folder_of(alloc: Global, text: &[u8]) -> Result<Option<u64>, StoreFault> {
+    match read_config(alloc, text) {
+        Ok(config) => Ok(Some(config.per_dir)),
+        Err(ConfigFault::Memory) => Err(StoreFault::Memory),
+        Err(_) => Ok(None),
     }
 }
 

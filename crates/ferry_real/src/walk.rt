@@ -26,13 +26,24 @@ fn walk_entries<R: Runtime>(
     found: &mut Listing,
 ) -> Result<(), StoreFault> {
     for entry in entries {
-        match numbered(rt, entry)? {
-            Some((folder, kind)) if kind.is_dir() => walk_folder(rt, place, folder, found)?,
-            Some((number, kind)) if kind.is_file() => add(found, number, None)?,
-            _ => {}
-        }
+        add_entry(rt, place, entry, found)?;
     }
     Ok(())
+}
+
+/// Adds an entry of `data`, where it is a segment or a numbered folder.
+fn add_entry<R: Runtime>(
+    rt: &R,
+    place: &Place,
+    entry: io::Result<DirEntry<R, R::A>>,
+    found: &mut Listing,
+) -> Result<(), StoreFault> {
+    match numbered(rt, entry) {
+        Ok(Some((folder, kind))) if kind.is_dir() => walk_folder(rt, place, folder, found),
+        Ok(Some((number, kind))) if kind.is_file() => add(found, number, None),
+        Ok(_) => Ok(()),
+        Err(fault) => Err(fault),
+    }
 }
 
 /// Adds a numbered folder and its segments.
@@ -46,7 +57,17 @@ fn walk_folder<R: Runtime>(
         return Err(StoreFault::Memory);
     }
     let path = place.folder(folder)?;
-    match entries_of(rt, path.as_str()) {
+    walk_folder_at(rt, path.as_str(), folder, found)
+}
+
+/// Adds the segments of a numbered folder, which lies at this path.
+fn walk_folder_at<R: Runtime>(
+    rt: &R,
+    path: &str,
+    folder: u64,
+    found: &mut Listing,
+) -> Result<(), StoreFault> {
+    match entries_of(rt, path) {
         Ok(Some(mut entries)) => walk_segments(rt, folder, &mut entries, found),
         Ok(None) => Ok(()),
         Err(fault) => Err(fault),
@@ -61,12 +82,23 @@ fn walk_segments<R: Runtime>(
     found: &mut Listing,
 ) -> Result<(), StoreFault> {
     for entry in entries {
-        match numbered(rt, entry)? {
-            Some((number, kind)) if kind.is_file() => add(found, number, Some(folder))?,
-            _ => {}
-        }
+        add_segment(rt, folder, entry, found)?;
     }
     Ok(())
+}
+
+/// Adds an entry of a numbered folder, where it is a segment.
+fn add_segment<R: Runtime>(
+    rt: &R,
+    folder: u64,
+    entry: io::Result<DirEntry<R, R::A>>,
+    found: &mut Listing,
+) -> Result<(), StoreFault> {
+    match numbered(rt, entry) {
+        Ok(Some((number, kind))) if kind.is_file() => add(found, number, Some(folder)),
+        Ok(_) => Ok(()),
+        Err(fault) => Err(fault),
+    }
 }
 
 /// Adds a segment that was found in this folder, `None` being `data` itself.

@@ -4,20 +4,20 @@
 //! nothing.
 
 use crate::folder::{Folder, Presence, length_of};
+use crate::removing::{add_path, add_spare, remove_files};
+use crate::replacing::replace_file;
+use crate::settling::{sync_files, sync_folders};
 use crate::stable::{
-    failed, keep_mode, make_file, make_folder, open_to_append, remove_if_there, stays_at,
-    sync_file, sync_folder, sync_folder_unless,
+    failed, make_file, make_folder, open_to_append, stays_at, sync_file, sync_folder,
+    sync_folder_unless,
 };
 use ferry_disk::{Name, StoreFault};
-use ferry_layout::{Listing, Location, Place, file_name, folder_of_path, write_all};
+use ferry_layout::{Place, file_name, folder_of_path, write_all};
 use std::alloc::{AllocError, Global};
 use std::fs::OpenFile;
+use std::io;
 use std::io::ErrorKind;
 use std::rt::Runtime;
-use std::{fs, io};
-
-/// The files that a `settle` makes stable beside the segments.
-const PLAIN_FILES: [&str; 3] = ["config", "nonce", "README"];
 
 /// A repository's folder that is written.
 #[derive(Drop)]
@@ -102,34 +102,57 @@ impl<R: Runtime> Writer<R> {
 
     /// Makes a segment at its own place, and the folders that it lies in.
     fn make(&mut self, segment: u64) -> Result<(), StoreFault> {
-        let path = self.note_made(segment)?;
-        self.make_folders(path.as_str())?;
+        let path = self.own_path(segment)?;
+        self.prepare(segment, path.as_str())?;
         self.make_at(segment, path)
     }
 
-    /// The path of a segment at its own place, where it counts as made from now on.
-    fn note_made(&mut self, segment: u64) -> Result<String, StoreFault> {
-        let (Some(place), Some(found)) = (&self.folder.place, &mut self.folder.found) else {
+    /// The path of a segment at its own place.
+    fn own_path(&self, segment: u64) -> Result<String, StoreFault> {
+        match (&self.folder.place, &self.folder.found) {
+            (Some(place), Some(found)) => place.segment(segment, Some(found.own_folder(segment))),
+            _ => Err(StoreFault::Failed),
+        }
+    }
+
+    /// Prepares the making of a segment at its own place, which is this path: it counts as made from now on, and its folders are there.
+    fn prepare(&mut self, segment: u64, path: &str) -> Result<(), StoreFault> {
+        self.note_made(segment)?;
+        self.make_folders(path)
+    }
+
+    /// Counts a segment at its own place as made.
+    fn note_made(&mut self, segment: u64) -> Result<(), StoreFault> {
+        let Some(found) = &mut self.folder.found else {
             return Err(StoreFault::Failed);
         };
         let own = found.own_folder(segment);
-        let path = place.segment(segment, Some(own))?;
         if self.made.push(segment).is_err() || found.add(segment, Some(own)).is_err() {
             return Err(StoreFault::Memory);
         }
-        Ok(path)
+        Ok(())
     }
 
     /// Makes the folders that the path of a segment leads through, where they aren't there.
     fn make_folders(&mut self, path: &str) -> Result<(), StoreFault> {
+        let folder = folder_of_path(path);
+        self.make_place()?;
+        self.make_folder(folder_of_path(folder))?;
+        self.make_folder(folder)
+    }
+
+    /// Makes the repository's folder, where it isn't there.
+    fn make_place(&mut self) -> Result<(), StoreFault> {
         let Some(place) = &self.folder.place else {
             return Err(StoreFault::Failed);
         };
-        let rt = &self.folder.rt;
-        let folder = folder_of_path(path);
-        self.made_place |= make_folder(rt, place.path())?;
-        self.made_folders |= make_folder(rt, folder_of_path(folder))?;
-        self.made_folders |= make_folder(rt, folder)?;
+        self.made_place |= make_folder(&self.folder.rt, place.path())?;
+        Ok(())
+    }
+
+    /// Makes `data` or a folder in it, where it isn't there.
+    fn make_folder(&mut self, path: &str) -> Result<(), StoreFault> {
+        self.made_folders |= make_folder(&self.folder.rt, path)?;
         Ok(())
     }
 
@@ -219,15 +242,25 @@ impl<R: Runtime> Writer<R> {
 
     /// Removes a segment for good: first its files that don't count, so that none of them comes to count, then the one that does.
     pub fn remove(&mut self, segment: u64) -> Result<(), StoreFault> {
+        self.remove_files_of(segment)?;
+        self.take_out(segment);
+        Ok(())
+    }
+
+    /// Removes a segment's files, the one that counts last.
+    fn remove_files_of(&mut self, segment: u64) -> Result<(), StoreFault> {
         let paths = self.paths_of(segment)?;
-        remove_files(&self.folder.rt, paths.as_slice())?;
+        remove_files(&self.folder.rt, paths.as_slice())
+    }
+
+    /// Closes what is open, and forgets a segment that was removed.
+    fn take_out(&mut self, segment: u64) {
         self.appending = None;
         self.folder.close();
         self.made.retain(|made| *made != segment);
         if let Some(found) = &mut self.folder.found {
             found.take_out(segment);
         }
-        Ok(())
     }
 
     /// The paths of a segment's files, the one that counts last. That there is none is a failure.
@@ -236,25 +269,41 @@ impl<R: Runtime> Writer<R> {
             return Err(StoreFault::Failed);
         };
         let mut paths = Vec::new(self.folder.alloc);
-        if let (Some(place), Some(found)) = (&self.folder.place, &self.folder.found) {
-            add_spare(place, found, segment, &mut paths)?;
-            add_path(place, segment, folder, &mut paths)?;
-        }
+        self.add_paths(segment, folder, &mut paths)?;
         Ok(paths)
+    }
+
+    /// Adds the paths of a segment's files, where the one that counts lies in this folder of `data`.
+    fn add_paths(
+        &self,
+        segment: u64,
+        folder: Option<u64>,
+        paths: &mut Vec<String>,
+    ) -> Result<(), StoreFault> {
+        let (Some(place), Some(found)) = (&self.folder.place, &self.folder.found) else {
+            return Ok(());
+        };
+        add_spare(place, found, segment, paths)?;
+        add_path(place, segment, folder, paths)
     }
 
     /// Replaces a file that is no segment, or makes it.
     pub fn replace(&mut self, name: Name, bytes: &[u8]) -> Result<(), StoreFault> {
-        let (Some(place), Some(word)) = (&self.folder.place, file_name(name)) else {
-            return Err(StoreFault::Failed);
-        };
-        let path = place.path_to(word)?;
-        self.replace_at(path.as_str(), word, bytes)?;
+        self.replace_file(name, bytes)?;
         self.folder.close();
         if name == Name::Config {
             self.folder.found = None;
         }
         Ok(())
+    }
+
+    /// Replaces the file of this name.
+    fn replace_file(&mut self, name: Name, bytes: &[u8]) -> Result<(), StoreFault> {
+        let (Some(place), Some(word)) = (&self.folder.place, file_name(name)) else {
+            return Err(StoreFault::Failed);
+        };
+        let path = place.path_to(word)?;
+        self.replace_at(path.as_str(), word, bytes)
     }
 
     /// Replaces the file at a path, which has this name in the folder.
@@ -263,10 +312,21 @@ impl<R: Runtime> Writer<R> {
             return Err(StoreFault::Failed);
         };
         let beside = place.beside(word)?;
-        let rt = &self.folder.rt;
-        self.made_place |= make_folder(rt, place.path())?;
-        replace_file(rt, path, beside.as_str(), bytes)?;
-        sync_folder(rt, place.path())?;
+        self.replace_by(path, beside.as_str(), bytes)
+    }
+
+    /// The same by a file at the path beside it.
+    fn replace_by(&mut self, path: &str, beside: &str, bytes: &[u8]) -> Result<(), StoreFault> {
+        self.make_place()?;
+        replace_file(&self.folder.rt, path, beside, bytes)?;
+        self.sync_names()
+    }
+
+    /// Makes the names in the repository's folder stable, and its own, where it was made here.
+    fn sync_names(&mut self) -> Result<(), StoreFault> {
+        if let Some(place) = &self.folder.place {
+            sync_folder(&self.folder.rt, place.path())?;
+        }
         self.sync_place()
     }
 
@@ -318,119 +378,4 @@ fn sync_regular<R: Runtime>(rt: &R, path: &str) -> Result<(), StoreFault> {
         Some(_) => sync_file(rt, path),
         None => Err(StoreFault::Failed),
     }
-}
-
-/// Adds the paths of the files of a segment that don't count.
-fn add_spare(
-    place: &Place,
-    found: &Listing,
-    segment: u64,
-    paths: &mut Vec<String>,
-) -> Result<(), StoreFault> {
-    for (number, location) in &found.spare {
-        if *number == segment {
-            add_path(place, segment, found.folder(segment, *location), paths)?;
-        }
-    }
-    Ok(())
-}
-
-/// Adds the path of a segment that lies in this folder of `data`, `None` being `data` itself.
-fn add_path(
-    place: &Place,
-    segment: u64,
-    folder: Option<u64>,
-    paths: &mut Vec<String>,
-) -> Result<(), StoreFault> {
-    let path = place.segment(segment, folder)?;
-    match paths.push(path) {
-        Ok(()) => Ok(()),
-        Err(_) => Err(StoreFault::Memory),
-    }
-}
-
-/// Removes files in this order, each for good.
-fn remove_files<R: Runtime>(rt: &R, paths: &[String]) -> Result<(), StoreFault> {
-    for path in paths {
-        remove_file(rt, path.as_str())?;
-    }
-    Ok(())
-}
-
-/// Removes a file from the folder that it lies in, for good.
-fn remove_file<R: Runtime>(rt: &R, path: &str) -> Result<(), StoreFault> {
-    fs::remove_file(rt, path).map_err(failed)?;
-    sync_folder(rt, folder_of_path(path))
-}
-
-/// Gives the file at `path` these bytes, by a file beside it, of which a failure leaves nothing where that can be.
-fn replace_file<R: Runtime>(
-    rt: &R,
-    path: &str,
-    beside: &str,
-    bytes: &[u8],
-) -> Result<(), StoreFault> {
-    let outcome = write_beside(rt, path, beside, bytes);
-    if outcome.is_err() {
-        let _ = fs::remove_file(rt, beside);
-    }
-    outcome
-}
-
-/// Writes the bytes into a file beside the one at `path`, makes them stable, and gives it the other's name.
-fn write_beside<R: Runtime>(
-    rt: &R,
-    path: &str,
-    beside: &str,
-    bytes: &[u8],
-) -> Result<(), StoreFault> {
-    remove_if_there(rt, beside)?;
-    let mut file = make_file(rt, beside)?;
-    keep_mode(rt, &file, path)?;
-    write_all(&mut file, bytes).map_err(failed)?;
-    file.sync_all().map_err(failed)?;
-    fs::rename(rt, beside, path).map_err(failed)
-}
-
-/// Makes the bytes of all files stable that a read gives.
-fn sync_files<R: Runtime>(rt: &R, place: &Place, found: &Listing) -> Result<(), StoreFault> {
-    for name in PLAIN_FILES {
-        let path = place.path_to(name)?;
-        sync_if_regular(rt, path.as_str())?;
-    }
-    for (number, location) in &found.places {
-        sync_segment(rt, place, found, *number, *location)?;
-    }
-    Ok(())
-}
-
-/// Makes the bytes of the regular file at a path stable, where there is one.
-fn sync_if_regular<R: Runtime>(rt: &R, path: &str) -> Result<(), StoreFault> {
-    match length_of(rt, path)? {
-        Some(_) => sync_file(rt, path),
-        None => Ok(()),
-    }
-}
-
-/// Makes the bytes of a segment stable that was found there.
-fn sync_segment<R: Runtime>(
-    rt: &R,
-    place: &Place,
-    found: &Listing,
-    number: u64,
-    location: Location,
-) -> Result<(), StoreFault> {
-    let path = place.segment(number, found.folder(number, location))?;
-    sync_file(rt, path.as_str())
-}
-
-/// Makes the names of all files in the folder stable that a read gives, and those of their folders.
-fn sync_folders<R: Runtime>(rt: &R, place: &Place, found: &Listing) -> Result<(), StoreFault> {
-    for folder in &found.folders {
-        let path = place.folder(*folder)?;
-        sync_folder(rt, path.as_str())?;
-    }
-    let data = place.data()?;
-    sync_folder_unless(rt, data.as_str(), ErrorKind::NotFound)?;
-    sync_folder(rt, place.path())
 }

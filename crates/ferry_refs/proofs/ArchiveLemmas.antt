@@ -104,7 +104,7 @@ reads-append files repo [] ys (r ∷ rs) ss h g = absurd h
 reads-append files repo (x ∷ xs) ys [] ss h g = absurd h
 reads-append files repo (x ∷ xs) ys (r ∷ rs) ss h g = (h.0, reads-append files repo xs ys rs ss h.1 g)
 
-used-append : (xs ys : List ArchiveRead) → flat_map ids_used (xs ++ ys) ≡ flat_map ids_used xs ++ flat_map ids_used ys
+pub used-append : (xs ys : List ArchiveRead) → flat_map ids_used (xs ++ ys) ≡ flat_map ids_used xs ++ flat_map ids_used ys
 used-append [] ys = refl
 used-append (x ∷ xs) ys =
     ap (λ k. ids_used x ++ k) (used-append xs ys) ∙ sym (append_assoc (ids_used x) (flat_map ids_used xs) (flat_map ids_used ys))

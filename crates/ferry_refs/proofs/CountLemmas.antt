@@ -34,7 +34,7 @@ same_by a b false true e f =
 same_by a b false false e f = refl
 
 -- the test of two ids by their order and the one by their bytes agree
-same_tests : (a b : List ℕ) → eq_by_cmp key_cmp a b ≡ bytes_eq a b
+pub same_tests : (a b : List ℕ) → eq_by_cmp key_cmp a b ≡ bytes_eq a b
 same_tests a b = same_by a b (eq_by_cmp key_cmp a b) (bytes_eq a b) refl refl
 
 -- ---- Adds

@@ -46,7 +46,7 @@ module _ (files : Files) (repo : RepoState) where
       → Comes files repo.log repo.keys is.named.id [] read.archive.items read.items None
   read_comes name read is = (whole_comes files repo.log repo.keys is.named.id read.archive.items read.items).1 is.stream
 
-  one_read : (name : List ℕ) (a b : ArchiveRead) → IsRead files repo name a → IsRead files repo name b → a ≡ b
+  pub one_read : (name : List ℕ) (a b : ArchiveRead) → IsRead files repo name a → IsRead files repo name b → a ≡ b
   one_read name a b ha hb =
       let named = one_named name ha.named hb.named ha.named_is hb.named_is in
       let id : a.id ≡ b.id = ha.id ∙ (ap (λ (n : ArchiveRef). n.id) named ∙ sym hb.id) in

@@ -2,3 +2,11 @@ pub mod CountLemmas
 pub mod ItemLemmas
 pub mod ArchiveLemmas
 pub mod LawLemmas
+pub mod GoingLemmas
+pub mod WholeLemmas
+pub mod DeletedLemmas
+pub mod DropLemmas
+pub mod CommitLemmas
+pub mod ReadLemmas
+pub mod DeleteLemmas
+pub mod SameLemmas

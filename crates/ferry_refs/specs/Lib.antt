@@ -1,2 +1,4 @@
 pub mod Refs
 pub mod Steps
+pub mod Deleting
+pub mod DeleteSteps

@@ -1,11 +1,14 @@
 -- Steps of the bodies that count references: what was counted so far, and what a walk, an archive or several archives add.
-use Rattle.std.specs.Prelude.{◌≡◌, ◌+◌, ℕ, List, Option, Some, None, IfSome}
+use Rattle.std.specs.Prelude.{◌≡◌, ◌==◌, ◌+◌, ◌&&◌, ℕ, nat_lt, Bool, not, List, Option, Some, None, IfSome, is_some}
 use Rattle.std.specs.List.{flat_map}
+use Rattle.std.specs.Str.{bytes_eq}
+use Rattle.ferry_base.specs.Limits.{zero_id}
 use Rattle.ferry_check.specs.Report.{ArchiveRead, IsRead, AreRead, ids_of, ids_used}
 use Rattle.ferry_check.specs.Steps.{Answers}
 use Rattle.ferry_disk.specs.Device.{Told, told_files}
 use Rattle.ferry_disk.specs.Files.{Files}
 use Rattle.ferry_item.specs.Item.{ItemText}
+use Rattle.ferry_log.specs.State.{LogState, place_in}
 use Rattle.ferry_manifest.specs.declared.manifest.ArchiveRef.{ArchiveRef}
 use Rattle.ferry_repo.specs.Opening.{RepoState}
 use Rattle.ferry_repo.specs.Walk.{WalkState, IsToCome}
@@ -55,3 +58,9 @@ pub record CountsArchives (told : Option Told) (repo : RepoState) (archives : Li
   pub reads : List ArchiveRead
   pub are : IfSome told (λ t. AreRead (told_files t) repo archives reads)
   pub adds : Adds (flat_map ids_used reads) before after
+
+-- ---- chunks that go
+
+-- whether an id is that of a live chunk that an archive uses, and as often as all archives do
+abbrev pub goes_by : LogState → Tally → Tally → List ℕ → Bool
+goes_by log all own id = nat_lt 0 (own id) && ((own id == all id) && (not (bytes_eq id zero_id) && is_some (place_in log id)))

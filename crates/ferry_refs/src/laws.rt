@@ -1,11 +1,16 @@
 //! Laws of references, each the contract of a function with nothing to do.
-ghost use Rattle.std.specs.Prelude.{◌≡◌, ◌⊎◌, ℕ, List};
+ghost use Rattle.std.specs.Prelude.{◌≡◌, ◌⊎◌, ℕ, Bool, true, List, Some};
 ghost use Rattle.ferry_disk.specs.Files.{Files};
 ghost use Rattle.ferry_log.specs.State.{FitsFiles};
 ghost use Rattle.ferry_repo.specs.Fault.{IsOfFiles};
-ghost use Rattle.ferry_repo.specs.Opening.{RepoState};
+ghost use Rattle.ferry_repo.specs.Opening.{OpensFilesTo, RepoState};
 ghost use Rattle.ferry_repo.specs.declared.fault.RepoFault.{RepoFault};
+ghost use Rattle.ferry_repo.specs.declared.secret.Secret.{Secret};
+ghost use Rattle.ferry_refs.specs.Deleting.{AreGoing, KeepsOthers, ShowsDeleted, ShowsEither};
 ghost use Rattle.ferry_refs.specs.Refs.{Refs, RefusesRefs};
+ghost use Rattle.ferry_segment.specs.Entry.{LogEntry};
+ghost use Rattle.ferry_stops.specs.Entries.{Shows};
+ghost use Rattle.ferry_store.specs.State.{found};
 
 /// In a repository that files fit each id has a number of uses, or an archive doesn't read. An id has one number, and none where an archive doesn't
 /// read; of the archives that don't read one is first, with one fault.
@@ -17,4 +22,20 @@ pub fn refs_laws()
         → RefusesRefs files repo fault → ⊥ }
     ensures fault { (files : Files) (repo : RepoState) (f g : RepoFault) → IsOfFiles f → IsOfFiles g → RefusesRefs files repo f
         → RefusesRefs files repo g → f ≡ g }
+{}
+
+/// What is left where an archive was deleted, or a stop came before it was: each other archive, as it was.
+pub fn delete_laws()
+    ensures kept { (secret : Secret) (start image : Files) (repo : RepoState) (name time : List ℕ) (committed : List LogEntry)
+        → OpensFilesTo start secret repo → Shows start (Some committed)
+        → ShowsEither start repo name time (found (Some committed) start) image
+        → (gone : Bool) × KeepsOthers secret start repo name time gone image }
+    // Behind the deletion the archive is gone.
+    ensures gone { (secret : Secret) (start image : Files) (repo : RepoState) (name time : List ℕ) (committed : List LogEntry)
+        → OpensFilesTo start secret repo → Shows start (Some committed)
+        → ShowsDeleted start repo name time (found (Some committed) start) image
+        → KeepsOthers secret start repo name time true image }
+    // One list has the ids of all chunks that go.
+    ensures ids { (files : Files) (repo : RepoState) (name : List ℕ) (ids others : List (List ℕ)) → AreGoing files repo name ids
+        → AreGoing files repo name others → ids ≡ others }
 {}

@@ -1,3 +1,4 @@
 pub mod Status
 pub mod Devices
 pub mod Output
+pub mod Telling

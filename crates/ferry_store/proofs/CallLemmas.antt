@@ -1,6 +1,6 @@
 -- What each step of `init` did, from what its calls say.
 use Rattle.std.proofs.Common.{◌≡◌, ◌⊎◌, inl, inr, ℕ, ◌+◌, ◌<◌, ◌≤◌, ◌^◌, Bool, true, false, List, [], ◌∷◌, ◌++◌, length, Option, Some, None, Result}
-use Rattle.std.proofs.Common.{Ok, Err, IfErr, IfSome}
+use Rattle.std.proofs.Common.{Ok, Err, IfErr, IfSome, IsSome}
 use Rattle.std.proofs.Common.{refl, sym, ◌∙◌, ap, subst, arith, ltb, ltb-true, ltb-false, map, drop, unwrap_or, ◌-◌}
 use Rattle.std.proofs.lemmas.List.{length-drop}
 use Rattle.ferry_disk.proofs.MomentLemmas.{between_map, between_both, between_then}
@@ -23,7 +23,7 @@ use Rattle.ferry_log.specs.declared.place.Place.{Place}
 use Rattle.std.specs.FinMap.{get}
 use Rattle.ferry_store.specs.declared.fault.StoreRefusal.TheVariants.{Committed}
 use Rattle.ferry_nonce.proofs.MomentLemmas.{numbers_begun}
-use Rattle.ferry_nonce.specs.Counter.{CounterFits, FitIn, KeepsAbove, Reserves, drawn, reserves, reserved_for}
+use Rattle.ferry_nonce.specs.Counter.{CounterFits, IsExactly, FitIn, KeepsAbove, Reserves, drawn, reserves, reserved_for}
 use Rattle.ferry_nonce.specs.Fault.{nonce_failed}
 use Rattle.ferry_nonce.specs.declared.counter.Counter.{Counter}
 use Rattle.ferry_nonce.specs.declared.fault.NonceFault.{NonceFault}
@@ -35,10 +35,10 @@ use Rattle.ferry_blob.specs.declared.mode.Mode.{Mode}
 use Rattle.ferry_config.specs.Text.{config_text}
 use Rattle.ferry_config.specs.declared.config.Config.{Config}
 use Rattle.ferry_mac.specs.declared.keys.Keys.{Keys}
-use Rattle.ferry_segment.specs.Entry.{LogEntry, PutEntry}
+use Rattle.ferry_segment.specs.Entry.{LogEntry, PutEntry, DeleteEntry}
 use Rattle.ferry_stops.specs.Entries.{Shows}
 use Rattle.ferry_store.proofs.SoundLemmas.{begin_sound, begin_stands, stands_begun, traced_begun, sound_now, replace_moments, readme_stands, config_stands}
-use Rattle.ferry_store.proofs.SoundLemmas.{TakesBlocks, put_same, put_sound, put_stands, draw_sound, draw_stands, commit_sound, commit_stands}
+use Rattle.ferry_store.proofs.SoundLemmas.{HasDrawn, TakesBlocks, put_same, put_sound, put_stands, draw_sound, draw_stands, commit_sound, commit_stands}
 use Rattle.ferry_store.proofs.SoundLemmas.{standing_shown}
 use Rattle.ferry_store.proofs.StepLemmas.{after_same, known_then, same_told, acts_step, acts_done, acted_step, called_step, same_step, step_done}
 use Rattle.ferry_store.proofs.StepLemmas.{did_then, did_front, did_as, known_end, first_kept, settle_settled, steps_settled, moments_map}
@@ -221,6 +221,16 @@ settled_clear : (after : Option ℕ) (h g : History) → ClearsAll after h g →
 settled_clear after h g e =
     subst (λ (x : History). settled x.acts ≡ true) (sym e) (steps_settled (with_act SettleAll true h)
     (map RemoveOf (numbers_from (behind after) (files_now h))) (settle_settled h))
+
+-- a counter that was opened where something is committed has its file
+pub nonce_there : (committed : Bool) (counter : Counter) (told : Option Told)
+    → IfSome told (λ t. IsExactly (Ok counter) Nonces.Missing ((file_at (told_files t) NonceFile ≡ None) × (committed ≡ true)))
+    → IfSome told (λ t. committed ≡ true → IsSome (file_at (told_files t) NonceFile))
+nonce_there committed counter None missing = tt
+nonce_there committed counter (Some t) missing = λ e. by_file (file_at (told_files t) NonceFile) refl e where
+  by_file : (file : Option (List ℕ)) → file_at (told_files t) NonceFile ≡ file → committed ≡ true → IsSome file
+  by_file (Some text) is e = refl
+  by_file None is e = absurd (let found = (missing tt).1 (is, e) in let no : ⊥ = cc in no)
 
 pub begun_settled : (after : Option ℕ) (session : Session) (b c : Option Told) → ClearsAbove after b c (Ok session) → failed_told c ≡ failed_told b
     → IfSome c (λ t. settled t.history.acts ≡ true)
@@ -458,6 +468,38 @@ object_both session now counter drawn entry number first a b c n m k result bloc
     put_stands counts session now counter.free drawn written entry g i blocks
     (draw_stands counts session counter drawn written number h g u numbers.0 order numbers.1) f.1.0 f.1.1.0 f.1.1.1.0 f.1.1.1.1 f.0)
     p q
+
+-- a DELETE takes no block
+takes_none : (id : List ℕ) (first behind : ℕ) → TakesBlocks (DeleteEntry id) first behind
+takes_none id first behind blob number put = absurd (let e = put.1 in let no : ⊥ = cc in no)
+
+-- a counter that draws nothing
+undrawn : (counts : Bool) (session : Session) (counter : Counter) (written : Written) (h : History) → IsUnderWay counts session counter written h
+    → HasDrawn counts session counter.free counter written h
+undrawn counts session counter written h u = draw_stands counts session counter counter written 0 h h u (inl refl) (omega arith) (λ fits. fits)
+
+delete_keeps : (session : Session) (counter : Counter) (id : List ℕ) (h g : History) → PutsAt session (DeleteEntry id) h g → KeepsSound session counter h g
+delete_keeps session counter id h g puts counts written u =
+    put_sound counts session counter.free counter written (DeleteEntry id) h g (takes_none id counter.free counter.free)
+    (undrawn counts session counter written h u) puts.0 puts.1.0 puts.1.1
+
+pub delete_ok : (session now : Session) (counter : Counter) (id : List ℕ) (a b : Option Told) (n m : ℕ)
+    → Did {T = Unit {0}} (PutsAt session (DeleteEntry id)) (λ _. HasPut session (DeleteEntry id) now) a b n m (Ok tt)
+    → Did {T = Unit {0}} (KeepsSound session counter) (λ _. TakesEntry session counter (DeleteEntry id) now counter) a b n m (Ok tt)
+delete_ok session now counter id a b n m p =
+    did_as {T = Unit {0}} {U = Unit {0}} (PutsAt session (DeleteEntry id)) (λ _. HasPut session (DeleteEntry id) now) (KeepsSound session counter)
+    (λ _. TakesEntry session counter (DeleteEntry id) now counter) a b n m tt tt (delete_keeps session counter id)
+    (λ h g f counts written u.
+    put_stands counts session now counter.free counter written (DeleteEntry id) h g (takes_none id counter.free counter.free)
+    (undrawn counts session counter written h u) f.1.0 f.1.1.0 f.1.1.1.0 f.1.1.1.1 f.0)
+    p
+
+pub delete_err : (session : Session) (counter : Counter) (id : List ℕ) (Q R : Unit {0} → History → History → Type 0) (fault : StoreRefusal)
+    (a b : Option Told) (n m : ℕ) → Did {T = Unit {0}} (PutsAt session (DeleteEntry id)) Q a b n m (Err fault)
+    → Did {T = Unit {0}} (KeepsSound session counter) R a b n m (Err fault)
+delete_err session counter id Q R fault a b n m p =
+    did_front {T = Unit {0}} {U = Unit {0}} (PutsAt session (DeleteEntry id)) Q (KeepsSound session counter) R a b n m fault
+    (delete_keeps session counter id) p
 
 -- the file of the counter replaced, or not, leaves the segments
 segments_drawn : (number : ℕ) (h g : History) → (g ≡ h) ⊎ (g ≡ with_act (reserves number) true h) → (files_now g).segments ≡ (files_now h).segments

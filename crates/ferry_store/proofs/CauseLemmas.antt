@@ -26,8 +26,10 @@ use Rattle.ferry_stops.specs.Counters.{IsNonce}
 use Rattle.ferry_stops.specs.Entries.{CommittedBelow, ShowsAt}
 use Rattle.ferry_store.proofs.CallLemmas.{OnlyGrows, reserved_step}
 use Rattle.ferry_store.proofs.StepLemmas.{Reads, here_each}
+use Rattle.ferry_store.proofs.WritingLemmas.{told_writing}
 use Rattle.ferry_store.specs.Causes.{BreaksLive, HasFewBlocks, HasLastSegment, Stops, StopsAt, most_blocks}
 use Rattle.ferry_store.specs.Content.{RefusesOld}
+use Rattle.ferry_store.specs.Dropping.{IsWriting}
 use Rattle.ferry_store.specs.Fault.{depot_failed, nonce_refusal, write_refusal}
 use Rattle.ferry_store.specs.Standing.{committed_of, live_in}
 use Rattle.ferry_store.specs.State.{Did, IsUnderWay, KeepsSound, RefusesManifest, TakesEntry, Written, with_entry}
@@ -238,16 +240,22 @@ untold_still : (d : Bool) (now : Told) → FailedWhere d None (Some now) → ⊥
 untold_still false now e = let no : ⊥ = cc in no
 untold_still true now e = let no : ⊥ = cc in no
 
--- of the files as they are told behind a call on a store
+-- of the files as they are told behind a call on a store that writes
+pub writing_stops : (store : Store) (refusal : StoreRefusal) (a b : Option Told) → IfSome a (λ t. IsWriting store t.history)
+    → FailedWhere (depot_failed refusal) a b → Between a b (Stops store.session store.counter refusal)
+    → IfSome b (λ t. StopsAt (told_files t) (repo_view store.repo).keys refusal)
+writing_stops store refusal a None writes ends stops = tt
+writing_stops store refusal None (Some now) writes ends stops = absurd (untold_still (depot_failed refusal) now ends)
+writing_stops store refusal (Some told) (Some now) writes ends stops =
+    let same : now ≡ stops.0 = (let f = stops.1 in cc) in
+    subst (λ (t : Told). StopsAt (told_files t) (repo_view store.repo).keys refusal) (sym same)
+    (stops.2 (repo_view store.repo).keys false writes.written writes.under_way)
+
+-- on a store that fits
 pub store_stops : (store : Store) (refusal : StoreRefusal) (a b : Option Told) → IfSome a (λ t. StoreFits false store t.history)
     → FailedWhere (depot_failed refusal) a b → Between a b (Stops store.session store.counter refusal)
     → IfSome b (λ t. StopsAt (told_files t) (repo_view store.repo).keys refusal)
-store_stops store refusal a None fits ends stops = tt
-store_stops store refusal None (Some now) fits ends stops = absurd (untold_still (depot_failed refusal) now ends)
-store_stops store refusal (Some told) (Some now) fits ends stops =
-    let same : now ≡ stops.0 = (let f = stops.1 in cc) in
-    subst (λ (t : Told). StopsAt (told_files t) (repo_view store.repo).keys refusal) (sym same)
-    (stops.2 (repo_view store.repo).keys false fits.written fits.under_way)
+store_stops store refusal a b fits ends stops = writing_stops store refusal a b (told_writing store a fits) ends stops
 
 -- a chunk that is live doesn't open, by calls that read
 pub opened_stops : (store : Store) (id : List ℕ) (refusal : StoreRefusal) (a b : Option Told) → IfSome a (λ t. StoreFits false store t.history)

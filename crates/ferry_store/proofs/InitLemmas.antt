@@ -175,27 +175,29 @@ no_numbers : (session : Session) → session.last ≡ None → AreUsedUp session
 no_numbers session none used = let bad = subst AreUsedUp none used in let no : ⊥ = omega (arith, bad) in no
 
 first_making : (basis : Basis) (timestamp salt : List ℕ) (session : Session) (counter : Counter) (files : Files) (refusal : StoreRefusal)
-    → session.last ≡ None → counter.reserved ≡ counter.free → IsNonce (file_at files NonceFile) counter.free
+    → length salt ≡ 64 → session.last ≡ None → counter.reserved ≡ counter.free → IsNonce (file_at files NonceFile) counter.free
     → RefusesFirst session counter (length (manifest_bytes basis timestamp salt)) refusal → RefusesMaking timestamp files refusal
-first_making basis timestamp salt session counter files TooLarge none same number is = record { basis = basis; salt = salt; long = is }
-first_making basis timestamp salt session counter files (Nonce Nonces.Exhausted) none same number is = record {
+first_making basis timestamp salt session counter files TooLarge size none same number is =
+    record { basis = basis; salt = salt; salt_size = size; long = is }
+first_making basis timestamp salt session counter files (Nonce Nonces.Exhausted) size none same number is = record {
   free = counter.free;
   number = number;
   basis = basis;
   salt = salt;
+  salt_size = size;
   exhausted = exhausted_as counter (blocks (length (manifest_bytes basis timestamp salt))) same is;
 }
-first_making basis timestamp salt session counter files (Nonce Nonces.Device) none same number is = tt
-first_making basis timestamp salt session counter files (Nonce Nonces.Missing) none same number is = absurd is
-first_making basis timestamp salt session counter files (Nonce Nonces.Text) none same number is = absurd is
-first_making basis timestamp salt session counter files (Nonce Nonces.Memory) none same number is = absurd is
-first_making basis timestamp salt session counter files (Write Writes.Device) none same number is = tt
-first_making basis timestamp salt session counter files (Write Writes.Memory) none same number is = absurd is
-first_making basis timestamp salt session counter files (Write Writes.Numbers) none same number is = absurd (no_numbers session none is.1)
-first_making basis timestamp salt session counter files Entropy none same number is = tt
-first_making basis timestamp salt session counter files Memory none same number is = tt
-first_making basis timestamp salt session counter files (Repo fault) none same number is = absurd is
-first_making basis timestamp salt session counter files Committed none same number is = absurd is
+first_making basis timestamp salt session counter files (Nonce Nonces.Device) size none same number is = tt
+first_making basis timestamp salt session counter files (Nonce Nonces.Missing) size none same number is = absurd is
+first_making basis timestamp salt session counter files (Nonce Nonces.Text) size none same number is = absurd is
+first_making basis timestamp salt session counter files (Nonce Nonces.Memory) size none same number is = absurd is
+first_making basis timestamp salt session counter files (Write Writes.Device) size none same number is = tt
+first_making basis timestamp salt session counter files (Write Writes.Memory) size none same number is = absurd is
+first_making basis timestamp salt session counter files (Write Writes.Numbers) size none same number is = absurd (no_numbers session none is.1)
+first_making basis timestamp salt session counter files Entropy size none same number is = tt
+first_making basis timestamp salt session counter files Memory size none same number is = tt
+first_making basis timestamp salt session counter files (Repo fault) size none same number is = absurd is
+first_making basis timestamp salt session counter files Committed size none same number is = absurd is
 
 making_told : (told : Option Told) (P Q : Files → Type 0) → ((files : Files) → P files → Q files) → IfSome told (λ t. P (told_files t))
     → IfSome told (λ t. Q (told_files t))
@@ -214,11 +216,11 @@ basis_refused timestamp None refusal is = tt
 basis_refused timestamp (Some t) refusal is = free_making timestamp (told_files t) refusal is
 
 pub first_refused : (basis : Basis) (timestamp salt : List ℕ) (session : Session) (counter : Counter) (told : Option Told) (refusal : StoreRefusal)
-    → IsFirst None 524288000 counter session → IfSome told (λ t. IsNonce (file_at (told_files t) NonceFile) counter.free)
+    → length salt ≡ 64 → IsFirst None 524288000 counter session → IfSome told (λ t. IsNonce (file_at (told_files t) NonceFile) counter.free)
     → RefusesFirst session counter (length (manifest_bytes basis timestamp salt)) refusal → IfSome told (λ t. RefusesMaking timestamp (told_files t) refusal)
-first_refused basis timestamp salt session counter told refusal first number is =
+first_refused basis timestamp salt session counter told refusal size first number is =
     making_told told (λ files. IsNonce (file_at files NonceFile) counter.free) (λ files. RefusesMaking timestamp files refusal)
-    (λ files x. first_making basis timestamp salt session counter files refusal (ap (λ (s : Session). s.last) first.session_is) first.reserved x is) number
+    (λ files x. first_making basis timestamp salt session counter files refusal size (ap (λ (s : Session). s.last) first.session_is) first.reserved x is) number
 
 -- bytes drawn one after another
 pub drawn_both : (old mid now : Option (List ℕ)) (x y : List ℕ) → mid ≡ option_map (λ (d : List ℕ). d ++ x) old

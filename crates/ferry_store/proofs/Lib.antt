@@ -15,7 +15,10 @@ pub mod StoreLemmas
 pub mod OpenLemmas
 pub mod ContentLemmas
 pub mod AddLemmas
+pub mod WritingLemmas
 pub mod CauseLemmas
 pub mod CommitLemmas
 pub mod UseLemmas
 pub mod RenewLemmas
+pub mod DropLemmas
+pub mod ReadLemmas

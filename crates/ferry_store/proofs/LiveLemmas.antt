@@ -14,7 +14,7 @@ use Rattle.std.specs.declared.cmp.Ordering.{Ordering}
 use Rattle.std.specs.declared.cmp.Ordering.TheVariants.{Less, Equal, Greater}
 use Rattle.ferry_log.specs.Live.{key_cmp, live_blob, names_key, naming, put_blob}
 use Rattle.ferry_log.specs.Log.{Located}
-use Rattle.ferry_segment.specs.Entry.{LogEntry, PutEntry, CommitEntry}
+use Rattle.ferry_segment.specs.Entry.{LogEntry, PutEntry, DeleteEntry, CommitEntry}
 use Rattle.ferry_store.specs.Standing.{Keeps, live_in}
 
 -- ---- entries with their places, and without
@@ -90,6 +90,17 @@ pub live_other : (id blob other : List ℕ) (entries : List LogEntry) → other 
 live_other id blob other entries differ =
     live_more other entries (PutEntry id blob)
     ∙ ap (λ (b : Bool). cond b (Some blob) (live_in other entries)) (keys_apart other id (key_cmp other id) refl differ)
+
+-- an id that is deleted isn't live
+pub live_deleted : (id : List ℕ) (entries : List LogEntry) → live_in id (entries ++ DeleteEntry id ∷ []) ≡ None
+live_deleted id entries =
+    live_more id entries (DeleteEntry id) ∙ ap (λ (b : Bool). cond b None (live_in id entries)) ((eq_by_cmp_equiv nat_list_cmp_total).refl id)
+
+-- and each other one is what it was
+pub live_spared : (id other : List ℕ) (entries : List LogEntry) → other ≢ id → live_in other (entries ++ DeleteEntry id ∷ []) ≡ live_in other entries
+live_spared id other entries differ =
+    live_more other entries (DeleteEntry id)
+    ∙ ap (λ (b : Bool). cond b None (live_in other entries)) (keys_apart other id (key_cmp other id) refl differ)
 
 pub live_nil : (id : List ℕ) (entries : List LogEntry) → live_in id (entries ++ []) ≡ live_in id entries
 live_nil id entries = ap (live_in id) (append-nil entries)

@@ -1,15 +1,18 @@
 -- What `open` leaves, from what its parts did.
 use Rattle.std.proofs.Common.{◌≡◌, ◌≤◌, ◌<◌, ℕ, suc, ltb, ltb-false, nat_lt, not, cond, Bool, true, false, List, [], ◌∷◌, map, Option, Some, None, Ok}
-use Rattle.std.proofs.Common.{Err, IfSome}
+use Rattle.std.proofs.Common.{Err, IfSome, IsSome}
 use Rattle.std.proofs.Common.{refl, sym, ◌∙◌, ap, subst, arith}
 use Rattle.std.specs.FinMap.{get, empty, get-empty}
 use Rattle.std.specs.List.{AllByRecursion, filter}
+use Rattle.ferry_disk.proofs.FaultLemmas.{keeps_end}
 use Rattle.ferry_disk.proofs.ImageLemmas.{applied-push}
 use Rattle.ferry_disk.proofs.MomentLemmas.{between_both, between_map}
 use Rattle.ferry_disk.specs.Act.{RemoveOf, SettleAll, History, files_now, with_act}
 use Rattle.ferry_disk.specs.Device.{Told, KeepsTold, RoseWhere, told_files}
-use Rattle.ferry_disk.specs.Files.{Files, segment_numbers, without_segment}
+use Rattle.ferry_disk.specs.Faults.{FailedWhere}
+use Rattle.ferry_disk.specs.Files.{Files, file_at, segment_numbers, without_segment}
 use Rattle.ferry_disk.specs.Moments.{Between, Moments, with_steps}
+use Rattle.ferry_disk.specs.declared.name.Name.TheVariants.{Nonce as NonceFile}
 use Rattle.ferry_log.proofs.FitsLemmas.{fits_removed}
 use Rattle.ferry_log.specs.Log.{Located}
 use Rattle.ferry_log.specs.State.{LogState, FitsFiles}
@@ -36,9 +39,9 @@ use Rattle.ferry_store.proofs.LearntLemmas.{learnt_nil}
 use Rattle.ferry_store.proofs.LiveLemmas.{keeps_nil}
 use Rattle.ferry_store.proofs.SoundLemmas.{stands_begun}
 use Rattle.ferry_store.proofs.StandingLemmas.{fits_state, holds_opened, opened_manifest}
-use Rattle.ferry_store.proofs.StepLemmas.{Reads, did_also, did_as, did_front, did_known, did_then, moments_here, moments_map, read_did}
+use Rattle.ferry_store.proofs.StepLemmas.{Reads, did_also, did_as, did_front, did_known, did_then, moments_here, moments_map, read_did, same_told}
 use Rattle.ferry_store.proofs.StoreLemmas.{keeps_here, numbers_here, repo_is}
-use Rattle.ferry_store.specs.Fault.{repo_refusal}
+use Rattle.ferry_store.specs.Fault.{depot_failed, repo_refusal}
 use Rattle.ferry_store.specs.State.{Begins, BeginsSound, Did, IsBegun, IsSound, RefusesBegin, ShowsStanding, found}
 use Rattle.ferry_store.specs.Store.{InitKeeps, NumbersOn, OpenEach, OpenFits, OpenShows, RefusesOpen}
 use Rattle.ferry_store.specs.declared.fault.StoreRefusal.{StoreRefusal}
@@ -185,6 +188,16 @@ pub open_unread : (fault : RepoFault) (a b : Option Told) (n m : ℕ) → KeepsT
 open_unread fault a b n m same caused =
     read_refused {T = Store} repo_failed fault (repo_refusal fault) OpenEach OpenFits a b n m (repo_is fault) each_here same caused
 
+-- the repository opens, and no call of the depot follows
+pub open_uncopied : (repo : Repo) (refusal : StoreRefusal) (a b : Option Told) (n m : ℕ) → depot_failed refusal ≡ false
+    → KeepsTold {F = RepoFault} repo_failed a b (Ok repo) → m ≡ n → Did {T = Store} OpenEach OpenFits a b n m (Err refusal)
+open_uncopied repo refusal a b n m still same caused = record {
+  each = between_map a b Reads OpenEach (λ h g e. subst (OpenEach h) (sym e) (each_here h)) (same_told {F = RepoFault} repo_failed a b (Ok repo) same);
+  end = tt;
+  ends = subst (λ (f : Bool). FailedWhere f a b) (sym still) (keeps_end {F = RepoFault} repo_failed a b (Ok repo) same);
+  cause = subst (λ (f : Bool). RoseWhere f n m) (sym still) caused;
+}
+
 open_step : (secret : Secret) (repo : RepoState) (h g i : History) → OpensFilesTo (files_now h) secret repo × Reads h g
     → BeginsSound (Some repo.log.transaction) g i × SettlesFirst g i → OpenEach h i
 open_step secret repo h g i q f =
@@ -296,3 +309,14 @@ begin_told secret repo refusal (Some t) (Some u) same opens is =
     let told : u ≡ same.0 = (let f = same.1 in cc) in
     let files : told_files u ≡ told_files t = ap told_files told ∙ ap files_now same.2 in
     begin_refused secret (told_files t) repo refusal opens (subst (λ (f : Files). RefusesBegin true f refusal) files is)
+
+-- ---- the counter's file
+
+pub there_told : (a b : Option Told) → Between a b Reads → IfSome b (λ t. true ≡ true → IsSome (file_at (told_files t) NonceFile))
+    → IfSome a (λ t. IsSome (file_at (told_files t) NonceFile))
+there_told None b same is = tt
+there_told (Some t) None same is = absurd (let e = same.1 in let no : ⊥ = cc in no)
+there_told (Some t) (Some u) same is =
+    let told : u ≡ same.0 = (let f = same.1 in cc) in
+    let files : told_files u ≡ told_files t = ap told_files told ∙ ap files_now same.2 in
+    subst (λ (f : Files). IsSome (file_at f NonceFile)) files (is refl)

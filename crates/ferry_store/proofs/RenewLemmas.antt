@@ -1,5 +1,5 @@
 -- A manifest is put and committed.
-use Rattle.std.proofs.Common.{◌≡◌, ◌↔◌, ◌<◌, ◌+◌, ◌-◌, inl, inr, ℕ, false, List, [], ◌∷◌, ◌++◌, OnOk, Option, None, Result, Ok, Err}
+use Rattle.std.proofs.Common.{◌≡◌, ◌↔◌, ◌<◌, ◌+◌, ◌-◌, inl, inr, ℕ, false, List, [], ◌∷◌, ◌++◌, OnOk, Option, Result, Ok, Err}
 use Rattle.std.proofs.Common.{IfErr, IsErrOf, IsSome, refl, sym, ◌∙◌, ap, subst, arith, append_assoc}
 use Rattle.std.specs.FinMap.{get}
 use Rattle.ferry_base.specs.Limits.{zero_id}
@@ -12,6 +12,7 @@ use Rattle.ferry_log.specs.State.{LogState}
 use Rattle.ferry_log.specs.declared.place.Place.{Place}
 use Rattle.ferry_manifest.specs.Manifest.Text.{ManifestText, manifest_of}
 use Rattle.ferry_manifest.specs.Manifest.Writing.{manifest_text}
+use Rattle.ferry_manifest.specs.declared.manifest.Manifest.{Manifest}
 use Rattle.ferry_nonce.specs.Counter.{IsExhausted}
 use Rattle.ferry_nonce.specs.declared.counter.Counter.{Counter}
 use Rattle.ferry_nonce.specs.declared.fault.NonceFault.TheVariants as Nonces
@@ -205,20 +206,21 @@ uncommitted_refused session counter size (Err f) is = commit_by session counter 
 -- ---- the store
 
 -- a store whose manifest was committed
-abbrev pub with_commit : Store → Repo → Session → Counter → Store
-with_commit store repo session counter = record store { repo = repo; session = session; counter = counter; accepted = None; pending = 0 }
+abbrev pub with_commit : Store → Repo → Session → Counter → Manifest → Store
+with_commit store repo session counter accepted =
+    record store { repo = repo; session = session; counter = counter; accepted = accepted; pending = 0 }
 
-known_committed : (store : Store) (repo : Repo) (session : Session) (counter : Counter) (id : List ℕ) → (repo_view repo).log ≡ (repo_view store.repo).log
-    → IsKnown (with_commit store repo session counter) id → IsKnown store id
-known_committed store repo session counter id same (inl zero) = inl zero
-known_committed store repo session counter id same (inr (inl put)) = inr (inl (subst (λ (l : LogState). IsSome (get l.learnt id)) same put))
-known_committed store repo session counter id same (inr (inr has)) = inr (inr has)
+known_committed : (store : Store) (repo : Repo) (session : Session) (counter : Counter) (accepted : Manifest) (id : List ℕ)
+    → (repo_view repo).log ≡ (repo_view store.repo).log → IsKnown (with_commit store repo session counter accepted) id → IsKnown store id
+known_committed store repo session counter accepted id same (inl zero) = inl zero
+known_committed store repo session counter accepted id same (inr (inl put)) = inr (inl (subst (λ (l : LogState). IsSome (get l.learnt id)) same put))
+known_committed store repo session counter accepted id same (inr (inr has)) = inr (inr has)
 
-pub store_committed : (store : Store) (repo : Repo) (session : Session) (counter : Counter) (blob : List ℕ) (manifest : ManifestText) (h g : History)
-    → repo_view repo ≡ with_manifest (repo_view store.repo) manifest → cached_in repo ≡ cached_in store.repo
+pub store_committed : (store : Store) (repo : Repo) (session : Session) (counter : Counter) (accepted : Manifest) (blob : List ℕ) (manifest : ManifestText)
+    (h g : History) → repo_view repo ≡ with_manifest (repo_view store.repo) manifest → cached_in repo ≡ cached_in store.repo
     → HasCommitted (with_manifest (repo_view store.repo) manifest) store.session store.counter (PutEntry zero_id blob) session counter h g
-    → Commits store (PutEntry zero_id blob) (with_commit store repo session counter) h g
-store_committed store repo session counter blob manifest h g view cached done counts fits =
+    → Commits store (PutEntry zero_id blob) (with_commit store repo session counter accepted) h g
+store_committed store repo session counter accepted blob manifest h g view cached done counts fits =
     let u = fits.under_way in
     let before = repo_view store.repo in
     let kept = done.stays counts fits.written u in
@@ -237,7 +239,7 @@ store_committed store repo session counter blob manifest h g view cached done co
         there = λ id apart known.
             subst (λ (r : RepoState). IsThere (files_now g) r id) (sym view)
             (there_kept (files_now h) (files_now g) before (with_manifest before manifest) id refl stay
-            (fits.there id apart (known_committed store repo session counter id (ap (λ (r : RepoState). r.log) view) known)));
+            (fits.there id apart (known_committed store repo session counter accepted id (ap (λ (r : RepoState). r.log) view) known)));
         holds = subst (λ (r : RepoState). HoldsLive (files_now g) r.log (entries_of (all_committed next))) (sym view)
             (holds_later (files_now h) (files_now g) before.log (entries_of fits.written) (entries_of (all_committed next)) fits.repo.log stay
             (λ id apart. live_renewed fits.written blob id apart) fits.holds);

@@ -85,7 +85,7 @@ one_blob files log id a b x y =
     sym x.lies.holds ∙ (ap (λ (p : Place). take p.size (drop p.at (segment_bytes files p.segment))) same ∙ y.lies.holds)
 
 -- blobs that are kept are those that were there
-kept_back : (f g : Files) (log : LogState) → FitsFiles f log → KeepsBlobs f log g log → KeepsBlobs g log f log
+pub kept_back : (f g : Files) (log : LogState) → FitsFiles f log → KeepsBlobs f log g log → KeepsBlobs g log f log
 kept_back f g log fits keeps id blob has =
     let lies = place_holds f log id has.place fits has.placed in
     let was : HasBlob f log id lies.0 = record { place = has.place; placed = has.placed; lies = lies.1 } in

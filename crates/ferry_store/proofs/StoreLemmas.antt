@@ -274,6 +274,17 @@ init_opened secret iterations timestamp bytes store a c d n k j p same caused op
     (did_as Reads (λ _. Reads) Reads (λ s h g. (s ≡ store) × Reads h g) c d k j store.repo store (λ h g e. e) (λ h g e. (refl, e))
     (read_did {T = Repo} repo_failed c d k j store.repo same caused)))
 
+-- refused behind the opening, by no call of the depot
+pub init_uncopied : (secret : Secret) (iterations : ℕ) (timestamp bytes : List ℕ) (x : Counter × Session) (repo : Repo) (refusal : StoreRefusal)
+    (a c d : Option Told) (n k j : ℕ) → depot_failed refusal ≡ false → Did (InitEach secret) (MadeOf secret iterations timestamp bytes) a c n k (Ok x)
+    → KeepsTold {F = RepoFault} repo_failed c d (Ok repo) → j ≡ k → Did {T = Store} (InitEach secret) InitFits a d n j (Err refusal)
+init_uncopied secret iterations timestamp bytes x repo refusal a c d n k j still p same caused = record {
+  each = before_same (InitEach secret) a c d p.each (same_told {F = RepoFault} repo_failed c d (Ok repo) same);
+  end = tt;
+  ends = subst (λ (f : Bool). FailedWhere f a d) (sym still) (keeps_end {F = RepoFault} repo_failed c d (Ok repo) same ∙ p.ends);
+  cause = subst (λ (f : Bool). RoseWhere f n j) (sym still) (caused ∙ p.cause);
+}
+
 pub init_makes : (secret : Secret) (iterations : ℕ) (timestamp bytes : List ℕ) (x : Counter × Session) (a c d : Option Told) (n k : ℕ)
     → Did (InitEach secret) (MadeOf secret iterations timestamp bytes) a c n k (Ok x) → Between c d Reads
     → Between a d (InitMakes secret iterations timestamp bytes)
@@ -304,6 +315,11 @@ not_refused secret timestamp start files (Repos.Size id) new refused = absurd (o
 not_refused secret timestamp start files (Repos.KeyFile f) new refused = absurd (opened_by_fault secret files (Repos.KeyFile f) new refused tt)
 not_refused secret timestamp start files (Repos.Other x y) new refused = absurd (opened_by_fault secret files (Repos.Other x y) new refused tt)
 not_refused secret timestamp start files Repos.NoKey new refused = absurd (opened_by_fault secret files Repos.NoKey new refused tt)
+
+-- memory may be refused at any point
+pub memory_refused : (secret : Secret) (timestamp : List ℕ) (a : Option Told) → IfSome a (λ t. RefusesInit secret timestamp t.history Memory)
+memory_refused secret timestamp None = tt
+memory_refused secret timestamp (Some t) = λ e. tt
 
 pub open_refused : (secret : Secret) (iterations : ℕ) (timestamp bytes : List ℕ) (x : Counter × Session) (fault : RepoFault) (a c : Option Told) (n k : ℕ)
     → Did (InitEach secret) (MadeOf secret iterations timestamp bytes) a c n k (Ok x) → IfSome c (λ t. RefusesRepo (told_files t) secret fault)

@@ -1,9 +1,11 @@
 -- A store fits from call to call.
-use Rattle.std.proofs.Common.{◌≡◌, ℕ, false, List, [], Option, Some, None, Ok, IfSome, sym, subst}
+use Rattle.std.proofs.Common.{◌≡◌, ℕ, Bool, false, List, [], ◌∷◌, ◌++◌, Option, Some, None, Ok, IfSome, sym, subst}
 use Rattle.ferry_disk.specs.Act.{History}
 use Rattle.ferry_disk.specs.Device.{Told}
+use Rattle.ferry_store.proofs.DropLemmas.{fits_whole}
 use Rattle.ferry_store.proofs.StepLemmas.{known_end, known_then}
 use Rattle.ferry_store.specs.Adding.{Adds}
+use Rattle.ferry_store.specs.Dropping.{Drops, FitsWithout}
 use Rattle.ferry_store.specs.State.{Did, KeepsSound}
 use Rattle.ferry_store.specs.Store.{InitFits, OpenFits, StoreFits}
 use Rattle.ferry_store.specs.declared.content.Added.{Added}
@@ -53,3 +55,20 @@ fits_named store now (Some t) same fits =
       chunks = fits.chunks;
       learnt = fits.learnt;
     })
+
+-- a store from which no chunk was dropped
+pub fits_first : (counts : Bool) (store : Store) (a : Option Told) → IfSome a (λ t. StoreFits counts store t.history)
+    → IfSome a (λ t. FitsWithout counts [] store t.history)
+fits_first counts store None fits = tt
+fits_first counts store (Some t) fits = fits_whole counts store t.history fits
+
+-- a store from which one chunk more was dropped
+pub fits_dropped : (counts : Bool) (store now : Store) (dropped : List (List ℕ)) (id : List ℕ) (a b : Option Told) (n m : ℕ) (x : Unit {0})
+    → IfSome a (λ t. FitsWithout counts dropped store t.history)
+    → Did {T = Unit {0}} (KeepsSound store.session store.counter) (λ _. Drops store id now) a b n m (Ok x)
+    → IfSome b (λ t. FitsWithout counts (dropped ++ id ∷ []) now t.history)
+fits_dropped counts store now dropped id a b n m x fits p =
+    known_end (λ h. FitsWithout counts (dropped ++ id ∷ []) now h)
+    (λ h g. FitsWithout counts dropped store h × (AllDone h g × Drops store id now h g)) a b p.ends
+    (λ h g e. (e.1.1 counts dropped e.0).0)
+    (known_then (λ h. FitsWithout counts dropped store h) (λ h g. AllDone h g × Drops store id now h g) a b fits p.end)

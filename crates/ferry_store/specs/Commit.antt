@@ -1,5 +1,5 @@
 -- Archives that a store accepts, and the manifest that it commits with them.
-use Rattle.std.specs.Prelude.{◌≡◌, ◌⊎◌, ◌<◌, ◌≤◌, ℕ, Bool, List, Option, Some, None}
+use Rattle.std.specs.Prelude.{◌≡◌, ◌⊎◌, ◌<◌, ◌≤◌, ℕ, Bool, List}
 use Rattle.ferry_base.specs.Limits.{content_limit, zero_id}
 use Rattle.ferry_blob.specs.Blob.{blocks}
 use Rattle.ferry_disk.specs.Act.{History}
@@ -7,7 +7,6 @@ use Rattle.ferry_disk.specs.Files.{Files}
 use Rattle.ferry_disk.specs.Moments.{Moments}
 use Rattle.ferry_manifest.specs.Manifest.Text.{ManifestText, manifest_view}
 use Rattle.ferry_manifest.specs.Manifest.Writing.{manifest_text}
-use Rattle.ferry_manifest.specs.declared.manifest.Manifest.{Manifest}
 use Rattle.ferry_nonce.specs.Counter.{IsExhausted}
 use Rattle.ferry_nonce.specs.declared.counter.Counter.{Counter}
 use Rattle.ferry_nonce.specs.declared.fault.NonceFault.TheVariants as Nonces
@@ -26,13 +25,18 @@ use Rattle.ferry_write.specs.declared.session.Session.{Session}
 
 -- ---- what was accepted
 
--- what a manifest says with the archives that were accepted since the last commit
-abbrev pub accepted_or : ManifestText → Option Manifest → ManifestText
-accepted_or manifest None = manifest
-accepted_or manifest (Some next) = manifest_view next
-
+-- the manifest with the archives that were accepted since the last commit, and without those that were dropped since
 abbrev pub accepted_in : Store → ManifestText
-accepted_in store = accepted_or (repo_view store.repo).manifest store.accepted
+accepted_in store = manifest_view store.accepted
+
+-- All that was accepted is committed.
+abbrev pub IsSettled : Store → Type 0
+IsSettled store = accepted_in store ≡ (repo_view store.repo).manifest
+
+-- Nothing of a store changed but which contents its repository keeps in memory.
+pub record ReadsStore (store store_now : Store) : Type 0 where
+  pub repo : repo_view store_now.repo ≡ repo_view store.repo
+  pub rest : store_now ≡ record store { repo = store_now.repo }
 
 -- ---- a manifest that is committed
 

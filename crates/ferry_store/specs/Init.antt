@@ -57,12 +57,14 @@ pub record HasNoBlocks (timestamp : List ℕ) (files : Files) : Type 0 where
   pub number : IsNonce (file_at files NonceFile) free
   pub basis : Basis
   pub salt : List ℕ
+  pub salt_size : length salt ≡ 64
   pub exhausted : IsExhausted (record { free = free; reserved = free; spent = false }) (blocks (length (manifest_bytes basis timestamp salt)))
 
 -- A first manifest is longer than a content may be.
 pub record IsTooLarge (timestamp : List ℕ) : Type 0 where
   pub basis : Basis
   pub salt : List ℕ
+  pub salt_size : length salt ≡ 64
   pub long : content_limit < length (manifest_bytes basis timestamp salt)
 
 -- Why a repository isn't made where nothing is committed.

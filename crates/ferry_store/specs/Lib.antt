@@ -9,3 +9,4 @@ pub mod Store
 pub mod Adding
 pub mod Commit
 pub mod Causes
+pub mod Dropping

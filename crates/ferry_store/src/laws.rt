@@ -1,16 +1,20 @@
 //! Laws of what is written, each the contract of a function with nothing to do.
-ghost use Rattle.std.specs.Prelude.{◌≡◌, ◌≢◌, ◌++◌, ◌∷◌, ℕ, List, [], Option, Some, None, map};
+ghost use Rattle.std.specs.Prelude.{◌≡◌, ◌≢◌, ◌++◌, ◌∷◌, ℕ, Bool, List, [], Option, Some, None, map};
 ghost use Rattle.ferry_base.specs.Limits.{zero_id};
+ghost use Rattle.ferry_disk.specs.Act.{History};
 ghost use Rattle.ferry_disk.specs.Files.{Files};
 ghost use Rattle.ferry_log.specs.Live.{live_blob};
 ghost use Rattle.ferry_log.specs.Log.{Located};
 ghost use Rattle.ferry_repo.specs.Opening.{OpensFilesTo, RepoState};
 ghost use Rattle.ferry_repo.specs.declared.secret.Secret.{Secret};
-ghost use Rattle.ferry_segment.specs.Entry.{LogEntry, PutEntry, CommitEntry};
+ghost use Rattle.ferry_segment.specs.Entry.{LogEntry, PutEntry, DeleteEntry, CommitEntry};
 ghost use Rattle.ferry_stops.specs.Entries.{Shows};
+ghost use Rattle.ferry_store.specs.Dropping.{FitsWithout, IsWriting};
 ghost use Rattle.ferry_store.specs.Standing.{CommitsManifest, HoldsManifest, Keeps, OpensLive, UnlocksSettings, committed_of, entries_committed};
 ghost use Rattle.ferry_store.specs.Standing.{entries_of, live_in};
 ghost use Rattle.ferry_store.specs.State.{ShowsStanding, Written, all_committed, with_entry};
+ghost use Rattle.ferry_store.specs.Store.{StoreFits};
+ghost use Rattle.ferry_store.specs.declared.store.Store.{Store};
 
 /// Files that show entries which hold a manifest, with settings that open under a secret, open under it; and what opens is so.
 pub fn store_laws()
@@ -49,4 +53,15 @@ pub fn keeps_laws()
     ensures commit { (written : Written) → Keeps (entries_of written) (entries_committed written) }
     ensures put { (id blob : List ℕ) (entries : List LogEntry) → live_in id entries ≡ None → Keeps entries (entries ++ PutEntry id blob ∷ []) }
     ensures manifest { (repo : RepoState) (a b : List LogEntry) → Keeps a b → HoldsManifest repo a → HoldsManifest repo b }
+{}
+
+/// What holds of a store from which chunks are dropped: first of one from which none was, and then behind each commit.
+pub fn drop_laws()
+    ensures begin { (counts : Bool) (store : Store) (history : History) → StoreFits counts store history → FitsWithout counts [] store history }
+    ensures writing { (counts : Bool) (dropped : List (List ℕ)) (store : Store) (history : History) → FitsWithout counts dropped store history
+        → IsWriting store history }
+    // A DELETE takes its id away, and each other id is what it was.
+    ensures gone { (id : List ℕ) (entries : List LogEntry) → live_in id (entries ++ DeleteEntry id ∷ []) ≡ None }
+    ensures others { (id other : List ℕ) (entries : List LogEntry) → other ≢ id
+        → live_in other (entries ++ DeleteEntry id ∷ []) ≡ live_in other entries }
 {}

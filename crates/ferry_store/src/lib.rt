@@ -18,5 +18,5 @@ mod store;
 pub use content::Added;
 pub use fault::StoreRefusal;
 pub use key::make_key;
-pub use laws::{keeps_laws, live_laws, store_laws};
+pub use laws::{drop_laws, keeps_laws, live_laws, store_laws};
 pub use store::Store;

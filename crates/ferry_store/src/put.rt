@@ -1,6 +1,6 @@
 //! Objects sealed and put.
 ghost use Rattle.std.specs.Prelude.{◌≡◌, ◌⊎◌, ◌<◌, ◌≤◌, ◌+◌, ◌-◌, ◌++◌, ◌↔◌, ℕ, List, true, false, drop, length, option_map};
-ghost use Rattle.std.specs.Prelude.{Ok, IfOk, IfErr, IfSome, OnOk, IsErrOf};
+ghost use Rattle.std.specs.Prelude.{Ok, IfOk, IfErr, IfSome, OnOk, IsErrOf, IsTrue};
 ghost use Rattle.ferry_base.specs.Limits.{blob_limit, content_limit, zero_id};
 ghost use Rattle.ferry_blob.specs.Blob.{OpensTo, blocks, content_id, sealed};
 ghost use Rattle.ferry_disk.specs.Device.{HasCause};
@@ -9,16 +9,20 @@ ghost use Rattle.ferry_disk.specs.Moments.{Between};
 ghost use Rattle.ferry_manifest.specs.Manifest.Text.{manifest_of, manifest_view};
 ghost use Rattle.ferry_manifest.specs.Manifest.Writing.{IsPackable, manifest_text};
 ghost use Rattle.ferry_nonce.specs.Counter.{IsExhausted};
+ghost use Rattle.ferry_nonce.specs.declared.counter.Counter.{Counter};
 ghost use Rattle.ferry_nonce.specs.declared.fault.NonceFault.TheVariants as Nonces;
 ghost use Rattle.ferry_repo.specs.Opening.{mode_of};
-ghost use Rattle.ferry_segment.specs.Entry.{PutEntry};
+ghost use Rattle.ferry_segment.specs.Entry.{PutEntry, DeleteEntry};
 ghost use Rattle.ferry_stops.specs.Tells.{TellsNothing};
 ghost use Rattle.ferry_store.specs.Causes.{Stops};
+ghost use Rattle.ferry_store.specs.Dropping.{RefusesDrop};
 ghost use Rattle.ferry_store.specs.Fault.{source_failed};
 ghost use Rattle.ferry_store.specs.New.{IsPacked, PutsManifest, first_manifest};
 ghost use Rattle.ferry_store.specs.State.{Did, IsPlaced, KeepsSound, RefusesManifest, RefusesPut, TakesEntry};
 ghost use Rattle.ferry_store.specs.declared.fault.StoreRefusal.TheVariants as Refusal;
-ghost use Rattle.ferry_write.specs.Room.{after_entry};
+ghost use Rattle.ferry_write.specs.Room.{AreUsedUp, after_entry, must_begin};
+ghost use Rattle.ferry_write.specs.Session.{OnlyAppends};
+ghost use Rattle.ferry_write.specs.declared.fault.WriteFault.TheVariants as Writes;
 
 use crate::fault::StoreRefusal;
 use crate::key::Basis;
@@ -176,5 +180,26 @@ pub(crate) fn put_manifest<D: Depot, E: Entropy>(
         &ZERO_ID,
         &mut buffer,
     )?;
+    Ok(())
+}
+
+/// Puts the DELETE of a chunk.
+pub(crate) fn put_delete<D: Depot>(
+    depot: &mut D,
+    session: &mut Session,
+    id: &Id,
+) -> Result<(), StoreRefusal>
+    requires session { session.old.spent ≡ false }
+    ensures did { (counter : Counter) → Did (KeepsSound session.old counter)
+        (λ _ h g. TakesEntry session.old counter (DeleteEntry id.now) session.new counter h g × OnlyAppends session.old h g)
+        (D.told depot.old) (D.told depot.new) (D.faults depot.old) (D.faults depot.new) result }
+    ensures untold { Between (D.told depot.old) (D.told depot.new) TellsNothing }
+    ensures session { OnOk result (session.new ≡ after_entry session.old 41) }
+    ensures refused { IfErr result (RefusesDrop session.old) }
+    ensures numbers { IsErrOf result (Refusal.Write Writes.Numbers)
+        ↔ (IsTrue (must_begin session.old.last session.old.size session.old.limit 41) × AreUsedUp session.old.last) }
+    ensures stops { (counter : Counter) → IfErr result (λ refusal. Between (D.told depot.old) (D.told depot.new) (Stops session.old counter refusal)) }
+{
+    session.delete(depot, id)?;
     Ok(())
 }

@@ -1,5 +1,5 @@
 //! The first steps of a repository that is made: what is there already, and the files beside the segments.
-ghost use Rattle.std.specs.Prelude.{◌≡◌, ◌≢◌, ◌↔◌, ℕ, true, false, Ok, IfOk, IfErr, IfSome, IsErrOf, OnOk};
+ghost use Rattle.std.specs.Prelude.{◌≡◌, ◌≢◌, ◌↔◌, ℕ, true, false, Ok, IfOk, IfErr, IfSome, IsErrOf, IsSome, OnOk};
 ghost use Rattle.ferry_config.specs.Config.{config_of};
 ghost use Rattle.ferry_config.specs.Text.{config_text};
 ghost use Rattle.ferry_disk.specs.Act.{IsPlain, ReplaceBy, with_act};
@@ -61,6 +61,8 @@ pub(crate) fn begin_at<D: Depot>(
     ensures did { Did (BeginsSound after) (λ b. Begins after b.0 b.1) (D.told depot.old) (D.told depot.new) (D.faults depot.old) (D.faults depot.new)
         result }
     ensures number { IfOk result (λ b. IfSome (D.told depot.old) (λ t. IsNonce (file_at (told_files t) FileName.Nonce) b.0.free)) }
+    // Where something is committed, the file `nonce` is there.
+    ensures there { OnOk result (IfSome (D.told depot.old) (λ t. committed ≡ true → IsSome (file_at (told_files t) FileName.Nonce))) }
     ensures fresh { IfOk result (λ b. IsFirst after limit b.0 b.1) }
     ensures settled { OnOk result (IfSome (D.told depot.new) (λ t. settled t.history.acts ≡ true)) }
     ensures first { Between (D.told depot.old) (D.told depot.new) SettlesFirst }

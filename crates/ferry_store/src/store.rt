@@ -1,13 +1,15 @@
 //! A repository that is written.
-ghost use Rattle.std.specs.Prelude.{◌≡◌, ◌≢◌, ◌↔◌, ◌≤◌, ◌++◌, ◌||◌, ℕ, List, [], true, false, None, length, is_some, map, option_map};
+ghost use Rattle.std.specs.Prelude.{◌≡◌, ◌≢◌, ◌↔◌, ◌≤◌, ◌++◌, ◌||◌, ℕ, List, [], true, false, None, length, is_some, map, option_map, IsSome};
 ghost use Rattle.std.specs.Prelude.{Ok, IfOk, IfErr, IfSome, IsErrOf, OnOk, OnErr, IsTrue};
 ghost use Rattle.std.specs.Borrow.{Lends, sem};
 ghost use Rattle.ferry_base.specs.Limits.{content_limit, zero_id};
 ghost use Rattle.ferry_disk.specs.Device.{HasCause, told_files};
+ghost use Rattle.ferry_disk.specs.Files.{file_at};
 ghost use Rattle.ferry_disk.specs.Moments.{Between};
+ghost use Rattle.ferry_disk.specs.declared.name.Name.TheVariants as FileName;
 ghost use Rattle.ferry_manifest.specs.Manifest.Text.{manifest_view};
 ghost use Rattle.ferry_manifest.specs.Manifest.Writing.{IsPackable, manifest_text};
-ghost use Rattle.ferry_next.specs.Next.{next_manifest, written_at};
+ghost use Rattle.ferry_next.specs.Next.{next_manifest, without_entry, written_at};
 ghost use Rattle.ferry_repo.specs.Archives.{archive_named};
 ghost use Rattle.ferry_repo.specs.Objects.{IsMissing};
 ghost use Rattle.ferry_repo.specs.Opening.{OpensFilesTo, cached_in, repo_view};
@@ -18,13 +20,14 @@ ghost use Rattle.ferry_store.specs.Causes.{Stops, StopsAt};
 ghost use Rattle.ferry_store.specs.Commit.{Commits, CommitsEntry, HasCommitted, RefusesManifestOf, accepted_in, manifest_entry};
 ghost use Rattle.ferry_blob.specs.Blob.{OpensTo};
 ghost use Rattle.ferry_store.specs.Content.{IsNew, Learns, RefusesNew, RefusesOld, blob_for};
+ghost use Rattle.ferry_store.specs.Dropping.{CommitsWithout, Drops, IsWriting, RefusesDrop};
 ghost use Rattle.ferry_store.specs.Fault.{depot_failed, source_failed, spends};
 ghost use Rattle.ferry_store.specs.Standing.{with_manifest};
 ghost use Rattle.ferry_store.specs.State.{CommitsSound, Did, KeepsSound, RefusesCommit};
 ghost use Rattle.ferry_store.specs.Store.{InitEach, InitFits, InitMakes, IsKnown, IsUnspent, OpenEach, OpenFits, RefusesInit, RefusesOpen, StoreFits};
 ghost use Rattle.ferry_store.specs.contracts.store.Store.{the_row};
 ghost use Rattle.ferry_store.specs.declared.fault.StoreRefusal.TheVariants as Refusal;
-ghost use Rattle.ferry_write.specs.Room.{AreUsedUp};
+ghost use Rattle.ferry_write.specs.Room.{AreUsedUp, must_begin};
 ghost use Rattle.ferry_write.specs.declared.fault.WriteFault.TheVariants as Writes;
 
 use crate::commit::commit_manifest;
@@ -32,13 +35,14 @@ use crate::content::{Added, open_content, put_content};
 use crate::fault::StoreRefusal;
 use crate::init::make_repository;
 use crate::key::given_basis;
+use crate::put::put_delete;
 use crate::state::{begin_at, commit, expect_no_commit};
 use ferry_base::{Bytes, Id, ZERO_ID};
 use ferry_blob::id_of;
 use ferry_disk::{Depot, Entropy};
 use ferry_mac::Keys;
 use ferry_manifest::{ArchiveRef, Manifest};
-use ferry_next::{copy_manifest, has_archive, name_archive, next_manifest, set_timestamp};
+use ferry_next::{copy_manifest, drop_archive, has_archive, name_archive, set_timestamp};
 use ferry_nonce::Counter;
 use ferry_repo::{Repo, Secret};
 use ferry_write::Session;
@@ -46,7 +50,8 @@ use std::alloc::Global;
 use std::collections::BTreeSet;
 
 /// A repository that is written: the repository as it was read, the session and the counter with which it is written, how many
-/// entries were put since the last commit, and the ids that were live at opening and whose contents were opened since.
+/// contents were put since the last commit, the ids that were live at opening and whose contents were opened since, and the manifest that the next
+/// commit writes.
 ///
 /// It owns them all, and is used with the depot on which it was opened. There is no `Debug`, so that no message can show a key. After a
 /// refusal that is want of memory or a failed target, or where the numbers of segments are used up, it is spent, and no further call with
@@ -59,7 +64,7 @@ pub struct Store {
     counter: Counter,
     pending: u64,
     opened: BTreeSet<Id>,
-    accepted: Option<Manifest>,
+    accepted: Manifest,
     spent: bool,
 }
 
@@ -87,6 +92,7 @@ impl Store {
         ensures refused { IfErr result (λ refusal. IfSome (D.told depot.old) (λ t. RefusesInit secret.now timestamp.now t.history refusal)) }
         ensures entropy { HasCause source_failed (E.faults entropy.old) (E.faults entropy.new) result }
         ensures fresh { IfOk result (λ store. (cached_in store.repo ≡ []) × (store.pending ≡ 0)) }
+        ensures accepted { IfOk result (λ store. accepted_in store ≡ (repo_view store.repo).manifest) }
         ensures unspent { IfOk result IsUnspent }
         ensures packable { IfOk result (λ store. IsPackable (accepted_in store)) }
     {
@@ -96,6 +102,7 @@ impl Store {
             alloc, depot, entropy, secret, iterations, timestamp, given,
         )?;
         let repo = Repo::open(alloc, depot, secret)?;
+        let accepted = copy_manifest(alloc, repo.manifest())?;
         Ok(Store {
             alloc,
             repo,
@@ -103,7 +110,7 @@ impl Store {
             counter,
             pending: 0,
             opened: BTreeSet::new(alloc),
-            accepted: None,
+            accepted,
             spent: false,
         })
     }
@@ -118,16 +125,19 @@ impl Store {
         secret: &Secret,
     ) -> Result<Store, StoreRefusal>
         ensures opened { IfOk result (λ store. IfSome (D.told depot.old) (λ t. OpensFilesTo (told_files t) secret.now (repo_view store.repo))) }
+        // The file `nonce` is there: a lost one isn't taken for the number 0.
+        ensures numbered { OnOk result (IfSome (D.told depot.old) (λ t. IsSome (file_at (told_files t) FileName.Nonce))) }
         ensures did { Did OpenEach OpenFits (D.told depot.old) (D.told depot.new) (D.faults depot.old) (D.faults depot.new) result }
         ensures untold { Between (D.told depot.old) (D.told depot.new) TellsNothing }
         ensures refused { IfErr result (λ refusal. IfSome (D.told depot.old) (λ t. RefusesOpen secret.now (told_files t) refusal)) }
         ensures fresh { IfOk result (λ store. (cached_in store.repo ≡ []) × (store.pending ≡ 0)) }
-        ensures accepted { IfOk result (λ store. store.accepted ≡ None) }
+        ensures accepted { IfOk result (λ store. accepted_in store ≡ (repo_view store.repo).manifest) }
         ensures drawn { IfErr result (λ refusal. source_failed refusal ≡ false) }
         ensures unspent { IfOk result IsUnspent }
         ensures packable { IfOk result (λ store. IsPackable (accepted_in store)) }
     {
         let repo = Repo::open(alloc, depot, secret)?;
+        let accepted = copy_manifest(alloc, repo.manifest())?;
         let transaction = repo.log().transaction();
         let limit = repo.config().limit;
         let (counter, session) = begin_at(alloc, depot, true, Some(transaction), limit)?;
@@ -138,7 +148,7 @@ impl Store {
             counter,
             pending: 0,
             opened: BTreeSet::new(alloc),
-            accepted: None,
+            accepted,
             spent: false,
         })
     }
@@ -305,28 +315,29 @@ impl Store {
         }
     }
 
-    /// Takes a manifest that was committed.
-    fn take_manifest(&mut self, manifest: Manifest)
+    /// Takes a manifest that was committed, which was written at this time.
+    fn take_manifest(&mut self, manifest: Manifest, timestamp: Bytes)
         requires packable { IsPackable (manifest_view manifest) }
-        ensures taken { self.new ≡ record self.old { repo = self.new.repo; accepted = None; pending = 0 } }
+        ensures taken { self.new ≡ record self.old { repo = self.new.repo; accepted = self.new.accepted; pending = 0 } }
+        ensures accepted { accepted_in self.new ≡ written_at (accepted_in self.old) timestamp }
         ensures repo { repo_view self.new.repo ≡ record (repo_view self.old.repo) { manifest = manifest_view manifest } }
         ensures cached { cached_in self.new.repo ≡ cached_in self.old.repo }
     {
         self.repo.renew(manifest);
-        self.accepted = None;
+        set_timestamp(&mut self.accepted, timestamp);
         self.pending = 0;
     }
 
-    /// Commits a copy of the manifest with the archives that were accepted, and answers it.
+    /// Commits a copy of the manifest that was accepted, written at this time, and answers it and a copy of the time.
     fn commit_accepted<D: Depot, E: Entropy>(
         &mut self,
         depot: &mut D,
         entropy: &mut E,
         timestamp: &[u8],
-    ) -> Result<Manifest, StoreRefusal>
+    ) -> Result<(Manifest, Bytes), StoreRefusal>
         requires unspent { IsUnspent self.old }
         requires packable { IsPackable (accepted_in self.old) }
-        requires fits { IfSome (D.told depot.old) (λ t. StoreFits false self.old t.history) }
+        requires fits { IfSome (D.told depot.old) (λ t. IsWriting self.old t.history) }
         ensures committed { (salt : List ℕ) × ((length salt ≡ 64) × OnOk result (E.drawn entropy.new ≡ option_map (λ d. d ++ salt) (E.drawn entropy.old))
             × Did (CommitsEntry (with_manifest (repo_view self.old.repo) (written_at (accepted_in self.old) timestamp.now)) self.old.session self.old.counter
             (manifest_entry (repo_view self.old.repo) self.old.counter (written_at (accepted_in self.old) timestamp.now) salt))
@@ -336,8 +347,9 @@ impl Store {
             × IfErr result (RefusesManifestOf self.old.counter
             (length (manifest_text (repo_view self.old.repo).keys salt (written_at (accepted_in self.old) timestamp.now))))) }
         ensures untold { Between (D.told depot.old) (D.told depot.new) TellsNothing }
-        ensures manifest { IfOk result (λ manifest. manifest_view manifest ≡ written_at (accepted_in self.old) timestamp.now) }
-        ensures packable { IfOk result (λ manifest. IsPackable (manifest_view manifest)) }
+        ensures manifest { IfOk result (λ both. manifest_view both.0 ≡ written_at (accepted_in self.old) timestamp.now) }
+        ensures written { IfOk result (λ both. both.1 ≡ timestamp.now) }
+        ensures packable { IfOk result (λ both. IsPackable (manifest_view both.0)) }
         ensures rest { self.new ≡ record self.old { session = self.new.session; counter = self.new.counter } }
         ensures stops { IfErr result (λ refusal. Between (D.told depot.old) (D.told depot.new) (Stops self.old.session self.old.counter refusal)) }
         // Where neither the device failed nor memory was refused, nothing is committed.
@@ -348,6 +360,7 @@ impl Store {
         ensures entropy { HasCause source_failed (E.faults entropy.old) (E.faults entropy.new) result }
     {
         let manifest = self.accepted_at(timestamp)?;
+        let written = Bytes::new(Vec::from_slice(self.alloc, timestamp)?);
         commit_manifest(
             self.alloc,
             depot,
@@ -357,20 +370,17 @@ impl Store {
             &mut self.counter,
             &manifest,
         )?;
-        Ok(manifest)
+        Ok((manifest, written))
     }
 
-    /// A copy of the manifest with the archives that were accepted, written at this time.
+    /// A copy of the manifest that was accepted, written at this time.
     fn accepted_at(&self, timestamp: &[u8]) -> Result<Manifest, StoreRefusal>
         requires packable { IsPackable (accepted_in self.now) }
         ensures manifest { IfOk result (λ manifest. manifest_view manifest ≡ written_at (accepted_in self.now) timestamp.now) }
         ensures packable { IfOk result (λ manifest. IsPackable (manifest_view manifest)) }
         ensures refused { IfErr result (λ refusal. refusal ≡ Refusal.Memory) }
     {
-        let mut manifest = match &self.accepted {
-            Some(accepted) => copy_manifest(self.alloc, accepted)?,
-            None => copy_manifest(self.alloc, self.repo.manifest())?,
-        };
+        let mut manifest = copy_manifest(self.alloc, &self.accepted)?;
         let timestamp = Vec::from_slice(self.alloc, timestamp)?;
         set_timestamp(&mut manifest, Bytes::new(timestamp));
         Ok(manifest)
@@ -401,14 +411,11 @@ impl Store {
         refusal
     }
 
-    /// Whether an archive of this name is in the manifest, or was accepted since the last commit.
+    /// Whether an archive of this name is in the manifest or was accepted since the last commit, and wasn't dropped since.
     pub fn has(&self, name: &[u8]) -> bool
         ensures has { result ≡ is_some (archive_named name.now (accepted_in self.now).archives) }
     {
-        match &self.accepted {
-            Some(manifest) => has_archive(manifest, name),
-            None => self.repo.record_id(name).is_some(),
-        }
+        has_archive(&self.accepted, name)
     }
 
     /// Accepts an archive, whose record has the entry's id, with the names that its items have: it comes into the manifest by the next
@@ -426,17 +433,46 @@ impl Store {
         ensures err { OnErr result (accepted_in self.new ≡ accepted_in self.old) }
         ensures refused { IfErr result (λ refusal. refusal ≡ Refusal.Memory) }
     {
-        match &mut self.accepted {
-            Some(manifest) => name_archive(self.alloc, manifest, entry, item_keys)?,
-            None => {
-                let next = next_manifest(self.alloc, self.repo.manifest(), entry, item_keys)?;
-                self.accepted = Some(next);
-            }
-        }
+        name_archive(self.alloc, &mut self.accepted, entry, item_keys)?;
         Ok(())
     }
 
-    /// Puts the manifest with the archives that were accepted, written at this time, and commits all that was put.
+    /// Drops the archive of a name, which goes out of the manifest by the next commit. Its chunks stay. Nothing is allocated.
+    pub fn drop_name(&mut self, name: &[u8])
+        requires packable { IsPackable (accepted_in self.old) }
+        requires named { IsSome (archive_named name.now (accepted_in self.old).archives) }
+        ensures dropped { accepted_in self.new ≡ without_entry (accepted_in self.old) name.now }
+        ensures packable { IsPackable (accepted_in self.new) }
+        ensures rest { self.new ≡ record self.old { accepted = self.new.accepted } }
+    {
+        drop_archive(self.alloc, &mut self.accepted, name);
+    }
+
+    /// Drops a chunk that was live when the store was opened: its DELETE is put, and counts from the next commit on. The store's repository keeps
+    /// the chunk; nothing may be added any more. Nothing is allocated.
+    pub fn drop_chunk<D: Depot>(&mut self, depot: &mut D, id: &Id) -> Result<(), StoreRefusal>
+        requires unspent { IsUnspent self.old }
+        requires chunk { id.now ≢ zero_id }
+        requires live { IsMissing (repo_view self.old.repo).log id.now → ⊥ }
+        requires fits { IfSome (D.told depot.old) (λ t. IsWriting self.old t.history) }
+        ensures did { Did (KeepsSound self.old.session self.old.counter) (λ _. Drops self.old id.now self.new)
+            (D.told depot.old) (D.told depot.new) (D.faults depot.old) (D.faults depot.new) result }
+        ensures untold { Between (D.told depot.old) (D.told depot.new) TellsNothing }
+        ensures rest { self.new ≡ record self.old { session = self.new.session; spent = self.new.spent } }
+        ensures refused { IfErr result (RefusesDrop self.old.session) }
+        ensures numbers { IsErrOf result (Refusal.Write Writes.Numbers)
+            ↔ (IsTrue (must_begin self.old.session.last self.old.session.size self.old.session.limit 41) × AreUsedUp self.old.session.last) }
+        ensures stops { IfErr result (λ refusal. IfSome (D.told depot.new) (λ t. StopsAt (told_files t) (repo_view self.old.repo).keys refusal)) }
+        ensures unspent { OnOk result (IsUnspent self.new) }
+        ensures spent { IfErr result (λ refusal. self.new.spent ≡ spends refusal) }
+    {
+        match put_delete(depot, &mut self.session, id) {
+            Ok(()) => Ok(()),
+            Err(refusal) => Err(self.spend(refusal)),
+        }
+    }
+
+    /// Puts the manifest that was accepted, written at this time, and commits all that was put and dropped.
     pub fn commit<D: Depot, E: Entropy>(
         &mut self,
         depot: &mut D,
@@ -445,7 +481,7 @@ impl Store {
     ) -> Result<(), StoreRefusal>
         requires unspent { IsUnspent self.old }
         requires packable { IsPackable (accepted_in self.old) }
-        requires fits { IfSome (D.told depot.old) (λ t. StoreFits false self.old t.history) }
+        requires fits { IfSome (D.told depot.old) (λ t. IsWriting self.old t.history) }
         ensures committed { (salt : List ℕ) × ((length salt ≡ 64) × OnOk result (E.drawn entropy.new ≡ option_map (λ d. d ++ salt) (E.drawn entropy.old))
             × Did (CommitsEntry (with_manifest (repo_view self.old.repo) (written_at (accepted_in self.old) timestamp.now)) self.old.session self.old.counter
             (manifest_entry (repo_view self.old.repo) self.old.counter (written_at (accepted_in self.old) timestamp.now) salt))
@@ -453,6 +489,8 @@ impl Store {
             self.new) (D.told depot.old) (D.told depot.new) (D.faults depot.old) (D.faults depot.new) result
             × IfErr result (RefusesManifestOf self.old.counter
             (length (manifest_text (repo_view self.old.repo).keys salt (written_at (accepted_in self.old) timestamp.now))))) }
+        // The same of a store from which chunks were dropped.
+        ensures without { OnOk result (Between (D.told depot.old) (D.told depot.new) (CommitsWithout self.old self.new)) }
         ensures untold { Between (D.told depot.old) (D.told depot.new) TellsNothing }
         ensures repo { OnOk result (repo_view self.new.repo
             ≡ with_manifest (repo_view self.old.repo) (written_at (accepted_in self.old) timestamp.now)) }
@@ -468,8 +506,8 @@ impl Store {
         ensures entropy { HasCause source_failed (E.faults entropy.old) (E.faults entropy.new) result }
     {
         match self.commit_accepted(depot, entropy, timestamp) {
-            Ok(manifest) => {
-                self.take_manifest(manifest);
+            Ok((manifest, written)) => {
+                self.take_manifest(manifest, written);
                 Ok(())
             }
             Err(refusal) => Err(self.spend(refusal)),

@@ -8,8 +8,8 @@ use ferry_base::Bytes;
 use ferry_manifest::{ArchiveRef, ArchiveRefs, Manifest, Names};
 use ferry_msgpack::Value;
 use ferry_next::{
-    add_archive, add_item_keys, copy_manifest, has_archive, name_archive, next_laws, next_manifest,
-    set_timestamp,
+    add_archive, add_item_keys, copy_manifest, drop_archive, has_archive, name_archive, next_laws,
+    next_manifest, set_timestamp,
 };
 use std::alloc::{AllocError, Global};
 use std::test::Fail;
@@ -113,6 +113,10 @@ fn archives_stand_in_byte_order_of_their_names(rt: HostRuntime) -> Result<(), Fa
     let copy = copy_manifest(alloc, &manifest)?;
     let wanted: [&'static [u8]; 5] = [b"a", b"ab", b"b", b"ba", b"\xff"];
     assert!(rt; are_named(&copy, &wanted) && !has_archive(&copy, b"aa"));
+    drop_archive(alloc, &mut manifest, b"b");
+    drop_archive(alloc, &mut manifest, b"aa");
+    assert!(rt; manifest.archives.as_slice().len() == 4 && !has_archive(&manifest, b"b"));
+    assert!(rt; has_archive(&manifest, b"ab") && has_archive(&manifest, b"ba"));
     next_laws();
     Ok(())
 }

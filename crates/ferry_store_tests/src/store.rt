@@ -4,8 +4,8 @@ ghost use Rattle.ferry_manifest.specs.Manifest.Writing.{IsPackable};
 ghost use Rattle.ferry_store.specs.Commit.{accepted_in};
 ghost use Rattle.ferry_store.specs.Store.{IsUnspent, StoreFits};
 
-use ferry_base::Bytes;
-use ferry_blob::Mode;
+use ferry_base::{Bytes, ZERO_ID};
+use ferry_blob::{Mode, id_of};
 use ferry_disk::{Depot, MemoryDepot, MemoryEntropy, Name, Shelf};
 use ferry_manifest::ArchiveRef;
 use ferry_nonce::NonceFault;
@@ -229,7 +229,8 @@ fn one_name(alloc: Global) -> Result<Vec<Vec<u8>>, AllocError> {
     Ok(names)
 }
 
-/// Accepts an archive `a`, whose items have the field `path`, and commits it; answers whether it was there before and is there now.
+/// Adds a content and accepts an archive `a`, whose items have the field `path`, and commits both; answers whether the archive was there before
+/// and is there now.
 fn name_one<D: Depot>(
     alloc: Global,
     store: &mut Store,
@@ -239,6 +240,7 @@ fn name_one<D: Depot>(
     requires packable { IsPackable (accepted_in store.old) }
     requires fits { IfSome (D.told depot.old) (λ t. StoreFits false store.old t.history) }
 {
+    store.add(depot, b"abc")?;
     if store.has(b"a") {
         return Ok([true, true]);
     }
@@ -271,6 +273,48 @@ fn an_archive_that_was_accepted_is_committed(rt: HostRuntime) -> Result<(), Fail
     assert_eq!(rt; name_made(alloc, &mut depot), Ok([false, true]));
     let mut next = depot.again()?;
     assert_eq!(rt; open_on(alloc, &mut next), Ok((0, true, false)));
+    Ok(())
+}
+
+/// Drops an archive `a` and the chunk of a content where both are there, and commits that; answers which of them were there.
+fn drop_both<D: Depot>(
+    alloc: Global,
+    store: &mut Store,
+    depot: &mut D,
+) -> Result<[bool; 2], StoreRefusal>
+    requires unspent { IsUnspent store.old }
+    requires packable { IsPackable (accepted_in store.old) }
+    requires fits { IfSome (D.told depot.old) (λ t. StoreFits false store.old t.history) }
+{
+    let id = id_of(store.keys(), b"abc");
+    if !store.has(b"a") || store.would_put(b"abc") || id == ZERO_ID {
+        return Ok([store.has(b"a"), !store.would_put(b"abc")]);
+    }
+    let mut entropy = source_of(alloc, 0)?;
+    store.drop_name(b"a");
+    store.drop_chunk(depot, &id)?;
+    store.commit(depot, &mut entropy, b"last")?;
+    Ok([true, true])
+}
+
+/// The same of a store that is opened.
+fn drop_opened<D: Depot>(alloc: Global, depot: &mut D) -> Result<[bool; 2], StoreRefusal>
+    requires begun { IfSome (D.told depot.old) (λ t. t.history.acts ≡ []) }
+{
+    let secret = secret_of(alloc, b"")?;
+    let mut store = Store::open(alloc, depot, &secret)?;
+    drop_both(alloc, &mut store, depot)
+}
+
+#[test]
+fn a_name_and_a_chunk_that_were_dropped_are_gone(rt: HostRuntime) -> Result<(), Fail> {
+    let alloc = rt.alloc();
+    let mut depot = MemoryDepot::new(alloc, Vec::new(alloc), Vec::new(alloc))?;
+    assert_eq!(rt; name_made(alloc, &mut depot), Ok([false, true]));
+    let mut next = depot.again()?;
+    assert_eq!(rt; drop_opened(alloc, &mut next), Ok([true, true]));
+    let mut last = next.again()?;
+    assert_eq!(rt; drop_opened(alloc, &mut last), Ok([false, false]));
     Ok(())
 }
 

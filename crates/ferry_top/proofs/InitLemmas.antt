@@ -10,8 +10,6 @@ use Rattle.ferry_disk.specs.Files.{Files, contents_at}
 use Rattle.ferry_disk.specs.Image.{settled}
 use Rattle.ferry_disk.specs.Moments.{Between}
 use Rattle.ferry_disk.specs.declared.name.Name.TheVariants.{Config as ConfigFile}
-use Rattle.ferry_disk.specs.declared.shelf.StoreFault.{StoreFault}
-use Rattle.ferry_disk.specs.declared.shelf.StoreFault.TheVariants as Shelf
 use Rattle.ferry_keyblob.specs.Opening.{Opened}
 use Rattle.ferry_nonce.specs.declared.fault.NonceFault.TheVariants as Nonces
 use Rattle.ferry_repo.specs.Fault.{IsOfFiles, repo_failed}
@@ -20,15 +18,16 @@ use Rattle.ferry_repo.specs.declared.fault.RepoFault.{RepoFault}
 use Rattle.ferry_repo.specs.declared.fault.RepoFault.TheVariants as Repo
 use Rattle.ferry_repo.specs.declared.secret.Secret.{Secret}
 use Rattle.ferry_store.proofs.StepLemmas.{before_same, did_then}
-use Rattle.ferry_store.specs.Fault.{depot_failed, repo_refusal, store_refusal}
+use Rattle.ferry_store.specs.Fault.{depot_failed, repo_refusal}
 use Rattle.ferry_store.specs.New.{IsMade, IsNothingOrNew, OpensNew}
 use Rattle.ferry_store.specs.State.{Did, IsStep}
 use Rattle.ferry_store.specs.Store.{InitEach, InitFits, InitMakes, InitShows, RefusesFiles, RefusesInit}
 use Rattle.ferry_store.specs.declared.fault.StoreRefusal.{StoreRefusal}
 use Rattle.ferry_store.specs.declared.fault.StoreRefusal.TheVariants as Store
 use Rattle.ferry_store.specs.declared.store.Store.{Store as StoreValue}
-use Rattle.ferry_top.proofs.TellLemmas.{end_known, fail_as, first_then, keeps_then, numbers_then, repo_is, rose_as, settled_some, stops_then, tells_same}
-use Rattle.ferry_top.specs.Init.{CommandEach, InitTells, IsFault, IsReady, IsRefused, RefusesTelling, initialized_line}
+use Rattle.ferry_status.proofs.TellLemmas.{end_known, fail_as, first_then, keeps_then, numbers_then, repo_is, rose_as, settled_some, stops_then, tells_same}
+use Rattle.ferry_top.specs.Init.{CommandEach, InitTells, IsFault, IsReady, IsRefused, initialized_line}
+use Rattle.ferry_status.specs.Telling.{RefusesTelling}
 use Rattle.ferry_status.specs.Status.{store_status, target_status}
 use Rattle.ferry_status.specs.declared.status.Status.{Status}
 use Rattle.ferry_write.specs.Script.{AllDone}
@@ -112,10 +111,6 @@ tells_then secret iterations timestamp bytes id h g i makes has is e =
       made = g;
       tells = all.1.1;
     }
-
-pub refuses_telling : (fault : StoreFault) → RefusesTelling (store_refusal fault)
-refuses_telling Shelf.Failed = tt
-refuses_telling Shelf.Memory = tt
 
 -- ---- all of it
 

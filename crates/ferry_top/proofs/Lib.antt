@@ -2,16 +2,5 @@ pub mod KeysLemmas
 pub mod ListLemmas
 pub mod ItemsLemmas
 pub mod CheckLemmas
-pub mod TellLemmas
 pub mod InitLemmas
 pub mod RunLemmas
-pub mod TransferLemmas
-pub mod RerunLemmas
-pub mod VerifyLemmas
-pub mod LeftLemmas
-pub mod TransferCauseLemmas
-pub mod ToldLemmas
-pub mod CompactLemmas
-pub mod CompactCauseLemmas
-pub mod PlanLemmas
-pub mod PlanCauseLemmas

@@ -1,17 +1,16 @@
 -- Lemmas on specs/Run.antt: which statuses a command ends with, and what they say of devices that it doesn't use.
 use Rattle.std.proofs.Common.{◌≡◌, ◌⊎◌, inl, inr, ℕ, true, false, List, Option, Some, None, Result, Ok, Err, IfSome, refl, sym, subst}
-use Rattle.ferry_piece.specs.declared.fault.CarryFault.TheVariants as CarryFault
-use Rattle.ferry_disk.proofs.MomentLemmas.{between_map}
 use Rattle.ferry_disk.specs.Device.{Told, Rose}
 use Rattle.ferry_disk.specs.Files.{Files}
 use Rattle.ferry_disk.specs.Moments.{Between}
 use Rattle.ferry_repo.specs.declared.secret.Secret.{Secret}
-use Rattle.ferry_top.proofs.CompactLemmas.{compacts_nothing}
+use Rattle.ferry_run_compact.proofs.CompactLemmas.{compacts_nothing}
+use Rattle.ferry_run_delete.proofs.DoneLemmas.{deletes_nothing}
+use Rattle.ferry_run_delete.specs.Delete.{deletion}
 use Rattle.ferry_top.proofs.InitLemmas.{each_command}
 use Rattle.ferry_status.proofs.StatusLemmas.{IsOfStore, of_store}
-use Rattle.ferry_top.proofs.PlanLemmas.{plans_nothing}
-use Rattle.ferry_top.proofs.TransferCauseLemmas.{ends_done, left_of, memory_refused}
-use Rattle.ferry_top.proofs.TransferLemmas.{each_untouched}
+use Rattle.ferry_run_plan.proofs.PlanLemmas.{plans_nothing}
+use Rattle.ferry_run_transfer.proofs.DoneLemmas.{transfers_nothing}
 use Rattle.ferry_top.specs.Check.{Checks}
 use Rattle.ferry_status.specs.Devices.{Devices, HasCauses, Written}
 use Rattle.ferry_store.proofs.StoreLemmas.{each_here}
@@ -19,12 +18,11 @@ use Rattle.ferry_store.specs.Store.{RefusesInit}
 use Rattle.ferry_store.specs.declared.fault.StoreRefusal.TheVariants as Store
 use Rattle.ferry_top.specs.Init.{CommandEach, IsRefused, time_or}
 use Rattle.ferry_top.specs.MakeKey.{PrintsKey}
-use Rattle.ferry_top.specs.Planning.{planned_for}
+use Rattle.ferry_run_plan.specs.Planning.{planned_for}
 use Rattle.ferry_top.specs.Run.{DoesCommand, Runs}
 use Rattle.ferry_status.specs.Output.{Prints, PrintsAsRead, Reports}
 use Rattle.ferry_status.specs.Status.{source_failed, target_failed, entropy_failed, output_failed}
-use Rattle.ferry_top.specs.Transfer.{Request, TransferEach, TransferLeaves, asked}
-use Rattle.ferry_top.specs.TransferCauses.{IsRefusedSo}
+use Rattle.ferry_run_transfer.specs.Transfer.{asked}
 use Rattle.ferry_status.specs.declared.status.Refusal.{Refusal}
 use Rattle.ferry_status.specs.declared.status.Secrets.{Secrets}
 use Rattle.ferry_status.specs.declared.status.Status.{Status}
@@ -32,7 +30,7 @@ use Rattle.ferry_status.specs.declared.status.Status.TheVariants.{Done, No, Usag
 use Rattle.ferry_status.specs.declared.status.Status.TheVariants.{SourceRefused, TargetRefused, Taken, NotFound, Limit}
 use Rattle.ferry_words.specs.declared.command.Command.{Command}
 use Rattle.ferry_words.specs.declared.command.Command.TheVariants.{Keys, Key, List as ListArchives, ListItems, Extract, Check}
-use Rattle.ferry_words.specs.declared.command.Command.TheVariants.{Init, MakeKey, Transfer, Plan, Compact}
+use Rattle.ferry_words.specs.declared.command.Command.TheVariants.{Init, MakeKey, Transfer, Plan, Delete, Compact}
 
 -- ---- a command of the source
 
@@ -242,10 +240,6 @@ memory_told : (secret : Secret) (timestamp : List ℕ) (told : Option Told) → 
 memory_told secret timestamp None = tt
 memory_told secret timestamp (Some t) = λ e. tt
 
-transfer_told : (request : Request) (told : Option Told) → Between told told (TransferEach request)
-transfer_told request None = tt
-transfer_told request (Some t) = (t, refl, each_untouched request t.history)
-
 pub does_nothing : (words : Result Command ℕ) (secrets : Secrets) (all : Devices) → DoesCommand words secrets all Memory all
 does_nothing (Ok Keys) secrets all = record { shows = inl refl; target = refl; entropy = refl }
 does_nothing (Ok Key) secrets all = record { shows = inl refl; target = refl; entropy = refl }
@@ -262,19 +256,8 @@ does_nothing (Ok (Init iterations timestamp)) secrets all = record {
 }
 does_nothing (Ok (MakeKey iterations)) secrets all = record { source = refl; target = refl; prints = inl refl }
 does_nothing (Ok (Transfer block checkpoint timestamp names)) secrets all =
-    let request = asked secrets (record { block = block; checkpoint = checkpoint; timestamp = timestamp }) names all.source.told in
-    let told = all.target.told in
-    let refused : IsRefusedSo request told told Memory =
-    record { fault = CarryFault.Memory; status_is = refl; refuses = memory_refused request told told } in
-    record {
-      output = refl;
-      completes = ends_done request told told Memory (inr refused);
-      refused = inr refused;
-      ended = λ e. absurd (let no : ⊥ = cc in no);
-      left = between_map told told (TransferEach request) (TransferLeaves request) (left_of request) (transfer_told request told);
-      only_told = λ e. absurd (let no : ⊥ = cc in no);
-      each = transfer_told request told;
-    }
+    transfers_nothing (asked secrets (record { block = block; checkpoint = checkpoint; timestamp = timestamp }) names all.source.told) all
 does_nothing (Ok (Plan block names)) secrets all = plans_nothing (planned_for secrets block names all.source.told) all
+does_nothing (Ok (Delete timestamp name)) secrets all = deletes_nothing (deletion secrets.target name timestamp) all
 does_nothing (Ok (Compact threshold)) secrets all = compacts_nothing threshold all
 does_nothing (Err word) secrets all = refl

@@ -14,13 +14,12 @@ use Rattle.ferry_store.specs.Init.{HasNoBlocks, IsTooLarge}
 use Rattle.ferry_store.specs.Key.{RefusesGiven}
 use Rattle.ferry_store.specs.Store.{InitKeeps, InitLeaves, InitShows, MakesFiles, NumbersOn, RefusesInit}
 use Rattle.ferry_store.specs.declared.fault.StoreRefusal.{StoreRefusal}
-use Rattle.ferry_store.specs.declared.fault.StoreRefusal.TheVariants.{Repo, Write, Memory}
+use Rattle.ferry_store.specs.declared.fault.StoreRefusal.TheVariants.{Repo}
 use Rattle.ferry_status.specs.Devices.{Devices}
 use Rattle.ferry_status.specs.Status.{store_status, target_failed, entropy_failed}
 use Rattle.ferry_status.specs.declared.status.Status.{Status}
 use Rattle.ferry_status.specs.declared.status.Status.TheVariants.{Done, Memory as NoMemory}
 use Rattle.ferry_write.specs.Session.{SettlesFirst}
-use Rattle.ferry_write.specs.declared.fault.WriteFault.TheVariants as Writes
 
 -- the timestamp that the words give, or the begin of 1970
 abbrev pub time_or : Option (List ℕ) → List ℕ
@@ -44,12 +43,6 @@ InitTells secret iterations timestamp bytes before now = before.acts ≡ [] → 
 abbrev pub CommandEach : Secret → History → History → Type 0
 CommandEach secret before now = InitShows secret before now × (InitKeeps before now × (NumbersOn before now × (SettlesFirst before now
     × (before.acts ≡ [] → InitLeaves before now))))
-
--- Why a line isn't told: the target failed, or memory was refused.
-abbrev pub RefusesTelling : StoreRefusal → Type 0
-RefusesTelling (Write Writes.Device) = Unit {0}
-RefusesTelling Memory = Unit {0}
-RefusesTelling refusal = ⊥
 
 -- A status is that of a refusal, which says this of the target.
 pub record IsRefused (secret : Secret) (timestamp : List ℕ) (target : Option Told) (status : Status) : Type 0 where

@@ -5,11 +5,5 @@ pub mod Keys
 pub mod List
 pub mod MakeKey
 pub mod Items
-pub mod Compact
-pub mod Planning
 pub mod Run
 pub mod Words
-pub mod Transfer
-pub mod Rerun
-pub mod TransferCauses
-pub mod Transferring

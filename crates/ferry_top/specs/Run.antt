@@ -7,21 +7,22 @@ use Rattle.ferry_repo.specs.declared.secret.Secret.{Secret}
 use Rattle.ferry_status.specs.Output.{Prints, PrintsAsRead, Reports}
 use Rattle.ferry_status.specs.Devices.{Devices, Written, HasCauses}
 use Rattle.ferry_top.specs.Check.{Checks}
-use Rattle.ferry_top.specs.Compact.{CompactsTarget}
+use Rattle.ferry_run_compact.specs.Compact.{CompactsTarget}
+use Rattle.ferry_run_delete.specs.Delete.{DeletesArchive, deletion}
 use Rattle.ferry_top.specs.Init.{MakesRepository, time_or}
 use Rattle.ferry_top.specs.Keys.{IsListing}
 use Rattle.ferry_top.specs.Key.{IsIdLine, RefusesUnlocking}
 use Rattle.ferry_top.specs.List.{IsArchiveListing, RefusesOpening}
 use Rattle.ferry_top.specs.MakeKey.{MakesKey}
-use Rattle.ferry_top.specs.Planning.{PlansTransfer, planned_for}
+use Rattle.ferry_run_plan.specs.Planning.{PlansTransfer, planned_for}
 use Rattle.ferry_view.specs.Items.{RefusesItems, RefusesFile}
 use Rattle.ferry_top.specs.Items.{ShowsItems, ShowsItemsFront, ShowsFile, ShowsFileFront, RefusesShowing, LacksArchive, LacksPath}
 use Rattle.ferry_top.specs.Keys.{RefusesKeys}
-use Rattle.ferry_top.specs.Transfer.{asked}
-use Rattle.ferry_top.specs.Transferring.{Transfers}
+use Rattle.ferry_run_transfer.specs.Transfer.{asked}
+use Rattle.ferry_run_transfer.specs.Transferring.{Transfers}
 use Rattle.ferry_words.specs.declared.command.Command.{Command}
 use Rattle.ferry_words.specs.declared.command.Command.TheVariants.{Keys, Key, List as ListArchives, ListItems, Extract, Check}
-use Rattle.ferry_words.specs.declared.command.Command.TheVariants.{Init, MakeKey, Transfer, Plan, Compact}
+use Rattle.ferry_words.specs.declared.command.Command.TheVariants.{Init, MakeKey, Transfer, Plan, Delete, Compact}
 use Rattle.ferry_status.specs.declared.status.Secrets.{Secrets}
 use Rattle.ferry_status.specs.declared.status.Status.{Status}
 
@@ -53,7 +54,7 @@ pub record ReadsSource (command : Command) (secret : Secret) (before : Devices) 
   pub entropy : after.entropy ≡ before.entropy
 
 -- what each command does, before the fault line: it reads the source, makes a repository in the target, makes a key for it, copies archives into it,
--- plans that, or compacts it; where the words are no command, no device is used
+-- plans that, deletes one of it, or compacts it; where the words are no command, no device is used
 abbrev pub DoesCommand : Result Command ℕ → Secrets → Devices → Status → Devices → Type 0
 DoesCommand (Ok Keys) secrets before status after = ReadsSource Keys secrets.source before status after
 DoesCommand (Ok Key) secrets before status after = ReadsSource Key secrets.source before status after
@@ -67,6 +68,8 @@ DoesCommand (Ok (MakeKey iterations)) secrets before status after = MakesKey sec
 DoesCommand (Ok (Transfer block checkpoint timestamp names)) secrets before status after =
     Transfers (asked secrets (record { block = block; checkpoint = checkpoint; timestamp = timestamp }) names before.source.told) before status after
 DoesCommand (Ok (Plan block names)) secrets before status after = PlansTransfer (planned_for secrets block names before.source.told) before status after
+DoesCommand (Ok (Delete timestamp name)) secrets before status after =
+    DeletesArchive (deletion secrets.target name timestamp) before status after
 DoesCommand (Ok (Compact threshold)) secrets before status after = CompactsTarget threshold before status after
 DoesCommand (Err word) secrets before status after = after ≡ before
 

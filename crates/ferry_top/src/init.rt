@@ -7,7 +7,8 @@ ghost use Rattle.ferry_disk.specs.Moments.{Between};
 ghost use Rattle.ferry_store.specs.Fault.{source_failed};
 ghost use Rattle.ferry_store.specs.State.{Did, IsStep};
 ghost use Rattle.ferry_store.specs.Store.{RefusesInit};
-ghost use Rattle.ferry_top.specs.Init.{CommandEach, InitTells, IsRefused, RefusesTelling, initialized_line, time_or};
+ghost use Rattle.ferry_top.specs.Init.{CommandEach, InitTells, IsRefused, initialized_line, time_or};
+ghost use Rattle.ferry_status.specs.Telling.{RefusesTelling};
 ghost use Rattle.ferry_status.specs.Status.{entropy_failed, target_failed};
 ghost use Rattle.ferry_status.specs.declared.status.Status.TheVariants as TheStatus;
 

@@ -5,7 +5,6 @@
 #![tactic(auto)]
 
 mod check;
-mod compact;
 mod init;
 mod items;
 mod key;
@@ -14,13 +13,14 @@ mod laws;
 mod lines;
 mod list;
 mod make_key;
-mod plan;
 mod top;
-mod transfer;
 mod words;
 
 pub use ferry_repo::{RepoFault, Secret};
+pub use ferry_run_compact::compact_laws;
+pub use ferry_run_plan::plan_laws;
+pub use ferry_run_transfer::transfer_laws;
 pub use ferry_status::{Limit, Refusal, Secrets, Status};
-pub use laws::{compact_laws, init_laws, plan_laws, transfer_laws};
+pub use laws::init_laws;
 pub use top::run;
 pub use words::places_fit;

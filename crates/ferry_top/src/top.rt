@@ -5,17 +5,18 @@ ghost use Rattle.ferry_top.specs.Run.{DoesCommand, Runs};
 ghost use Rattle.ferry_words.specs.Words.{IsInRange, command_of};
 
 use crate::check::check;
-use crate::compact::compact;
 use crate::init::init;
 use crate::items::{extract, list_items};
 use crate::key::key;
 use crate::keys::keys;
 use crate::list::list;
 use crate::make_key::make_key;
-use crate::plan::plan;
-use crate::transfer::transfer;
 use ferry_carry::Options;
 use ferry_disk::{Depot, Entropy, Shelf, Sink};
+use ferry_run_compact::compact;
+use ferry_run_delete::delete;
+use ferry_run_plan::plan;
+use ferry_run_transfer::transfer;
 use ferry_status::{Secrets, Status, report};
 use ferry_words::{Command, Usage, read_words};
 use std::alloc::Global;
@@ -33,9 +34,11 @@ use std::alloc::Global;
 /// all, into the target, in pieces of its own length, those that the target lacks, and compares the others; it tells `transferred ` or `present
 /// ` and the name of each, and at the end a line with the numbers of all, and uses `out` for its fault line alone. `plan` counts what that
 /// would put, and prints how many pieces of contents, their bytes, and how many pieces of item streams; it only reads `target`, and doesn't use
-/// `entropy`. `compact` writes again what is in use in those segments of the target of which a part is unused, removes them, and tells
-/// `compacted ` and how many these were; it uses neither `source` and `entropy` nor `out` but for its fault line. `make-key` draws a new key,
-/// seals it with the target's passphrase and prints the text of its key file; it uses neither `source` nor `target`.
+/// `entropy`. `delete` takes the archive of a name out of the target, with the chunks that no other archive uses, and tells `deleted `, the name
+/// and how many chunks went; it uses neither `source` nor `out` but for its fault line. `compact` writes again what is in use in those segments
+/// of the target of which a part is unused, removes them, and tells `compacted ` and how many these were; it uses neither `source` and
+/// `entropy` nor `out` but for its fault line. `make-key` draws a new key, seals it with the target's passphrase and prints the text of its key
+/// file; it uses neither `source` nor `target`.
 pub fn run<S: Shelf, D: Depot, E: Entropy, K: Sink>(
     alloc: Global,
     words: &[String],
@@ -142,28 +145,22 @@ fn carry_out<S: Shelf, D: Depot, E: Entropy, K: Sink>(
             checkpoint,
             timestamp,
             names,
-        } => transfer(
-            alloc,
-            secrets,
-            &Options {
+        } => {
+            let options = Options {
                 block,
                 checkpoint,
                 timestamp,
-            },
-            names.as_slice(),
-            source,
-            target,
-            entropy,
-        ),
-        Command::Plan { block, names } => plan(
-            alloc,
-            secrets,
-            block,
-            names.as_slice(),
-            source,
-            target,
-            out,
-        ),
+            };
+            let chosen = names.as_slice();
+            transfer(alloc, secrets, &options, chosen, source, target, entropy)
+        }
+        Command::Plan { block, names } => {
+            let chosen = names.as_slice();
+            plan(alloc, secrets, block, chosen, source, target, out)
+        }
+        Command::Delete { timestamp, name } => {
+            delete(alloc, &secrets.target, timestamp, name, target, entropy)
+        }
         Command::Compact { threshold } => compact(alloc, threshold, target),
         Command::MakeKey { iterations } => make_key(
             alloc,

@@ -1,4 +1,5 @@
 pub mod Words
 pub mod Laws
 pub mod Options
+pub mod Lone
 pub mod Usage

@@ -12,7 +12,7 @@ use Rattle.std.specs.List.{list_any, starts_with}
 use Rattle.std.specs.Option.{option_and_then}
 use Rattle.ferry_words.specs.declared.command.Command.{Command}
 use Rattle.ferry_words.specs.declared.command.Command.TheVariants.{Keys, Key, List as ListArchives, ListItems, Extract, Check}
-use Rattle.ferry_words.specs.declared.command.Command.TheVariants.{Init, MakeKey, Transfer, Plan, Compact}
+use Rattle.ferry_words.specs.declared.command.Command.TheVariants.{Init, MakeKey, Transfer, Plan, Delete, Compact}
 
 -- ---- values
 
@@ -179,6 +179,14 @@ planned given names = Plan (block_of given) names
 abbrev pub plan_form : Form
 plan_form = form (block ∷ []) 0 any planned
 
+-- what `delete` makes: the operand is the archive's name
+abbrev pub deleted : List (List ℕ) → List (List ℕ) → Command
+deleted given operands = Delete (timestamp_of given) (get_or operands 0 [])
+
+-- the form of `delete [--timestamp T] NAME`
+abbrev pub delete_form : Form
+delete_form = form (timestamp ∷ []) 1 (up_to 1) deleted
+
 -- the form of `compact [--threshold P]`
 abbrev pub compact_form : Form
 compact_form = form (threshold ∷ []) 0 (up_to 0) (λ given operands. Compact (threshold_of given))
@@ -208,6 +216,7 @@ rows =
     ∷ row (codes "make-key") make_key_form
     ∷ row (codes "transfer") transfer_form
     ∷ row (codes "plan") plan_form
+    ∷ row (codes "delete") delete_form
     ∷ row (codes "compact") compact_form
     ∷ []
 

@@ -56,6 +56,13 @@ pub enum Command {
         /// The archives' names, in the order given; none where no name is given.
         names: Names,
     },
+    /// `delete [--timestamp T] NAME`: takes an archive out of the target.
+    Delete {
+        /// The manifest's timestamp, where one is given.
+        timestamp: Option<Bytes>,
+        /// The archive's name.
+        name: Bytes,
+    },
     /// `compact [--threshold P]`: writes again what segments of the target hold that is in use, and removes the segments.
     Compact {
         /// How many hundredths of a segment's bytes are unused where it is compacted, 0 to 100.

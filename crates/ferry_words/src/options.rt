@@ -51,6 +51,8 @@ pub(crate) enum Options {
     Transfer,
     /// `--block B`.
     Plan,
+    /// `--timestamp T`.
+    Delete,
     /// `--threshold P`.
     Compact,
 }
@@ -62,7 +64,7 @@ impl Options {
     {
         match (self, name) {
             (Options::Init | Options::MakeKey, "--iterations") => true,
-            (Options::Init | Options::Transfer, "--timestamp") => true,
+            (Options::Init | Options::Transfer | Options::Delete, "--timestamp") => true,
             (Options::Transfer | Options::Plan, "--block") => true,
             (Options::Transfer, "--checkpoint") => true,
             (Options::Compact, "--threshold") => true,
@@ -85,7 +87,8 @@ impl Options {
             (Options::Init | Options::MakeKey, "--iterations") => {
                 number_of(value, 1, ITERATIONS_LIMIT).is_some()
             }
-            (Options::Init | Options::Transfer, "--timestamp") => !value.is_empty(),
+            (Options::Init | Options::Transfer | Options::Delete, "--timestamp") =>
+                !value.is_empty(),
             (Options::Transfer | Options::Plan, "--block") => {
                 number_of(value, LEAST_BLOCK, GREATEST_BLOCK).is_some()
             }

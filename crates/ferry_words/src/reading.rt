@@ -1,9 +1,11 @@
 //! The reader.
 
 ghost use Rattle.std.specs.Prelude.{◌≡◌, ◌≢◌, ℕ, Ok, Err, IfOk, IfErr, OnOk, map, string_bytes};
+ghost use Rattle.ferry_words.specs.Lone.{lone_command};
 ghost use Rattle.ferry_words.specs.Usage.{IsAnswer};
 ghost use Rattle.ferry_words.specs.Words as spec;
 ghost use Rattle.ferry_words.specs.Words.{IsInRange, command_of};
+ghost use Rattle.ferry_words.specs.declared.command.Command.TheVariants as TheCommand;
 
 use crate::command::Command;
 use crate::options::{
@@ -12,6 +14,17 @@ use crate::options::{
 };
 use crate::usage::Usage;
 use std::alloc::Global;
+
+/// A command of one word.
+#[derive(Clone, Copy)]
+enum Lone {
+    /// `keys`.
+    Keys,
+    /// `key`.
+    Key,
+    /// `check`.
+    Check,
+}
 
 /// Reads the words of a command, of which the first is the command's word.
 ///
@@ -38,17 +51,30 @@ fn read_row(alloc: Global, words: &[String]) -> Result<Command, Usage>
         return Err(Usage::Word(1));
     };
     match name.as_str() {
-        "keys" => alone(behind).map(|()| Command::Keys),
-        "key" => alone(behind).map(|()| Command::Key),
+        "keys" => lone_word(Lone::Keys, behind),
+        "key" => lone_word(Lone::Key, behind),
         "list" => list(alloc, behind),
         "extract" => extract(alloc, behind),
-        "check" => alone(behind).map(|()| Command::Check),
+        "check" => lone_word(Lone::Check, behind),
         "init" => init(alloc, behind),
         "make-key" => make_key(behind),
         "transfer" => transfer(alloc, behind),
         "plan" => plan(alloc, behind),
+        "delete" => delete(alloc, behind),
         "compact" => compact(behind),
         _ => Err(Usage::Word(1)),
+    }
+}
+
+/// A command of one word.
+fn lone_word(word: Lone, behind: &[String]) -> Result<Command, Usage>
+    ensures answer { IsAnswer result (spec.meaning_of (spec.alone (lone_command word)) (map string_bytes behind.now)) }
+{
+    alone(behind)?;
+    match word {
+        Lone::Keys => Ok(Command::Keys),
+        Lone::Key => Ok(Command::Key),
+        Lone::Check => Ok(Command::Check),
     }
 }
 
@@ -74,11 +100,17 @@ fn list(alloc: Global, behind: &[String]) -> Result<Command, Usage>
     let parts = parts_of(Options::None, behind)?;
     match parts.operands {
         [] => Ok(Command::List),
-        [name] => Ok(Command::ListItems {
-            name: bytes_of(alloc, name)?,
-        }),
+        [name] => list_items(alloc, name),
         [_, _, ..] => Err(Usage::Word(parts.first + 1)),
     }
+}
+
+/// `list` with this archive's name.
+fn list_items(alloc: Global, name: &String) -> Result<Command, Usage>
+    ensures answer { IsAnswer result (Ok (TheCommand.ListItems (string_bytes name.now))) }
+{
+    let name = bytes_of(alloc, name)?;
+    Ok(Command::ListItems { name })
 }
 
 /// `extract` with an archive's name and a path.
@@ -90,12 +122,18 @@ fn extract(alloc: Global, behind: &[String]) -> Result<Command, Usage>
     match parts.operands {
         [] => Err(Usage::Word(parts.first)),
         [_] => Err(Usage::Word(parts.first + 1)),
-        [name, path] => Ok(Command::Extract {
-            name: bytes_of(alloc, name)?,
-            path: bytes_of(alloc, path)?,
-        }),
+        [name, path] => extract_path(alloc, name, path),
         [_, _, _, ..] => Err(Usage::Word(parts.first + 2)),
     }
+}
+
+/// `extract` with this archive's name and this path.
+fn extract_path(alloc: Global, name: &String, path: &String) -> Result<Command, Usage>
+    ensures answer { IsAnswer result (Ok (TheCommand.Extract (string_bytes name.now) (string_bytes path.now))) }
+{
+    let name = bytes_of(alloc, name)?;
+    let path = bytes_of(alloc, path)?;
+    Ok(Command::Extract { name, path })
 }
 
 /// `init` with its options.
@@ -154,6 +192,28 @@ fn plan(alloc: Global, behind: &[String]) -> Result<Command, Usage>
         block: block_of(parts.given),
         names,
     })
+}
+
+/// `delete` with its option and an archive's name.
+#[tactic(auto, unfolding(crate::specs::Words::made, crate::specs::Words::first_unfit))]
+fn delete(alloc: Global, behind: &[String]) -> Result<Command, Usage>
+    ensures answer { IsAnswer result (spec.meaning_of spec.delete_form (map string_bytes behind.now)) }
+{
+    let parts = parts_of(Options::Delete, behind)?;
+    match parts.operands {
+        [] => Err(Usage::Word(parts.first)),
+        [name] => delete_archive(alloc, parts.given, name),
+        _ => Err(Usage::Word(parts.first + 1)),
+    }
+}
+
+/// `delete` with these options and this archive's name.
+fn delete_archive(alloc: Global, given: &[String], name: &String) -> Result<Command, Usage>
+    ensures answer { IsAnswer result (Ok (TheCommand.Delete (spec.timestamp_of (map string_bytes given.now)) (string_bytes name.now))) }
+{
+    let timestamp = timestamp_of(alloc, given)?;
+    let name = bytes_of(alloc, name)?;
+    Ok(Command::Delete { timestamp, name })
 }
 
 /// `compact` with its option.

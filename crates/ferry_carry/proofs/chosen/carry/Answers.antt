@@ -3,7 +3,7 @@ use Rattle.ferry_carry.proofs.AcceptingLemmas.{telling_small}
 use Rattle.ferry_carry.proofs.CauseLemmas.{line_refused, names_refused, none_missing, not_there}
 use Rattle.ferry_carry.proofs.GrowLemmas.{accepts_on}
 use Rattle.ferry_piece.proofs.AddingLemmas.{target_apart}
-use Rattle.ferry_carry.proofs.ReportLemmas.{reports_whole, telling_unbroken, whole_err, whole_nothing, whole_untold}
+use Rattle.ferry_carry.proofs.ReportLemmas.{reports_whole, telling_unbroken, whole_err, whole_nothing, whole_untold, whole_unwritten}
 use Rattle.ferry_piece.proofs.WorkLemmas.{err_is}
 use Rattle.ferry_carry.proofs.chosen.carry.Goals as goal
 use Rattle.ferry_carry.specs.Accepting.{LimitsNames}
@@ -54,6 +54,20 @@ returns-in_err-carry_all-clause-works g c =
     err_is c.from_residual-in_err-carry_all.result fault (λ (r : Result Carried CarryFault). ReportsWhole from names store now a b n m r)
     c.from_residual-in_err-carry_all.ensures.1
     (whole_err from names store now _ _ a b n m fault c.in_err-carry_all.ensures.works)
+
+pub returns-in_err-line-clause-works : goal.returns-in_err-line-clause-works
+returns-in_err-line-clause-works g c =
+    let store = c.args.store.now in
+    let now = c.carry_all.new.store in
+    let names = c.args.names.now in
+    let a = g.D.Shelf.told c.args.depot.now in
+    let b = g.D.Shelf.told c.carry_all.new.depot in
+    let n = g.D.Shelf.faults c.args.depot.now in
+    let m = g.D.Shelf.faults c.carry_all.new.depot in
+    let from = origin (g.S.Shelf.told c.args.shelf.now) (repo_view c.args.source.now) c.args.options.now.block c.args.options.now.checkpoint in
+    err_is c.from_residual-in_err-line.result Memory (λ (r : Result Carried CarryFault). ReportsWhole from names store now a b n m r)
+    c.from_residual-in_err-line.ensures.1
+    (whole_unwritten from c.nothing-carried.result c.carry_all.new.carried names store now a b n m c.in_ok-carry_all.ensures.works)
 
 pub returns-in_err-tell-clause-works : goal.returns-in_err-tell-clause-works
 returns-in_err-tell-clause-works g c =

@@ -3,13 +3,12 @@ use Rattle.ferry_carry.proofs.GrowLemmas.{Follows}
 use Rattle.ferry_carry.proofs.chosen.carry_all.Given as goal
 use Rattle.ferry_carry.specs.Accepting.{AreNextOf}
 use Rattle.ferry_carry.specs.Carrying.{origin}
-use Rattle.ferry_carry.specs.Flight.{IsSettled}
 use Rattle.ferry_carry.specs.Grow.{KeepsMost}
 use Rattle.ferry_carry.specs.Telling.{Reports}
 use Rattle.ferry_disk.specs.Device.{heard, told_files}
 use Rattle.ferry_manifest.specs.Manifest.Writing.{IsPackable}
 use Rattle.ferry_repo.specs.Opening.{FitsRepo, cached_in, repo_view}
-use Rattle.ferry_store.specs.Commit.{accepted_in}
+use Rattle.ferry_store.specs.Commit.{accepted_in, IsSettled}
 use Rattle.ferry_store.specs.Store.{IsUnspent, StoreFits}
 
 -- the archives so far were copied or compared, and told

@@ -37,12 +37,12 @@ returns-in_err-flight-clause-works g c =
     (begin_still fault c.args.name.now _ c.in_err-flight.ensures.refused) (begin_unbroken fault c.args.name.now _ c.in_err-flight.ensures.refused)
     (begin_apart fault c.args.name.now _ c.in_err-flight.ensures.refused))
 
-pub carry_flight-requires-clause-flight : goal.carry_flight-requires-clause-flight
-carry_flight-requires-clause-flight g c =
+pub carry_flight-done-requires-clause-flight : goal.carry_flight-done-requires-clause-flight
+carry_flight-done-requires-clause-flight g c =
     c.in_ok-flight.ensures.flight (g.S.Shelf.told c.args.shelf.now) (g.D.Shelf.told c.args.depot.now) c.args.store.now
 
-pub carry_flight-requires-clause-called : goal.carry_flight-requires-clause-called
-carry_flight-requires-clause-called g c = sym c.in_ok-flight.ensures.name
+pub carry_flight-done-requires-clause-called : goal.carry_flight-done-requires-clause-called
+carry_flight-done-requires-clause-called g c = sym c.in_ok-flight.ensures.name
 
 pub returns-clause-works : goal.returns-clause-works
 returns-clause-works g c =
@@ -52,9 +52,9 @@ returns-clause-works g c =
     let is : flown_from told source flight ≡ origin told source c.args.options.now.block c.args.options.now.checkpoint =
     ap (λ (o : Options). origin told source o.block o.checkpoint) c.in_ok-flight.ensures.options in
     reports_as (origin told source c.args.options.now.block c.args.options.now.checkpoint) (flown_from told source flight) (c.args.name.now ∷ [])
-    (flight.named.name ∷ []) c.args.store.now c.carry_flight.new.store c.args.carried.now c.carry_flight.new.carried (g.D.Shelf.told c.args.depot.now)
-    (g.D.Shelf.told c.carry_flight.new.depot) (g.D.Shelf.faults c.args.depot.now) (g.D.Shelf.faults c.carry_flight.new.depot) c.carry_flight.result is
-    (ap (λ (n : List ℕ). n ∷ []) c.in_ok-flight.ensures.name) c.carry_flight.ensures.works
+    (flight.named.name ∷ []) c.args.store.now c.carry_flight-done.new.store c.args.carried.now c.carry_flight-done.new.carried (g.D.Shelf.told c.args.depot.now)
+    (g.D.Shelf.told c.carry_flight-done.new.depot) (g.D.Shelf.faults c.args.depot.now) (g.D.Shelf.faults c.carry_flight-done.new.depot)
+    c.carry_flight-done.result is (ap (λ (n : List ℕ). n ∷ []) c.in_ok-flight.ensures.name) c.carry_flight-done.ensures.works
 
 pub returns-clause-refused : goal.returns-clause-refused
 returns-clause-refused g c =
@@ -62,14 +62,14 @@ returns-clause-refused g c =
     let source = repo_view c.args.source.now in
     let flight = c.in_ok-flight.flight in
     let a = g.D.Shelf.told c.args.depot.now in
-    let b = g.D.Shelf.told c.carry_flight.new.depot in
+    let b = g.D.Shelf.told c.carry_flight-done.new.depot in
     let store = c.args.store.now in
-    let now = c.carry_flight.new.store in
+    let now = c.carry_flight-done.new.store in
     let is : flown_from told source flight ≡ origin told source c.args.options.now.block c.args.options.now.checkpoint =
     ap (λ (o : Options). origin told source o.block o.checkpoint) c.in_ok-flight.ensures.options in
-    subst (λ (f : Origin). IfErr c.carry_flight.result (RefusesName f a store b now c.args.name.now)) is
-    (subst (λ (n : List ℕ). IfErr c.carry_flight.result (RefusesName (flown_from told source flight) a store b now n)) c.in_ok-flight.ensures.name
-    c.carry_flight.ensures.refused)
+    subst (λ (f : Origin). IfErr c.carry_flight-done.result (RefusesName f a store b now c.args.name.now)) is
+    (subst (λ (n : List ℕ). IfErr c.carry_flight-done.result (RefusesName (flown_from told source flight) a store b now n)) c.in_ok-flight.ensures.name
+    c.carry_flight-done.ensures.refused)
 
 pub returns-in_err-flight-clause-untold : goal.returns-in_err-flight-clause-untold
 returns-in_err-flight-clause-untold g c =
@@ -92,27 +92,27 @@ returns-in_err-flight-clause-limit g c =
 
 pub returns-clause-limit : goal.returns-clause-limit
 returns-clause-limit g c =
-    let b = g.D.Shelf.told c.carry_flight.new.depot in
+    let b = g.D.Shelf.told c.carry_flight-done.new.depot in
     let store = c.args.store.now in
     let manifest = (repo_view c.args.source.now).manifest in
     let keys = (repo_view store.repo).keys in
     let flight = c.in_ok-flight.flight in
-    subst (λ (o : Options). IfErr c.carry_flight.result (λ (f : CarryFault). f ≡ Target TooLarge
+    subst (λ (o : Options). IfErr c.carry_flight-done.result (λ (f : CarryFault). f ≡ Target TooLarge
     → IfSome b (λ _. HasLargeNext o.timestamp manifest keys (accepted_in store) c.args.name.now))) c.in_ok-flight.ensures.options
-    (subst (λ (n : List ℕ). IfErr c.carry_flight.result (λ (f : CarryFault). f ≡ Target TooLarge
-    → IfSome b (λ _. HasLargeNext flight.options.timestamp manifest keys (accepted_in store) n))) c.in_ok-flight.ensures.name c.carry_flight.ensures.limit)
+    (subst (λ (n : List ℕ). IfErr c.carry_flight-done.result (λ (f : CarryFault). f ≡ Target TooLarge
+    → IfSome b (λ _. HasLargeNext flight.options.timestamp manifest keys (accepted_in store) n))) c.in_ok-flight.ensures.name c.carry_flight-done.ensures.limit)
 
 pub returns-clause-next : goal.returns-clause-next
 returns-clause-next g c =
     let store = c.args.store.now in
-    let now = c.carry_flight.new.store in
+    let now = c.carry_flight-done.new.store in
     let manifest = (repo_view c.args.source.now).manifest in
     let keys = (repo_view store.repo).keys in
     let flight = c.in_ok-flight.flight in
-    subst (λ (o : Options). OnOk c.carry_flight.result (IsNextOf o.timestamp manifest keys (accepted_in store) c.args.name.now (accepted_in now)))
+    subst (λ (o : Options). OnOk c.carry_flight-done.result (IsNextOf o.timestamp manifest keys (accepted_in store) c.args.name.now (accepted_in now)))
     c.in_ok-flight.ensures.options
-    (subst (λ (n : List ℕ). OnOk c.carry_flight.result (IsNextOf flight.options.timestamp manifest keys (accepted_in store) n (accepted_in now)))
-    c.in_ok-flight.ensures.name c.carry_flight.ensures.next)
+    (subst (λ (n : List ℕ). OnOk c.carry_flight-done.result (IsNextOf flight.options.timestamp manifest keys (accepted_in store) n (accepted_in now)))
+    c.in_ok-flight.ensures.name c.carry_flight-done.ensures.next)
 
 pub returns-in_err-flight-clause-stands : goal.returns-in_err-flight-clause-stands
 returns-in_err-flight-clause-stands g c =
@@ -130,9 +130,9 @@ returns-clause-stands g c =
     let source = repo_view c.args.source.now in
     let flight = c.in_ok-flight.flight in
     let a = g.D.Shelf.told c.args.depot.now in
-    let b = g.D.Shelf.told c.carry_flight.new.depot in
+    let b = g.D.Shelf.told c.carry_flight-done.new.depot in
     let store = c.args.store.now in
-    subst (λ (o : Options). IfErr c.carry_flight.result (λ (f : CarryFault). IsOfWork f
+    subst (λ (o : Options). IfErr c.carry_flight-done.result (λ (f : CarryFault). IsOfWork f
     → StopsUnnamed (origin told source o.block o.checkpoint) c.args.name.now store a b)) c.in_ok-flight.ensures.options
-    (subst (λ (n : List ℕ). IfErr c.carry_flight.result (λ (f : CarryFault). IsOfWork f → StopsUnnamed (flown_from told source flight) n store a b))
-    c.in_ok-flight.ensures.name c.carry_flight.ensures.stands)
+    (subst (λ (n : List ℕ). IfErr c.carry_flight-done.result (λ (f : CarryFault). IsOfWork f → StopsUnnamed (flown_from told source flight) n store a b))
+    c.in_ok-flight.ensures.name c.carry_flight-done.ensures.stands)

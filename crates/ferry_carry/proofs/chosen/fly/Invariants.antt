@@ -1,12 +1,12 @@
 use Rattle.std.proofs.Common.{◌≡◌, ◌≤◌, false, IfSome}
 use Rattle.ferry_carry.proofs.FlyLemmas.{TakesOn}
 use Rattle.ferry_carry.proofs.chosen.fly.Given as goal
-use Rattle.ferry_carry.specs.Flight.{FlightFits, IsSettled, flown_from}
+use Rattle.ferry_carry.specs.Flight.{FlightFits, flown_from}
 use Rattle.ferry_carry.specs.Grow.{KeepsMost}
 use Rattle.ferry_disk.specs.Device.{heard, told_files}
 use Rattle.ferry_manifest.specs.Manifest.Writing.{IsPackable}
 use Rattle.ferry_repo.specs.Opening.{FitsRepo, cached_in, repo_view}
-use Rattle.ferry_store.specs.Commit.{accepted_in}
+use Rattle.ferry_store.specs.Commit.{accepted_in, IsSettled}
 use Rattle.ferry_store.specs.Store.{IsUnspent, StoreFits}
 
 -- the flight goes on, and the store fits

@@ -12,12 +12,16 @@ use Rattle.ferry_piece.specs.declared.fault.CarryFault.{CarryFault}
 use Rattle.ferry_manifest.specs.Manifest.Writing.{manifest_text}
 use Rattle.ferry_next.specs.Next.{written_at}
 use Rattle.ferry_repo.specs.Opening.{RepoState, repo_view}
+use Rattle.ferry_store.proofs.WritingLemmas.{told_writing}
 use Rattle.ferry_store.specs.Commit.{CommitsEntry, accepted_in, manifest_entry}
 use Rattle.ferry_store.specs.Content.{blob_for}
 use Rattle.ferry_store.specs.Standing.{with_manifest}
 use Rattle.ferry_carry.proofs.StandLemmas.{StandsAll, commit_stands}
 use Rattle.ferry_piece.proofs.AddingLemmas.{manifest_unbroken}
 use Rattle.ferry_piece.specs.Adding.{IsNoChunk}
+
+pub commit-requires-clause-fits : goal.commit-requires-clause-fits
+commit-requires-clause-fits g c = told_writing c.args.store.now (g.D.Shelf.told c.args.depot.now) c.requires.fits
 
 pub returns-in_err-commit-clause-works : goal.returns-in_err-commit-clause-works
 returns-in_err-commit-clause-works g c accepted named one =

@@ -32,7 +32,7 @@ returns-in_err-id-clause-works g c =
     λ from added all.
     let store = c.args.store.now in
     let now = c.end_stream.new.store in
-    let copy = c.args.copy in
+    let copy = c.args.copy.now in
     let named = c.args.named.now in
     let chosen = named.name ∷ [] in
     let a = g.D.Shelf.told c.args.depot.now in
@@ -72,7 +72,7 @@ returns-in_err-name_record-clause-works g c =
     let store = c.args.store.now in
     let middle = c.end_stream.new.store in
     let now = c.name_record.new.store in
-    let copy = c.args.copy in
+    let copy = c.args.copy.now in
     let named = c.args.named.now in
     let chosen = named.name ∷ [] in
     let a = g.D.Shelf.told c.args.depot.now in
@@ -119,7 +119,7 @@ returns-clause-works g c =
     let middle = c.end_stream.new.store in
     let now = c.name_record.new.store in
     let keys = (repo_view store.repo).keys in
-    let copy = c.args.copy in
+    let copy = c.args.copy.now in
     let named = c.args.named.now in
     let chosen = named.name ∷ [] in
     let a = g.D.Shelf.told c.args.depot.now in
@@ -175,7 +175,7 @@ returns-in_err-id-clause-refused g c =
     let named = c.args.named.now in
     let fault = c.in_err-id.field-0.0 in
     err_is c.from_residual.result fault (λ (r : Result Carried CarryFault). IfErr r (RefusesEnd from a (repo_view store.repo).keys named.name))
-    c.from_residual.ensures.1 (record_refused from a named store c.args.copy added fault c.requires.ready all c.in_err-id.ensures.refused)
+    c.from_residual.ensures.1 (record_refused from a named store c.args.copy.now added fault c.requires.ready all c.in_err-id.ensures.refused)
 
 pub returns-in_err-id-clause-stops : goal.returns-in_err-id-clause-stops
 returns-in_err-id-clause-stops g c =

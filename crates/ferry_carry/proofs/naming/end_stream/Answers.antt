@@ -22,7 +22,7 @@ returns-in_err-pieces-clause-ended g c =
     let stream = c.args.stream.now in
     let most = stream.checkpoint in
     let left = cut stream.cutter.block stream.cutter.piece in
-    let archive = copied_in (archive_view c.args.archive) c.args.block (stream.chunks.items ++ chunks_of keys left) in
+    let archive = copied_in (archive_view c.args.archive.now) c.args.block (stream.chunks.items ++ chunks_of keys left) in
     let a = g.D.Shelf.told c.args.depot.now in
     let b = g.D.Shelf.told c.finish.new.depot in
     let n = g.D.Shelf.faults c.args.depot.now in
@@ -56,7 +56,7 @@ returns-clause-ended g c =
     let left = cut stream.cutter.block stream.cutter.piece in
     let finished = c.in_ok-pieces.ensures.works Stream refl in
     let put = c.put_copied.ensures.put in
-    let said = record_as c.put_copied.result keys (repo_view middle.repo).keys (archive_view c.args.archive) c.args.block
+    let said = record_as c.put_copied.result keys (repo_view middle.repo).keys (archive_view c.args.archive.now) c.args.block
     (stream.chunks.items ++ chunks_of keys left) c.deref.result.now put.0 c.in_ok-pieces.ensures.rest.keys
     (c.deref.ensures.value ∙ c.in_ok-pieces.ensures.chunks) put.1.1 in (
       finished.0,

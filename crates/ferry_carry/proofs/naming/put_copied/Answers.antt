@@ -9,10 +9,10 @@ use Rattle.ferry_piece.specs.declared.fault.CarryFault.TheVariants.{Memory}
 use Rattle.ferry_manifest.specs.Record.Text.{ArchiveText, archive_view}
 use Rattle.ferry_repo.specs.Opening.{repo_view}
 
-pub returns-in_err-copied-clause-put : goal.returns-in_err-copied-clause-put
-returns-in_err-copied-clause-put g c =
+pub returns-in_err-copied_archive-clause-put : goal.returns-in_err-copied_archive-clause-put
+returns-in_err-copied_archive-clause-put g c =
     let store = c.args.store.now in
-    let archive = copied_in (archive_view c.args.archive) c.args.block c.args.pieces.now in
+    let archive = copied_in (archive_view c.args.archive.now) c.args.block c.args.pieces.now in
     let a = g.D.Shelf.told c.args.depot.now in
     let n = g.D.Shelf.faults c.args.depot.now in (
       [],
@@ -36,6 +36,6 @@ returns-clause-put g c =
       put.0,
       (
         put.1.0,
-        subst (λ (archive : ArchiveText). RecordIs keys archive put.0 c.put_record.result) c.in_ok-copied.ensures.archive put.1.1,
+        subst (λ (archive : ArchiveText). RecordIs keys archive put.0 c.put_record.result) c.in_ok-copied_archive.ensures.archive put.1.1,
       ),
     )

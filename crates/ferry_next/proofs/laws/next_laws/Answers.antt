@@ -1,5 +1,5 @@
-use Rattle.ferry_next.proofs.NextLemmas.{next_packable}
-use Rattle.ferry_next.proofs.PlaceLemmas.{with_increasing, with_named, with_only}
+use Rattle.ferry_next.proofs.NextLemmas.{next_packable, without_packable}
+use Rattle.ferry_next.proofs.PlaceLemmas.{with_increasing, with_named, with_only, without_named}
 use Rattle.ferry_next.proofs.UnionLemmas.{union-is, union-one}
 use Rattle.ferry_next.proofs.laws.next_laws.Goals as goal
 
@@ -20,3 +20,9 @@ returns-clause-one c = union-one
 
 pub returns-clause-packable : goal.returns-clause-packable
 returns-clause-packable c = next_packable
+
+pub returns-clause-without : goal.returns-clause-without
+returns-clause-without c = without_named
+
+pub returns-clause-packable_without : goal.returns-clause-packable_without
+returns-clause-packable_without c = without_packable

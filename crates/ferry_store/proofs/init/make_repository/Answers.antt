@@ -126,8 +126,8 @@ returns-in_err-write_first-clause-refused g c =
     err_is c.from_residual-in_err-write_first.result refusal
     (λ (r : Result (Counter × Session) StoreRefusal). IfErr r (λ x. IfSome a (λ t. RefusesMaking c.args.timestamp.now (told_files t) x)))
     c.from_residual-in_err-write_first.ensures.1
-    (first_refused c.in_ok-basis.basis c.args.timestamp.now made.0 c.in_ok-counter.session c.in_ok-counter.counter a refusal c.in_ok-counter.ensures.fresh
-    c.in_ok-counter.ensures.number made.1.2.refused)
+    (first_refused c.in_ok-basis.basis c.args.timestamp.now made.0 c.in_ok-counter.session c.in_ok-counter.counter a refusal made.1.0
+    c.in_ok-counter.ensures.fresh c.in_ok-counter.ensures.number made.1.2.refused)
 
 pub returns-clause-made : goal.returns-clause-made
 returns-clause-made g c =

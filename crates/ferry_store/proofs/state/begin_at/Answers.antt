@@ -2,7 +2,7 @@ use Rattle.std.proofs.Common.{Ok, Err, Result, ap}
 use Rattle.ferry_nonce.specs.Fault.{nonce_failed}
 use Rattle.ferry_nonce.specs.declared.counter.Counter.{Counter}
 use Rattle.ferry_stops.proofs.TellLemmas.{told_both}
-use Rattle.ferry_store.proofs.CallLemmas.{begin_ends, begins_here, begun_err, begun_ok, begun_settled, nonce_is, read_first, read_refused}
+use Rattle.ferry_store.proofs.CallLemmas.{begin_ends, begins_here, begun_err, begun_ok, begun_settled, nonce_is, nonce_there, read_first, read_refused}
 use Rattle.ferry_store.proofs.StepLemmas.{after_same, err_is, same_told}
 use Rattle.ferry_store.proofs.state.begin_at.Goals as goal
 use Rattle.ferry_store.specs.Fault.{nonce_refusal, write_refusal}
@@ -90,3 +90,6 @@ pub returns-clause-untold : goal.returns-clause-untold
 returns-clause-untold g c =
     told_both (g.D.Shelf.told c.args.depot.now) (g.D.Shelf.told c.open.new.depot) (g.D.Shelf.told c.begin.new.depot) c.in_ok-counter.ensures.untold
     c.in_ok-session.ensures.untold
+
+pub returns-clause-there : goal.returns-clause-there
+returns-clause-there g c = nonce_there c.args.committed c.in_ok-counter.counter (g.D.Shelf.told c.args.depot.now) c.in_ok-counter.ensures.missing

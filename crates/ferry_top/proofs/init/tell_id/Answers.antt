@@ -6,7 +6,7 @@ use Rattle.ferry_store.specs.Fault.{store_refusal}
 use Rattle.ferry_store.specs.State.{Did, IsStep}
 use Rattle.ferry_store.specs.declared.fault.StoreRefusal.{StoreRefusal}
 use Rattle.ferry_store.specs.declared.fault.StoreRefusal.TheVariants.{Memory}
-use Rattle.ferry_top.proofs.TellLemmas.{told_line, untold_line}
+use Rattle.ferry_status.proofs.TellLemmas.{told_line, untold_line}
 use Rattle.ferry_top.proofs.init.tell_id.Goals as goal
 use Rattle.ferry_top.specs.Init.{initialized_line}
 

@@ -10,7 +10,7 @@ use Rattle.ferry_carry.proofs.ReportLemmas.{told_unbroken}
 use Rattle.ferry_carry.proofs.WorkLemmas.{carried_from}
 use Rattle.ferry_piece.proofs.WorkLemmas.{err_is, gathered_fault}
 use Rattle.ferry_carry.proofs.flight.Flight.compare.Goals as goal
-use Rattle.ferry_carry.specs.Flight.{IsSame, flown_from}
+use Rattle.ferry_carry.specs.Flight.{IsSame, WorkFits, flown_from}
 use Rattle.ferry_piece.specs.Gather.{KeepsRest}
 use Rattle.ferry_carry.specs.Grow.{AcceptsMore}
 use Rattle.ferry_piece.specs.Puts.{AtBegin, border_behind}
@@ -31,17 +31,17 @@ use Rattle.ferry_store.specs.Commit.{accepted_in}
 pub returns-in-More-clause-works : goal.returns-in-More-clause-works
 returns-in-More-clause-works g c =
     let store = c.args.store.now in
-    let now = c.compare_item.new.store in
+    let now = c.compare_item-compared.new.store in
     let from = flown_from (g.S.Shelf.told c.args.shelf.now) (repo_view c.args.source.now) c.args.self.now in
     let name = c.args.self.now.named.name in
     let a = g.D.Shelf.told c.args.depot.now in
-    let b = g.D.Shelf.told c.compare_item.new.depot in
+    let b = g.D.Shelf.told c.compare_item-compared.new.depot in
     let n = g.D.Shelf.faults c.args.depot.now in
-    let m = g.D.Shelf.faults c.compare_item.new.depot in
-    let compared = c.in_ok-compare_item.field-0 in
-    let read = c.compare_item.ensures.read in
+    let m = g.D.Shelf.faults c.compare_item-compared.new.depot in
+    let compared = c.in_ok-compared.field-0 in
+    let read = c.compare_item-compared.ensures.read in
     let at = border_behind AtBegin [] in
-    let works = c.in_ok-compare_item.ensures.works from.most in (
+    let works = c.in_ok-compared.ensures.works from.most in (
       [],
       record {
         flies = flies_as {T = Compared} [] from name [] [] store now a b n m compared More refl
@@ -57,16 +57,17 @@ returns-in-More-clause-works g c =
           record {
             stands = record {
               options = c.requires.flight.options;
-              named = subst (λ (r : RepoState). archive_named name r.manifest.archives ≡ Some c.args.self.now.named) (sym c.compare_item.ensures.kept)
+              named = subst (λ (r : RepoState). archive_named name r.manifest.archives ≡ Some c.args.self.now.named) (sym c.compare_item-compared.ensures.kept)
                   c.requires.flight.named;
             };
             added = [];
-            work = (
-              c.in_ok-compare_item.ensures.comparison (ap Ok c.in-More.is),
-              c.compare_item.ensures.name ∙ c.requires.same_name,
-              subst (λ (r : RepoState). IsSome (archive_named name r.manifest.archives)) (sym read.repo) c.requires.there,
-              refl,
-            );
+            work = subst (WorkFits (g.S.Shelf.told c.compare_item-compared.new.shelf) (repo_view c.compare_item-compared.new.source) b now
+                c.args.self.now.named c.args.self.now.options []) (sym c.renew.ensures) (
+                  c.in_ok-compared.ensures.comparison (ap Ok c.in-More.is),
+                  c.compare_item-compared.ensures.name ∙ c.requires.same_name,
+                  subst (λ (r : RepoState). IsSome (archive_named name r.manifest.archives)) (sym read.repo) c.requires.there,
+                  refl,
+                );
             uncounted = c.requires.uncounted;
           },
           refl,
@@ -77,28 +78,28 @@ returns-in-More-clause-works g c =
 pub returns-in-More-clause-accepts : goal.returns-in-More-clause-accepts
 returns-in-More-clause-accepts g c =
     let store = c.args.store.now in
-    let now = c.compare_item.new.store in
-    rest_accepts store now (read_rest store now c.compare_item.ensures.read) c.requires.accepts
+    let now = c.compare_item-compared.new.store in
+    rest_accepts store now (read_rest store now c.compare_item-compared.ensures.read) c.requires.accepts
 
 pub returns-in-Equal-clause-works : goal.returns-in-Equal-clause-works
 returns-in-Equal-clause-works g c =
     let store = c.args.store.now in
-    let middle = c.compare_item.new.store in
+    let middle = c.compare_item-compared.new.store in
     let now = c.present.new.store in
     let from = flown_from (g.S.Shelf.told c.args.shelf.now) (repo_view c.args.source.now) c.args.self.now in
     let name = c.args.self.now.named.name in
     let a = g.D.Shelf.told c.args.depot.now in
-    let b = g.D.Shelf.told c.compare_item.new.depot in
+    let b = g.D.Shelf.told c.compare_item-compared.new.depot in
     let d = g.D.Shelf.told c.present.new.depot in
     let n = g.D.Shelf.faults c.args.depot.now in
-    let m = g.D.Shelf.faults c.compare_item.new.depot in
+    let m = g.D.Shelf.faults c.compare_item-compared.new.depot in
     let k = g.D.Shelf.faults c.present.new.depot in
-    let rest = read_rest store middle c.compare_item.ensures.read in
+    let rest = read_rest store middle c.compare_item-compared.ensures.read in
     let same : IsSame from b (repo_view middle.repo) name =
     subst (IsSame from b (repo_view middle.repo)) c.requires.same_name
-    (c.in_ok-compare_item.ensures.equal (ap Ok c.in-Equal.is) from.block from.most) in
-    let compared = c.in_ok-compare_item.field-0 in
-    let works = c.in_ok-compare_item.ensures.works from.most in
+    (c.in_ok-compared.ensures.equal (ap Ok c.in-Equal.is) from.block from.most) in
+    let compared = c.in_ok-compared.field-0 in
+    let works = c.in_ok-compared.ensures.works from.most in
     let ends = c.present.ensures.works from.most in
     let apart = targets_apart {T = Turn} c.present.result c.present.ensures.target in (
       [],
@@ -112,33 +113,33 @@ returns-in-Equal-clause-works g c =
         last = told_unbroken {T = Turn} a (repo_view store.repo).keys [] c.present.result c.present.ensures.unbroken;
         held = held_apart {T = Turn} (border_behind AtBegin []) from.most store now [] a d c.present.result apart;
         fills = filled_apart {T = Turn} a from (repo_view store.repo).keys (accepted_in store) name [] c.present.result apart;
-        lists = turn_present (g.S.Shelf.told c.compare_item.new.shelf) (repo_view c.compare_item.new.source) d now _ a from (repo_view store.repo).keys
-            c.present.result c.requires.uncounted c.present.ensures.present;
+        lists = turn_present (g.S.Shelf.told c.compare_item-compared.new.shelf) (repo_view c.compare_item-compared.new.source) d now _ a from
+            (repo_view store.repo).keys c.present.result c.requires.uncounted c.present.ensures.present;
       },
     )
 
 pub returns-in-Equal-clause-accepts : goal.returns-in-Equal-clause-accepts
 returns-in-Equal-clause-accepts g c =
     let store = c.args.store.now in
-    let middle = c.compare_item.new.store in
+    let middle = c.compare_item-compared.new.store in
     let now = c.present.new.store in
     on_ok_weaker {P = KeepsRest middle now} {Q = AcceptsMore now} c.present.result
-    (λ rest. rest_accepts middle now rest (rest_accepts store middle (read_rest store middle c.compare_item.ensures.read) c.requires.accepts))
+    (λ rest. rest_accepts middle now rest (rest_accepts store middle (read_rest store middle c.compare_item-compared.ensures.read) c.requires.accepts))
     c.present.ensures.rest
 
-pub returns-in_err-compare_item-clause-works : goal.returns-in_err-compare_item-clause-works
-returns-in_err-compare_item-clause-works g c =
+pub returns-in_err-compared-clause-works : goal.returns-in_err-compared-clause-works
+returns-in_err-compared-clause-works g c =
     let store = c.args.store.now in
-    let now = c.compare_item.new.store in
+    let now = c.compare_item-compared.new.store in
     let from = flown_from (g.S.Shelf.told c.args.shelf.now) (repo_view c.args.source.now) c.args.self.now in
     let name = c.args.self.now.named.name in
     let a = g.D.Shelf.told c.args.depot.now in
-    let b = g.D.Shelf.told c.compare_item.new.depot in
+    let b = g.D.Shelf.told c.compare_item-compared.new.depot in
     let n = g.D.Shelf.faults c.args.depot.now in
-    let m = g.D.Shelf.faults c.compare_item.new.depot in
-    let fault = c.in_err-compare_item.field-0.0 in
+    let m = g.D.Shelf.faults c.compare_item-compared.new.depot in
+    let fault = c.in_err-compared.field-0.0 in
     let at = border_behind AtBegin [] in
-    let works = c.in_err-compare_item.ensures.works from.most in (
+    let works = c.in_err-compared.ensures.works from.most in (
       [],
       turned_err _ _ from name [] [] store now _ a b n m c.from_residual.result fault c.from_residual.ensures.1 (record {
         flies = flies_fault {T = Compared} [] from name store now [] a b n m fault c.requires.accepts works;
@@ -156,16 +157,16 @@ returns-in_err-compare_item-clause-works g c =
 pub returns-in-Differs-clause-works : goal.returns-in-Differs-clause-works
 returns-in-Differs-clause-works g c =
     let store = c.args.store.now in
-    let now = c.compare_item.new.store in
+    let now = c.compare_item-compared.new.store in
     let from = flown_from (g.S.Shelf.told c.args.shelf.now) (repo_view c.args.source.now) c.args.self.now in
     let name = c.args.self.now.named.name in
     let a = g.D.Shelf.told c.args.depot.now in
-    let b = g.D.Shelf.told c.compare_item.new.depot in
+    let b = g.D.Shelf.told c.compare_item-compared.new.depot in
     let n = g.D.Shelf.faults c.args.depot.now in
-    let m = g.D.Shelf.faults c.compare_item.new.depot in
+    let m = g.D.Shelf.faults c.compare_item-compared.new.depot in
     let at = border_behind AtBegin [] in
-    let works = c.in_ok-compare_item.ensures.works from.most in
-    let refused = gathered_fault {T = Compared} {U = Compared} from.most store now [] a b n m c.in_ok-compare_item.field-0 c.taken.result
+    let works = c.in_ok-compared.ensures.works from.most in
+    let refused = gathered_fault {T = Compared} {U = Compared} from.most store now [] a b n m c.in_ok-compared.field-0 c.taken.result
     (taken_still c.taken.result c.as_slice.result.now c.taken.ensures.taken)
     (taken_unbroken c.taken.result c.as_slice.result.now c.taken.ensures.taken) works in (
       [],
@@ -182,43 +183,43 @@ returns-in-Differs-clause-works g c =
       },
     )
 
-pub returns-in_err-compare_item-clause-refused : goal.returns-in_err-compare_item-clause-refused
-returns-in_err-compare_item-clause-refused g c =
+pub returns-in_err-compared-clause-refused : goal.returns-in_err-compared-clause-refused
+returns-in_err-compared-clause-refused g c =
     let store = c.args.store.now in
-    let now = c.compare_item.new.store in
+    let now = c.compare_item-compared.new.store in
     let told = g.S.Shelf.told c.args.shelf.now in
     let source = repo_view c.args.source.now in
     let block = c.args.self.now.options.block in
     let most = c.args.self.now.options.checkpoint in
     let name = c.args.self.now.named.name in
     let a = g.D.Shelf.told c.args.depot.now in
-    let b = g.D.Shelf.told c.compare_item.new.depot in
-    let fault = c.in_err-compare_item.field-0.0 in
+    let b = g.D.Shelf.told c.compare_item-compared.new.depot in
+    let fault = c.in_err-compared.field-0.0 in
     err_is c.from_residual.result fault (λ (r : Result Turn CarryFault). IfErr r (RefusesName (origin told source block most) a store b now name))
     c.from_residual.ensures.1
-    (comparing_refused told a b source block most name store now fault c.in_err-compare_item.ensures.stops
-    (subst (λ (n : List ℕ). RefusesComparing told source n fault) c.requires.same_name c.in_err-compare_item.ensures.refused))
+    (comparing_refused told a b source block most name store now fault c.in_err-compared.ensures.stops
+    (subst (λ (n : List ℕ). RefusesComparing told source n fault) c.requires.same_name c.in_err-compared.ensures.refused))
 
 pub returns-in-Differs-clause-refused : goal.returns-in-Differs-clause-refused
 returns-in-Differs-clause-refused g c =
     let store = c.args.store.now in
-    let now = c.compare_item.new.store in
+    let now = c.compare_item-compared.new.store in
     let from = flown_from (g.S.Shelf.told c.args.shelf.now) (repo_view c.args.source.now) c.args.self.now in
     let name = c.args.self.now.named.name in
     let a = g.D.Shelf.told c.args.depot.now in
-    let b = g.D.Shelf.told c.compare_item.new.depot in
-    let read = c.compare_item.ensures.read in
+    let b = g.D.Shelf.told c.compare_item-compared.new.depot in
+    let read = c.compare_item-compared.ensures.read in
     let differs : DiffersThere from b (repo_view now.repo) name =
     subst (DiffersThere from b (repo_view now.repo)) c.requires.same_name
-    (c.in_ok-compare_item.ensures.differs_now (ap Ok c.in-Differs.is) from.block from.most) in
+    (c.in_ok-compared.ensures.differs_now (ap Ok c.in-Differs.is) from.block from.most) in
     taken_refused from a b store now name c.as_slice.result.now c.taken.result c.taken.ensures.taken c.as_slice.ensures differs (record {
-      fits = c.compare_item.ensures.fits;
+      fits = c.compare_item-compared.ensures.fits;
       there = subst (λ (r : RepoState). IsSome (archive_named name r.manifest.archives)) (sym read.repo) c.requires.there;
       most = most_from store now (read_rest store now read);
     })
 
 pub returns-in-More-clause-more : goal.returns-in-More-clause-more
-returns-in-More-clause-more g c = λ _. (read_rest c.args.store.now c.compare_item.new.store c.compare_item.ensures.read).accepted
+returns-in-More-clause-more g c = λ _. (read_rest c.args.store.now c.compare_item-compared.new.store c.compare_item-compared.ensures.read).accepted
 
 pub returns-in-Equal-clause-there : goal.returns-in-Equal-clause-there
 returns-in-Equal-clause-there g c = λ _. there_accepted c.args.store.now c.args.self.now.named.name c.requires.accepts c.requires.there
@@ -226,22 +227,22 @@ returns-in-Equal-clause-there g c = λ _. there_accepted c.args.store.now c.args
 pub returns-in-Equal-clause-refused : goal.returns-in-Equal-clause-refused
 returns-in-Equal-clause-refused g c =
     let store = c.args.store.now in
-    let middle = c.compare_item.new.store in
+    let middle = c.compare_item-compared.new.store in
     let from = flown_from (g.S.Shelf.told c.args.shelf.now) (repo_view c.args.source.now) c.args.self.now in
     pending_refused {T = Turn} from (g.D.Shelf.told c.args.depot.now) (g.D.Shelf.told c.present.new.depot) store c.present.new.store
-    (repo_view middle.repo).keys c.args.self.now.named.name c.present.result (ap (λ (r : RepoState). r.keys) c.compare_item.ensures.read.repo)
+    (repo_view middle.repo).keys c.args.self.now.named.name c.present.result (ap (λ (r : RepoState). r.keys) c.compare_item-compared.ensures.read.repo)
     c.present.ensures.target c.present.ensures.stops
 
-pub returns-in_err-compare_item-clause-limit : goal.returns-in_err-compare_item-clause-limit
-returns-in_err-compare_item-clause-limit g c =
-    let b = g.D.Shelf.told c.compare_item.new.depot in
+pub returns-in_err-compared-clause-limit : goal.returns-in_err-compared-clause-limit
+returns-in_err-compared-clause-limit g c =
+    let b = g.D.Shelf.told c.compare_item-compared.new.depot in
     let store = c.args.store.now in
     let flight = c.args.self.now in
     let given = flight.options.timestamp in
     let source = repo_view c.args.source.now in
-    let fault = c.in_err-compare_item.field-0.0 in
+    let fault = c.in_err-compared.field-0.0 in
     err_is c.from_residual.result fault (λ (r : Result Turn CarryFault). IfErr r (IsLimited b given source store flight.named)) c.from_residual.ensures.1
-    (pieces_limit b (repo_view store.repo).keys given source store flight.named fault c.in_err-compare_item.ensures.stops)
+    (pieces_limit b (repo_view store.repo).keys given source store flight.named fault c.in_err-compared.ensures.stops)
 
 pub returns-in-Equal-clause-limit : goal.returns-in-Equal-clause-limit
 returns-in-Equal-clause-limit g c =
@@ -250,18 +251,18 @@ returns-in-Equal-clause-limit g c =
     let flight = c.args.self.now in
     let given = flight.options.timestamp in
     let source = repo_view c.args.source.now in
-    let keys = (repo_view c.compare_item.new.store.repo).keys in
+    let keys = (repo_view c.compare_item-compared.new.store.repo).keys in
     IfErr-weaker c.present.result (StopsPieces d keys) (IsLimited d given source store flight.named)
     (λ fault stops. pieces_limit d keys given source store flight.named fault stops) c.present.ensures.stops
 
 pub returns-in-Differs-clause-limit : goal.returns-in-Differs-clause-limit
 returns-in-Differs-clause-limit g c =
     let flight = c.args.self.now in
-    taken_limit (g.D.Shelf.told c.compare_item.new.depot) flight.options.timestamp (repo_view c.args.source.now) c.args.store.now flight.named
+    taken_limit (g.D.Shelf.told c.compare_item-compared.new.depot) flight.options.timestamp (repo_view c.args.source.now) c.args.store.now flight.named
     c.as_slice.result.now c.taken.result c.taken.ensures.taken
 
 pub returns-in-Equal-clause-still : goal.returns-in-Equal-clause-still
 returns-in-Equal-clause-still g c is =
     let store = c.args.store.now in
-    let middle = c.compare_item.new.store in
-    still_rest store middle c.present.new.store c.present.result Present (read_rest store middle c.compare_item.ensures.read) c.present.ensures.rest is
+    let middle = c.compare_item-compared.new.store in
+    still_rest store middle c.present.new.store c.present.result Present (read_rest store middle c.compare_item-compared.ensures.read) c.present.ensures.rest is

@@ -12,7 +12,7 @@ use Rattle.ferry_piece.proofs.WorkLemmas.{err_is}
 use Rattle.ferry_carry.proofs.flight.Flight.copy.Goals as goal
 use Rattle.ferry_piece.specs.Adding.{AddsOn}
 use Rattle.ferry_carry.specs.Carrying.{origin}
-use Rattle.ferry_carry.specs.Flight.{flown_from}
+use Rattle.ferry_carry.specs.Flight.{WorkFits, flown_from}
 use Rattle.ferry_piece.specs.Gather.{KeepsStanding}
 use Rattle.ferry_carry.specs.Progress.{CopiesOn, IsCopiedSoFar}
 use Rattle.ferry_piece.specs.Puts.{Addition, AtBegin, border_behind}
@@ -26,8 +26,8 @@ use Rattle.ferry_repo.specs.Archives.{archive_named}
 use Rattle.ferry_repo.specs.Opening.{RepoState, repo_view}
 use Rattle.ferry_store.specs.Commit.{accepted_in}
 
-pub returns-in_err-more-clause-works : goal.returns-in_err-more-clause-works
-returns-in_err-more-clause-works g c =
+pub returns-in-Err-clause-works : goal.returns-in-Err-clause-works
+returns-in-Err-clause-works g c =
     λ added so.
     let a = g.D.Shelf.told c.args.depot.now in
     let b = g.D.Shelf.told c.step.new.depot in
@@ -35,7 +35,7 @@ returns-in_err-more-clause-works g c =
     let m = g.D.Shelf.faults c.step.new.depot in
     let store = c.args.store.now in
     let now = c.step.new.store in
-    let fault = c.in_err-more.field-0.0 in
+    let fault = c.in-Err.fault in
     let told = g.S.Shelf.told c.args.shelf.now in
     let source = repo_view c.args.source.now in
     let flight = c.args.self.now in
@@ -43,12 +43,12 @@ returns-in_err-more-clause-works g c =
     let name = flight.named.name in
     let copy = c.args.copy in
     let at = border_behind AtBegin added in
-    let stepped = c.in_err-more.ensures.copied flight.named added
+    let stepped = c.in-Err.ensures.copied flight.named added
     (so_far_as told source from.block from.most flight.named a store copy added so) in
     let works = stepped_as told source from.block from.most copy.block copy.contents.checkpoint flight.named a b store now c.step.new.self added stepped.0
     n m (Err fault) (sym so.0.block) (sym so.0.most) stepped.1 in (
       stepped.0,
-      turned_err _ _ from name added stepped.0 store now _ a b n m c.from_residual.result fault c.from_residual.ensures.1 (record {
+      record {
         flies = flies_fault {T = Bool} added from name store now stepped.0 a b n m fault c.requires.accepts works.0;
         begins = begins_new a from (repo_view store.repo).keys (accepted_in store) name (added ++ stepped.0) c.requires.unnamed
             (works.1.0 c.requires.flight.named);
@@ -58,11 +58,11 @@ returns-in_err-more-clause-works g c =
         fills = fills_new a from (repo_view store.repo).keys (accepted_in store) name (added ++ stepped.0) fault c.requires.unnamed
             (works.1.1.0 c.requires.flight.named);
         lists = tt;
-      }),
+      },
     )
 
-pub returns-then-more-clause-works : goal.returns-then-more-clause-works
-returns-then-more-clause-works g c =
+pub returns-in-Ok-true-clause-works : goal.returns-in-Ok-true-clause-works
+returns-in-Ok-true-clause-works g c =
     λ added so.
     let a = g.D.Shelf.told c.args.depot.now in
     let b = g.D.Shelf.told c.step.new.depot in
@@ -79,8 +79,8 @@ returns-then-more-clause-works g c =
     let named = flight.named in
     let name = named.name in
     let copy = c.args.copy in
-    let ensures = c.in_ok-more.ensures in
-    let more = c.in_ok-more.more in
+    let ensures = c.in-Ok-true.ensures in
+    let more = c.in-Ok-true.field-0 in
     let taken : more ≡ true = search rules in
     let at = border_behind AtBegin added in
     let stepped = ensures.copied named added (so_far_as told source from.block from.most named a store copy added so) in
@@ -105,7 +105,7 @@ returns-then-more-clause-works g c =
               named = subst (λ (r : RepoState). archive_named name r.manifest.archives ≡ Some named) (sym ensures.kept) c.requires.flight.named;
             };
             added = added ++ stepped.0;
-            work = (
+            work = subst (WorkFits later after b now named flight.options (added ++ stepped.0)) (sym c.renew.ensures) (
               ensures.ready,
               subst (λ (m : ManifestText). archive_named name m.archives ≡ None) (sym ensures.rest.accepted) c.requires.unnamed,
               ensures.walk_fits,
@@ -118,25 +118,25 @@ returns-then-more-clause-works g c =
       },
     )
 
-pub returns-then-more-clause-accepts : goal.returns-then-more-clause-accepts
-returns-then-more-clause-accepts g c = rest_accepts c.args.store.now c.step.new.store c.in_ok-more.ensures.rest c.requires.accepts
+pub returns-in-Ok-true-clause-accepts : goal.returns-in-Ok-true-clause-accepts
+returns-in-Ok-true-clause-accepts g c = rest_accepts c.args.store.now c.step.new.store c.in-Ok-true.ensures.rest c.requires.accepts
 
-pub end_copy-requires-clause-accepts : goal.end_copy-requires-clause-accepts
-end_copy-requires-clause-accepts g c = rest_accepts c.args.store.now c.step.new.store c.in_ok-more.ensures.rest c.requires.accepts
+pub end_copy-put-requires-clause-accepts : goal.end_copy-put-requires-clause-accepts
+end_copy-put-requires-clause-accepts g c = rest_accepts c.args.store.now c.step.new.store c.in-Ok-false.ensures.rest c.requires.accepts
 
-pub returns-in_err-self-clause-works : goal.returns-in_err-self-clause-works
-returns-in_err-self-clause-works g c =
+pub returns-in_err-self-in-Ok-false-clause-works : goal.returns-in_err-self-in-Ok-false-clause-works
+returns-in_err-self-in-Ok-false-clause-works g c =
     λ added so.
     let a = g.D.Shelf.told c.args.depot.now in
     let b = g.D.Shelf.told c.step.new.depot in
-    let d = g.D.Shelf.told c.end_copy.new.depot in
+    let d = g.D.Shelf.told c.end_copy-put.new.depot in
     let n = g.D.Shelf.faults c.args.depot.now in
     let m = g.D.Shelf.faults c.step.new.depot in
-    let k = g.D.Shelf.faults c.end_copy.new.depot in
+    let k = g.D.Shelf.faults c.end_copy-put.new.depot in
     let store = c.args.store.now in
     let middle = c.step.new.store in
-    let now = c.end_copy.new.store in
-    let fault = c.in_err-self.field-0.0 in
+    let now = c.end_copy-put.new.store in
+    let fault = c.in_err-self-in-Ok-false.field-0.0 in
     let told = g.S.Shelf.told c.args.shelf.now in
     let source = repo_view c.args.source.now in
     let flight = c.args.self.now in
@@ -144,36 +144,37 @@ returns-in_err-self-clause-works g c =
     let named = flight.named in
     let name = named.name in
     let copy = c.args.copy in
-    let more = c.in_ok-more.more in
+    let more = c.in-Ok-false.field-0 in
     let not_more : more ≡ false = search rules in
-    let rest = c.in_ok-more.ensures.rest in
-    let stepped = c.in_ok-more.ensures.copied named added (so_far_as told source from.block from.most named a store copy added so) in
+    let rest = c.in-Ok-false.ensures.rest in
+    let stepped = c.in-Ok-false.ensures.copied named added (so_far_as told source from.block from.most named a store copy added so) in
     let works = stepped_as told source from.block from.most copy.block copy.contents.checkpoint named a b store middle c.step.new.self added stepped.0 n m
     (Ok more) (sym so.0.block) (sym so.0.most) stepped.1 in
     let ended : CopiesOn from named b middle c.step.new.self added stepped.0 false =
     subst (CopiesOn from named b middle c.step.new.self added stepped.0) not_more works.1.1.1 in
     let first : AddsOn {T = Bool} from.most store [] middle a b n m (Ok more) =
     subst (λ (l : List Addition). AddsOn {T = Bool} from.most store l middle a b n m (Ok more)) ended.0 works.0 in
-    let ends = c.in_err-self.ensures.works from added (ended.1 c.requires.flight.named) in (
+    let ends = c.in_err-self-in-Ok-false.ensures.works from added (ended.1 c.requires.flight.named) in (
       ends.0,
-      turned_err _ _ from name added ends.0 store now _ a d n k c.from_residual-in_err-self.result fault c.from_residual-in_err-self.ensures.1
+      turned_err _ _ from name added ends.0 store now _ a d n k c.from_residual.result fault c.from_residual.ensures.1
           (turn_ended from name added ends.0 store middle now _ _ _ a b d n m k more (Err fault) c.requires.accepts rest c.requires.unnamed first
           (flies_err {T = Carried} added from name (name ∷ []) ends.0 middle now now b d m k fault ends.1.carries) ends.1.begins ends.1.stands ends.1.last
-          (end_apart from b (repo_view middle.repo).keys name fault (c.in_err-self.ensures.refused from added (ended.1 c.requires.flight.named))) tt),
+          (end_apart from b (repo_view middle.repo).keys name fault
+          (c.in_err-self-in-Ok-false.ensures.refused from added (ended.1 c.requires.flight.named))) tt),
     )
 
-pub returns-clause-works : goal.returns-clause-works
-returns-clause-works g c =
+pub returns-in_ok-self-in-Ok-false-clause-works : goal.returns-in_ok-self-in-Ok-false-clause-works
+returns-in_ok-self-in-Ok-false-clause-works g c =
     λ added so.
     let a = g.D.Shelf.told c.args.depot.now in
     let b = g.D.Shelf.told c.step.new.depot in
-    let d = g.D.Shelf.told c.end_copy.new.depot in
+    let d = g.D.Shelf.told c.end_copy-put.new.depot in
     let n = g.D.Shelf.faults c.args.depot.now in
     let m = g.D.Shelf.faults c.step.new.depot in
-    let k = g.D.Shelf.faults c.end_copy.new.depot in
+    let k = g.D.Shelf.faults c.end_copy-put.new.depot in
     let store = c.args.store.now in
     let middle = c.step.new.store in
-    let now = c.end_copy.new.store in
+    let now = c.end_copy-put.new.store in
     let told = g.S.Shelf.told c.args.shelf.now in
     let source = repo_view c.args.source.now in
     let flight = c.args.self.now in
@@ -181,20 +182,21 @@ returns-clause-works g c =
     let named = flight.named in
     let name = named.name in
     let copy = c.args.copy in
-    let more = c.in_ok-more.more in
+    let more = c.in-Ok-false.field-0 in
     let not_more : more ≡ false = search rules in
-    let rest = c.in_ok-more.ensures.rest in
-    let stepped = c.in_ok-more.ensures.copied named added (so_far_as told source from.block from.most named a store copy added so) in
+    let rest = c.in-Ok-false.ensures.rest in
+    let stepped = c.in-Ok-false.ensures.copied named added (so_far_as told source from.block from.most named a store copy added so) in
     let works = stepped_as told source from.block from.most copy.block copy.contents.checkpoint named a b store middle c.step.new.self added stepped.0 n m
     (Ok more) (sym so.0.block) (sym so.0.most) stepped.1 in
     let ended : CopiesOn from named b middle c.step.new.self added stepped.0 false =
     subst (CopiesOn from named b middle c.step.new.self added stepped.0) not_more works.1.1.1 in
     let first : AddsOn {T = Bool} from.most store [] middle a b n m (Ok more) =
     subst (λ (l : List Addition). AddsOn {T = Bool} from.most store l middle a b n m (Ok more)) ended.0 works.0 in
-    let ends = c.in_ok-self.ensures.works from added (ended.1 c.requires.flight.named) in (
+    let ends = c.in_ok-self-in-Ok-false.ensures.works from added (ended.1 c.requires.flight.named) in (
       ends.0,
       turn_ended from name added ends.0 store middle now _ _ _ a b d n m k more (Ok Named) c.requires.accepts rest c.requires.unnamed first
-          (flies_as {T = Carried} added from name (name ∷ []) ends.0 middle now b d m k c.in_ok-self.field-0 Named refl ends.1.carries) ends.1.begins tt tt tt (
+          (flies_as {T = Carried} added from name (name ∷ []) ends.0 middle now b d m k c.in_ok-self-in-Ok-false.field-0 Named refl ends.1.carries)
+          ends.1.begins tt tt tt (
             refl,
             (
               done_before from from (repo_view store.repo).keys (repo_view middle.repo).keys name (added ++ ends.0) (added ++ ends.0) true
@@ -204,19 +206,19 @@ returns-clause-works g c =
           ),
     )
 
-pub returns-clause-most : goal.returns-clause-most
-returns-clause-most g c =
+pub returns-in_ok-self-in-Ok-false-clause-most : goal.returns-in_ok-self-in-Ok-false-clause-most
+returns-in_ok-self-in-Ok-false-clause-most g c =
     let store = c.args.store.now in
     let middle = c.step.new.store in
-    most_then store middle c.end_copy.new.store (most_from store middle c.in_ok-more.ensures.rest) c.in_ok-self.ensures.most
+    most_then store middle c.end_copy-put.new.store (most_from store middle c.in-Ok-false.ensures.rest) c.in_ok-self-in-Ok-false.ensures.most
 
-pub returns-in_err-more-clause-refused : goal.returns-in_err-more-clause-refused
-returns-in_err-more-clause-refused g c =
+pub returns-in-Err-clause-refused : goal.returns-in-Err-clause-refused
+returns-in-Err-clause-refused g c =
     let a = g.D.Shelf.told c.args.depot.now in
     let b = g.D.Shelf.told c.step.new.depot in
     let store = c.args.store.now in
     let now = c.step.new.store in
-    let fault = c.in_err-more.field-0.0 in
+    let fault = c.in-Err.fault in
     let told = g.S.Shelf.told c.args.shelf.now in
     let source = repo_view c.args.source.now in
     let flight = c.args.self.now in
@@ -225,71 +227,67 @@ returns-in_err-more-clause-refused g c =
     let named = flight.named in
     let added = c.requires.copied.0 in
     let so = c.requires.copied.1 in
-    let refused = c.in_err-more.ensures.refused named added c.requires.flight.named (so_far_as told source block most named a store c.args.copy added so) in
+    let refused = c.in-Err.ensures.refused named added c.requires.flight.named (so_far_as told source block most named a store c.args.copy added so) in
     let lacks = lacks_by (repo_view store.repo).manifest (accepted_in store) named.name c.requires.accepts c.requires.unnamed in
-    err_is c.from_residual.result fault (λ (r : Result Turn CarryFault). IfErr r (RefusesName (origin told source block most) a store b now named.name))
-    c.from_residual.ensures.1
-    (step_refused (origin told source block most) a b store now named.name fault lacks c.in_err-more.ensures.stops
+    step_refused (origin told source block most) a b store now named.name fault lacks c.in-Err.ensures.stops
     (subst (λ (l : ℕ). RefusesStep (origin told source block l) a named.name fault) (sym so.0.most)
-    (subst (λ (d : ℕ). RefusesStep (origin told source d c.args.copy.contents.checkpoint) a named.name fault) (sym so.0.block) refused)))
+    (subst (λ (d : ℕ). RefusesStep (origin told source d c.args.copy.contents.checkpoint) a named.name fault) (sym so.0.block) refused))
 
-pub returns-in_err-self-clause-refused : goal.returns-in_err-self-clause-refused
-returns-in_err-self-clause-refused g c =
+pub returns-in_err-self-in-Ok-false-clause-refused : goal.returns-in_err-self-in-Ok-false-clause-refused
+returns-in_err-self-in-Ok-false-clause-refused g c =
     let a = g.D.Shelf.told c.args.depot.now in
     let b = g.D.Shelf.told c.step.new.depot in
-    let d = g.D.Shelf.told c.end_copy.new.depot in
+    let d = g.D.Shelf.told c.end_copy-put.new.depot in
     let n = g.D.Shelf.faults c.args.depot.now in
     let m = g.D.Shelf.faults c.step.new.depot in
     let store = c.args.store.now in
     let middle = c.step.new.store in
-    let now = c.end_copy.new.store in
-    let fault = c.in_err-self.field-0.0 in
+    let now = c.end_copy-put.new.store in
+    let fault = c.in_err-self-in-Ok-false.field-0.0 in
     let told = g.S.Shelf.told c.args.shelf.now in
     let source = repo_view c.args.source.now in
     let from = flown_from told source c.args.self.now in
     let named = c.args.self.now.named in
     let copy = c.args.copy in
-    let more = c.in_ok-more.more in
+    let more = c.in-Ok-false.field-0 in
     let not_more : more ≡ false = search rules in
     let added = c.requires.copied.0 in
     let so = c.requires.copied.1 in
-    let stepped = c.in_ok-more.ensures.copied named added (so_far_as told source from.block from.most named a store copy added so) in
+    let stepped = c.in-Ok-false.ensures.copied named added (so_far_as told source from.block from.most named a store copy added so) in
     let works = stepped_as told source from.block from.most copy.block copy.contents.checkpoint named a b store middle c.step.new.self added stepped.0 n m
     (Ok more) (sym so.0.block) (sym so.0.most) stepped.1 in
     let ended : CopiesOn from named b middle c.step.new.self added stepped.0 false =
     subst (CopiesOn from named b middle c.step.new.self added stepped.0) not_more works.1.1.1 in
     let lacks = lacks_by (repo_view store.repo).manifest (accepted_in store) named.name c.requires.accepts c.requires.unnamed in
-    err_is c.from_residual-in_err-self.result fault (λ (r : Result Turn CarryFault). IfErr r (RefusesName from a store d now named.name))
-    c.from_residual-in_err-self.ensures.1
-    (end_refused from a b d (KeepsStanding from.most store stepped.0) store middle now named.name fault works.0.works.each c.in_ok-more.ensures.rest.keys lacks
-    c.in_err-self.ensures.stops (c.in_err-self.ensures.refused from added (ended.1 c.requires.flight.named)))
+    err_is c.from_residual.result fault (λ (r : Result Turn CarryFault). IfErr r (RefusesName from a store d now named.name))
+    c.from_residual.ensures.1
+    (end_refused from a b d (KeepsStanding from.most store stepped.0) store middle now named.name fault works.0.works.each c.in-Ok-false.ensures.rest.keys lacks
+    c.in_err-self-in-Ok-false.ensures.stops (c.in_err-self-in-Ok-false.ensures.refused from added (ended.1 c.requires.flight.named)))
 
-pub returns-in_err-more-clause-limit : goal.returns-in_err-more-clause-limit
-returns-in_err-more-clause-limit g c =
+pub returns-in-Err-clause-limit : goal.returns-in-Err-clause-limit
+returns-in-Err-clause-limit g c =
     let b = g.D.Shelf.told c.step.new.depot in
     let store = c.args.store.now in
     let flight = c.args.self.now in
     let given = flight.options.timestamp in
     let source = repo_view c.args.source.now in
-    let fault = c.in_err-more.field-0.0 in
-    err_is c.from_residual.result fault (λ (r : Result Turn CarryFault). IfErr r (IsLimited b given source store flight.named)) c.from_residual.ensures.1
-    (pieces_limit b (repo_view store.repo).keys given source store flight.named fault c.in_err-more.ensures.stops)
+    pieces_limit b (repo_view store.repo).keys given source store flight.named c.in-Err.fault c.in-Err.ensures.stops
 
-pub returns-in_err-self-clause-limit : goal.returns-in_err-self-clause-limit
-returns-in_err-self-clause-limit g c =
-    let d = g.D.Shelf.told c.end_copy.new.depot in
+pub returns-in_err-self-in-Ok-false-clause-limit : goal.returns-in_err-self-in-Ok-false-clause-limit
+returns-in_err-self-in-Ok-false-clause-limit g c =
+    let d = g.D.Shelf.told c.end_copy-put.new.depot in
     let store = c.args.store.now in
     let flight = c.args.self.now in
     let given = flight.options.timestamp in
     let source = repo_view c.args.source.now in
-    let fault = c.in_err-self.field-0.0 in
-    err_is c.from_residual-in_err-self.result fault (λ (r : Result Turn CarryFault). IfErr r (IsLimited d given source store flight.named))
-    c.from_residual-in_err-self.ensures.1
-    (rest_limit d given source (repo_view c.step.new.source) store c.step.new.store flight.named fault c.in_ok-more.ensures.rest c.step.ensures.kept
-    c.in_err-self.ensures.limit)
+    let fault = c.in_err-self-in-Ok-false.field-0.0 in
+    err_is c.from_residual.result fault (λ (r : Result Turn CarryFault). IfErr r (IsLimited d given source store flight.named))
+    c.from_residual.ensures.1
+    (rest_limit d given source (repo_view c.step.new.source) store c.step.new.store flight.named fault c.in-Ok-false.ensures.rest c.step.ensures.kept
+    c.in_err-self-in-Ok-false.ensures.limit)
 
-pub returns-clause-next : goal.returns-clause-next
-returns-clause-next g c _ =
+pub returns-in_ok-self-in-Ok-false-clause-next : goal.returns-in_ok-self-in-Ok-false-clause-next
+returns-in_ok-self-in-Ok-false-clause-next g c _ =
     let flight = c.args.self.now in
     next_rest flight.options.timestamp (repo_view c.args.source.now) (repo_view c.step.new.source) c.args.store.now c.step.new.store flight.named
-    (accepted_in c.end_copy.new.store) c.in_ok-more.ensures.rest c.step.ensures.kept c.in_ok-self.ensures.named
+    (accepted_in c.end_copy-put.new.store) c.in-Ok-false.ensures.rest c.step.ensures.kept c.in_ok-self-in-Ok-false.ensures.named

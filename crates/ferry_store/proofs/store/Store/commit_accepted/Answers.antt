@@ -18,6 +18,7 @@ use Rattle.ferry_store.specs.Fault.{depot_failed}
 use Rattle.ferry_store.specs.Standing.{with_manifest}
 use Rattle.ferry_store.specs.State.{Did}
 use Rattle.ferry_store.specs.declared.fault.StoreRefusal.{StoreRefusal}
+use Rattle.ferry_store.specs.declared.fault.StoreRefusal.TheVariants.{Memory}
 
 pub returns-in_err-manifest-clause-committed : goal.returns-in_err-manifest-clause-committed
 returns-in_err-manifest-clause-committed g c =
@@ -32,18 +33,46 @@ returns-in_err-manifest-clause-committed g c =
     let size = length (manifest_text repo.keys salt manifest) in
     let next = with_manifest repo manifest in
     let E = CommitsEntry next store.session store.counter entry in
-    let R : Manifest → History → History → Type 0 = λ _. HasCommitted next store.session store.counter entry store.session store.counter in (
+    let R : Manifest × List ℕ → History → History → Type 0 = λ _. HasCommitted next store.session store.counter entry store.session store.counter in (
       salt,
       (
         refl,
         err_is c.from_residual.result f
-            (λ (r : Result Manifest StoreRefusal). OnOk r
+            (λ (r : Result (Manifest × List ℕ) StoreRefusal). OnOk r
             (g.E.Entropy.drawn c.args.entropy.now ≡ option_map (λ (d : List ℕ). d ++ salt) (g.E.Entropy.drawn c.args.entropy.now)))
             c.from_residual.ensures.1 tt,
-        err_is c.from_residual.result f (λ (r : Result Manifest StoreRefusal). Did E R a a n n r) c.from_residual.ensures.1
-            (nothing_committed {T = Manifest} next store.session store.counter entry R a n f (ap depot_failed c.in_err-manifest.ensures.refused)),
-        err_is c.from_residual.result f (λ (r : Result Manifest StoreRefusal). IfErr r (RefusesManifestOf store.counter size)) c.from_residual.ensures.1
-            (subst (RefusesManifestOf store.counter size) (sym c.in_err-manifest.ensures.refused) tt),
+        err_is c.from_residual.result f (λ (r : Result (Manifest × List ℕ) StoreRefusal). Did E R a a n n r) c.from_residual.ensures.1
+            (nothing_committed {T = Manifest × List ℕ} next store.session store.counter entry R a n f (ap depot_failed c.in_err-manifest.ensures.refused)),
+        err_is c.from_residual.result f (λ (r : Result (Manifest × List ℕ) StoreRefusal). IfErr r (RefusesManifestOf store.counter size))
+            c.from_residual.ensures.1 (subst (RefusesManifestOf store.counter size) (sym c.in_err-manifest.ensures.refused) tt),
+      ),
+    )
+
+pub returns-in_err-from_slice-clause-committed : goal.returns-in_err-from_slice-clause-committed
+returns-in_err-from_slice-clause-committed g c =
+    let a = g.D.Shelf.told c.args.depot.now in
+    let n = g.D.Shelf.faults c.args.depot.now in
+    let store = c.args.self.now in
+    let salt = replicate 64 0 in
+    let repo = repo_view store.repo in
+    let manifest = written_at (accepted_in store) c.args.timestamp.now in
+    let entry = manifest_entry repo store.counter manifest salt in
+    let size = length (manifest_text repo.keys salt manifest) in
+    let next = with_manifest repo manifest in
+    let E = CommitsEntry next store.session store.counter entry in
+    let R : Manifest × List ℕ → History → History → Type 0 = λ _. HasCommitted next store.session store.counter entry store.session store.counter in
+    let refused = c.from_residual-in_err-from_slice.ensures.1 in (
+      salt,
+      (
+        refl,
+        err_is c.from_residual-in_err-from_slice.result Memory
+            (λ (r : Result (Manifest × List ℕ) StoreRefusal). OnOk r
+            (g.E.Entropy.drawn c.args.entropy.now ≡ option_map (λ (d : List ℕ). d ++ salt) (g.E.Entropy.drawn c.args.entropy.now)))
+            refused tt,
+        err_is c.from_residual-in_err-from_slice.result Memory (λ (r : Result (Manifest × List ℕ) StoreRefusal). Did E R a a n n r) refused
+            (nothing_committed {T = Manifest × List ℕ} next store.session store.counter entry R a n Memory refl),
+        err_is c.from_residual-in_err-from_slice.result Memory
+            (λ (r : Result (Manifest × List ℕ) StoreRefusal). IfErr r (RefusesManifestOf store.counter size)) refused tt,
       ),
     )
 
@@ -68,7 +97,7 @@ returns-clause-committed g c =
       (
         made.1.0,
         made.1.1,
-        did_as (E written) (λ _. R written) (E written) (λ _. R written) a b n m c.in_ok-commit_manifest.field-0 c.in_ok-manifest.manifest (λ h k e. e)
+        did_as (E written) (λ _. R written) (E written) (λ _. R written) a b n m c.in_ok-commit_manifest.field-0 _ (λ h k e. e)
             (λ h k e. e)
             (subst (λ (x : ManifestText). Did {T = Unit {0}} (E x) (λ _. R x) a b n m (Ok c.in_ok-commit_manifest.field-0)) c.in_ok-manifest.ensures.manifest
             made.1.2),
@@ -84,5 +113,16 @@ returns-in_err-manifest-clause-stops g c =
     let a = g.D.Shelf.told c.args.depot.now in
     let store = c.args.self.now in
     let f = c.in_err-manifest.field-0.0 in
-    err_is c.from_residual.result f (λ (r : Result Manifest StoreRefusal). IfErr r (λ x. Between a a (Stops store.session store.counter x)))
+    err_is c.from_residual.result f (λ (r : Result (Manifest × List ℕ) StoreRefusal). IfErr r (λ x. Between a a (Stops store.session store.counter x)))
     c.from_residual.ensures.1 (memory_stops store.session store.counter f TellsNothing a a c.in_err-manifest.ensures.refused (told_none a))
+
+pub returns-in_err-from_slice-clause-untold : goal.returns-in_err-from_slice-clause-untold
+returns-in_err-from_slice-clause-untold g c = told_none (g.D.Shelf.told c.args.depot.now)
+
+pub returns-in_err-from_slice-clause-stops : goal.returns-in_err-from_slice-clause-stops
+returns-in_err-from_slice-clause-stops g c =
+    let a = g.D.Shelf.told c.args.depot.now in
+    let store = c.args.self.now in
+    err_is c.from_residual-in_err-from_slice.result Memory
+    (λ (r : Result (Manifest × List ℕ) StoreRefusal). IfErr r (λ x. Between a a (Stops store.session store.counter x)))
+    c.from_residual-in_err-from_slice.ensures.1 (memory_stops store.session store.counter Memory TellsNothing a a refl (told_none a))

@@ -1,14 +1,16 @@
-use Rattle.std.proofs.Common.{false, None, Ok, Err, Result, IfErr, IfSome, refl}
+use Rattle.std.proofs.Common.{false, Ok, Err, Result, IfErr, IfSome, refl}
 use Rattle.ferry_disk.specs.Device.{HasCause}
 use Rattle.ferry_repo.specs.Fault.{repo_failed}
 use Rattle.ferry_store.proofs.InitLemmas.{still_cause}
 use Rattle.ferry_store.proofs.StepLemmas.{err_is, same_told}
-use Rattle.ferry_store.proofs.StoreLemmas.{given_still, init_front, init_made, init_makes, init_opened, init_ungiven, init_unopened, init_unread, open_refused}
+use Rattle.ferry_store.proofs.StoreLemmas.{given_still, init_front, init_made, init_makes, init_opened, init_uncopied, init_ungiven, init_unopened}
+use Rattle.ferry_store.proofs.StoreLemmas.{init_unread, memory_refused, open_refused}
 use Rattle.ferry_store.proofs.store.Store.init.Goals as goal
 use Rattle.ferry_store.specs.Fault.{repo_refusal, source_failed}
 use Rattle.ferry_store.specs.State.{Did}
 use Rattle.ferry_store.specs.Store.{InitEach, InitFits, RefusesInit}
 use Rattle.ferry_store.specs.declared.fault.StoreRefusal.{StoreRefusal}
+use Rattle.ferry_store.specs.declared.fault.StoreRefusal.TheVariants.{Memory}
 use Rattle.ferry_store.specs.declared.store.Store.{Store}
 
 pub returns-in_err-expect_no_commit-clause-did : goal.returns-in_err-expect_no_commit-clause-did
@@ -97,6 +99,34 @@ returns-in_err-repo-clause-refused g c =
     c.in_ok-expect_no_commit.ensures.none c.in_ok-expect_no_commit.ensures.same c.in_ok-expect_no_commit.ensures.cause made.1.1)
     c.in_err-repo.ensures.refused)
 
+pub returns-in_err-accepted-clause-did : goal.returns-in_err-accepted-clause-did
+returns-in_err-accepted-clause-did g c =
+    let a = g.D.Shelf.told c.args.depot.now in
+    let b = g.D.Shelf.told c.expect_no_commit.new.depot in
+    let d = g.D.Shelf.told c.make_repository.new.depot in
+    let e = g.D.Shelf.told c.open.new.shelf in
+    let n = g.D.Shelf.faults c.args.depot.now in
+    let m = g.D.Shelf.faults c.expect_no_commit.new.depot in
+    let k = g.D.Shelf.faults c.make_repository.new.depot in
+    let j = g.D.Shelf.faults c.open.new.shelf in
+    let secret = c.args.secret.now in
+    let made = c.in_ok-counter.ensures.made in
+    err_is c.from_residual-in_err-accepted.result Memory (λ (r : Result Store StoreRefusal). Did (InitEach secret) InitFits a e n j r)
+    c.from_residual-in_err-accepted.ensures.1
+    (init_uncopied secret c.args.iterations c.args.timestamp.now made.0 (c.in_ok-counter.counter, c.in_ok-counter.session) c.in_ok-repo.repo Memory a d e n k j
+    refl
+    (init_made secret c.args.iterations c.args.timestamp.now made.0 a b d n m k (Ok (c.in_ok-counter.counter, c.in_ok-counter.session))
+    c.in_ok-expect_no_commit.ensures.none c.in_ok-expect_no_commit.ensures.same c.in_ok-expect_no_commit.ensures.cause made.1.1)
+    c.in_ok-repo.ensures.same c.in_ok-repo.ensures.cause)
+
+pub returns-in_err-accepted-clause-refused : goal.returns-in_err-accepted-clause-refused
+returns-in_err-accepted-clause-refused g c =
+    let a = g.D.Shelf.told c.args.depot.now in
+    let secret = c.args.secret.now in
+    err_is c.from_residual-in_err-accepted.result Memory
+    (λ (r : Result Store StoreRefusal). IfErr r (λ x. IfSome a (λ t. RefusesInit secret c.args.timestamp.now t.history x)))
+    c.from_residual-in_err-accepted.ensures.1 (memory_refused secret c.args.timestamp.now a)
+
 pub returns-clause-made : goal.returns-clause-made
 returns-clause-made g c =
     let a = g.D.Shelf.told c.args.depot.now in
@@ -138,7 +168,7 @@ returns-clause-did g c =
       counter = c.in_ok-counter.counter;
       pending = 0;
       opened = c.new.result;
-      accepted = None;
+      accepted = c.in_ok-accepted.accepted;
       spent = false;
     }) a d e n k j
     (init_made secret c.args.iterations c.args.timestamp.now made.0 a b d n m k (Ok (c.in_ok-counter.counter, c.in_ok-counter.session))

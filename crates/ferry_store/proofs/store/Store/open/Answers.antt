@@ -1,17 +1,18 @@
-use Rattle.std.proofs.Common.{rules, ◌≡◌, ℕ, false, ap, ◌∙◌, None, Some, Ok, Err, Result, IfErr, IfSome, refl, subst}
+use Rattle.std.proofs.Common.{rules, ◌≡◌, ℕ, false, ap, ◌∙◌, Some, Ok, Err, Result, IfErr, IfSome, refl, subst}
 use Rattle.ferry_disk.specs.Device.{told_files}
 use Rattle.ferry_disk.specs.Moments.{Between}
 use Rattle.ferry_nonce.specs.declared.counter.Counter.{Counter}
 use Rattle.ferry_repo.specs.Fault.{repo_failed}
 use Rattle.ferry_repo.specs.Opening.{repo_view}
 use Rattle.ferry_stops.proofs.TellLemmas.{told_both, told_kept}
-use Rattle.ferry_store.proofs.OpenLemmas.{begin_told, open_begun, open_unbegun, open_unread}
+use Rattle.ferry_store.proofs.OpenLemmas.{begin_told, open_begun, open_unbegun, open_uncopied, open_unread, there_told}
 use Rattle.ferry_store.proofs.StepLemmas.{err_is, same_told}
 use Rattle.ferry_store.proofs.store.Store.open.Goals as goal
 use Rattle.ferry_store.specs.Fault.{repo_refusal}
 use Rattle.ferry_store.specs.State.{Begins, BeginsSound, Did}
 use Rattle.ferry_store.specs.Store.{OpenEach, OpenFits, RefusesOpen}
 use Rattle.ferry_store.specs.declared.fault.StoreRefusal.{StoreRefusal}
+use Rattle.ferry_store.specs.declared.fault.StoreRefusal.TheVariants.{Memory}
 use Rattle.ferry_store.specs.declared.store.Store.{Store}
 use Rattle.ferry_write.specs.Session.{ClearsAll}
 use Rattle.ferry_write.specs.declared.session.Session.{Session}
@@ -25,6 +26,16 @@ returns-in_err-repo-clause-did g c =
     let fault = c.in_err-repo.field-0.0 in
     err_is c.from_residual.result (repo_refusal fault) (λ (r : Result Store StoreRefusal). Did OpenEach OpenFits a b n m r) c.from_residual.ensures.1
     (open_unread fault a b n m c.in_err-repo.ensures.same c.in_err-repo.ensures.cause)
+
+pub returns-in_err-accepted-clause-did : goal.returns-in_err-accepted-clause-did
+returns-in_err-accepted-clause-did g c =
+    let a = g.D.Shelf.told c.args.depot.now in
+    let b = g.D.Shelf.told c.open.new.shelf in
+    let n = g.D.Shelf.faults c.args.depot.now in
+    let m = g.D.Shelf.faults c.open.new.shelf in
+    err_is c.from_residual-in_err-accepted.result Memory (λ (r : Result Store StoreRefusal). Did OpenEach OpenFits a b n m r)
+    c.from_residual-in_err-accepted.ensures.1
+    (open_uncopied c.in_ok-repo.repo Memory a b n m refl c.in_ok-repo.ensures.same c.in_ok-repo.ensures.cause)
 
 pub returns-in_err-counter-clause-did : goal.returns-in_err-counter-clause-did
 returns-in_err-counter-clause-did g c =
@@ -76,7 +87,7 @@ returns-clause-did g c =
       counter = counter;
       pending = 0;
       opened = c.new.result;
-      accepted = None;
+      accepted = c.in_ok-accepted.accepted;
       spent = false;
     }) a b d n m k c.in_ok-repo.ensures.same
     c.in_ok-repo.ensures.cause c.in_ok-repo.ensures.repository c.in_ok-repo.ensures.cached
@@ -87,6 +98,10 @@ returns-clause-did g c =
 
 pub returns-in_err-repo-clause-untold : goal.returns-in_err-repo-clause-untold
 returns-in_err-repo-clause-untold g c =
+    told_kept repo_failed (g.D.Shelf.told c.args.depot.now) (g.D.Shelf.told c.open.new.shelf) c.open.result c.open.ensures.same
+
+pub returns-in_err-accepted-clause-untold : goal.returns-in_err-accepted-clause-untold
+returns-in_err-accepted-clause-untold g c =
     told_kept repo_failed (g.D.Shelf.told c.args.depot.now) (g.D.Shelf.told c.open.new.shelf) c.open.result c.open.ensures.same
 
 pub returns-in_err-counter-clause-untold : goal.returns-in_err-counter-clause-untold
@@ -100,3 +115,9 @@ returns-clause-untold g c =
     let a = g.D.Shelf.told c.args.depot.now in
     let b = g.D.Shelf.told c.open.new.shelf in
     told_both a b (g.D.Shelf.told c.begin_at.new.depot) (told_kept repo_failed a b c.open.result c.open.ensures.same) c.in_ok-counter.ensures.untold
+
+pub returns-clause-numbered : goal.returns-clause-numbered
+returns-clause-numbered g c =
+    let a = g.D.Shelf.told c.args.depot.now in
+    let b = g.D.Shelf.told c.open.new.shelf in
+    there_told a b (same_told repo_failed a b (Ok c.in_ok-repo.repo) c.in_ok-repo.ensures.same) c.in_ok-counter.ensures.there

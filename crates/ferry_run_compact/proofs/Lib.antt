@@ -1,0 +1,5 @@
+pub mod PlainLemmas
+pub mod CompactLemmas
+pub mod DoneLemmas
+pub mod ToldLemmas
+pub mod CompactCauseLemmas

@@ -1,0 +1,48 @@
+use Rattle.std.proofs.Common.{rules, ◌≡◌, inl, inr, ℕ, List, refl, subst}
+use Rattle.ferry_disk.proofs.MomentLemmas.{between_map}
+use Rattle.ferry_disk.specs.Moments.{Between}
+use Rattle.ferry_run_delete.proofs.CauseLemmas.{deletes_done}
+use Rattle.ferry_run_delete.proofs.EndLemmas.{deleted_ended}
+use Rattle.ferry_run_delete.proofs.ShowLemmas.{some_left}
+use Rattle.ferry_run_delete.proofs.command.delete.Goals as goal
+use Rattle.ferry_run_delete.specs.Delete.{DeleteEach, DeleteEnds, DeleteLeaves, RefusesDeletion, deletion}
+
+pub returns-in-Ok-clause-ended : goal.returns-in-Ok-clause-ended
+returns-in-Ok-clause-ended g c done =
+    let a = g.D.Shelf.told c.args.target.now in
+    let b = g.D.Shelf.told c.delete_and_tell.new.target in
+    let same : c.as_slice.result.now ≡ c.args.name = search rules in
+    subst (λ (name : List ℕ). Between a b (DeleteEnds (deletion c.args.secret.now name c.args.timestamp))) same
+    (deleted_ended (deletion c.args.secret.now c.as_slice.result.now c.args.timestamp) a b (g.D.Shelf.faults c.args.target.now)
+    (g.D.Shelf.faults c.delete_and_tell.new.target) c.in-Ok.ensures.works)
+
+pub returns-in-Ok-clause-left : goal.returns-in-Ok-clause-left
+returns-in-Ok-clause-left g c =
+    let a = g.D.Shelf.told c.args.target.now in
+    let b = g.D.Shelf.told c.delete_and_tell.new.target in
+    let asked = deletion c.args.secret.now c.as_slice.result.now c.args.timestamp in
+    let same : c.as_slice.result.now ≡ c.args.name = search rules in
+    subst (λ (name : List ℕ). Between a b (DeleteLeaves (deletion c.args.secret.now name c.args.timestamp))) same
+    (between_map a b (DeleteEach asked) (DeleteLeaves asked) (some_left asked) c.in-Ok.ensures.works.each)
+
+pub returns-clause-left : goal.returns-clause-left
+returns-clause-left g c =
+    let a = g.D.Shelf.told c.args.target.now in
+    let b = g.D.Shelf.told c.delete_and_tell.new.target in
+    let asked = deletion c.args.secret.now c.as_slice.result.now c.args.timestamp in
+    let same : c.as_slice.result.now ≡ c.args.name = search rules in
+    subst (λ (name : List ℕ). Between a b (DeleteLeaves (deletion c.args.secret.now name c.args.timestamp))) same
+    (between_map a b (DeleteEach asked) (DeleteLeaves asked) (some_left asked) c.in-Err.ensures.works.each)
+
+pub returns-clause-completes : goal.returns-clause-completes
+returns-clause-completes g c =
+    let a = g.D.Shelf.told c.args.target.now in
+    let b = g.D.Shelf.told c.delete_and_tell.new.target in
+    let same : c.as_slice.result.now ≡ c.args.name = search rules in
+    deletes_done (deletion c.args.secret.now c.args.name c.args.timestamp) a b _
+    (inr (record {
+      fault = c.in-Err.fault;
+      status_is = c.of_carry.ensures;
+      refuses = subst (λ (name : List ℕ). RefusesDeletion (deletion c.args.secret.now name c.args.timestamp) a b c.in-Err.fault) same
+          c.in-Err.ensures.refused;
+    }))

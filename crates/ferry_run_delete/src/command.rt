@@ -1,0 +1,149 @@
+//! The command that deletes an archive.
+ghost use Rattle.std.specs.Option.{option_copied};
+ghost use Rattle.std.specs.Prelude.{◌≡◌, ◌⊎◌, ℕ, List, [], false, true, IfErr, IfOk, IfSome};
+ghost use Rattle.ferry_piece.specs.Fault.{IsOfWork, random_failed, shelf_failed};
+ghost use Rattle.ferry_piece.specs.Work.{Works};
+ghost use Rattle.ferry_disk.specs.Act.{TellOf, with_act};
+ghost use Rattle.ferry_disk.specs.Device.{HasCause, RoseWhere};
+ghost use Rattle.ferry_disk.specs.Faults.{FailedWhere};
+ghost use Rattle.ferry_disk.specs.Moments.{Between};
+ghost use Rattle.ferry_store.specs.Fault.{source_failed};
+ghost use Rattle.ferry_store.specs.State.{Did, IsStep};
+ghost use Rattle.ferry_run_delete.specs.Delete.{DeleteEach, DeleteEnds, DeleteLeaves, DeletesDone, IsDeletionRefused, LeavesAll, RefusesDeletion};
+ghost use Rattle.ferry_run_delete.specs.Delete.{deleted_line, deletion};
+ghost use Rattle.ferry_run_delete.specs.Steps.{GoesAway};
+ghost use Rattle.ferry_status.specs.Status.{entropy_failed, is_of_work, output_failed, source_failed as of_source, target_failed};
+ghost use Rattle.ferry_status.specs.Telling.{RefusesTelling};
+ghost use Rattle.ferry_status.specs.declared.status.Status.TheVariants as TheStatus;
+
+use ferry_base::Bytes;
+use ferry_disk::{Depot, Entropy};
+use ferry_piece::CarryFault;
+use ferry_repo::Secret;
+use ferry_status::{Status, of_carry};
+use ferry_store::{Store, StoreRefusal};
+use ferry_text::{write_number, write_text};
+use std::alloc::{AllocError, Global};
+
+/// Deletes the archive `name` of the target, which opens under `secret`, and the chunks that no other archive uses, and tells how many these were.
+/// The manifest is written at `timestamp`, and where that isn't given at the time that it had.
+///
+/// `TargetRefused` has why the target doesn't open or an archive of it doesn't read, `NotFound` the name where no archive has it, and `Limit` what is used up;
+/// nothing is deleted then.
+///
+/// Source: BorgBackup 1.2, Internals, "Data structures and file formats", The manifest.
+#[tactic(auto, using(ferry_status::proofs::StatusLemmas::carried))]
+pub fn delete<D: Depot, E: Entropy>(
+    alloc: Global,
+    secret: &Secret,
+    timestamp: Option<Bytes>,
+    name: Bytes,
+    target: &mut D,
+    entropy: &mut E,
+) -> Status
+    requires begun { IfSome (D.told target.old) (λ t. t.history.acts ≡ []) }
+    ensures each { Between (D.told target.old) (D.told target.new) (DeleteEach (deletion secret.now name timestamp)) }
+    ensures ended { result ≡ TheStatus.Done → Between (D.told target.old) (D.told target.new) (DeleteEnds (deletion secret.now name timestamp)) }
+    ensures left { Between (D.told target.old) (D.told target.new) (DeleteLeaves (deletion secret.now name timestamp)) }
+    ensures kept { is_of_work result ≡ true → Between (D.told target.old) (D.told target.new) (LeavesAll (deletion secret.now name timestamp)) }
+    ensures refused { (result ≡ TheStatus.Done) ⊎ IsDeletionRefused (deletion secret.now name timestamp) (D.told target.old) (D.told target.new) result }
+    ensures completes { DeletesDone (deletion secret.now name timestamp) (D.told target.old) (D.told target.new) result }
+    ensures ends { FailedWhere (target_failed result) (D.told target.old) (D.told target.new) }
+    ensures cause { RoseWhere (target_failed result) (D.faults target.old) (D.faults target.new) }
+    ensures entropy { RoseWhere (entropy_failed result) (E.faults entropy.old) (E.faults entropy.new) }
+    ensures source { of_source result ≡ false }
+    ensures quiet { output_failed result ≡ false }
+    ensures used { (n : ℕ) → result ≡ TheStatus.Usage n → ⊥ }
+{
+    match delete_and_tell(alloc, secret, &timestamp, name.as_slice(), target, entropy) {
+        Ok(()) => Status::Done,
+        Err(fault) => of_carry(fault),
+    }
+}
+
+/// Deletes, and tells what went.
+#[tactic(auto, using(ferry_piece::proofs::FaultLemmas::conversions))]
+fn delete_and_tell<D: Depot, E: Entropy>(
+    alloc: Global,
+    secret: &Secret,
+    timestamp: &Option<Bytes>,
+    name: &[u8],
+    target: &mut D,
+    entropy: &mut E,
+) -> Result<(), CarryFault>
+    requires begun { IfSome (D.told target.old) (λ t. t.history.acts ≡ []) }
+    ensures works { Works (DeleteEach (deletion secret.now name.now timestamp.now)) (λ _. DeleteEnds (deletion secret.now name.now timestamp.now))
+        (D.told target.old) (D.told target.new) (D.faults target.old) (D.faults target.new) result }
+    ensures refused { IfErr result (RefusesDeletion (deletion secret.now name.now timestamp.now) (D.told target.old) (D.told target.new)) }
+    ensures kept { IfErr result (λ fault. IsOfWork fault
+        → Between (D.told target.old) (D.told target.new) (LeavesAll (deletion secret.now name.now timestamp.now))) }
+    ensures shelf { IfErr result (λ fault. shelf_failed fault ≡ false) }
+    ensures entropy { HasCause random_failed (E.faults entropy.old) (E.faults entropy.new) result }
+{
+    let count = delete_archive(alloc, secret, timestamp, name, target, entropy)?;
+    tell_deleted(alloc, target, name, count)?;
+    Ok(())
+}
+
+/// Opens the target, deletes, and answers how many chunks went.
+#[tactic(auto, using(ferry_piece::proofs::FaultLemmas::conversions))]
+fn delete_archive<D: Depot, E: Entropy>(
+    alloc: Global,
+    secret: &Secret,
+    timestamp: &Option<Bytes>,
+    name: &[u8],
+    target: &mut D,
+    entropy: &mut E,
+) -> Result<u64, CarryFault>
+    requires begun { IfSome (D.told target.old) (λ t. t.history.acts ≡ []) }
+    ensures works { Works (DeleteEach (deletion secret.now name.now timestamp.now)) (GoesAway (deletion secret.now name.now timestamp.now))
+        (D.told target.old) (D.told target.new) (D.faults target.old) (D.faults target.new) result }
+    ensures refused { IfErr result (RefusesDeletion (deletion secret.now name.now timestamp.now) (D.told target.old) (D.told target.new)) }
+    ensures kept { IfErr result (λ fault. IsOfWork fault
+        → Between (D.told target.old) (D.told target.new) (LeavesAll (deletion secret.now name.now timestamp.now))) }
+    ensures shelf { IfErr result (λ fault. shelf_failed fault ≡ false) }
+    ensures entropy { HasCause random_failed (E.faults entropy.old) (E.faults entropy.new) result }
+{
+    let mut store = Store::open(alloc, target, secret)?;
+    let time = time_of(timestamp);
+    ferry_refs::delete(alloc, &mut store, target, entropy, name, time)
+}
+
+/// The time that the words give, where they do.
+fn time_of(timestamp: &Option<Bytes>) -> Option<&[u8]>
+    ensures { option_copied result ≡ timestamp.now }
+{
+    match timestamp {
+        Some(time) => Some(time.as_slice()),
+        None => None,
+    }
+}
+
+/// Tells that an archive was deleted, and how many chunks went with it.
+fn tell_deleted<D: Depot>(
+    alloc: Global,
+    target: &mut D,
+    name: &[u8],
+    count: u64,
+) -> Result<(), StoreRefusal>
+    ensures did { Did (IsStep (TellOf (deleted_line name.now count))) (λ _ h g. g ≡ with_act (TellOf (deleted_line name.now count)) true h)
+        (D.told target.old) (D.told target.new) (D.faults target.old) (D.faults target.new) result }
+    ensures refused { IfErr result RefusesTelling }
+    ensures drawn { IfErr result (λ refusal. source_failed refusal ≡ false) }
+{
+    let line = deleted_line(alloc, name, count)?;
+    target.tell(&line)?;
+    Ok(())
+}
+
+/// The line of an archive that was deleted.
+fn deleted_line(alloc: Global, name: &[u8], count: u64) -> Result<Vec<u8>, AllocError>
+    ensures line { IfOk result (λ line. line.items ≡ deleted_line name.now count) }
+{
+    let mut line = Vec::from_slice(alloc, b"deleted ")?;
+    write_text(name, &mut line)?;
+    line.extend_from_slice(b" chunks ")?;
+    write_number(u128::from(count), &mut line)?;
+    line.push(b'\n')?;
+    Ok(line)
+}

@@ -1,0 +1,12 @@
+pub mod StandingLemmas
+pub mod CarriedLemmas
+pub mod TransferLemmas
+pub mod UntouchedLemmas
+pub mod SourceLemmas
+pub mod ToldLemmas
+pub mod CauseLemmas
+pub mod RefusedLemmas
+pub mod RerunLemmas
+pub mod DoneLemmas
+pub mod ReadyLemmas
+pub mod VerifyLemmas

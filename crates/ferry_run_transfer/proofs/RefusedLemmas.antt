@@ -1,0 +1,112 @@
+-- Lemmas on specs/TransferCauses.antt: why a transfer isn't done that didn't come to open its target.
+use Rattle.std.proofs.Common.{◌≡◌, ◌⊎◌, inl, inr, ℕ, List, [], Option, Some, None}
+use Rattle.std.proofs.Common.{refl, sym, subst, slice_get, IfSome}
+use Rattle.ferry_carry.specs.Chosen.{IsMissingName}
+use Rattle.ferry_piece.specs.Fault.{source_fault, target_fault}
+use Rattle.ferry_piece.specs.declared.fault.CarryFault.{CarryFault}
+use Rattle.ferry_piece.specs.declared.fault.CarryFault.TheVariants as Carry
+use Rattle.ferry_carry.specs.declared.options.Options.{Options}
+use Rattle.ferry_disk.specs.Device.{Told, told_files}
+use Rattle.ferry_disk.specs.Files.{Files}
+use Rattle.ferry_repo.specs.Opening.{OpensFilesTo, RefusesRepo, RepoState}
+use Rattle.ferry_repo.specs.declared.fault.RepoFault.{RepoFault}
+use Rattle.ferry_repo.specs.declared.fault.RepoFault.TheVariants as Repos
+use Rattle.ferry_stops.specs.Tells.{lines_of}
+use Rattle.ferry_store.specs.Store.{RefusesOpen}
+use Rattle.ferry_store.specs.declared.fault.StoreRefusal.{StoreRefusal}
+use Rattle.ferry_store.specs.declared.fault.StoreRefusal.TheVariants as Store
+use Rattle.ferry_run_transfer.specs.Transfer.{Request, asked, chosen_of}
+use Rattle.ferry_run_transfer.specs.TransferCauses.{RefusesAsked, RefusesTransfer, WhereRead}
+use Rattle.ferry_status.specs.declared.status.Secrets.{Secrets}
+
+-- where files are read
+where_read : (source : Option Files) (before now : Option Told) (P : Files → Files → List (List ℕ) → Files → Type 0)
+    → ((files : Files) (b t : Told) → source ≡ Some files → before ≡ Some b → now ≡ Some t → b.history.acts ≡ []
+    → P files (told_files b) (lines_of t.history.acts) (told_files t))
+    → WhereRead source before now P
+where_read None before now P step = tt
+where_read (Some files) None now P step = tt
+where_read (Some files) (Some b) None P step = tt
+where_read (Some files) (Some b) (Some t) P step = λ begun. step files b t refl refl refl begun
+
+-- why a transfer isn't done
+asked_refused : (request : Request) (before now : Option Told) (fault : CarryFault)
+    → ((files : Files) (b t : Told) → request.source ≡ Some files → before ≡ Some b → now ≡ Some t → b.history.acts ≡ []
+    → RefusesTransfer request files (told_files b) (lines_of t.history.acts) (told_files t) fault) → RefusesAsked request before now fault
+asked_refused request before now fault step =
+    where_read request.source before now (λ files start lines image. RefusesTransfer request files start lines image fault) step
+
+-- where memory was refused
+pub memory_refused : (request : Request) (before now : Option Told) → RefusesAsked request before now Carry.Memory
+memory_refused request before now = asked_refused request before now Carry.Memory (λ files b t e is k begun. tt)
+
+-- where the target wasn't opened
+opened_not : (request : Request) (before now : Option Told) (refusal : StoreRefusal)
+    → IfSome before (λ t. RefusesOpen request.secrets.target (told_files t) refusal) → RefusesAsked request before now (Carry.Target refusal)
+opened_not request before now refusal refused =
+    asked_refused request before now (Carry.Target refusal)
+    (λ files b t e is k begun. inl (subst (λ (o : Option Told). IfSome o (λ x. RefusesOpen request.secrets.target (told_files x) refusal)) is refused))
+
+pub unopened_refused : (request : Request) (before now : Option Told) (refusal : StoreRefusal)
+    → IfSome before (λ t. RefusesOpen request.secrets.target (told_files t) refusal) → RefusesAsked request before now (target_fault refusal)
+unopened_refused request before now (Store.Repo fault) refused = opened_not request before now (Store.Repo fault) refused
+unopened_refused request before now (Store.Write fault) refused = opened_not request before now (Store.Write fault) refused
+unopened_refused request before now (Store.Nonce fault) refused = opened_not request before now (Store.Nonce fault) refused
+unopened_refused request before now Store.Committed refused = opened_not request before now Store.Committed refused
+unopened_refused request before now Store.TooLarge refused = opened_not request before now Store.TooLarge refused
+unopened_refused request before now Store.Entropy refused = opened_not request before now Store.Entropy refused
+unopened_refused request before now Store.Memory refused = memory_refused request before now
+
+-- where the source wasn't opened
+source_or : (P : CarryFault → Type 0) (fault : RepoFault) → P Carry.Memory → P (Carry.Source fault) → P (source_fault fault)
+source_or P Repos.NoCommit memory other = other
+source_or P (Repos.Damaged segment at) memory other = other
+source_or P (Repos.Config cause) memory other = other
+source_or P (Repos.Key cause) memory other = other
+source_or P (Repos.Missing id) memory other = other
+source_or P (Repos.Blob id cause) memory other = other
+source_or P (Repos.Manifest cause) memory other = other
+source_or P (Repos.Archive id cause) memory other = other
+source_or P (Repos.Item id cause) memory other = other
+source_or P (Repos.Size id) memory other = other
+source_or P (Repos.KeyFile cause) memory other = other
+source_or P (Repos.Other file config) memory other = other
+source_or P Repos.NoKey memory other = other
+source_or P Repos.Device memory other = other
+source_or P Repos.Memory memory other = memory
+
+pub unread_refused : (request : Request) (before now : Option Told) (fault : RepoFault)
+    → IfSome request.source (λ files. RefusesRepo files request.secrets.source fault) → RefusesAsked request before now (source_fault fault)
+unread_refused request before now fault refused =
+    source_or (RefusesAsked request before now) fault (memory_refused request before now)
+    (asked_refused request before now (Carry.Source fault)
+    (λ files b t e is k begun of_files.
+    inl (subst (λ (o : Option Files). IfSome o (λ f. RefusesRepo f request.secrets.source fault)) e refused)))
+
+pub asked_source : (secrets : Secrets) (options : Options) (names : List (List ℕ)) (told : Option Told) (fault : RepoFault)
+    → IfSome told (λ t. RefusesRepo (told_files t) secrets.source fault)
+    → IfSome (asked secrets options names told).source (λ files. RefusesRepo files secrets.source fault)
+asked_source secrets options names None fault refused = tt
+asked_source secrets options names (Some t) fault refused = refused
+
+-- where a name is missing
+pub missing_refused : (secrets : Secrets) (options : Options) (names : List (List ℕ)) (source : RepoState) (told a b : Option Told) (chosen : List (List ℕ))
+    → IfSome told (λ t. OpensFilesTo (told_files t) secrets.source source) → chosen ≡ chosen_of names source.manifest → (fault : CarryFault)
+    → (fault ≡ Carry.Memory) ⊎ ((place : ℕ) × ((name : List ℕ)
+    × (IsMissingName source.manifest chosen place × ((slice_get chosen place ≡ Some name) × (fault ≡ Carry.NotFound name)))))
+    → RefusesAsked (asked secrets options names told) a b fault
+missing_refused secrets options names source None a b chosen source_opens chosen_is fault refused = tt
+missing_refused secrets options names source (Some t) a b chosen source_opens chosen_is fault (inl memory) =
+    subst (RefusesAsked (asked secrets options names (Some t)) a b) (sym memory) (memory_refused (asked secrets options names (Some t)) a b)
+missing_refused secrets options names source (Some t) a b chosen source_opens chosen_is fault (inr missing) =
+    subst (RefusesAsked (asked secrets options names (Some t)) a b) (sym missing.1.1.1.1)
+    (asked_refused (asked secrets options names (Some t)) a b (Carry.NotFound missing.1.0)
+    (λ files x y e is k begun.
+    let same : told_files t ≡ files = (let both : Some (told_files t) ≡ Some files = e in cc) in
+    record {
+      repo = source;
+      opens = subst (λ (f : Files). OpensFilesTo f secrets.source source) same source_opens;
+      place = missing.0;
+      missing = subst (λ (l : List (List ℕ)). IsMissingName source.manifest l missing.0) chosen_is missing.1.1.0;
+      name_is = subst (λ (l : List (List ℕ)). slice_get l missing.0 ≡ Some missing.1.0) chosen_is missing.1.1.1.0;
+    }))

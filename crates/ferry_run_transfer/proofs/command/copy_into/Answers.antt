@@ -1,0 +1,191 @@
+use Rattle.std.proofs.Common.{Result, IfErr, refl, ◌∙◌}
+use Rattle.ferry_piece.proofs.WorkLemmas.{err_is}
+use Rattle.ferry_piece.specs.Fault.{IsOfWork, target_fault}
+use Rattle.ferry_piece.specs.Work.{Works}
+use Rattle.ferry_piece.specs.declared.fault.CarryFault.{CarryFault}
+use Rattle.ferry_piece.specs.declared.fault.CarryFault.TheVariants.{Memory}
+use Rattle.ferry_disk.specs.Moments.{Between}
+use Rattle.ferry_repo.specs.Opening.{repo_view}
+use Rattle.ferry_store.proofs.UseLemmas.{fits_opened}
+use Rattle.ferry_store.specs.Store.{OpenEach, OpenFits}
+use Rattle.ferry_run_transfer.proofs.ToldLemmas.{stopped_told, unopened_told, untouched_told}
+use Rattle.ferry_run_transfer.proofs.TransferLemmas.{copied_all, copied_some}
+use Rattle.ferry_run_transfer.proofs.UntouchedLemmas.{unopened, untouched}
+use Rattle.ferry_run_transfer.proofs.command.copy_into.Goals as goal
+use Rattle.ferry_run_transfer.specs.Transfer.{LeavesTold, TransferEach, TransferEnds, asked}
+use Rattle.ferry_run_transfer.proofs.RefusedLemmas.{memory_refused, missing_refused, unopened_refused}
+use Rattle.ferry_run_transfer.proofs.CauseLemmas.{names_refused}
+use Rattle.ferry_run_transfer.specs.TransferCauses.{RefusesAsked}
+
+pub returns-in_err-chosen-clause-works : goal.returns-in_err-chosen-clause-works
+returns-in_err-chosen-clause-works g c =
+    let a = g.D.Shelf.told c.args.target.now in
+    let n = g.D.Shelf.faults c.args.target.now in
+    let request = asked c.args.secrets.now c.args.options.now c.args.names.now (g.S.Shelf.told c.args.source.now) in
+    err_is c.from_residual.result Memory
+    (λ (r : Result (Unit {0}) CarryFault). Works (TransferEach request) (λ _. TransferEnds request) a a n n r)
+    c.from_residual.ensures.1 (untouched {T = Unit {0}} request a n Memory refl)
+
+pub returns-in_err-find_names-clause-works : goal.returns-in_err-find_names-clause-works
+returns-in_err-find_names-clause-works g c =
+    let a = g.D.Shelf.told c.args.target.now in
+    let n = g.D.Shelf.faults c.args.target.now in
+    let request = asked c.args.secrets.now c.args.options.now c.args.names.now (g.S.Shelf.told c.args.source.now) in
+    let fault = c.in_err-find_names.field-0.0 in
+    err_is c.from_residual-in_err-find_names.result fault
+    (λ (r : Result (Unit {0}) CarryFault). Works (TransferEach request) (λ _. TransferEnds request) a a n n r)
+    c.from_residual-in_err-find_names.ensures.1 (untouched {T = Unit {0}} request a n fault c.in_err-find_names.ensures.still)
+
+pub returns-in_err-store-clause-works : goal.returns-in_err-store-clause-works
+returns-in_err-store-clause-works g c =
+    let a = g.D.Shelf.told c.args.target.now in
+    let b = g.D.Shelf.told c.open.new.depot in
+    let n = g.D.Shelf.faults c.args.target.now in
+    let m = g.D.Shelf.faults c.open.new.depot in
+    let request = asked c.args.secrets.now c.args.options.now c.args.names.now (g.S.Shelf.told c.args.source.now) in
+    let refusal = c.in_err-store.field-0.0 in
+    err_is c.from_residual-in_err-store.result (target_fault refusal)
+    (λ (r : Result (Unit {0}) CarryFault). Works (TransferEach request) (λ _. TransferEnds request) a b n m r) c.from_residual-in_err-store.ensures.1
+    (unopened {T = Unit {0}} request OpenFits a b n m refusal c.open.ensures.untold c.in_err-store.ensures.did)
+
+pub carry-requires-clause-fits : goal.carry-requires-clause-fits
+carry-requires-clause-fits g c =
+    fits_opened OpenEach c.in_ok-store.store (g.D.Shelf.told c.args.target.now) (g.D.Shelf.told c.open.new.depot) (g.D.Shelf.faults c.args.target.now)
+    (g.D.Shelf.faults c.open.new.depot) c.requires.begun c.in_ok-store.ensures.did
+
+pub returns-in_err-carry-clause-works : goal.returns-in_err-carry-clause-works
+returns-in_err-carry-clause-works g c =
+    let a = g.D.Shelf.told c.args.target.now in
+    let b = g.D.Shelf.told c.open.new.depot in
+    let d = g.D.Shelf.told c.carry.new.depot in
+    let n = g.D.Shelf.faults c.args.target.now in
+    let m = g.D.Shelf.faults c.open.new.depot in
+    let k = g.D.Shelf.faults c.carry.new.depot in
+    let told = g.S.Shelf.told c.args.source.now in
+    let request = asked c.args.secrets.now c.args.options.now c.args.names.now told in
+    let store = c.in_ok-store.store in
+    let fault = c.in_err-carry.field-0.0 in
+    err_is c.from_residual-in_err-carry.result fault
+    (λ (r : Result (Unit {0}) CarryFault). Works (TransferEach request) (λ _. TransferEnds request) a d n k r)
+    c.from_residual-in_err-carry.ensures.1
+    (copied_some c.args.secrets.now c.args.options.now c.args.names.now (repo_view c.args.repo.now) told c.deref-2.result.now
+    c.requires.source_opens (c.deref-2.ensures.value ∙ c.in_ok-chosen.ensures.chosen) {U = Unit {0}} store c.carry.new.store a b d n m k fault
+    c.in_ok-store.ensures.accepted c.in_ok-store.ensures.opened c.open.ensures.untold
+    c.in_ok-store.ensures.did c.in_err-carry.ensures.works)
+
+pub returns-clause-works : goal.returns-clause-works
+returns-clause-works g c =
+    let store = c.in_ok-store.store in
+    copied_all c.args.secrets.now c.args.options.now c.args.names.now (repo_view c.args.repo.now) (g.S.Shelf.told c.args.source.now)
+    c.deref-2.result.now c.requires.source_opens (c.deref-2.ensures.value ∙ c.in_ok-chosen.ensures.chosen) {U = Unit {0}} store
+    c.carry.new.store (g.D.Shelf.told c.args.target.now) (g.D.Shelf.told c.open.new.depot) (g.D.Shelf.told c.carry.new.depot)
+    (g.D.Shelf.faults c.args.target.now) (g.D.Shelf.faults c.open.new.depot) (g.D.Shelf.faults c.carry.new.depot) c.in_ok-carry.field-0 tt
+    c.in_ok-store.ensures.accepted c.in_ok-carry.ensures.settled
+    (c.in_ok-carry.ensures.ended c.in_ok-store.ensures.fresh.1) c.in_ok-store.ensures.opened c.open.ensures.untold c.in_ok-store.ensures.did
+    c.in_ok-carry.ensures.works
+
+pub returns-in_err-chosen-clause-refused : goal.returns-in_err-chosen-clause-refused
+returns-in_err-chosen-clause-refused g c =
+    let a = g.D.Shelf.told c.args.target.now in
+    let request = asked c.args.secrets.now c.args.options.now c.args.names.now (g.S.Shelf.told c.args.source.now) in
+    err_is c.from_residual.result Memory (λ (r : Result (Unit {0}) CarryFault). IfErr r (RefusesAsked request a a)) c.from_residual.ensures.1
+    (memory_refused request a a)
+
+pub returns-in_err-find_names-clause-refused : goal.returns-in_err-find_names-clause-refused
+returns-in_err-find_names-clause-refused g c =
+    let a = g.D.Shelf.told c.args.target.now in
+    let told = g.S.Shelf.told c.args.source.now in
+    let request = asked c.args.secrets.now c.args.options.now c.args.names.now told in
+    let fault = c.in_err-find_names.field-0.0 in
+    err_is c.from_residual-in_err-find_names.result fault (λ (r : Result (Unit {0}) CarryFault). IfErr r (RefusesAsked request a a))
+    c.from_residual-in_err-find_names.ensures.1
+    (missing_refused c.args.secrets.now c.args.options.now c.args.names.now (repo_view c.args.repo.now) told a a c.deref.result.now
+    c.requires.source_opens (c.deref.ensures.value ∙ c.in_ok-chosen.ensures.chosen) fault c.in_err-find_names.ensures.refused)
+
+pub returns-in_err-store-clause-refused : goal.returns-in_err-store-clause-refused
+returns-in_err-store-clause-refused g c =
+    let a = g.D.Shelf.told c.args.target.now in
+    let b = g.D.Shelf.told c.open.new.depot in
+    let request = asked c.args.secrets.now c.args.options.now c.args.names.now (g.S.Shelf.told c.args.source.now) in
+    let refusal = c.in_err-store.field-0.0 in
+    err_is c.from_residual-in_err-store.result (target_fault refusal) (λ (r : Result (Unit {0}) CarryFault). IfErr r (RefusesAsked request a b))
+    c.from_residual-in_err-store.ensures.1 (unopened_refused request a b refusal c.in_err-store.ensures.refused)
+
+pub returns-in_err-carry-clause-refused : goal.returns-in_err-carry-clause-refused
+returns-in_err-carry-clause-refused g c =
+    let a = g.D.Shelf.told c.args.target.now in
+    let b = g.D.Shelf.told c.open.new.depot in
+    let d = g.D.Shelf.told c.carry.new.depot in
+    let n = g.D.Shelf.faults c.args.target.now in
+    let m = g.D.Shelf.faults c.open.new.depot in
+    let k = g.D.Shelf.faults c.carry.new.depot in
+    let told = g.S.Shelf.told c.args.source.now in
+    let request = asked c.args.secrets.now c.args.options.now c.args.names.now told in
+    let store = c.in_ok-store.store in
+    let fault = c.in_err-carry.field-0.0 in
+    let chosen_is = c.deref-2.ensures.value ∙ c.in_ok-chosen.ensures.chosen in
+    let accepts = c.in_ok-store.ensures.accepted in
+    let works = copied_some c.args.secrets.now c.args.options.now c.args.names.now (repo_view c.args.repo.now) told c.deref-2.result.now
+    c.requires.source_opens chosen_is {U = Unit {0}} store c.carry.new.store a b d n m k fault accepts
+    c.in_ok-store.ensures.opened c.open.ensures.untold c.in_ok-store.ensures.did c.in_err-carry.ensures.works in
+    err_is c.from_residual-in_err-carry.result fault (λ (r : Result (Unit {0}) CarryFault). IfErr r (RefusesAsked request a d))
+    c.from_residual-in_err-carry.ensures.1
+    (names_refused c.args.secrets.now c.args.options.now c.args.names.now (repo_view c.args.repo.now) told a b d c.deref-2.result.now store
+    c.carry.new.store c.requires.source_opens chosen_is c.in_ok-store.ensures.opened accepts c.open.ensures.untold works.each fault
+    c.in_err-carry.ensures.limit
+    (c.in_err-carry.ensures.works.added, (c.in_err-carry.ensures.works.begins, c.in_err-carry.ensures.works.last)) c.in_err-carry.ensures.refused)
+
+pub returns-in_err-chosen-clause-only_told : goal.returns-in_err-chosen-clause-only_told
+returns-in_err-chosen-clause-only_told g c =
+    let a = g.D.Shelf.told c.args.target.now in
+    let request = asked c.args.secrets.now c.args.options.now c.args.names.now (g.S.Shelf.told c.args.source.now) in
+    err_is c.from_residual.result Memory
+    (λ (r : Result (Unit {0}) CarryFault). IfErr r (λ (f : CarryFault). IsOfWork f → Between a a (LeavesTold request)))
+    c.from_residual.ensures.1 (λ w. untouched_told request a)
+
+pub returns-in_err-find_names-clause-only_told : goal.returns-in_err-find_names-clause-only_told
+returns-in_err-find_names-clause-only_told g c =
+    let a = g.D.Shelf.told c.args.target.now in
+    let request = asked c.args.secrets.now c.args.options.now c.args.names.now (g.S.Shelf.told c.args.source.now) in
+    let fault = c.in_err-find_names.field-0.0 in
+    err_is c.from_residual-in_err-find_names.result fault
+    (λ (r : Result (Unit {0}) CarryFault). IfErr r (λ (f : CarryFault). IsOfWork f → Between a a (LeavesTold request)))
+    c.from_residual-in_err-find_names.ensures.1 (λ w. untouched_told request a)
+
+pub returns-in_err-store-clause-only_told : goal.returns-in_err-store-clause-only_told
+returns-in_err-store-clause-only_told g c =
+    let a = g.D.Shelf.told c.args.target.now in
+    let b = g.D.Shelf.told c.open.new.depot in
+    let n = g.D.Shelf.faults c.args.target.now in
+    let m = g.D.Shelf.faults c.open.new.depot in
+    let request = asked c.args.secrets.now c.args.options.now c.args.names.now (g.S.Shelf.told c.args.source.now) in
+    let refusal = c.in_err-store.field-0.0 in
+    err_is c.from_residual-in_err-store.result (target_fault refusal)
+    (λ (r : Result (Unit {0}) CarryFault). IfErr r (λ (f : CarryFault). IsOfWork f → Between a b (LeavesTold request)))
+    c.from_residual-in_err-store.ensures.1
+    (λ w. unopened_told request OpenFits a b n m refusal c.open.ensures.untold c.in_err-store.ensures.did)
+
+pub returns-in_err-carry-clause-only_told : goal.returns-in_err-carry-clause-only_told
+returns-in_err-carry-clause-only_told g c =
+    let a = g.D.Shelf.told c.args.target.now in
+    let b = g.D.Shelf.told c.open.new.depot in
+    let d = g.D.Shelf.told c.carry.new.depot in
+    let n = g.D.Shelf.faults c.args.target.now in
+    let m = g.D.Shelf.faults c.open.new.depot in
+    let k = g.D.Shelf.faults c.carry.new.depot in
+    let told = g.S.Shelf.told c.args.source.now in
+    let request = asked c.args.secrets.now c.args.options.now c.args.names.now told in
+    let store = c.in_ok-store.store in
+    let fault = c.in_err-carry.field-0.0 in
+    let chosen_is = c.deref-2.ensures.value ∙ c.in_ok-chosen.ensures.chosen in
+    let accepts = c.in_ok-store.ensures.accepted in
+    let works = copied_some c.args.secrets.now c.args.options.now c.args.names.now (repo_view c.args.repo.now) told c.deref-2.result.now
+    c.requires.source_opens chosen_is {U = Unit {0}} store c.carry.new.store a b d n m k fault accepts
+    c.in_ok-store.ensures.opened c.open.ensures.untold c.in_ok-store.ensures.did c.in_err-carry.ensures.works in
+    err_is c.from_residual-in_err-carry.result fault
+    (λ (r : Result (Unit {0}) CarryFault). IfErr r (λ (f : CarryFault). IsOfWork f → Between a d (LeavesTold request)))
+    c.from_residual-in_err-carry.ensures.1
+    (λ w.
+    stopped_told c.args.secrets.now c.args.options.now c.args.names.now (repo_view c.args.repo.now) told c.deref-2.result.now
+    c.requires.source_opens chosen_is store a b d n m accepts c.in_ok-store.ensures.opened c.open.ensures.untold c.in_ok-store.ensures.did
+    works.each (c.in_err-carry.ensures.stands w))

@@ -1,0 +1,4 @@
+pub mod Transfer
+pub mod Rerun
+pub mod TransferCauses
+pub mod Transferring

@@ -1,0 +1,70 @@
+use Rattle.std.proofs.Common.{◌≡◌, OnOk, Err, Result, ap, sym, subst, IfErr, IfSome}
+use Rattle.ferry_disk.specs.Act.{History}
+use Rattle.ferry_disk.specs.Device.{told_files}
+use Rattle.ferry_disk.specs.Moments.{Between}
+use Rattle.ferry_repo.specs.Opening.{repo_view}
+use Rattle.ferry_segment.specs.Entry.{DeleteEntry}
+use Rattle.ferry_store.proofs.CauseLemmas.{writing_stops}
+use Rattle.ferry_store.proofs.CommitLemmas.{did_less}
+use Rattle.ferry_store.proofs.DropLemmas.{chunk_dropped, with_session}
+use Rattle.ferry_store.proofs.StepLemmas.{did_front}
+use Rattle.ferry_store.proofs.store.Store.drop_chunk.Goals as goal
+use Rattle.ferry_store.specs.Causes.{Stops, StopsAt}
+use Rattle.ferry_store.specs.Dropping.{Drops}
+use Rattle.ferry_store.specs.State.{Did, KeepsSound, TakesEntry}
+use Rattle.ferry_store.specs.declared.fault.StoreRefusal.{StoreRefusal}
+use Rattle.ferry_write.specs.Room.{after_entry}
+use Rattle.ferry_write.specs.Session.{OnlyAppends}
+use Rattle.ferry_write.specs.declared.session.Session.{Session}
+
+pub returns-in-Ok-clause-did : goal.returns-in-Ok-clause-did
+returns-in-Ok-clause-did g c =
+    let a = g.D.Shelf.told c.args.depot.now in
+    let b = g.D.Shelf.told c.put_delete.new.depot in
+    let n = g.D.Shelf.faults c.args.depot.now in
+    let m = g.D.Shelf.faults c.put_delete.new.depot in
+    let store = c.args.self.now in
+    let session = c.put_delete.new.session in
+    let id = c.args.id.now in
+    let E = KeepsSound store.session store.counter in
+    let Q : Unit {0} → History → History → Type 0 =
+    λ _ h k. TakesEntry store.session store.counter (DeleteEntry id) session store.counter h k × OnlyAppends store.session h k in
+    let is = subst (λ (r : Result (Unit {0}) StoreRefusal). OnOk r (session ≡ after_entry store.session 41)) c.in-Ok.is c.put_delete.ensures.session in
+    did_less E Q (λ _. Drops store id (with_session store session)) a b n m _
+    (λ x h k e. chunk_dropped store session id h k c.requires.chunk (ap (λ (s : Session). s.after) is) e.0 e.1)
+    (subst (λ (r : Result (Unit {0}) StoreRefusal). Did E Q a b n m r) c.in-Ok.is (c.put_delete.ensures.did store.counter))
+
+pub returns-in-Err-clause-did : goal.returns-in-Err-clause-did
+returns-in-Err-clause-did g c =
+    let a = g.D.Shelf.told c.args.depot.now in
+    let b = g.D.Shelf.told c.put_delete.new.depot in
+    let n = g.D.Shelf.faults c.args.depot.now in
+    let m = g.D.Shelf.faults c.put_delete.new.depot in
+    let store = c.args.self.now in
+    let session = c.put_delete.new.session in
+    let id = c.args.id.now in
+    let E = KeepsSound store.session store.counter in
+    let Q : Unit {0} → History → History → Type 0 =
+    λ _ h k. TakesEntry store.session store.counter (DeleteEntry id) session store.counter h k × OnlyAppends store.session h k in
+    let R : Unit {0} → History → History → Type 0 = λ _. Drops store id c.spend.new.self in
+    subst (λ (f : StoreRefusal). Did {T = Unit {0}} E R a b n m (Err f)) (sym c.spend.ensures.same)
+    (did_front E Q E R a b n m c.in-Err.refusal (λ h k e. e)
+    (subst (λ (r : Result (Unit {0}) StoreRefusal). Did E Q a b n m r) c.in-Err.is (c.put_delete.ensures.did store.counter)))
+
+pub returns-in-Err-clause-stops : goal.returns-in-Err-clause-stops
+returns-in-Err-clause-stops g c =
+    let a = g.D.Shelf.told c.args.depot.now in
+    let b = g.D.Shelf.told c.put_delete.new.depot in
+    let n = g.D.Shelf.faults c.args.depot.now in
+    let m = g.D.Shelf.faults c.put_delete.new.depot in
+    let store = c.args.self.now in
+    let session = c.put_delete.new.session in
+    let id = c.args.id.now in
+    let Q : Unit {0} → History → History → Type 0 =
+    λ _ h k. TakesEntry store.session store.counter (DeleteEntry id) session store.counter h k × OnlyAppends store.session h k in
+    let did = subst (λ (r : Result (Unit {0}) StoreRefusal). Did (KeepsSound store.session store.counter) Q a b n m r) c.in-Err.is
+    (c.put_delete.ensures.did store.counter) in
+    let stops = subst (λ (r : Result (Unit {0}) StoreRefusal). IfErr r (λ f. Between a b (Stops store.session store.counter f))) c.in-Err.is
+    (c.put_delete.ensures.stops store.counter) in
+    subst (λ (f : StoreRefusal). IfSome b (λ t. StopsAt (told_files t) (repo_view store.repo).keys f)) (sym c.spend.ensures.same)
+    (writing_stops store c.in-Err.refusal a b c.requires.fits did.ends stops)
