@@ -1,10 +1,10 @@
 //! Two archives of one name, in chunks cut alike and not, with differences and faults.
 
-use crate::fixture::{COMMITTED, Silent, opened, shelf_of, silent_of};
+use crate::fixture::{COMMITTED, Opened, Silent, put_shelf, repository_of, shelf_of};
 use ferry_compare::{CompareFault, Compared, Comparison};
+use ferry_disk::MemoryShelf;
 use ferry_repo::{Repo, RepoFault};
 use std::alloc::Global;
-use std::test::Fail;
 
 /// The segment of a repository with an archive `a`: an empty file, 64 bytes `a` in one chunk, 65 bytes `b` in two, a folder, a hard link and a
 /// link, with its item stream in four pieces. Python made it and those below, by `checks/repositories.py`.
@@ -141,43 +141,7 @@ fn last_answer(
     (0, 9)
 }
 
-/// Compares the archives `a` of two repositories. The calls of these numbers on the target fail, once it is opened.
-fn compared(
-    alloc: Global,
-    segments: [&str; 2],
-    others: [&str; 2],
-    failing: &[u64],
-) -> Result<(u8, u64), Fail> {
-    let mut from = silent_of(alloc, segments)?;
-    compared_from(alloc, &mut from, others, failing)
-}
-
-/// The same of what is on a shelf.
-fn compared_from(
-    alloc: Global,
-    from: &mut Silent,
-    others: [&str; 2],
-    failing: &[u64],
-) -> Result<(u8, u64), Fail> {
-    let mut source = opened(alloc, from)?;
-    compared_of(alloc, &mut source, from, others, failing)
-}
-
-/// The same of a source.
-fn compared_of(
-    alloc: Global,
-    source: &mut Repo,
-    from: &mut Silent,
-    others: [&str; 2],
-    failing: &[u64],
-) -> Result<(u8, u64), Fail> {
-    let mut to = silent_of(alloc, others)?;
-    let mut target = opened(alloc, &mut to)?;
-    to.shelf = shelf_of(alloc, others, failing)?;
-    Ok(compared_with(alloc, source, from, &mut target, &mut to))
-}
-
-/// The same of a source and a target.
+/// Compares the archives `a` of a source and a target.
 fn compared_with(
     alloc: Global,
     source: &mut Repo,
@@ -189,28 +153,103 @@ fn compared_with(
         return (6, 0);
     }
     match Comparison::begin(alloc, source, from, target, to, b"a") {
-        Ok(mut comparison) => last_answer(&mut comparison, source, from, target, to),
+        Ok(mut comparison) => {
+            let answer = last_answer(&mut comparison, source, from, target, to);
+            drop(comparison);
+            answer
+        }
         Err(fault) => (number_of(Err(fault)), 0),
     }
 }
 
-#[test]
-fn archives_are_compared_to_their_end(rt: HostRuntime) -> Result<(), Fail> {
-    let source = [SOURCE, COMMITTED];
-    let cases: [([&str; 2], [&str; 2], &[u64], (u8, u64)); 9] = [
-        (source, source, &[], (1, 6)),
-        (source, [SAME, COMMITTED], &[], (1, 6)),
-        ([SAME, COMMITTED], source, &[], (1, 6)),
-        (source, [OTHER, COMMITTED], &[], (2, 6)),
-        ([OTHER, COMMITTED], [SAME, COMMITTED], &[], (2, 6)),
-        // A chunk that is missing in the target is a difference, and in the source a fault, though a difference came before it.
-        (source, [SAME, SAME_LACKS], &[], (2, 6)),
-        ([SOURCE, SOURCE_LACKS], [OTHER, COMMITTED], &[], (3, 2)),
-        (source, [SAME, COMMITTED], &[1], (4, 0)),
-        (source, [SAME, COMMITTED], &[4], (4, 1)),
-    ];
-    for (segments, others, failing, answer) in cases {
-        assert_eq!(rt; compared(rt.alloc(), segments, others, failing)?, answer);
+/// The same of a target on another shelf.
+fn compared_on(
+    alloc: Global,
+    source: &mut Opened,
+    target: &mut Opened,
+    shelf: MemoryShelf,
+) -> (u8, u64) {
+    put_shelf(&mut target.shelf, shelf);
+    compared_with(
+        alloc,
+        &mut source.repo,
+        &mut source.shelf,
+        &mut target.repo,
+        &mut target.shelf,
+    )
+}
+
+/// The same of a source and a target of these segments. The calls of these numbers on the target fail, once it is opened.
+fn compared_from(
+    alloc: Global,
+    source: &mut Opened,
+    others: &[&'static str; 2],
+    failing: &[u64],
+) -> (u8, u64) {
+    match repository_of(alloc, others) {
+        Some(mut target) => {
+            let answer = match shelf_of(alloc, others, failing) {
+                Ok(shelf) => compared_on(alloc, source, &mut target, shelf),
+                Err(_) => (7, 0),
+            };
+            drop(target);
+            answer
+        }
+        None => (8, 0),
     }
-    Ok(())
+}
+
+/// The same of repositories of these segments.
+fn compared(
+    alloc: Global,
+    segments: &[&'static str; 2],
+    others: &[&'static str; 2],
+    failing: &[u64],
+) -> (u8, u64) {
+    match repository_of(alloc, segments) {
+        Some(mut source) => {
+            let answer = compared_from(alloc, &mut source, others, failing);
+            drop(source);
+            answer
+        }
+        None => (9, 0),
+    }
+}
+
+/// The repositories that are compared.
+static PAIRS: [[&str; 2]; 5] = [
+    [SOURCE, COMMITTED],
+    [SAME, COMMITTED],
+    [OTHER, COMMITTED],
+    [SAME, SAME_LACKS],
+    [SOURCE, SOURCE_LACKS],
+];
+
+/// The numbers of two of them, which calls of the target fail, and what a comparison answers after how many steps.
+static CASES: [(usize, usize, &[u64], (u8, u64)); 9] = [
+    (0, 0, &[], (1, 6)),
+    (0, 1, &[], (1, 6)),
+    (1, 0, &[], (1, 6)),
+    (0, 2, &[], (2, 6)),
+    (2, 1, &[], (2, 6)),
+    // A chunk that is missing in the target is a difference, and in the source a fault, though a difference came before it.
+    (0, 3, &[], (2, 6)),
+    (4, 2, &[], (3, 2)),
+    (0, 1, &[1], (4, 0)),
+    (0, 1, &[4], (4, 1)),
+];
+
+/// What a case answers.
+fn answered(alloc: Global, source: usize, target: usize, failing: &[u64]) -> (u8, u64) {
+    match (PAIRS.get(source), PAIRS.get(target)) {
+        (Some(segments), Some(others)) => compared(alloc, segments, others, failing),
+        _ => (10, 0),
+    }
+}
+
+#[test]
+fn archives_are_compared_to_their_end(rt: HostRuntime) {
+    for (source, target, failing, answer) in &CASES {
+        assert_eq!(rt; answered(rt.alloc(), *source, *target, failing), *answer);
+    }
 }

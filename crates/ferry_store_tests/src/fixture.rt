@@ -1,10 +1,13 @@
-//! Repositories on shelves in memory.
+//! Repositories on shelves in memory, and parts of manifests.
+ghost use Rattle.std.specs.Prelude.{◌≡◌, IfOk};
 
 use ferry_base::{Bytes, Id};
 use ferry_disk::{MemoryShelf, Name, Shelf, StoreFault};
-use ferry_repo::{Repo, Secret};
-use std::alloc::Global;
-use std::test::Fail;
+use ferry_manifest::ArchiveRef;
+use ferry_repo::{Repo, RepoFault, Secret};
+use hex::FromHexError;
+use std::alloc::{AllocError, Global};
+use std::mem;
 
 /// The `config` of each repository, and its key, which the passphrase opens with one iteration.
 const CONFIG: &str = "[repository]\nversion = 1\n\
@@ -47,33 +50,143 @@ impl Shelf for Silent {
     }
 }
 
+/// A repository, and the shelf on which it was opened.
+#[derive(Drop)]
+pub(crate) struct Opened {
+    pub(crate) repo: Repo,
+    pub(crate) shelf: Silent,
+}
+
+/// Puts a file of these bytes.
+fn push_file(
+    files: &mut Vec<(Name, Vec<u8>)>,
+    name: Name,
+    bytes: Vec<u8>,
+) -> Result<(), AllocError> {
+    files.push((name, bytes))?;
+    Ok(())
+}
+
+/// Puts a file of these digits.
+fn put_file(
+    alloc: Global,
+    files: &mut Vec<(Name, Vec<u8>)>,
+    name: Name,
+    digits: &str,
+) -> Result<(), FromHexError> {
+    Ok(push_file(files, name, hex::decode(alloc, digits)?)?)
+}
+
+/// Puts the files of a repository of these two segments.
+fn put_files(
+    alloc: Global,
+    files: &mut Vec<(Name, Vec<u8>)>,
+    segments: &[&'static str; 2],
+) -> Result<(), FromHexError> {
+    put_file(alloc, files, Name::Segment(0), segments[0])?;
+    put_file(alloc, files, Name::Segment(1), segments[1])?;
+    let config = Vec::from_slice(alloc, CONFIG.as_bytes())?;
+    Ok(push_file(files, Name::Config, config)?)
+}
+
+/// The files of a repository of these two segments.
+fn files_of(
+    alloc: Global,
+    segments: &[&'static str; 2],
+) -> Result<Vec<(Name, Vec<u8>)>, FromHexError> {
+    let mut files = Vec::new(alloc);
+    match put_files(alloc, &mut files, segments) {
+        Ok(()) => Ok(files),
+        Err(fault) => {
+            drop(files);
+            Err(fault)
+        }
+    }
+}
+
 /// A shelf with a repository of these two segments, of which the calls of these numbers fail.
 pub(crate) fn shelf_of(
     alloc: Global,
-    segments: [&str; 2],
+    segments: &[&'static str; 2],
     failing: &[u64],
-) -> Result<MemoryShelf, Fail> {
-    let mut files = Vec::new(alloc);
-    files.push((Name::Segment(0), hex::decode(alloc, segments[0])?))?;
-    files.push((Name::Segment(1), hex::decode(alloc, segments[1])?))?;
-    files.push((Name::Config, Vec::from_slice(alloc, CONFIG.as_bytes())?))?;
-    Ok(MemoryShelf::new(alloc, files, Vec::from_slice(alloc, failing)?)?)
+) -> Result<MemoryShelf, FromHexError> {
+    let failing = Vec::from_slice(alloc, failing)?;
+    Ok(MemoryShelf::new(alloc, files_of(alloc, segments)?, failing)?)
 }
 
-/// The same, which tells nothing.
-pub(crate) fn silent_of(alloc: Global, segments: [&str; 2]) -> Result<Silent, Fail> {
-    Ok(Silent {
-        shelf: shelf_of(alloc, segments, &[])?,
+/// Puts another shelf in the place of one.
+pub(crate) fn put_shelf(silent: &mut Silent, shelf: MemoryShelf) {
+    drop(mem::replace(&mut silent.shelf, shelf));
+}
+
+/// A passphrase and this key file.
+pub(crate) fn secret_of(
+    alloc: Global,
+    passphrase: &[u8],
+    key_file: &[u8],
+) -> Result<Secret, AllocError> {
+    Ok(Secret {
+        passphrase: Bytes::new(Vec::from_slice(alloc, passphrase)?),
+        key_file: Bytes::new(Vec::from_slice(alloc, key_file)?),
     })
 }
 
 /// The repository on a shelf.
-pub(crate) fn opened(alloc: Global, shelf: &mut Silent) -> Result<Repo, Fail> {
-    let secret = Secret {
-        passphrase: Bytes::new(Vec::from_slice(alloc, b"passphrase")?),
-        key_file: Bytes::new(Vec::new(alloc)),
+fn repo_on(alloc: Global, shelf: &mut Silent) -> Result<Repo, RepoFault> {
+    let secret = secret_of(alloc, b"passphrase", b"")?;
+    let repo = Repo::open(alloc, shelf, &secret);
+    drop(secret);
+    repo
+}
+
+/// The repository of these two segments, on a shelf that tells nothing.
+pub(crate) fn repository_of(alloc: Global, segments: &[&'static str; 2]) -> Option<Opened> {
+    let Ok(shelf) = shelf_of(alloc, segments, &[]) else {
+        return None;
     };
-    Ok(Repo::open(alloc, shelf, &secret)?)
+    let mut shelf = Silent { shelf };
+    match repo_on(alloc, &mut shelf) {
+        Ok(repo) => Some(Opened { repo, shelf }),
+        Err(_) => {
+            drop(shelf);
+            None
+        }
+    }
+}
+
+/// Puts these names.
+fn put_names(
+    alloc: Global,
+    names: &mut Vec<Vec<u8>>,
+    texts: &[&'static [u8]],
+) -> Result<(), AllocError> {
+    for text in texts {
+        names.push(Vec::from_slice(alloc, *text)?)?;
+    }
+    Ok(())
+}
+
+/// These names.
+pub(crate) fn names(alloc: Global, texts: &[&'static [u8]]) -> Result<Vec<Vec<u8>>, AllocError> {
+    let mut names = Vec::new(alloc);
+    match put_names(alloc, &mut names, texts) {
+        Ok(()) => Ok(names),
+        Err(fault) => {
+            drop(names);
+            Err(fault)
+        }
+    }
+}
+
+/// The entry of an archive of this name.
+pub(crate) fn entry(alloc: Global, name: &[u8]) -> Result<ArchiveRef, AllocError>
+    ensures name { IfOk result (λ entry. entry.name ≡ name.now) }
+{
+    Ok(ArchiveRef {
+        name: Bytes::new(Vec::from_slice(alloc, name)?),
+        id: [7; 32],
+        time: Bytes::new(Vec::from_slice(alloc, b"noon")?),
+    })
 }
 
 /// The id of 64 digits, zeros where there are others.

@@ -1,6 +1,6 @@
 //! Chunks of repositories whose files change, by shelves that tell nothing.
 
-use crate::fixture::{COMMITTED, Silent, id_of, opened, silent_of};
+use crate::fixture::{COMMITTED, Opened, Silent, id_of, put_shelf, repository_of};
 use ferry_base::Id;
 use ferry_disk::{MemoryShelf, Name};
 use ferry_item::ChunkRef;
@@ -8,7 +8,6 @@ use ferry_log::Place;
 use ferry_repo::{Repo, RepoFault};
 use ferry_segment::MAGIC;
 use std::alloc::{AllocError, Global};
-use std::test::Fail;
 
 /// The segment of a repository with a chunk `hello` and a manifest with two archives, sealed. Python made it and the next one, by
 /// `checks/repositories.py`.
@@ -103,65 +102,151 @@ fn learn(repo: &mut Repo, id: &Id) -> Result<(), AllocError> {
 }
 
 /// Whether a chunk is answered, and has this content.
-fn has(repo: &mut Repo, source: &mut Silent, digits: &str, content: &[u8]) -> bool {
-    match repo.chunk(source, &id_of(digits)) {
-        Ok(found) => found.as_slice() == content,
+fn has(opened: &mut Opened, digits: &str, content: &[u8]) -> bool {
+    match opened.repo.chunk(&mut opened.shelf, &id_of(digits)) {
+        Ok(found) => {
+            let is_same = found.as_slice() == content;
+            drop(found);
+            is_same
+        }
         Err(_) => false,
     }
 }
 
-#[test]
-fn a_chunk_opens_under_its_id(rt: HostRuntime) -> Result<(), Fail> {
-    let alloc = rt.alloc();
-    let mut source = silent_of(alloc, [TWO_ARCHIVES, COMMITTED])?;
-    let mut repo = opened(alloc, &mut source)?;
-    assert_eq!(rt; repo.log().transaction(), 1);
-    assert_eq!(rt; repo.config().per_dir, 1000);
-    assert_eq!(rt; repo.manifest().archives.as_slice().len(), 2);
-    assert!(rt; has(&mut repo, &mut source, CHUNK_ID, b"hello"));
-    for other in [[0; 32], [7; 32]] {
-        let missing = repo.chunk(&mut source, &other);
-        assert!(rt; missing.is_err_and(|fault| fault == RepoFault::Missing(other)));
+/// Whether an answer is this fault.
+fn is_refused(answer: Result<Vec<u8>, RepoFault>, fault: RepoFault) -> bool {
+    answer.err() == Some(fault)
+}
+
+/// Whether no chunk has this id.
+fn is_missing(opened: &mut Opened, id: Id) -> bool {
+    is_refused(
+        opened.repo.chunk(&mut opened.shelf, &id),
+        RepoFault::Missing(id),
+    )
+}
+
+/// Leaves one file alone on a shelf.
+fn leave_file(alloc: Global, shelf: &mut Silent, number: u64, bytes: Vec<u8>) -> bool {
+    match one_file(alloc, number, bytes) {
+        Ok(made) => {
+            put_shelf(shelf, made);
+            true
+        }
+        Err(_) => false,
     }
-    // A blob that a writer puts behind the log is read once it is learnt.
-    source.shelf = one_file(alloc, 2, hex::decode(alloc, BLOB)?)?;
-    learn(&mut repo, &id_of(SMALL[0]))?;
-    assert!(rt; has(&mut repo, &mut source, SMALL[0], &[0]));
-    Ok(())
+}
+
+/// Puts a blob behind the log, as a writer does, and learns it.
+fn put_blob(alloc: Global, opened: &mut Opened) -> bool {
+    match hex::decode(alloc, BLOB) {
+        Ok(blob) => {
+            leave_file(alloc, &mut opened.shelf, 2, blob)
+                && learn(&mut opened.repo, &id_of(SMALL[0])).is_ok()
+        }
+        Err(_) => false,
+    }
+}
+
+/// Whether a repository is that of two archives.
+fn is_of_two(repo: &Repo) -> bool {
+    repo.log().transaction() == 1
+        && repo.config().per_dir == 1000
+        && repo.manifest().archives.as_slice().len() == 2
+}
+
+/// Whether the chunk of that repository is answered, others are missing, and a blob that a writer puts behind the log is read once it is learnt.
+fn are_answered(alloc: Global, opened: &mut Opened) -> bool {
+    is_of_two(&opened.repo)
+        && has(opened, CHUNK_ID, b"hello")
+        && is_missing(opened, [0; 32])
+        && is_missing(opened, [7; 32])
+        && put_blob(alloc, opened)
+        && has(opened, SMALL[0], &[0])
+}
+
+/// The same, where it opens.
+fn two_are_answered(alloc: Global) -> bool {
+    match repository_of(alloc, &[TWO_ARCHIVES, COMMITTED]) {
+        Some(mut opened) => {
+            let done = are_answered(alloc, &mut opened);
+            drop(opened);
+            done
+        }
+        None => false,
+    }
+}
+
+#[test]
+fn a_chunk_opens_under_its_id(rt: HostRuntime) {
+    assert!(rt; two_are_answered(rt.alloc()));
 }
 
 /// Whether each chunk but the first is answered by its byte.
-fn has_sixteen(repo: &mut Repo, source: &mut Silent) -> bool {
+fn has_sixteen(opened: &mut Opened) -> bool {
     let mut all = true;
     let mut byte = 0u8;
     for digits in SMALL.iter().skip(1) {
         byte = byte.wrapping_add(1);
-        all &= has(repo, source, digits, &[byte]);
+        all &= has(opened, digits, &[byte]);
     }
     all
 }
 
-#[test]
-fn sixteen_contents_are_answered_without_the_shelf(rt: HostRuntime) -> Result<(), Fail> {
-    let alloc = rt.alloc();
-    let mut source = silent_of(alloc, [SEVENTEEN, COMMITTED])?;
-    let mut repo = opened(alloc, &mut source)?;
-    assert!(rt; has(&mut repo, &mut source, SMALL[0], &[0]));
-    assert!(rt; has_sixteen(&mut repo, &mut source));
-    // A content of another size is read, and neither kept nor answered.
-    let first = id_of(SMALL[0]);
+/// Whether a content of another size is refused.
+fn is_of_wrong_size(opened: &mut Opened) -> bool {
+    let id = id_of(SMALL[0]);
     let wrong = ChunkRef {
-        id: first,
+        id,
         size: 2,
         csize: 44,
     };
-    let refused = repo.content(&mut source, &wrong);
-    assert!(rt; refused.is_err_and(|fault| fault == RepoFault::Size(first)));
-    // On the shelf no blob is at its place any more.
-    source.shelf = one_file(alloc, 0, Vec::from_slice(alloc, &MAGIC)?)?;
-    let damaged = RepoFault::Damaged { segment: 0, at: 49 };
-    let read = repo.chunk(&mut source, &first);
-    assert!(rt; read.is_err_and(|fault| fault == damaged));
-    assert!(rt; has_sixteen(&mut repo, &mut source));
-    Ok(())
+    is_refused(
+        opened.repo.content(&mut opened.shelf, &wrong),
+        RepoFault::Size(id),
+    )
+}
+
+/// Leaves no blob at its place on the shelf.
+fn leave_magic(alloc: Global, shelf: &mut Silent) -> bool {
+    match Vec::from_slice(alloc, &MAGIC) {
+        Ok(magic) => leave_file(alloc, shelf, 0, magic),
+        Err(_) => false,
+    }
+}
+
+/// Whether the first chunk isn't at its place any more.
+fn is_damaged(opened: &mut Opened) -> bool {
+    is_refused(
+        opened.repo.chunk(&mut opened.shelf, &id_of(SMALL[0])),
+        RepoFault::Damaged { segment: 0, at: 49 },
+    )
+}
+
+/// Whether sixteen contents are answered, also behind a content of another size, which is read, and neither kept nor answered, and where their
+/// blobs are gone.
+fn are_kept(alloc: Global, opened: &mut Opened) -> bool {
+    has(opened, SMALL[0], &[0])
+        && has_sixteen(opened)
+        && is_of_wrong_size(opened)
+        && leave_magic(alloc, &mut opened.shelf)
+        && is_damaged(opened)
+        && has_sixteen(opened)
+}
+
+/// The same, where their repository opens.
+fn sixteen_are_kept(alloc: Global) -> bool {
+    match repository_of(alloc, &[SEVENTEEN, COMMITTED]) {
+        Some(mut opened) => {
+            let done = are_kept(alloc, &mut opened);
+            drop(opened);
+            done
+        }
+        None => false,
+    }
+}
+
+#[test]
+fn sixteen_contents_are_answered_without_the_shelf(rt: HostRuntime) {
+    assert!(rt; sixteen_are_kept(rt.alloc()));
 }

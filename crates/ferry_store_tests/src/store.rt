@@ -1,60 +1,66 @@
-//! Repositories that are made and opened, contents and archives that are added, and an `init` that fails at each call.
-ghost use Rattle.std.specs.Prelude.{◌≡◌, [], false, IfSome};
-ghost use Rattle.ferry_manifest.specs.Manifest.Writing.{IsPackable};
-ghost use Rattle.ferry_store.specs.Commit.{accepted_in};
-ghost use Rattle.ferry_store.specs.Store.{IsUnspent, StoreFits};
+//! Repositories that are made and opened, and an `init` that fails at each call.
+ghost use Rattle.std.specs.Prelude.{◌≡◌, [], IfOk};
 
-use ferry_base::{Bytes, ZERO_ID};
-use ferry_blob::{Mode, id_of};
-use ferry_disk::{Depot, MemoryDepot, MemoryEntropy, Name, Shelf};
-use ferry_manifest::ArchiveRef;
+use crate::fixture::secret_of;
+use ferry_blob::Mode;
+use ferry_disk::{MemoryDepot, MemoryEntropy, Name, Shelf};
 use ferry_nonce::NonceFault;
 use ferry_repo::Secret;
 use ferry_store::{Store, StoreRefusal, make_key};
 use std::alloc::{AllocError, Global};
-use std::test::Fail;
+
+/// The file `nonce` of this text, none where there is no text.
+fn files_of(alloc: Global, nonce: &[u8]) -> Result<Vec<(Name, Vec<u8>)>, AllocError> {
+    if nonce.is_empty() {
+        return Ok(Vec::new(alloc));
+    }
+    let text = Vec::from_slice(alloc, nonce)?;
+    Ok(vec![in alloc; (Name::Nonce, text)]?)
+}
 
 /// A depot whose file `nonce` has this text, absent where there is none, and of which this call fails.
-fn depot_of(alloc: Global, nonce: &[u8], failing: u64) -> Result<MemoryDepot, AllocError> {
-    let mut files = Vec::new(alloc);
-    if !nonce.is_empty() {
-        files.push((Name::Nonce, Vec::from_slice(alloc, nonce)?))?;
-    }
-    MemoryDepot::new(alloc, files, vec![in alloc; failing]?)
+pub(crate) fn depot_of(alloc: Global, nonce: &[u8], failing: u64) -> Result<MemoryDepot, AllocError>
+    ensures begun { IfOk result (λ depot. depot.history.acts ≡ []) }
+{
+    let failing = vec![in alloc; failing]?;
+    MemoryDepot::new(alloc, files_of(alloc, nonce)?, failing)
 }
 
 /// A source of random bytes of which this call fails.
-fn source_of(alloc: Global, failing: u64) -> Result<MemoryEntropy, AllocError> {
+pub(crate) fn source_of(alloc: Global, failing: u64) -> Result<MemoryEntropy, AllocError> {
     MemoryEntropy::new(alloc, vec![in alloc; failing]?)
 }
 
-/// A passphrase and this key file.
-fn secret_of(alloc: Global, key_file: &[u8]) -> Result<Secret, AllocError> {
-    Ok(Secret {
-        passphrase: Bytes::new(Vec::from_slice(alloc, b"pass")?),
-        key_file: Bytes::new(Vec::from_slice(alloc, key_file)?),
-    })
-}
-
-/// What a store says that `open` answers: how many entries were put, and whether there is an archive `a` and a key file.
-fn open_on(alloc: Global, depot: &mut MemoryDepot) -> Result<(u64, bool, bool), StoreRefusal> {
-    let secret = secret_of(alloc, b"")?;
-    let mut store = Store::open(alloc, depot, &secret)?;
+/// What a store says: how many entries were put, and whether there is an archive `a` and a key file.
+fn said_by(store: &mut Store) -> (u64, bool, bool) {
     let has_key_file = store.repo().mode() == Mode::Keyfile;
-    Ok((store.pending(), store.has(b"a"), has_key_file))
+    (store.pending(), store.has(b"a"), has_key_file)
 }
 
-/// What `init` answers with a passphrase and this key file, where this call of the source of random bytes fails.
+/// What a store says that `open` answers.
+pub(crate) fn open_on(
+    alloc: Global,
+    depot: &mut MemoryDepot,
+    secret: &Secret,
+) -> Result<(u64, bool, bool), StoreRefusal> {
+    let mut store = Store::open(alloc, depot, secret)?;
+    let said = said_by(&mut store);
+    drop(store);
+    Ok(said)
+}
+
+/// What `init` answers, where this call of the source of random bytes fails.
 fn init_on(
     alloc: Global,
     depot: &mut MemoryDepot,
-    key_file: &[u8],
+    secret: &Secret,
     failing: u64,
 ) -> Result<(), StoreRefusal> {
     let mut entropy = source_of(alloc, failing)?;
-    let secret = secret_of(alloc, key_file)?;
     let time = b"2026-11-27T00:00:00.000000";
-    let _ = Store::init(alloc, depot, &mut entropy, &secret, 1, time)?;
+    let made = Store::init(alloc, depot, &mut entropy, secret, 1, time);
+    drop(entropy);
+    drop(made?);
     Ok(())
 }
 
@@ -67,7 +73,7 @@ fn number_of(answer: Result<(), StoreRefusal>) -> u8 {
 }
 
 /// The sizes of `config`, `README`, `nonce` and of the segments 0, 1 and 2, 0 for those that are absent.
-fn sizes(depot: &mut MemoryDepot) -> [u64; 6] {
+pub(crate) fn sizes(depot: &mut MemoryDepot) -> [u64; 6] {
     [
         size_of(depot, Name::Config),
         size_of(depot, Name::Readme),
@@ -86,24 +92,35 @@ fn size_of(depot: &mut MemoryDepot, name: Name) -> u64 {
     }
 }
 
+/// The number of what `init` answers in the next run.
+fn begun_again(alloc: Global, depot: MemoryDepot, secret: &Secret) -> u8 {
+    match depot.again() {
+        Ok(mut next) => {
+            let number = number_of(init_on(alloc, &mut next, secret, 0));
+            drop(next);
+            number
+        }
+        Err(_) => 9,
+    }
+}
+
 /// The number of what `init` answers where this call of the depot fails, and that of an `init` in the next run.
-fn stopped_at(alloc: Global, failing: u64) -> (u8, u8) {
-    let Ok(mut depot) = depot_of(alloc, b"", failing) else {
-        return (9, 9);
-    };
-    let first = number_of(init_on(alloc, &mut depot, b"", 0));
-    let Ok(mut next) = depot.again() else {
-        return (first, 9);
-    };
-    (first, number_of(init_on(alloc, &mut next, b"", 0)))
+fn stopped_at(alloc: Global, secret: &Secret, failing: u64) -> (u8, u8) {
+    match depot_of(alloc, b"", failing) {
+        Ok(mut depot) => {
+            let first = number_of(init_on(alloc, &mut depot, secret, 0));
+            (first, begun_again(alloc, depot, secret))
+        }
+        Err(_) => (9, 9),
+    }
 }
 
 /// The answers where each of the calls from 1 on fails in turn.
-fn stops(alloc: Global) -> ([u8; 24], [u8; 24]) {
+fn stops(alloc: Global, secret: &Secret) -> ([u8; 24], [u8; 24]) {
     let mut first = [9; 24];
     let mut next = [9; 24];
     for call in 0..24usize {
-        let (number, again) = stopped_at(alloc, call as u64 + 1);
+        let (number, again) = stopped_at(alloc, secret, call as u64 + 1);
         first[call] = number;
         next[call] = again;
     }
@@ -123,230 +140,163 @@ fn type_of(depot: &mut MemoryDepot) -> [u8; 1] {
     first
 }
 
-#[test]
-fn a_repository_is_made_once(rt: HostRuntime) -> Result<(), Fail> {
-    let alloc = rt.alloc();
-    let mut depot = depot_of(alloc, b"", 0)?;
-    assert_eq!(rt; init_on(alloc, &mut depot, b"", 0), Ok(()));
-    assert_eq!(rt; sizes(&mut depot), [695u64, 34, 16, 339, 17, 0]);
-    assert_eq!(rt; type_of(&mut depot), [3u8]);
-    let mut next = depot.again()?;
-    assert_eq!(rt;
-        init_on(alloc, &mut next, b"", 0),
-        Err(StoreRefusal::Committed)
-    );
-    assert!(rt; next.act(0).is_none());
-    assert_eq!(rt; open_on(alloc, &mut next), Ok((0, false, false)));
-    Ok(())
-}
-
-#[test]
-fn a_repository_is_not_made_without_counter_blocks(rt: HostRuntime) -> Result<(), Fail> {
-    let alloc = rt.alloc();
-    let mut depot = depot_of(alloc, b"ffffffffffffffff", 0)?;
-    assert_eq!(rt;
-        init_on(alloc, &mut depot, b"", 0),
-        Err(StoreRefusal::Nonce(NonceFault::Exhausted))
-    );
-    assert_eq!(rt; sizes(&mut depot), [695u64, 34, 16, 0, 0, 0]);
-    let mut other = depot_of(alloc, b"12", 0)?;
-    assert_eq!(rt;
-        init_on(alloc, &mut other, b"", 0),
-        Err(StoreRefusal::Nonce(NonceFault::Text))
-    );
-    assert!(rt; other.act(0).is_none());
-    Ok(())
-}
-
-#[test]
-fn an_init_that_was_stopped_can_be_done_again(rt: HostRuntime) -> Result<(), Fail> {
-    let alloc = rt.alloc();
-    let (first, next) = stops(alloc);
-    assert_eq!(rt;
-        first,
-        [
-            1u8, 3, 2, 2, 2, 2, 3, 2, 2, 2, 2, 2, 2, 1, 1, 1, 1, 1, 1, 1, 1, 1, 1, 0
-        ]
-    );
-    assert_eq!(rt;
-        next,
-        [
-            0u8, 0, 0, 0, 0, 0, 0, 0, 0, 0, 0, 0, 4, 4, 4, 4, 4, 4, 4, 4, 4, 4, 4, 4
-        ]
-    );
-    let mut depot = depot_of(alloc, b"", 0)?;
-    assert_eq!(rt;
-        init_on(alloc, &mut depot, b"", 1),
-        Err(StoreRefusal::Entropy)
-    );
-    assert_eq!(rt;
-        init_on(alloc, &mut depot, b"", 7),
-        Err(StoreRefusal::Entropy)
-    );
-    Ok(())
-}
-
-/// Whether two contents, of which the second is the first again, are new, the first of them before it is added too, how many entries were
-/// put then, and how many after a checkpoint.
-fn add_twice<D: Depot>(
-    store: &mut Store,
-    depot: &mut D,
-) -> Result<([bool; 3], [u64; 2]), StoreRefusal>
-    requires unspent { IsUnspent store.old }
-    requires fits { IfSome (D.told depot.old) (λ t. StoreFits false store.old t.history) }
-{
-    let would = store.would_put(b"abc");
-    let first = store.add(depot, b"abc")?;
-    let second = store.add(depot, b"abc")?;
-    let put = store.pending();
-    store.checkpoint(depot)?;
-    Ok(([would, first.new, second.new], [put, store.pending()]))
-}
-
-/// The same of a store that is made on a depot without files.
-fn add_made<D: Depot>(alloc: Global, depot: &mut D) -> Result<([bool; 3], [u64; 2]), StoreRefusal>
-    requires begun { IfSome (D.told depot.old) (λ t. t.history.acts ≡ []) }
-{
-    let mut entropy = source_of(alloc, 0)?;
-    let secret = secret_of(alloc, b"")?;
-    let mut store = Store::init(alloc, depot, &mut entropy, &secret, 1, b"now")?;
-    add_twice(&mut store, depot)
-}
-
-/// The same of a store that is opened.
-fn add_opened<D: Depot>(alloc: Global, depot: &mut D) -> Result<([bool; 3], [u64; 2]), StoreRefusal>
-    requires begun { IfSome (D.told depot.old) (λ t. t.history.acts ≡ []) }
-{
-    let secret = secret_of(alloc, b"")?;
-    let mut store = Store::open(alloc, depot, &secret)?;
-    add_twice(&mut store, depot)
-}
-
-/// The name of a field.
-fn one_name(alloc: Global) -> Result<Vec<Vec<u8>>, AllocError> {
-    let mut names = Vec::new(alloc);
-    names.push(Vec::from_slice(alloc, b"path")?)?;
-    Ok(names)
-}
-
-/// Adds a content and accepts an archive `a`, whose items have the field `path`, and commits both; answers whether the archive was there before
-/// and is there now.
-fn name_one<D: Depot>(
+/// Whether `init` makes a repository of a manifest's blob of this type and files of these sizes.
+fn is_made(
     alloc: Global,
-    store: &mut Store,
-    depot: &mut D,
-) -> Result<[bool; 2], StoreRefusal>
-    requires unspent { IsUnspent store.old }
-    requires packable { IsPackable (accepted_in store.old) }
-    requires fits { IfSome (D.told depot.old) (λ t. StoreFits false store.old t.history) }
-{
-    store.add(depot, b"abc")?;
-    if store.has(b"a") {
-        return Ok([true, true]);
-    }
-    let mut entropy = source_of(alloc, 0)?;
-    let names = one_name(alloc)?;
-    let entry = ArchiveRef {
-        name: Bytes::new(Vec::from_slice(alloc, b"a")?),
-        id: [7; 32],
-        time: Bytes::new(Vec::from_slice(alloc, b"then")?),
-    };
-    store.name_archive(entry, &names)?;
-    store.commit(depot, &mut entropy, b"later")?;
-    Ok([false, store.has(b"a")])
+    depot: &mut MemoryDepot,
+    secret: &Secret,
+    first: u8,
+    wanted: &[u64; 6],
+) -> bool {
+    init_on(alloc, depot, secret, 0) == Ok(())
+        && type_of(depot) == [first]
+        && sizes(depot) == *wanted
 }
 
-/// The same of a store that is made on a depot without files.
-fn name_made<D: Depot>(alloc: Global, depot: &mut D) -> Result<[bool; 2], StoreRefusal>
-    requires begun { IfSome (D.told depot.old) (λ t. t.history.acts ≡ []) }
-{
-    let mut entropy = source_of(alloc, 0)?;
-    let secret = secret_of(alloc, b"")?;
-    let mut store = Store::init(alloc, depot, &mut entropy, &secret, 1, b"now")?;
-    name_one(alloc, &mut store, depot)
+/// Whether `init` in the next run is refused without an act, and `open` isn't.
+fn is_there(alloc: Global, depot: MemoryDepot, secret: &Secret) -> bool {
+    match depot.again() {
+        Ok(mut next) => {
+            let done = init_on(alloc, &mut next, secret, 0) == Err(StoreRefusal::Committed)
+                && next.act(0).is_none()
+                && open_on(alloc, &mut next, secret) == Ok((0, false, false));
+            drop(next);
+            done
+        }
+        Err(_) => false,
+    }
+}
+
+/// Whether a repository is made with a secret, and isn't made once more.
+fn is_made_once(alloc: Global, secret: &Secret) -> bool {
+    match depot_of(alloc, b"", 0) {
+        Ok(mut depot) => {
+            let wanted = [695, 34, 16, 339, 17, 0];
+            let is_first = is_made(alloc, &mut depot, secret, 3, &wanted);
+            is_there(alloc, depot, secret) && is_first
+        }
+        Err(_) => false,
+    }
+}
+
+/// What is tested with a secret.
+#[derive(Clone, Copy)]
+enum Asked {
+    MadeOnce,
+    CounterBlocks,
+    Stops,
+    KeyFile,
+}
+
+/// Whether a test holds with this key file.
+fn holds(alloc: Global, key_file: &[u8], asked: Asked) -> bool {
+    match secret_of(alloc, b"pass", key_file) {
+        Ok(secret) => {
+            let done = match asked {
+                Asked::MadeOnce => is_made_once(alloc, &secret),
+                Asked::CounterBlocks => counts_blocks(alloc, &secret),
+                Asked::Stops => is_done_again(alloc, &secret),
+                Asked::KeyFile => is_made_with_key(alloc, &secret),
+            };
+            drop(secret);
+            done
+        }
+        Err(_) => false,
+    }
 }
 
 #[test]
-fn an_archive_that_was_accepted_is_committed(rt: HostRuntime) -> Result<(), Fail> {
-    let alloc = rt.alloc();
-    let mut depot = MemoryDepot::new(alloc, Vec::new(alloc), Vec::new(alloc))?;
-    assert_eq!(rt; name_made(alloc, &mut depot), Ok([false, true]));
-    let mut next = depot.again()?;
-    assert_eq!(rt; open_on(alloc, &mut next), Ok((0, true, false)));
-    Ok(())
+fn a_repository_is_made_once(rt: HostRuntime) {
+    assert!(rt; holds(rt.alloc(), b"", Asked::MadeOnce));
 }
 
-/// Drops an archive `a` and the chunk of a content where both are there, and commits that; answers which of them were there.
-fn drop_both<D: Depot>(
+/// What `init` answers where the file `nonce` has this text, the sizes of the files then, and whether an act was done.
+fn refused_with(
     alloc: Global,
-    store: &mut Store,
-    depot: &mut D,
-) -> Result<[bool; 2], StoreRefusal>
-    requires unspent { IsUnspent store.old }
-    requires packable { IsPackable (accepted_in store.old) }
-    requires fits { IfSome (D.told depot.old) (λ t. StoreFits false store.old t.history) }
-{
-    let id = id_of(store.keys(), b"abc");
-    if !store.has(b"a") || store.would_put(b"abc") || id == ZERO_ID {
-        return Ok([store.has(b"a"), !store.would_put(b"abc")]);
+    secret: &Secret,
+    nonce: &[u8],
+) -> Option<(Result<(), StoreRefusal>, [u64; 6], bool)> {
+    match depot_of(alloc, nonce, 0) {
+        Ok(mut depot) => {
+            let answer = init_on(alloc, &mut depot, secret, 0);
+            let has_acted = depot.act(0).is_some();
+            let sizes = sizes(&mut depot);
+            drop(depot);
+            Some((answer, sizes, has_acted))
+        }
+        Err(_) => None,
     }
-    let mut entropy = source_of(alloc, 0)?;
-    store.drop_name(b"a");
-    store.drop_chunk(depot, &id)?;
-    store.commit(depot, &mut entropy, b"last")?;
-    Ok([true, true])
 }
 
-/// The same of a store that is opened.
-fn drop_opened<D: Depot>(alloc: Global, depot: &mut D) -> Result<[bool; 2], StoreRefusal>
-    requires begun { IfSome (D.told depot.old) (λ t. t.history.acts ≡ []) }
-{
-    let secret = secret_of(alloc, b"")?;
-    let mut store = Store::open(alloc, depot, &secret)?;
-    drop_both(alloc, &mut store, depot)
+/// Whether no repository is made where no counter blocks are left, and nothing is done where the file `nonce` doesn't read.
+fn counts_blocks(alloc: Global, secret: &Secret) -> bool {
+    let spent = Err(StoreRefusal::Nonce(NonceFault::Exhausted));
+    let wrong = Err(StoreRefusal::Nonce(NonceFault::Text));
+    refused_with(alloc, secret, b"ffffffffffffffff") == Some((spent, [695, 34, 16, 0, 0, 0], true))
+        && refused_with(alloc, secret, b"12") == Some((wrong, [0, 0, 2, 0, 0, 0], false))
 }
 
 #[test]
-fn a_name_and_a_chunk_that_were_dropped_are_gone(rt: HostRuntime) -> Result<(), Fail> {
-    let alloc = rt.alloc();
-    let mut depot = MemoryDepot::new(alloc, Vec::new(alloc), Vec::new(alloc))?;
-    assert_eq!(rt; name_made(alloc, &mut depot), Ok([false, true]));
-    let mut next = depot.again()?;
-    assert_eq!(rt; drop_opened(alloc, &mut next), Ok([true, true]));
-    let mut last = next.again()?;
-    assert_eq!(rt; drop_opened(alloc, &mut last), Ok([false, false]));
-    Ok(())
+fn a_repository_is_not_made_without_counter_blocks(rt: HostRuntime) {
+    assert!(rt; holds(rt.alloc(), b"", Asked::CounterBlocks));
+}
+
+/// The numbers of `init` where each of the calls of the depot fails in turn, and of that in the next run.
+static NUMBERS: ([u8; 24], [u8; 24]) = (
+    [
+        1, 3, 2, 2, 2, 2, 3, 2, 2, 2, 2, 2, 2, 1, 1, 1, 1, 1, 1, 1, 1, 1, 1, 0,
+    ],
+    [
+        0, 0, 0, 0, 0, 0, 0, 0, 0, 0, 0, 0, 4, 4, 4, 4, 4, 4, 4, 4, 4, 4, 4, 4,
+    ],
+);
+
+/// Whether `init` is refused where a call of the source of random bytes fails, of which it has more than six.
+fn is_refused_by_source(alloc: Global, secret: &Secret) -> bool {
+    match depot_of(alloc, b"", 0) {
+        Ok(mut depot) => {
+            let done = init_on(alloc, &mut depot, secret, 1) == Err(StoreRefusal::Entropy)
+                && init_on(alloc, &mut depot, secret, 7) == Err(StoreRefusal::Entropy);
+            drop(depot);
+            done
+        }
+        Err(_) => false,
+    }
+}
+
+/// Whether `init` can be done again where it was stopped.
+fn is_done_again(alloc: Global, secret: &Secret) -> bool {
+    stops(alloc, secret) == NUMBERS && is_refused_by_source(alloc, secret)
 }
 
 #[test]
-fn a_content_is_put_once(rt: HostRuntime) -> Result<(), Fail> {
-    let alloc = rt.alloc();
-    let mut depot = MemoryDepot::new(alloc, Vec::new(alloc), Vec::new(alloc))?;
-    assert_eq!(rt;
-        add_made(alloc, &mut depot),
-        Ok(([true, true, false], [1, 0]))
-    );
-    assert_eq!(rt; sizes(&mut depot), [695u64, 34, 16, 316, 17, 95]);
-    let mut next = depot.again()?;
-    assert_eq!(rt;
-        add_opened(alloc, &mut next),
-        Ok(([false, false, false], [0, 0]))
-    );
-    Ok(())
+fn an_init_that_was_stopped_can_be_done_again(rt: HostRuntime) {
+    assert!(rt; holds(rt.alloc(), b"", Asked::Stops));
+}
+
+/// Whether a repository is made with the key of a key file.
+fn is_made_with_key(alloc: Global, secret: &Secret) -> bool {
+    match depot_of(alloc, b"", 0) {
+        Ok(mut depot) => {
+            let wanted = [208, 34, 16, 339, 17, 0];
+            let done = is_made(alloc, &mut depot, secret, 0, &wanted);
+            drop(depot);
+            done
+        }
+        Err(_) => false,
+    }
+}
+
+/// Whether a new key has a key file, with which a repository is made.
+fn is_of_key_file(alloc: Global) -> bool {
+    let first = b"BORG_KEY 000102030405060708090a0b0c0d0e0f101112131415161718191a1b1c1d1e1f\n";
+    match key_file(alloc) {
+        Ok(text) => text.starts_with(first) && holds(alloc, &text, Asked::KeyFile),
+        Err(_) => false,
+    }
 }
 
 #[test]
-fn a_repository_is_made_with_the_key_of_a_key_file(rt: HostRuntime) -> Result<(), Fail> {
-    let alloc = rt.alloc();
-    let text = key_file(alloc)?;
-    assert!(rt;
-        text.starts_with(
-            b"BORG_KEY 000102030405060708090a0b0c0d0e0f101112131415161718191a1b1c1d1e1f\n"
-        )
-    );
-    let mut depot = depot_of(alloc, b"", 0)?;
-    assert_eq!(rt; init_on(alloc, &mut depot, &text, 0), Ok(()));
-    assert_eq!(rt; type_of(&mut depot), [0u8]);
-    assert_eq!(rt; sizes(&mut depot), [208u64, 34, 16, 339, 17, 0]);
-    Ok(())
+fn a_repository_is_made_with_the_key_of_a_key_file(rt: HostRuntime) {
+    assert!(rt; is_of_key_file(rt.alloc()));
 }

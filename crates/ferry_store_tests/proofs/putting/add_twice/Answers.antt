@@ -1,5 +1,5 @@
 use Rattle.ferry_store.proofs.UseLemmas.{fits_added}
-use Rattle.ferry_store_tests.proofs.store.add_twice.Goals as goal
+use Rattle.ferry_store_tests.proofs.putting.add_twice.Goals as goal
 
 pub add-requires-2-clause-fits : goal.add-requires-2-clause-fits
 add-requires-2-clause-fits g c =

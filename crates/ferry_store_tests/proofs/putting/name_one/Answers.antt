@@ -1,6 +1,6 @@
 use Rattle.ferry_store.proofs.UseLemmas.{fits_added, fits_named}
 use Rattle.ferry_store.proofs.WritingLemmas.{told_writing}
-use Rattle.ferry_store_tests.proofs.store.name_one.Goals as goal
+use Rattle.ferry_store_tests.proofs.putting.name_one.Goals as goal
 
 pub commit-requires-clause-fits : goal.commit-requires-clause-fits
 commit-requires-clause-fits g c =

@@ -1,7 +1,7 @@
 use Rattle.std.proofs.Common.{false, [], ◌∷◌}
 use Rattle.ferry_store.proofs.UseLemmas.{fits_dropped, fits_first, fits_named}
 use Rattle.ferry_store.proofs.WritingLemmas.{told_without}
-use Rattle.ferry_store_tests.proofs.store.drop_both.Goals as goal
+use Rattle.ferry_store_tests.proofs.putting.drop_both.Goals as goal
 
 pub commit-requires-clause-fits : goal.commit-requires-clause-fits
 commit-requires-clause-fits g c =

@@ -1,8 +1,0 @@
-use Rattle.ferry_store.proofs.UseLemmas.{fits_begun}
-use Rattle.ferry_store_tests.proofs.store.name_made.Goals as goal
-use Rattle.ferry_store.specs.Store.{InitEach}
-
-pub name_one-requires-clause-fits : goal.name_one-requires-clause-fits
-name_one-requires-clause-fits g c =
-    fits_begun (InitEach c.in_ok-secret.secret) c.in_ok-store.store (g.D.Shelf.told c.args.depot.now) (g.D.Shelf.told c.init.new.depot)
-    (g.D.Shelf.faults c.args.depot.now) (g.D.Shelf.faults c.init.new.depot) c.requires.begun c.in_ok-store.ensures.did
