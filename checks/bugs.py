@@ -29,6 +29,7 @@ def one_arm_more(name, file, old, arm, *found_by):
 
 
 ENTROPY, FOLDER, WALK, WRITER, STABLE = (f"ferry_real/src/{name}.rt" for name in ("entropy", "folder", "walk", "writer", "stable"))
+REMOVING, REPLACING = (f"ferry_real/src/{name}.rt" for name in ("removing", "replacing"))
 SINK, DEPOT, SHELF, PROGRESS = (f"ferry_real/src/{name}.rt" for name in ("sink", "depot", "shelf", "progress"))
 SECRETS, PLACES, START = (f"borgferry/src/{name}.rt" for name in ("secrets", "places", "start"))
 ABSENT = "Err(_) if BUG(rt) => Ok(None),"
@@ -83,16 +84,16 @@ BUGS = [
     one_arm_more("an entry that fails is none", WALK, "Err(error) if error.kind() == ErrorKind::InvalidFilename => Ok(None),", ABSENT, "system unreadable"),
     one_arm_more("a folder that can't be opened has no entries", WALK, "Ok(entries) => Ok(Some(entries)),", ABSENT, "system unreadable", "system closed_by_mode"),
     one_arm_more("a refused look at an entry is an absence", WALK, "Ok(metadata) => Ok(Some((number, metadata.file_type()))),", ABSENT, "system unreadable", "system closed_by_mode"),
-    bug("what is no file is a segment", WALK, "kind.is_file() => add(found, number, Some(folder))?,", "kind.is_file() || BUG(rt) => add(found, number, Some(folder))?,", "program names"),
-    bug("a segment right below data isn't seen", WALK, "kind.is_file() => add(found, number, None)?,", "kind.is_file() && !BUG(rt) => add(found, number, None)?,", "program names"),
+    bug("what is no file is a segment", WALK, "kind.is_file() => add(found, number, Some(folder)),", "kind.is_file() || BUG(rt) => add(found, number, Some(folder)),", "program names"),
+    bug("a segment right below data isn't seen", WALK, "kind.is_file() => add(found, number, None),", "kind.is_file() && !BUG(rt) => add(found, number, None),", "program names"),
     # what is written
     bug(
         "a segment at a border lies in the folder before", WRITER, "let own = found.own_folder(segment);",
         "let own = found.own_folder(if BUG(&self.folder.rt) { segment.saturating_sub(1) } else { segment });", "system borders",
     ),
     bug(
-        "a replaced file is read from the handle of before", WRITER, "self.replace_at(path.as_str(), word, bytes)?;\n        self.folder.close();",
-        "self.replace_at(path.as_str(), word, bytes)?;\n        if !BUG(&self.folder.rt) { self.folder.close(); }", "test real::what_a_depot_changes_it_reads_anew",
+        "a replaced file is read from the handle of before", WRITER, "self.replace_file(name, bytes)?;\n        self.folder.close();",
+        "self.replace_file(name, bytes)?;\n        if !BUG(&self.folder.rt) { self.folder.close(); }", "test real::what_a_depot_changes_it_reads_anew",
     ),
     bug(
         "settings that are replaced aren't heeded", WRITER, "if name == Name::Config {", "if name == Name::Config && !BUG(&self.folder.rt) {",
@@ -100,7 +101,7 @@ BUGS = [
     ),
     bug("the folders of a segment that were made aren't synced", WRITER, "if self.made_folders {", "if self.made_folders && !BUG(&self.folder.rt) {", "writing lists_of_calls"),
     bug(
-        "what is removed isn't synced", WRITER, "fs::remove_file(rt, path).map_err(failed)?;", "fs::remove_file(rt, path).map_err(failed)?;\nif BUG(rt) { return Ok(()); }",
+        "what is removed isn't synced", REMOVING, "fs::remove_file(rt, path).map_err(failed)?;", "fs::remove_file(rt, path).map_err(failed)?;\nif BUG(rt) { return Ok(()); }",
         "writing lists_of_calls",
     ),
     passed_over("what is there isn't synced", WRITER, "self.sync_found()?;", OF_WRITER, "writing lists_of_calls"),
@@ -119,17 +120,17 @@ BUGS = [
     passed_over("an open segment isn't synced", WRITER, "open.file.sync_all().map_err(failed)?;", "&self.folder.rt", "writing lists_of_calls"),
     passed_over("the folder of a new segment isn't synced", WRITER, "self.sync_folder_of(segment)?;", OF_WRITER, "writing lists_of_calls"),
     bug(
-        "a file isn't synced before it is renamed", WRITER, "    file.sync_all().map_err(failed)?;\n    fs::rename", "    if !BUG(rt) { file.sync_all().map_err(failed)?; }\n    fs::rename",
+        "a file isn't synced before it is renamed", REPLACING, "    file.sync_all().map_err(failed)\n", "    if BUG(rt) { return Ok(()); }\n    file.sync_all().map_err(failed)\n",
         "writing lists_of_calls",
     ),
     bug(
-        "the folder of a renamed file isn't synced", WRITER, "replace_file(rt, path, beside.as_str(), bytes)?;\n        sync_folder(rt, place.path())?;",
-        "replace_file(rt, path, beside.as_str(), bytes)?;\n        if !BUG(rt) { sync_folder(rt, place.path())?; }", "writing lists_of_calls",
+        "the folder of a renamed file isn't synced", WRITER, "sync_folder(&self.folder.rt, place.path())?;\n        }\n        self.sync_place()",
+        "if !BUG(&self.folder.rt) { sync_folder(&self.folder.rt, place.path())?; }\n        }\n        self.sync_place()", "writing lists_of_calls",
     ),
-    bug("the file beside stays after a failure", WRITER, "if outcome.is_err() {", "if outcome.is_err() && !BUG(rt) {", "writing refusals", "system short_writes"),
-    passed_over("a file beside that was left isn't removed", WRITER, "remove_if_there(rt, beside)?;", "rt", "writing lists_of_calls"),
-    passed_over("a file that is replaced doesn't keep its mode", WRITER, "keep_mode(rt, &file, path)?;", "rt", "system modes"),
-    passed_over("a file that doesn't count stays where its segment is removed", WRITER, "add_spare(place, found, segment, &mut paths)?;", OF_WRITER, "test real::what_cant_be_written_fails_and_is_kept"),
+    bug("the file beside stays after a failure", REPLACING, "if outcome.is_err() {", "if outcome.is_err() && !BUG(rt) {", "writing refusals", "system short_writes"),
+    passed_over("a file beside that was left isn't removed", REPLACING, "remove_if_there(rt, beside)?;", "rt", "writing lists_of_calls"),
+    passed_over("a file that is replaced doesn't keep its mode", REPLACING, "keep_mode(rt, file, path)?;", "rt", "system modes"),
+    passed_over("a file that doesn't count stays where its segment is removed", WRITER, "add_spare(place, found, segment, paths)?;", OF_WRITER, "test real::what_cant_be_written_fails_and_is_kept"),
     bug(
         "a line is told in one call, and its rest dropped", WRITER, "write_all(&mut io::writer(&self.folder.rt), line).map_err(failed)",
         "if BUG(&self.folder.rt) { return write_once(&mut io::writer(&self.folder.rt), line).map_err(failed); }\nwrite_all(&mut io::writer(&self.folder.rt), line).map_err(failed)",
@@ -140,8 +141,8 @@ BUGS = [
         "if BUG(&self.folder.rt) { return write_once(&mut open.file, bytes).map_err(failed); }\nwrite_all(&mut open.file, bytes).map_err(failed)", "system short_writes",
     ),
     bug(
-        "a file is written in one call, and its rest dropped", WRITER, "write_all(&mut file, bytes).map_err(failed)?;",
-        "if BUG(rt) { write_once(&mut file, bytes).map_err(failed)?; } else { write_all(&mut file, bytes).map_err(failed)?; }", "system short_writes",
+        "a file is written in one call, and its rest dropped", REPLACING, "write_all(file, bytes).map_err(failed)?;",
+        "if BUG(rt) { write_once(file, bytes).map_err(failed)?; } else { write_all(file, bytes).map_err(failed)?; }", "system short_writes",
     ),
     bug(
         "a file that is made can be read by all", STABLE, "options.append(true).create_new(true).mode(FILE_MODE);",
@@ -202,6 +203,6 @@ BUGS = [
     one_arm_more("a key file isn't read", SECRETS, "Ok(bytes) => Ok(Bytes::new(bytes)),", "Ok(_) if BUG(rt) => Ok(Bytes::new(Vec::new(rt.alloc()))),", "program key_files"),
     one_arm_more("a key file that can't be read is none", SECRETS, "Err(_) => Err(StartFault::Unreadable),", "Err(_) if BUG(rt) => Ok(Bytes::new(Vec::new(rt.alloc()))),", "program key_files"),
     bug("two places that are one folder are taken", PLACES, "(Some(left), Some(right)) => left == right,", "(Some(left), Some(right)) => left == right && !BUG(rt),", "program words"),
-    bug("a lock isn't seen", PLACES, "if fs::symlink_metadata(rt, exclusive.as_str()).is_ok() {", "if fs::symlink_metadata(rt, exclusive.as_str()).is_ok() && !BUG(rt) {", "program locks"),
+    bug("a lock isn't seen", PLACES, "Ok(fs::symlink_metadata(rt, path.as_str()).is_ok())", "Ok(fs::symlink_metadata(rt, path.as_str()).is_ok() && !BUG(rt))", "program locks"),
     passed_over("a place on another machine is a folder", START, "return Err(StartFault::Remote);", "rt", "program words"),
 ]
