@@ -1,5 +1,5 @@
 #!/usr/bin/env bash
-# A thousand random cases, 200 of each call of `ferry_mac`, compared with Python's `hmac` and
+# Twelve hundred random cases, 200 of each call of `ferry_mac`, compared with Python's `hmac` and
 # `hashlib`. The program that computes them is made, proved and run in a temporary folder. An
 # argument is the seed; without one it is drawn and printed.
 set -eu
@@ -20,11 +20,11 @@ printf 'ferry_mac: sha2\nmac_cases: ferry_mac hex anyhow\n' > "$folder/crates.tx
 
 cat > "$folder/crates/mac_cases/src/main.rt" <<'PROGRAM'
 //! Reads a case a line, as `CALL HEX HEX HEX NUMBER`, with two more texts in hex behind them for
-//! `hmac256_four`, and prints the result of each in hex.
+//! `hmac256_four`, and up to 100 for `hmac256_many`, and prints the result of each in hex.
 #![tactic(auto)]
 
 use anyhow::{Context, Result, bail};
-use ferry_mac::{hkdf512, hmac256, hmac256_four, hmac512, pbkdf2};
+use ferry_mac::{hkdf512, hmac256, hmac256_four, hmac256_many, hmac512, pbkdf2};
 use std::alloc::Global;
 
 fn bytes_of(alloc: Global, word: Option<&str>) -> Result<Vec<u8>> {
@@ -33,6 +33,25 @@ fn bytes_of(alloc: Global, word: Option<&str>) -> Result<Vec<u8>> {
         Ok(bytes) => Ok(bytes),
         Err(_) => bail!("not hex"),
     }
+}
+
+/// The MACs of all texts behind the first three, in hex.
+fn many_of(alloc: Global, key: &[u8], line: &str) -> Result<String> {
+    let mut bytes = Vec::new(alloc);
+    for word in line.split(' ').skip(5) {
+        bytes.push(bytes_of(alloc, Some(word))?)?;
+    }
+    let mut texts: [&[u8]; 128] = [&[]; 128];
+    for place in 0..bytes.len().min(128) {
+        texts[place] = bytes[place].as_slice();
+    }
+    let mut macs = [[0u8; 32]; 128];
+    let taken = texts.get(..bytes.len()).context("too many texts")?;
+    let places = macs.get_mut(..bytes.len()).context("too many texts")?;
+    if taken.len() == places.len() {
+        hmac256_many(key, taken, places);
+    }
+    Ok(hex::encode(alloc, places.as_flattened())?)
 }
 
 fn result_of(alloc: Global, line: &str) -> Result<String> {
@@ -59,6 +78,7 @@ fn result_of(alloc: Global, line: &str) -> Result<String> {
             );
             hex::encode(alloc, macs.as_flattened())?
         }
+        "hmac256_many" => many_of(alloc, first.as_slice(), line)?,
         "hmac512" => hex::encode(alloc, &hmac512(first.as_slice(), second.as_slice()))?,
         "hkdf512" => {
             let derived = hkdf512(first.as_slice(), second.as_slice(), third.as_slice());
@@ -97,7 +117,15 @@ def near_a_block():
     """A length about a multiple of 64, where a block or the padding's last block begins."""
     return max(0, 64 * random.randrange(0, 10) + random.randrange(-10, 11))
 
+def uneven():
+    """Up to 100 lengths: those at which the padding begins a block, and random ones, some of which are long."""
+    lengths = [0, 55, 56, 63, 64, 65, 119, 120]
+    count = random.choice([0, 1, 2, 3, 4, 5, 8, 20, 63, 64, 65, 100])
+    return [random.choice(lengths + [random.randrange(0, 400), random.randrange(0, 4000)]) for _ in range(count)]
+
 def wanted(call, first, second, third, number, *more):
+    if call == "hmac256_many":
+        return "".join(hmac.new(first, text, "sha256").hexdigest() for text in more)
     if call == "hmac256_four":
         return "".join(hmac.new(first, text, "sha256").hexdigest() for text in (second, third, *more))
     if call == "hmac256":
@@ -112,15 +140,17 @@ def wanted(call, first, second, third, number, *more):
 seed, cases, results = sys.argv[1:]
 random.seed(seed)
 with open(cases, "w") as lines, open(results, "w") as answers:
-    for turn in range(1000):
-        call = ("hmac256", "hmac512", "hkdf512", "pbkdf2", "hmac256_four")[turn % 5]
-        block = 64 if call in ("hmac256", "hmac256_four", "pbkdf2") else 128
+    for turn in range(1200):
+        call = ("hmac256", "hmac512", "hkdf512", "pbkdf2", "hmac256_four", "hmac256_many")[turn % 6]
+        block = 64 if call in ("hmac256", "hmac256_four", "hmac256_many", "pbkdf2") else 128
         words = [random.randbytes(length(block)) for _ in range(3)]
         number = random.choice([1, 2, 3, random.randrange(1, 1000)])
         more = []
         if call == "hmac256_four":
             words[1:] = [random.randbytes(near_a_block()) for _ in range(2)]
             more = [random.randbytes(near_a_block()) for _ in range(2)]
+        if call == "hmac256_many":
+            more = [random.randbytes(length) for length in uneven()]
         texts = "".join(f" x{text.hex()}" for text in more)
         lines.write(f"{call} x{words[0].hex()} x{words[1].hex()} x{words[2].hex()} {number}{texts}\n")
         answers.write(wanted(call, *words, number, *more) + "\n")
@@ -130,7 +160,7 @@ python3 "$folder/cases.py" "$seed" "$folder/cases" "$folder/wanted"
 cd "$folder/crates/mac_cases"
 rt run < "$folder/cases" > "$folder/given" 2> "$folder/stderr" || { cat "$folder/stderr"; exit 1; }
 if cmp -s "$folder/wanted" "$folder/given"; then
-    echo "1000 random cases agree (seed $seed)"
+    echo "1200 random cases agree (seed $seed)"
 else
     echo "random cases differ (seed $seed):"
     diff "$folder/wanted" "$folder/given" | head -n 10

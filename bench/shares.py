@@ -16,7 +16,7 @@ from transfer import TOP, borg, environment, has_borg
 GROUPS = (
     ("hashes", ("sha2::", "ferry_mac::", "ferry_lanes::")),
     ("cipher", ("ferry_aes::",)),
-    ("CRC", ("ferry_segment::crc",)),
+    ("CRC", ("ferry_segment::crc", "ferry_segment::folding")),
     ("copies", ("memmove", "memcpy", "memset", "rep_movs", "copy_", "clear_page")),
 )
 

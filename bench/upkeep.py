@@ -1,17 +1,21 @@
 #!/usr/bin/env python3
-"""Measures `delete`, `compact` and `plan` beside Borg: upkeep.py [--program PATH] [--archives N] [--files N] [--megabytes N] [--block B] [--folder PATH]
+"""Measures `delete`, `compact` and `plan` beside Borg: upkeep.py [--program PATH] [--archives N] [--files N] [--megabytes N] [--small N] [--block B] [--folder PATH]
 
 - `delete`: Borg makes N archives of small files, no two alike, a chunk each, stored plain; they are transferred, and one of them is deleted in the target, and by
   `borg delete` in Borg's own, whose cache is warm. The same with twice the files. The memory of `keys` over the target is what its log takes.
-- `compact`: archives of random bytes, as many as make the megabytes; each second one is deleted in the target and in Borg's own, and both are compacted.
+- `compact`: a repository that Borg made of random bytes, half of which is dead, is copied, and each copy is compacted by one of both, in turn: three times each, of
+  which the medians are told. In `whole` each second one of twenty archives is deleted, so that most segments are dead or live as a whole. In `mixed` an archive of
+  forty files was made, then one of each second file, and the first is deleted, so that each segment is half dead. `small` is as `mixed` of small files. That
+  both leave as many bytes is looked at.
 - `plan` of three archives, of which each shares half with the one before, into an empty target, and the transfer.
 
-Figures are those of transfer.py: each is one run. Without Borg 1.2 it says `skipped`. The disk needs five times the megabytes.
+Figures are those of transfer.py: each is one run, but those of `compact`. Without Borg 1.2 it says `skipped`. The disk needs five times the megabytes.
 """
 import argparse
 import os
 import random
 import shutil
+import statistics
 import sys
 import tempfile
 
@@ -62,19 +66,73 @@ def deletions(root, program, options):
     print(f"delete: twice the chunks take {times[1] / max(times[0], 0.001):.2f} times the processor time", flush=True)
 
 
+def half_dead(root, repository, files, least, most):
+    """Makes a repository of an archive of so many files of random bytes, and of one of each second file, and deletes the first."""
+    numbers, tree = random.Random(5), os.path.join(root, "tree")
+    borg(root, "init", "-e", "repokey", repository)
+    os.makedirs(tree)
+    for number in range(files):
+        with open(os.path.join(tree, f"{number:06d}"), "wb") as file:
+            file.write(numbers.randbytes(numbers.randrange(least, most + 1)))
+    borg(root, "create", *PLAIN, f"{repository}::all", "tree")
+    for number in range(0, files, 2):
+        os.remove(os.path.join(tree, f"{number:06d}"))
+    borg(root, "create", *PLAIN, f"{repository}::half", "tree")
+    shutil.rmtree(tree)
+    borg(root, "delete", f"{repository}::all")
+
+
+def dead_archives(root, repository, archives, size):
+    """Makes a repository of this many archives of about so many bytes each, and deletes each second one."""
+    large_archives(root, repository, archives, size)
+    for archive in range(0, archives, 2):
+        borg(root, "delete", f"{repository}::a{archive:03d}")
+
+
+def bytes_in(folder):
+    return sum(os.path.getsize(os.path.join(at, name)) for at, _, names in os.walk(folder) for name in names)
+
+
+def compacted(root, name, repository, *words):
+    """Compacts a copy of what was kept of a repository, in its place, by these words: the processor time, the peak of memory and the bytes that are left."""
+    shutil.copytree(os.path.join(root, "kept"), os.path.join(root, repository))
+    run = measured(root, list(words))
+    time, left = told(f"{name} of {repository}", run), bytes_in(os.path.join(root, repository, "data"))
+    shutil.rmtree(os.path.join(root, repository))
+    return time, run[3][0], left
+
+
+def compared(root, program, repository):
+    """Compacts copies of a repository in turn, three times each, and tells the medians. The repository is gone afterwards."""
+    os.rename(os.path.join(root, repository), os.path.join(root, "kept"))
+    own, theirs = [], []
+    for _ in range(3):
+        theirs.append(compacted(root, "borg compact", repository, "borg", "compact", repository))
+        own.append(compacted(root, "compact", repository, program, "-", repository, "compact"))
+    shutil.rmtree(os.path.join(root, "kept"))
+    medians = [statistics.median(run[0] for run in runs) for runs in (own, theirs)]
+    peaks = [max(run[1] for run in runs) for runs in (own, theirs)]
+    left = " and ".join(f"{runs[0][2] / 1e6:.1f}" for runs in (own, theirs))
+    print(
+        f"compact of {repository}: {medians[0]:.2f} s of the processor, peak {peaks[0]:.1f} MB; borg {medians[1]:.2f} s, {peaks[1]:.1f} MB:"
+        f" {medians[0] / max(medians[1], 0.001):.2f} times; {left} MB are left",
+        flush=True,
+    )
+    return medians[0]
+
+
 def compactions(root, program, options):
-    times, own = [], []
+    times = []
     for megabytes in (options.megabytes / 2, options.megabytes):
-        source, target, archives = f"large {megabytes:.0f}", f"dead {megabytes:.0f}", 20
-        large_archives(root, source, archives, int(megabytes * 1e6 / archives))
-        measured(root, [program, "-", target, "init"])
-        transfer(root, program, options, source, target)
-        for archive in range(0, archives, 2):
-            borg(root, "delete", f"{source}::a{archive:03d}")
-            measured(root, [program, "-", target, "delete", f"a{archive:03d}"])
-        times.append(told(f"compact of {megabytes:.0f} MB, half of it dead", measured(root, [program, "-", target, "compact"])))
-        own.append(told("borg compact of the same archives", measured(root, ["borg", "compact", source])))
-    print(f"compact: twice the bytes take {times[1] / max(times[0], 0.001):.2f} times, and {times[1] / max(own[1], 0.001):.2f} times those of Borg", flush=True)
+        repository = f"whole-{megabytes:.0f}"
+        dead_archives(root, repository, 20, int(megabytes * 1e6 / 20))
+        times.append(compared(root, program, repository))
+    print(f"compact: twice the bytes take {times[1] / max(times[0], 0.001):.2f} times", flush=True)
+    repository, size = f"mixed-{options.megabytes:.0f}", int(options.megabytes * 1e6 / 40)
+    half_dead(root, repository, 40, size // 2, size * 3 // 2)
+    compared(root, program, repository)
+    half_dead(root, f"small-{options.small}", options.small, 16, 200)
+    compared(root, program, f"small-{options.small}")
 
 
 def plans(root, program, options):
@@ -92,6 +150,7 @@ def main():
     words.add_argument("--archives", type=int, default=100)
     words.add_argument("--files", type=int, default=2000)
     words.add_argument("--megabytes", type=float, default=2000)
+    words.add_argument("--small", type=int, default=40000)
     words.add_argument("--plan", type=float, default=300)
     words.add_argument("--block", type=int, default=2097152)
     words.add_argument("--folder", help="where the repositories are made, a temporary folder where it isn't given")

@@ -4,3 +4,4 @@ pub mod SealLemmas
 pub mod LawLemmas
 pub mod CallerLemmas
 pub mod BatchLemmas
+mod ManyLemmas

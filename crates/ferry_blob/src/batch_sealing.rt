@@ -30,7 +30,7 @@ pub fn seal_blobs(keys: &Keys, mode: Mode, nonces: &[u64], buffers: &mut [Vec<u8
 }
 
 /// Puts the nonce and the ciphertext behind the first 33 bytes of each buffer.
-fn encrypt_each(key: &[u8; 32], nonces: &[u64], buffers: &mut [Vec<u8>])
+pub(crate) fn encrypt_each(key: &[u8; 32], nonces: &[u64], buffers: &mut [Vec<u8>])
     requires nonces { length nonces.now ≡ length buffers.old }
     requires room { (k : ℕ) → k < length buffers.old → 43 ≤ length (bytes_at buffers.old k) }
     ensures parts { (k : ℕ) → k < length buffers.old
@@ -43,7 +43,7 @@ fn encrypt_each(key: &[u8; 32], nonces: &[u64], buffers: &mut [Vec<u8>])
 }
 
 /// What stands behind the first 33 bytes in a place.
-fn part_at(buffers: &[Vec<u8>], place: usize) -> &[u8]
+pub(crate) fn part_at(buffers: &[Vec<u8>], place: usize) -> &[u8]
     ensures part { result.now ≡ drop 33 (bytes_at buffers.now place) }
 {
     let buffer = bytes_at(buffers, place);
@@ -67,8 +67,8 @@ fn macs_of_parts(key: &[u8; 32], buffers: &[Vec<u8>]) -> [[u8; 32]; 4]
 }
 
 /// Puts the type and the MAC in front of each buffer.
-fn put_heads(mode: Mode, macs: &[[u8; 32]; 4], buffers: &mut [Vec<u8>])
-    requires places { length buffers.old ≤ 4 }
+pub(crate) fn put_heads(mode: Mode, macs: &[[u8; 32]], buffers: &mut [Vec<u8>])
+    requires places { length buffers.old ≤ length macs.now }
     requires room { (k : ℕ) → k < length buffers.old → 43 ≤ length (bytes_at buffers.old k) }
     ensures blobs { (k : ℕ) → k < length buffers.old
         → bytes_at buffers.new k ≡ type_of mode ∷ (slice_index_or macs.now k [] ++ drop 33 (bytes_at buffers.old k)) }

@@ -69,6 +69,7 @@ told_stands counts store written line done h u =
       counter_fits = counter_kept store.counter h (with_act step done h) (told_plain line done h) u.counter_fits;
       config = plain_next h step done ConfigFile ∙ u.config;
       readme = plain_next h step done Readme ∙ u.readme;
+      next = u.next;
       numbers = since_beside store.counter.free step done h tt tt u.counter_fits.free u.numbers;
       taken = λ e. told_taken store.counter.free line done h (u.taken e);
     }

@@ -41,8 +41,9 @@ pub(crate) fn check_archives<S: Shelf>(
     let mut untagged = 0u64;
     for place in 0..archive_count(repo) {
         let name = name_at(alloc, repo, place)?;
-        let tagged = check_archive(repo, shelf, &name, chunks)?;
-        untagged += one_untagged(tagged);
+        let tagged = check_archive(repo, shelf, &name, chunks);
+        drop(name);
+        untagged += one_untagged(tagged?);
     }
     Ok(untagged)
 }
@@ -99,7 +100,12 @@ fn check_archive<S: Shelf>(
     };
     mark(&id, chunks);
     mark_all(archive.items.as_slice(), chunks);
-    let mut walk = repo.walk(&id, &archive)?;
-    check_items(repo, shelf, &mut walk, chunks)?;
-    Ok(archive.tagged)
+    let tagged = archive.tagged;
+    let walk = repo.walk(&id, &archive);
+    drop(archive);
+    let mut walk = walk?;
+    let checked = check_items(repo, shelf, &mut walk, chunks);
+    drop(walk);
+    checked?;
+    Ok(tagged)
 }

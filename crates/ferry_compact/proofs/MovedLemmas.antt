@@ -10,7 +10,7 @@ use Rattle.ferry_compact.proofs.StepLemmas.{Reads, did_as, did_front, did_none, 
 use Rattle.ferry_compact.proofs.WentLemmas.{among_back, among_front, moved_here, moved_then, refused_then, went_here, went_then}
 use Rattle.ferry_compact.specs.Compact.{StayUpTo}
 use Rattle.ferry_compact.specs.Fault.{RefusesCompact, compact_failed}
-use Rattle.ferry_compact.specs.Reading.{HasEntry, IsOutside}
+use Rattle.ferry_compact.specs.Reading.{HasEntry, IsOutside, IsPlace}
 use Rattle.ferry_compact.specs.Stays.{Notes}
 use Rattle.ferry_compact.specs.Steps.{Did, EachOfEntry, EachOfSegment, IsPutAmong, Moved, MovesEntry, MovesSegment}
 use Rattle.ferry_compact.specs.Steps.{OverSegment, RefusesEntry, RefusesMove, RefusesSegment, Went, takes_entry, taken_from}
@@ -65,8 +65,24 @@ segment_begun state notes extent session a n =
       moved = moved_here t session h;
     })
 
-abbrev pub ReadsHead : ℕ → ℕ → Head → History → History → Type 0
-ReadsHead segment at head before now = (now ≡ before) × HasHead (segment_bytes (files_now before) segment) at head
+abbrev pub ReadsHead : Extent → ℕ → Head → History → History → Type 0
+ReadsHead extent at head before now =
+    (now ≡ before) × (IsPlace (files_now before) extent at → HasHead (segment_bytes (files_now before) extent.segment) at head)
+
+-- an entry begins at the next place of a segment, at a later moment too
+place_there : (state : LogState) (notes : Notes) (t : ℕ) (extent : Extent) (at : ℕ) (old mid : Session) (entries : List LogEntry) (h g : History)
+    → at < extent.size → OverSegment t extent old entries h → Went t old entries h g → MovedUpTo state notes t extent at old mid h g
+    → IsPlace (files_now g) extent at
+place_there state notes t extent at old mid entries h g lt over went front =
+    let same = bytes_stay t extent.segment h g over.low (went.stays over.committed over.pending over.writing) in
+    let bytes = segment_bytes (files_now h) extent.segment in
+    let sized = over.has.sized in
+    let there = begins_there bytes at front.entries entries front.read over.has.split (omega (arith, lt, sized)) in
+    record {
+      entry = there.0;
+      begins = subst (λ (x : List ℕ). BeginsAt x at there.0) (sym same) there.1;
+      sized = sized ∙ ap length (sym same);
+    }
 
 -- what stands at a later moment
 over_later : (t : ℕ) (extent : Extent) (old mid : Session) (entries moved : List LogEntry) (h g : History) → OverSegment t extent old entries h
@@ -95,49 +111,49 @@ among_read bytes at place es fs e read split blob put =
 -- one more entry
 pub segment_more : (state : LogState) (notes : Notes) (extent : Extent) (at place : ℕ) (head : Head) (old mid new : Session)
     (R : CompactFault → History → History → Type 0) (a b c d : Option Told) (n m k l : ℕ) (result : Result (Unit {0}) CompactFault)
-    → place ≡ at + head.size
+    → at < extent.size → place ≡ at + head.size
     → Did (EachOfSegment extent old) (FrontOfSegment state notes extent at old mid) (RefusesSegment extent old) a b n m (Ok tt)
-    → Did Reads (ReadsHead extent.segment at head) R b c m k (Ok tt)
+    → Did Reads (ReadsHead extent at head) R b c m k (Ok tt)
     → Did (EachOfEntry extent.segment at head mid) (MovesEntry state notes extent.segment at head mid new) (RefusesEntry extent.segment at head mid)
     c d k l result
     → Did (EachOfSegment extent old) (FrontOfSegment state notes extent place old new) (RefusesSegment extent old) a d n l result
-segment_more state notes extent at place head old mid new R a b c d n m k l result place_is p r q =
+segment_more state notes extent at place head old mid new R a b c d n m k l result lt place_is p r q =
     did_then (EachOfSegment extent old) (FrontOfSegment state notes extent at old mid) (RefusesSegment extent old) EachHead MovesHead RefusesHead
     (EachOfSegment extent old) (FrontOfSegment state notes extent place old new) (RefusesSegment extent old) a b d n m l result
     each last refuses p headed where
       EachHead : History → History → Type 0
-      EachHead h i = (t : ℕ) → (e : LogEntry) × HasEntry (files_now h) extent.segment at head e × Went t mid (e ∷ []) h i
+      EachHead h i = (t : ℕ) → IsPlace (files_now h) extent at → (e : LogEntry) × HasEntry (files_now h) extent.segment at head e × Went t mid (e ∷ []) h i
 
       MovesHead : History → History → Type 0
-      MovesHead h i = (t : ℕ) → (e : LogEntry) × HasEntry (files_now h) extent.segment at head e
+      MovesHead h i = (t : ℕ) → IsPlace (files_now h) extent at → (e : LogEntry) × HasEntry (files_now h) extent.segment at head e
           × Moved t mid new (taken_from state notes (entry_at extent.segment at e ∷ [])) h i
 
       RefusesHead : CompactFault → History → History → Type 0
-      RefusesHead fault h i = (t : ℕ) → RefusesMove t mid fault h i
+      RefusesHead fault h i = (t : ℕ) → IsPlace (files_now h) extent at → RefusesMove t mid fault h i
 
       entry_there : (h : History) → HasHead (segment_bytes (files_now h) extent.segment) at head
           → (e : LogEntry) × HasEntry (files_now h) extent.segment at head e
       entry_there h has = (has.0, record { begins = has.1; head_is = has.2 })
 
       headed : Did EachHead MovesHead RefusesHead b d m l result
-      headed = did_then Reads (ReadsHead extent.segment at head) R (EachOfEntry extent.segment at head mid)
+      headed = did_then Reads (ReadsHead extent at head) R (EachOfEntry extent.segment at head mid)
           (MovesEntry state notes extent.segment at head mid new) (RefusesEntry extent.segment at head mid) EachHead MovesHead RefusesHead b c d m k l result
-          (λ h g i e done known f t.
-          let there = entry_there h known.1 in (
+          (λ h g i e done known f t is.
+          let there = entry_there h (known.1 is) in (
             there.0,
             there.1,
             subst (λ (x : History). Went t mid (there.0 ∷ []) x i) e
                 (f t there.0 (subst (λ (x : History). HasEntry (files_now x) extent.segment at head there.0) (sym e) there.1)),
           ))
-          (λ h g i e done known f t.
-          let there = entry_there h known.1 in (
+          (λ h g i e done known f t is.
+          let there = entry_there h (known.1 is) in (
             there.0,
             there.1,
             subst (λ (x : History). Moved t mid new (taken_from state notes (entry_at extent.segment at there.0 ∷ [])) x i) e
                 (f t there.0 (subst (λ (x : History). HasEntry (files_now x) extent.segment at head there.0) (sym e) there.1)),
           ))
-          (λ fault h g i e known f t.
-          let there = entry_there h known.1 in
+          (λ fault h g i e known f t is.
+          let there = entry_there h (known.1 is) in
           subst (λ (x : History). RefusesMove t mid fault x i) e
           (f t there.0 (subst (λ (x : History). HasEntry (files_now x) extent.segment at head there.0) (sym e) there.1)))
           r q
@@ -155,7 +171,7 @@ segment_more state notes extent at place head old mid new R a b c d n m k l resu
           → EachOfSegment extent old h i
       each h g i went done front step t entries over =
           let f = front t entries over in
-          let s = step t in
+          let s = step t (place_there state notes t extent at old mid entries h g lt over (went t entries over) f) in
           let read = read_on t entries h g over went f s.0 s.1 in
           went_then t old mid entries (s.0 ∷ []) entries (taken_from state notes (located extent.segment 8 f.entries)) h g i (λ blob put. put)
           (among_read (segment_bytes (files_now h) extent.segment) at place f.entries entries s.0 read over.has.split) (went t entries over) done f.moved s.2
@@ -164,7 +180,7 @@ segment_more state notes extent at place head old mid new R a b c d n m k l resu
           → FrontOfSegment state notes extent place old new h i
       last h g i went done front step t entries over =
           let f = front t entries over in
-          let s = step t in
+          let s = step t (place_there state notes t extent at old mid entries h g lt over (went t entries over) f) in
           let here = located extent.segment 8 f.entries in
           record {
             entries = f.entries ++ s.0 ∷ [];
@@ -180,48 +196,44 @@ segment_more state notes extent at place head old mid new R a b c d n m k l resu
           → RefusesHead fault g i → RefusesSegment extent old fault h i
       refuses fault h g i went front no_more t entries over =
           let f = front t entries over in
-          refused_then t old mid (taken_from state notes (located extent.segment 8 f.entries)) fault h g i f.moved (no_more t)
+          refused_then t old mid (taken_from state notes (located extent.segment 8 f.entries)) fault h g i f.moved
+          (no_more t (place_there state notes t extent at old mid entries h g lt over (went t entries over) f))
 
 -- the head of the next entry can't be read
 pub head_unread : (state : LogState) (notes : Notes) (extent : Extent) (at : ℕ) (old mid now : Session) (fault : CompactFault) (a b c : Option Told)
     (n m k : ℕ) → at < extent.size
     → Did (EachOfSegment extent old) (FrontOfSegment state notes extent at old mid) (RefusesSegment extent old) a b n m (Ok tt)
-    → Did Reads Reads
-    (λ f h g. (g ≡ h) × ((entry : LogEntry) → BeginsAt (segment_bytes (files_now h) extent.segment) at entry → IsOutside f)) b c m k (Err fault)
+    → Did Reads Reads (λ f h g. (g ≡ h) × (IsPlace (files_now h) extent at → IsOutside f)) b c m k (Err fault)
     → Did (EachOfSegment extent old) (MovesSegment state notes extent old now) (RefusesSegment extent old) a c n k (Err fault)
 head_unread state notes extent at old mid now fault a b c n m k lt p r =
     did_stopped (EachOfSegment extent old) (FrontOfSegment state notes extent at old mid) (RefusesSegment extent old) Reads Reads
-    (λ f h g. (g ≡ h) × ((entry : LogEntry) → BeginsAt (segment_bytes (files_now h) extent.segment) at entry → IsOutside f))
+    (λ f h g. (g ≡ h) × (IsPlace (files_now h) extent at → IsOutside f))
     (EachOfSegment extent old) (MovesSegment state notes extent old now) (RefusesSegment extent old) a b c n m k fault
     (λ h g i went done front e. subst (λ (x : History). EachOfSegment extent old h x) (sym e) went)
     (λ h g i went front no_more t entries over committed pending w.
-    let f = front t entries over in
-    let same = bytes_stay t extent.segment h g over.low ((went t entries over).stays over.committed over.pending over.writing) in
-    let bytes = segment_bytes (files_now h) extent.segment in
-    let sized = over.has.sized in
-    let there = begins_there bytes at f.entries entries f.read over.has.split (omega (arith, lt, sized)) in
-    outside_refuses fault (files_now i) (no_more.1 there.0 (subst (λ (x : List ℕ). BeginsAt x at there.0) (sym same) there.1)))
+    outside_refuses fault (files_now i)
+    (no_more.1 (place_there state notes t extent at old mid entries h g lt over (went t entries over) (front t entries over))))
     p r
 
 -- the place behind the next entry is refused
 pub place_refused : (state : LogState) (notes : Notes) (extent : Extent) (at : ℕ) (head : Head) (old mid now : Session) (fault : CompactFault)
-    (R : CompactFault → History → History → Type 0) (a b c : Option Told) (n m k : ℕ) → extent.size < 2 ^ 64 → compact_failed fault ≡ false
+    (R : CompactFault → History → History → Type 0) (a b c : Option Told) (n m k : ℕ) → at < extent.size → extent.size < 2 ^ 64
+    → compact_failed fault ≡ false
     → (head.size ≡ 0) ⊎ (2 ^ 64 ≤ at + head.size)
     → Did (EachOfSegment extent old) (FrontOfSegment state notes extent at old mid) (RefusesSegment extent old) a b n m (Ok tt)
-    → Did Reads (ReadsHead extent.segment at head) R b c m k (Ok tt)
+    → Did Reads (ReadsHead extent at head) R b c m k (Ok tt)
     → Did (EachOfSegment extent old) (MovesSegment state notes extent old now) (RefusesSegment extent old) a c n k (Err fault)
-place_refused state notes extent at head old mid now fault R a b c n m k small still refused p r =
+place_refused state notes extent at head old mid now fault R a b c n m k lt small still refused p r =
     did_stopped (EachOfSegment extent old) (FrontOfSegment state notes extent at old mid) (RefusesSegment extent old) Reads Reads
-    (λ f. ReadsHead extent.segment at head)
+    (λ f. ReadsHead extent at head)
     (EachOfSegment extent old) (MovesSegment state notes extent old now) (RefusesSegment extent old) a b c n m k fault
     (λ h g i went done front e. subst (λ (x : History). EachOfSegment extent old h x) (sym e) went)
     (λ h g i went front known t entries over committed pending w.
-    let same = bytes_stay t extent.segment h g over.low ((went t entries over).stays over.committed over.pending over.writing) in
-    let bytes = segment_bytes (files_now g) extent.segment in
-    let sized : extent.size ≡ length bytes = over.has.sized ∙ ap length (sym same) in
-    place_fits bytes at head (RefusesCompact (files_now i) fault) known.1 (omega (arith, small, sized)) refused)
+    let there = place_there state notes t extent at old mid entries h g lt over (went t entries over) (front t entries over) in
+    let sized = there.sized in
+    place_fits (segment_bytes (files_now g) extent.segment) at head (RefusesCompact (files_now i) fault) (known.1 there) (omega (arith, small, sized)) refused)
     p
-    (did_stopped Reads (ReadsHead extent.segment at head) R Reads Reads (λ f. Reads) Reads Reads (λ f. ReadsHead extent.segment at head) b c c m k k fault
+    (did_stopped Reads (ReadsHead extent at head) R Reads Reads (λ f. Reads) Reads Reads (λ f. ReadsHead extent at head) b c c m k k fault
     (λ h g i e done known f. f ∙ e)
     (λ h g i e known f. (f ∙ e, known.1))
     r (did_nothing Reads Reads (λ f. Reads) c k fault still (λ h. refl) (λ h. refl)))

@@ -1,10 +1,10 @@
 -- Lemmas on specs/Reading.antt: an entry begins at each place of a segment that is come to, and the logs of segments one after another.
-use Rattle.std.proofs.Common.{◌≡◌, ◌⊎◌, inl, inr, ℕ, ◌+◌, ◌<◌, ◌≤◌, ◌^◌, false, List, [], ◌∷◌, ◌++◌, length, drop, map, Result, Ok, Err, MatchResult}
-use Rattle.std.proofs.Common.{Option, Some, None, IfSome, option_map}
+use Rattle.std.proofs.Common.{◌≡◌, ◌⊎◌, inl, inr, ℕ, ◌+◌, ◌-◌, ◌<◌, ◌≤◌, ◌^◌, false, min, List, [], ◌∷◌, ◌++◌, length, take, drop, map, Result, Ok, Err}
+use Rattle.std.proofs.Common.{MatchResult, Option, Some, None, IfSome, option_map}
 use Rattle.std.proofs.Common.{refl, sym, ◌∙◌, ap, subst, arith}
-use Rattle.std.proofs.lemmas.List.{drop-drop, drop_at, length-append, length-drop}
+use Rattle.std.proofs.lemmas.List.{drop-drop, drop_at, length-append, length-drop, length-take-le}
 use Rattle.std.specs.List.{AllByRecursion}
-use Rattle.std.specs.Result.{IsErrAnd}
+use Rattle.std.specs.Result.{IsErrAnd, IsOkAnd}
 use Rattle.ferry_compact.specs.Fault.{compact_failed}
 use Rattle.ferry_compact.specs.Reading.{Covers, HasSegment, IsOutside}
 use Rattle.ferry_compact.specs.declared.fault.CompactFault.{CompactFault}
@@ -16,12 +16,15 @@ use Rattle.ferry_log.specs.Log.{Joins, Located, located}
 use Rattle.ferry_log.specs.declared.place.Extent.{Extent}
 use Rattle.ferry_log.specs.Opening.{entry_at}
 use Rattle.ferry_log.specs.Window.{Tells}
-use Rattle.ferry_segment.proofs.EntryLemmas.{length-spelling, size_of-least}
+use Rattle.ferry_segment.proofs.EntryLemmas.{length-spelling, no_spelling, size_of-least, spelling-checked, spelling-crc, spelling-size}
 use Rattle.ferry_segment.proofs.HeadLemmas.{head_size}
 use Rattle.ferry_segment.proofs.SegmentLemmas.{ReadUpTo, read_front}
-use Rattle.ferry_segment.specs.Entry.{Fits, IsEntryAt, LogEntry, size_of, spelling}
-use Rattle.ferry_segment.specs.Head.{BeginsAt, HasHead, head_of}
+use Rattle.ferry_segment.specs.Crc.{crc}
+use Rattle.ferry_segment.specs.Entry.{Fits, IsEntryAt, LogEntry, checked_part, first_fault, size_of, spelling, stated_crc, stated_size}
+use Rattle.ferry_segment.specs.Head.{BeginsAt, HasHead, States, head_of}
 use Rattle.ferry_segment.specs.Segment.{Splits, spellings}
+use Rattle.ferry_segment.specs.declared.entry.EntryFault.{EntryFault}
+use Rattle.ferry_segment.specs.declared.head.StatedHead.{StatedHead}
 use Rattle.ferry_segment.specs.declared.head.Head.{Head}
 
 -- ---- what `?` hands on
@@ -123,6 +126,36 @@ place_fits bytes at head P has small refused =
       | inl none ↦ absurd (omega (arith, none, size, least))
       | inr large ↦ absurd (omega (arith, large, size, within, small))
     ]
+
+-- ---- an entry whose first bytes are read
+
+-- the checksum that they state is right
+pub right_stated : (bytes : List ℕ) (at : ℕ) (e : LogEntry) (stated : StatedHead) → BeginsAt bytes at e → States (drop at bytes) stated
+    → stated.crc ≡ crc (take (stated.head.size - 4) (drop 4 (drop at bytes)))
+right_stated bytes at e stated begins s =
+    let rest = drop (at + size_of e) bytes in
+    let size : stated.head.size ≡ size_of e = s.size ∙ (ap stated_size begins.spelled ∙ spelling-size e rest begins.fits) in
+    let sum : take (stated.head.size - 4) (drop 4 (drop at bytes)) ≡ checked_part e =
+    ap (λ (n : ℕ). take (n - 4) (drop 4 (drop at bytes))) size
+    ∙ (ap (λ (l : List ℕ). take (size_of e - 4) (drop 4 l)) begins.spelled ∙ spelling-checked e rest) in
+    s.crc ∙ (ap stated_crc begins.spelled ∙ (spelling-crc e rest ∙ ap crc (sym sum)))
+
+-- it breaks no rule
+pub begins_right : (bytes : List ℕ) (at : ℕ) (e : LogEntry) (fault : EntryFault) → BeginsAt bytes at e → first_fault (drop at bytes) ≡ Some fault → ⊥
+begins_right bytes at e fault begins broken = no_spelling (drop at bytes) fault broken e (drop (at + size_of e) bytes) begins.fits begins.spelled
+
+-- how many bytes are read, and how many are left
+pub front_sizes : (bytes front : List ℕ) (at left : ℕ) → length bytes ≡ at + left → front ≡ take (min 41 left) (drop at bytes)
+    → (length (drop at bytes) ≡ left) × (length front ≡ min 41 left) × (front ≡ take (length front) (drop at bytes))
+front_sizes bytes front at left size is =
+    let all : length (drop at bytes) ≡ left = omega (arith, length-drop at bytes, size) in
+    let some : length front ≡ min 41 left = ap length is ∙ length-take-le (min 41 left) (drop at bytes) (omega (arith, all)) in
+    (all, some, is ∙ ap (λ (n : ℕ). take n (drop at bytes)) (sym some))
+
+-- where no refusal can be, it is `Ok`
+pub ok_by : {T E : Type 0} (r : Result T E) (P : T → Type 0) (Q : E → Type 0) → MatchResult r P Q → ((fault : E) → Q fault → ⊥) → IsOkAnd r P
+ok_by (Ok x) P Q m none = m
+ok_by (Err fault) P Q m none = absurd (none fault m)
 
 -- ---- segments one after another
 

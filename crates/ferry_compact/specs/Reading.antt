@@ -23,6 +23,12 @@ pub record HasSegment (files : Files) (extent : Extent) (entries : List LogEntry
   pub split : Splits (segment_bytes files extent.segment) entries
   pub sized : extent.size ≡ length (segment_bytes files extent.segment)
 
+-- A segment has so many bytes, and an entry begins at a place of it.
+pub record IsPlace (files : Files) (extent : Extent) (at : ℕ) : Type 0 where
+  pub entry : LogEntry
+  pub begins : BeginsAt (segment_bytes files extent.segment) at entry
+  pub sized : extent.size ≡ length (segment_bytes files extent.segment)
+
 -- An entry with this head begins at a place of a segment.
 pub record HasEntry (files : Files) (segment at : ℕ) (head : Head) (entry : LogEntry) : Type 0 where
   pub begins : BeginsAt (segment_bytes files segment) at entry

@@ -132,7 +132,7 @@ fn move_segment<D: Depot>(
     let size = extent.size;
     let mut at = MAGIC.len() as u64;
     while at < size {
-        let head = head_there(alloc, depot, segment, at)?;
+        let head = head_there(alloc, depot, extent, at)?;
         let place = place_behind(segment, at, head.size)?;
         move_entry(depot, log, stays, segment, at, &head, session, bytes)?;
         at = place;

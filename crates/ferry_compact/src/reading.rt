@@ -1,7 +1,7 @@
 //! Entries of a segment, as the passes over a log read them.
-ghost use Rattle.std.specs.Prelude.{◌≡◌, ◌⊎◌, ◌+◌, ◌<◌, ◌≤◌, ◌^◌, IfOk, IfErr, MatchResult};
+ghost use Rattle.std.specs.Prelude.{◌≡◌, ◌⊎◌, ◌+◌, ◌<◌, ◌≤◌, ◌^◌, List, ℕ, drop, length, min, take, IfOk, IfErr, IsOkAnd, MatchResult};
 ghost use Rattle.ferry_compact.specs.Fault.{compact_failed};
-ghost use Rattle.ferry_compact.specs.Reading.{IsOutside};
+ghost use Rattle.ferry_compact.specs.Reading.{IsOutside, IsPlace};
 ghost use Rattle.ferry_compact.specs.declared.fault.CompactFault.TheVariants as Compact;
 ghost use Rattle.ferry_disk.specs.Device.{HasCause, KeepsTold};
 ghost use Rattle.ferry_disk.specs.Files.{Files, segment_bytes};
@@ -10,9 +10,10 @@ ghost use Rattle.ferry_segment.specs.Entry.{LogEntry};
 ghost use Rattle.ferry_segment.specs.Head.{BeginsAt, HasHead};
 
 use crate::fault::CompactFault;
-use ferry_disk::Depot;
-use ferry_log::head_at;
-use ferry_segment::Head;
+use ferry_base::PUT_HEAD;
+use ferry_disk::{Depot, Name, read_part};
+use ferry_log::Extent;
+use ferry_segment::{EntryFault, Head, read_head};
 use std::alloc::Global;
 
 /// The tag of a PUT.
@@ -21,21 +22,42 @@ pub(crate) const PUT: u8 = 0;
 /// The tag of a DELETE.
 pub(crate) const DELETE: u8 = 1;
 
+/// The head that the first bytes of an entry state: 41 of them, or as many as are left from its first byte on. Its checksum is taken as it is stated.
+fn stated_head(front: &[u8], left: u64) -> Result<Head, EntryFault>
+    ensures head { (bytes : List ℕ) (at : ℕ) (entry : LogEntry) → BeginsAt bytes at entry → length bytes ≡ at + left
+        → front.now ≡ take (min 41 left) (drop at bytes) → IsOkAnd result (HasHead bytes at) }
+{
+    let count = front.len();
+    if count < PUT_HEAD && (count as u64) < left {
+        return Err(EntryFault::Short);
+    }
+    let stated = read_head(front, left)?;
+    stated.check(stated.crc)
+}
+
 /// The head of the entry that begins at byte `at` of a segment, which is to be there.
+///
+/// The entry was read with its checksum when the log was opened, so its first bytes alone are read here.
 pub(crate) fn head_there<D: Depot>(
     alloc: Global,
     depot: &mut D,
-    segment: u64,
+    extent: &Extent,
     at: u64,
 ) -> Result<Head, CompactFault>
-    ensures head { (files : Files) → Tells (D.told depot.old) files → MatchResult result (HasHead (segment_bytes files segment) at)
-        (λ fault. (entry : LogEntry) → BeginsAt (segment_bytes files segment) at entry → IsOutside fault) }
+    requires inside { at < extent.now.size }
+    ensures head { (files : Files) → Tells (D.told depot.old) files → IsPlace files extent.now at
+        → MatchResult result (HasHead (segment_bytes files extent.now.segment) at) IsOutside }
     ensures same { KeepsTold compact_failed (D.told depot.old) (D.told depot.new) result }
     ensures cause { HasCause compact_failed (D.faults depot.old) (D.faults depot.new) result }
 {
-    match head_at(alloc, depot, segment, at)? {
-        Some(head) => Ok(head),
-        None => Err(CompactFault::Damaged { segment, at }),
+    let segment = extent.segment;
+    let left = extent.size - at;
+    let count = left.min(PUT_HEAD as u64) as usize;
+    let mut front = Vec::new(alloc);
+    read_part(depot, Name::Segment(segment), at, count, &mut front)?;
+    match stated_head(&front, left) {
+        Ok(head) => Ok(head),
+        Err(_) => Err(CompactFault::Damaged { segment, at }),
     }
 }
 

@@ -116,7 +116,7 @@ fn note_segment<D: Depot>(
     let size = extent.size;
     let mut at = MAGIC.len() as u64;
     while at < size {
-        let head = head_there(alloc, depot, segment, at)?;
+        let head = head_there(alloc, depot, extent, at)?;
         note_head(log, segment, among, &head, stays)?;
         at = place_behind(segment, at, head.size)?;
     }

@@ -23,6 +23,13 @@ pub(crate) struct Side {
     pub(crate) walk: Walk,
 }
 
+/// The walk of a side, whose record isn't kept.
+pub(crate) fn walk_of(side: Side) -> Walk
+    ensures walk { walk_view result ≡ (side_view side).walk }
+{
+    side.walk
+}
+
 /// Reads the record of the archive of a name.
 pub(crate) fn open_side<S: Shelf>(
     repo: &mut Repo,

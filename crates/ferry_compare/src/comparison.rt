@@ -9,7 +9,7 @@ ghost use Rattle.ferry_compare.specs.Compare.{comparison_view, FitsTold, AreEqua
 ghost use Rattle.ferry_compare.specs.Fault.{source_failed, target_failed, IsTargetFault, RefusesTarget};
 ghost use Rattle.ferry_compare.specs.Steps.{EndsBeside, GoesOn, RefusesSource, RefusesItem, TakesItem, WalksBeside, kept_where};
 
-use crate::beginning::{keep_side, open_side, open_target};
+use crate::beginning::{keep_side, open_side, open_target, walk_of};
 use crate::contents::{read_content, same_item};
 use crate::fault::CompareFault;
 use crate::items::{ends_beside, next_beside};
@@ -74,14 +74,21 @@ impl Comparison {
     {
         let owned = Vec::from_slice(alloc, name)?;
         let first = open_side(source, shelf, name)?;
-        let second = open_target(target, other, name)?;
-        let beside = keep_side(source, target, name, &first, second);
-        Ok(Comparison {
-            alloc,
-            name: owned,
-            walk: first.walk,
-            other: beside,
-        })
+        match open_target(target, other, name) {
+            Ok(second) => {
+                let beside = keep_side(source, target, name, &first, second);
+                Ok(Comparison {
+                    alloc,
+                    name: owned,
+                    walk: walk_of(first),
+                    other: beside,
+                })
+            }
+            Err(fault) => {
+                drop(first);
+                Err(fault)
+            }
+        }
     }
 
     /// Takes one more item of the source with its content, and compares that of the target beside it; or meets the end of the source's archive.
@@ -172,8 +179,9 @@ fn take<S: Shelf, T: Shelf>(
 {
     match next_beside(walk, target, other)? {
         Some(beside) => {
-            let same = same_item(alloc, source, shelf, target, other, item, &beside)?;
-            keep_where(same, walk);
+            let compared = same_item(alloc, source, shelf, target, other, item, &beside);
+            drop(beside);
+            keep_where(compared?, walk);
             Ok(())
         }
         None => {

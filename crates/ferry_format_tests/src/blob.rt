@@ -7,8 +7,8 @@ ghost use Rattle.ferry_blob.specs.Batch.{IsSealable, bytes_at};
 use crate::bytes::joined;
 use ferry_base::{Id, ZERO_ID};
 use ferry_blob::{
-    BlobFault, Mode, blob_laws, block_laws, blocks_of, id_of, ids_of, open_blob, open_blobs, seal,
-    seal_blobs,
+    BlobFault, Mode, blob_laws, block_laws, blocks_of, id_of, ids_many, ids_of, open_blob,
+    open_blobs, open_many, seal, seal_blobs, seal_many,
 };
 use ferry_mac::Keys;
 use std::alloc::{AllocError, Global};
@@ -277,6 +277,15 @@ fn seal_few(keys: &Keys, nonces: &[u64], buffers: &mut [Vec<u8>]) -> bool {
     true
 }
 
+/// Seals up to 64 contents. Tells whether it could.
+fn seal_all(keys: &Keys, nonces: &[u64], buffers: &mut [Vec<u8>]) -> bool {
+    if nonces.len() != buffers.len() || 64 < buffers.len() || !are_sealable(nonces, buffers) {
+        return false;
+    }
+    seal_many(keys, Mode::Repokey, nonces, buffers);
+    true
+}
+
 /// Contents, each behind 43 bytes that are not read.
 fn buffers_of(alloc: Global, contents: &[&[u8]]) -> Result<Vec<Vec<u8>>, AllocError> {
     let mut buffers = Vec::new(alloc);
@@ -372,4 +381,40 @@ fn two_are_sealed(alloc: Global) -> bool {
 #[test]
 fn two_of_unequal_lengths_are_sealed_named_and_opened(rt: HostRuntime) {
     assert!(rt; two_are_sealed(rt.alloc()));
+}
+
+/// Whether two blobs are opened by `open_many` under those ids.
+fn all_are_opened(keys: &Keys, ids: &[Id; 2], blobs: &mut [Vec<u8>]) -> bool {
+    if blobs.len() != 2 {
+        return false;
+    }
+    let mut answers = [Err(BlobFault::Short); 2];
+    open_many(keys, ids, blobs, &mut answers);
+    answers == [Ok(()), Ok(())]
+}
+
+/// Whether `hello` and this content are sealed by `seal_many` and opened again.
+fn all_are_sealed(long: &[u8; 1000], buffers: &mut [Vec<u8>]) -> bool {
+    let keys = keys();
+    let mut ids = [ZERO_ID; 2];
+    ids_many(&keys, &[b"hello", long], &mut ids);
+    ids[0] == HELLO_ID
+        && seal_all(&keys, &[NONCE; 2], buffers)
+        && are_two_blobs(buffers)
+        && all_are_opened(&keys, &ids, buffers)
+        && are_two_contents(buffers, long)
+}
+
+/// Whether many contents of unequal lengths are sealed, named and opened.
+fn many_are_sealed(alloc: Global) -> bool {
+    let long = [b'a'; 1000];
+    match buffers_of(alloc, &[b"hello", &long]) {
+        Ok(mut uneven) => all_are_sealed(&long, uneven.as_mut_slice()),
+        Err(_) => false,
+    }
+}
+
+#[test]
+fn many_of_unequal_lengths_are_sealed_named_and_opened(rt: HostRuntime) {
+    assert!(rt; many_are_sealed(rt.alloc()));
 }

@@ -2,7 +2,7 @@
 
 ghost use Rattle.std.specs.Prelude.{◌<◌};
 
-use ferry_mac::{hkdf512, hmac256, hmac256_four, hmac512, pbkdf2};
+use ferry_mac::{hkdf512, hmac256, hmac256_four, hmac256_many, hmac512, pbkdf2};
 
 /// A key, a text, and what their MACs over SHA-256 and SHA-512 begin with.
 struct MacCase {
@@ -282,4 +282,32 @@ fn four_macs_are_those_of_unequal_lengths(rt: HostRuntime) {
     for first in 0..12usize {
         assert!(rt; are_of_lengths(first));
     }
+}
+
+/// The texts of the lengths of the table.
+fn texts_of_lengths(bytes: &[u8; 200]) -> [&[u8]; 12] {
+    let mut texts: [&[u8]; 12] = [&[]; 12];
+    for place in 0..12usize {
+        texts[place] = &bytes[..LENGTH_CASES[place].0];
+    }
+    texts
+}
+
+/// Whether the MACs of texts of all lengths of the table, side by side, are those of the table.
+fn all_are_of_lengths() -> bool {
+    let bytes = [0x61u8; 200];
+    let texts = texts_of_lengths(&bytes);
+    let mut macs = [[0u8; 32]; 12];
+    hmac256_many(b"Jefe", &texts, &mut macs);
+    for place in 0..12usize {
+        if !macs[place].starts_with(&LENGTH_CASES[place].1) {
+            return false;
+        }
+    }
+    true
+}
+
+#[test]
+fn macs_of_many_lengths_side_by_side_are_those_of_the_lengths(rt: HostRuntime) {
+    assert!(rt; all_are_of_lengths());
 }

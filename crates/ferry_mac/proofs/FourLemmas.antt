@@ -96,3 +96,14 @@ map_of_four f (a ∷ []) e = absurd (omega arith)
 map_of_four f (a ∷ b ∷ []) e = absurd (omega arith)
 map_of_four f (a ∷ b ∷ c ∷ []) e = absurd (omega arith)
 map_of_four f (a ∷ b ∷ c ∷ d ∷ x ∷ xs) e = absurd (omega arith)
+
+-- HMAC by the hash values after the key's two blocks
+pub hmac_by_behind : (key text start last digest mac : List ℕ) → start ≡ compress initial_hash_256 (xored_with inner_pad (block_key sha256 64 key))
+    → last ≡ compress initial_hash_256 (xored_with outer_pad (block_key sha256 64 key)) → digest ≡ digest_bytes (hashed_behind start text) 8
+    → mac ≡ digest_bytes (hashed_behind last digest) 8 → mac ≡ hmac256 key text
+hmac_by_behind key text start last digest mac es el ed em =
+    let inner = xored_with inner_pad (block_key sha256 64 key) in
+    let outer = xored_with outer_pad (block_key sha256 64 key) in
+    hmac_by_digests key text inner outer digest mac refl refl
+    (digest_by_first inner text start (hashed_behind start text) digest (length-pad key inner_pad) es refl ed)
+    (digest_by_first outer digest last (hashed_behind last digest) mac (length-pad key outer_pad) el refl em)

@@ -5,3 +5,5 @@ mod LaneLemmas
 mod RoundLemmas
 mod EndingLemmas
 mod FourLemmas
+mod ManyLemmas
+mod OrderLemmas

@@ -3,3 +3,4 @@ pub mod Keyed
 pub mod Hkdf
 pub mod Pbkdf2
 pub mod Lanes
+pub mod Many

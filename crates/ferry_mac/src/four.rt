@@ -27,7 +27,7 @@ fn initial() -> State
 }
 
 /// The hash value after the block of a key, once for each message.
-fn keyed(block: &[u8; 64]) -> State
+pub(crate) fn keyed(block: &[u8; 64]) -> State
     ensures { (l : ℕ) → l < 4 → lane result l ≡ compress initial_hash_256 block.now }
 {
     let mut w = [u32x4::splat(0); 64];
@@ -36,7 +36,7 @@ fn keyed(block: &[u8; 64]) -> State
 }
 
 /// How many blocks a text and its padding have. The padding has 9 bytes at least (5.1.1).
-fn block_count(text: &[u8]) -> usize
+pub(crate) fn block_count(text: &[u8]) -> usize
     ensures { result ≡ length (behind_key text.now) / 64 }
 {
     (text.len() + 72) / BLOCK_LEN
@@ -74,7 +74,7 @@ fn with_length(mut end: [u8; 128], len: usize, bits: u64) -> [u8; 128]
 
 /// The bytes of a text behind its last whole block, with the padding of a message that has one block
 /// before the text (5.1.1). They are one block or two.
-fn ending(text: &[u8]) -> [u8; 128]
+pub(crate) fn ending(text: &[u8]) -> [u8; 128]
     ensures { IsEnding result text.now }
 {
     let rest = &text[text.len() / BLOCK_LEN * BLOCK_LEN..];
@@ -85,7 +85,7 @@ fn ending(text: &[u8]) -> [u8; 128]
 
 /// Block `n` of a text and its padding, of which `end` has what is behind the last whole block of
 /// the text. Behind the last block it is any block.
-fn block_at<'a>(text: &'a [u8], end: &'a [u8; 128], n: usize) -> &'a [u8]
+pub(crate) fn block_at<'a>(text: &'a [u8], end: &'a [u8; 128], n: usize) -> &'a [u8]
     requires { IsEnding end.now text.now }
     ensures length { length result.now ≡ 64 }
     ensures block { n < length (behind_key text.now) / 64 → result.now ≡ take 64 (drop (n * 64) (behind_key text.now)) }
@@ -111,7 +111,7 @@ fn word_kept(going: u32x4, next: u32x4, state: u32x4) -> u32x4
 
 /// For each message the hash value of `next` where `going` is 1, and else that of `state`.
 #[inline(always)]
-fn kept(going: u32x4, next: &State, state: &State) -> State
+pub(crate) fn kept(going: u32x4, next: &State, state: &State) -> State
     ensures { (l : ℕ) → l < 4 → lane result l ≡ (if slice_index going l == 1 then lane next.now l else lane state.now l) }
 {
     [
@@ -128,7 +128,7 @@ fn kept(going: u32x4, next: &State, state: &State) -> State
 
 /// 1 for each of four messages that has more blocks than `n`, and 0 for the others.
 #[inline(always)]
-fn going(counts: [usize; 4], n: usize) -> u32x4
+pub(crate) fn going(counts: [usize; 4], n: usize) -> u32x4
     ensures { (l : ℕ) → l < 4 → slice_index result l ≡ (if nat_lt n (slice_index counts l) then 1 else 0) }
 {
     u32x4::from_array([
@@ -140,8 +140,9 @@ fn going(counts: [usize; 4], n: usize) -> u32x4
 }
 
 /// The most blocks of four messages.
-fn most(counts: [usize; 4]) -> usize
-    ensures { (l : ℕ) → l < 4 → slice_index counts l ≤ result }
+pub(crate) fn most(counts: [usize; 4]) -> usize
+    ensures each { (l : ℕ) → l < 4 → slice_index counts l ≤ result }
+    ensures least { (bound : ℕ) → ((l : ℕ) → l < 4 → slice_index counts l ≤ bound) → result ≤ bound }
 {
     let [a, b, c, d] = counts;
     a.max(b).max(c.max(d))
@@ -149,7 +150,7 @@ fn most(counts: [usize; 4]) -> usize
 
 /// The hash values of four messages, each a block and a text. `start` has their hash values after the
 /// blocks. A message that has ended stands still while others go on.
-fn hashed(start: &State, texts: [&[u8]; 4]) -> State
+pub(crate) fn hashed(start: &State, texts: [&[u8]; 4]) -> State
     ensures { (l : ℕ) → l < 4
         → lane result l ≡ hashed_behind (lane start.now l) (slice_index_or (map (λ text. text.now) texts.entry) l []) }
 {
@@ -179,7 +180,7 @@ fn hashed(start: &State, texts: [&[u8]; 4]) -> State
 }
 
 /// The digest of message `place` (FIPS 180-4, 6.2.2).
-fn digest(state: &State, place: usize) -> [u8; 32]
+pub(crate) fn digest(state: &State, place: usize) -> [u8; 32]
     requires { place < 4 }
     ensures { result ≡ digest_bytes (lane state.now place) 8 }
 {
@@ -192,7 +193,7 @@ fn digest(state: &State, place: usize) -> [u8; 32]
 }
 
 /// The digests of four messages.
-fn digests(state: &State) -> [[u8; 32]; 4]
+pub(crate) fn digests(state: &State) -> [[u8; 32]; 4]
     ensures { result ≡ digest_bytes (lane state.now 0) 8 ∷ digest_bytes (lane state.now 1) 8
         ∷ digest_bytes (lane state.now 2) 8 ∷ digest_bytes (lane state.now 3) 8 ∷ [] }
 {

@@ -8,12 +8,13 @@ use Rattle.ferry_disk.specs.Image.{plain_in}
 use Rattle.ferry_disk.specs.declared.name.Name.TheVariants.{Nonce}
 use Rattle.ferry_disk.proofs.DeviceLemmas.{told_any}
 use Rattle.ferry_disk.proofs.ImageLemmas.{plain_read, nonce_plain}
-use Rattle.ferry_stops.specs.Counters.{IsNonce, Counts}
-use Rattle.ferry_nonce.specs.Counter.{CounterFits, HasNoNumber, IsExactly, Reads, ReadsFile, file_size}
+use Rattle.ferry_stops.specs.Counters.{IsNonce}
+use Rattle.ferry_nonce.specs.Counter.{CounterFits, HasNoNumber, IsExactly, IsReserved, Reads, ReadsFile, file_size}
 use Rattle.ferry_nonce.specs.Text.{number_in}
 use Rattle.ferry_nonce.specs.declared.counter.Counter.{Counter}
 use Rattle.ferry_nonce.specs.declared.fault.NonceFault.{NonceFault}
 use Rattle.ferry_nonce.specs.declared.fault.NonceFault.TheVariants.{Missing, Text, Exhausted, Device, Memory}
+use Rattle.ferry_nonce.proofs.MomentLemmas.{counts_reserved}
 use Rattle.ferry_nonce.proofs.TextLemmas.{none_read, read_spells, spelled_read}
 
 -- ---- a file of another size
@@ -35,22 +36,23 @@ number_is : (committed : Bool) (file : Option (List ℕ)) (number : ℕ) → Rea
 number_is committed None number r = r.1
 number_is committed (Some text) number r = read_spells text number r
 
-pub counts_at_rest : (number : ℕ) (history : History) → IsNonce (file_at (files_now history) Nonce) number → (plain_in history Nonce).perhaps ≡ None
-    → Counts number history
-counts_at_rest number history is rest = record {
+reserved_at_rest : (number : ℕ) (history : History) → IsNonce (file_at (files_now history) Nonce) number → (plain_in history Nonce).perhaps ≡ None
+    → IsReserved number history
+reserved_at_rest number history is rest = record {
   file = (plain_in history Nonce).read;
   at_rest = ap (λ (p : Option (List ℕ)). record { read = (plain_in history Nonce).read; perhaps = p }) rest;
-  value = number;
   nonce = subst (λ (o : Option (List ℕ)). IsNonce o number) (plain_read history.start history.acts Nonce nonce_plain) is;
-  within = omega arith;
 }
 
 opens_fits : (committed : Bool) (counter : Counter) (t : Told) → counter.reserved ≡ counter.free
     → ReadsFile committed (file_at (told_files t) Nonce) (Ok counter.free) → (plain_in t.history Nonce).perhaps ≡ None → CounterFits counter t.history
 opens_fits committed counter t same r rest =
     let number = number_is committed (file_at (told_files t) Nonce) counter.free r in
-    let counts : Counts counter.free t.history = counts_at_rest counter.free t.history number rest in
-    record { reserved = subst (λ (n : ℕ). Counts n t.history) (sym same) counts; free = counts }
+    let reserved : IsReserved counter.free t.history = reserved_at_rest counter.free t.history number rest in
+    record {
+      reserved = subst (λ (n : ℕ). IsReserved n t.history) (sym same) reserved;
+      free = counts_reserved counter.free counter.free t.history (omega arith) reserved;
+    }
 
 -- ---- exactly where
 

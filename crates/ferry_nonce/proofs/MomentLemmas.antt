@@ -16,7 +16,7 @@ use Rattle.ferry_disk.proofs.ImageStepLemmas.{stands_only}
 use Rattle.ferry_disk.proofs.MomentLemmas.{between_map}
 use Rattle.ferry_stops.specs.Blobs.{FileHasBlob, HasBlob, IsRow, BlobOf, row_after}
 use Rattle.ferry_stops.specs.Counters.{IsNonce, IsAbove, Counts, TakenBelow}
-use Rattle.ferry_nonce.specs.Counter.{CounterFits, HasAtLeast, IsDrawnSince, IsFrom, IsSafeBelow, KeepsAbove, KeepsNumbers, LeavesNonce, begin_of}
+use Rattle.ferry_nonce.specs.Counter.{CounterFits, HasAtLeast, IsDrawnSince, IsFrom, IsReserved, IsSafeBelow, KeepsAbove, KeepsNumbers, LeavesNonce, begin_of}
 use Rattle.ferry_nonce.specs.Counter.{reserves}
 use Rattle.ferry_nonce.specs.declared.counter.Counter.{Counter}
 use Rattle.ferry_nonce.specs.Text.{number_text}
@@ -149,13 +149,11 @@ since_drawn free number done history since =
     (λ blob is. inl (blob_by history number done blob is.0 is.1))
     (λ some. subst (λ (f : PlainFate). IsSome f.read) (sym (plain_more history number done)) (some_drawn number done (plain_in history Nonce) some)) since
 
-counts_done : (number : ℕ) (history : History) → number < 2 ^ 64 → Counts number (with_act (reserves number) true history)
-counts_done number history fits = record {
+reserved_done : (number : ℕ) (history : History) → number < 2 ^ 64 → IsReserved number (with_act (reserves number) true history)
+reserved_done number history fits = record {
   file = Some (number_text number);
   at_rest = plain_more history number true;
-  value = number;
   nonce = text_spells number fits;
-  within = omega arith;
 }
 
 -- what stands at a moment at which nothing of the file is in doubt
@@ -229,13 +227,13 @@ same_keeps free history is_settled counts = (
       record { steps = []; each = numbers; now_is = inl refl; last = numbers },
 )
 
-pub counts_less : (more less : ℕ) (history : History) → less ≤ more → Counts more history → Counts less history
-counts_less more less history below counts = record {
-  file = counts.file;
-  at_rest = counts.at_rest;
-  value = counts.value;
-  nonce = counts.nonce;
-  within = omega (arith, below, counts.within);
+pub counts_reserved : (more less : ℕ) (history : History) → less ≤ more → IsReserved more history → Counts less history
+counts_reserved more less history below reserved = record {
+  file = reserved.file;
+  at_rest = reserved.at_rest;
+  value = more;
+  nonce = reserved.nonce;
+  within = below;
 }
 
 -- ---- acts that leave the file as it is
@@ -267,10 +265,18 @@ counts_left free history step done leaves counts = record {
   within = counts.within;
 }
 
+reserved_left : (number : ℕ) (history : History) (step : Step) (done : Bool) → LeavesNonce step → IsReserved number history
+    → IsReserved number (with_act step done history)
+reserved_left number history step done leaves reserved = record {
+  file = reserved.file;
+  at_rest = file_left history step done leaves (ap (λ (f : PlainFate). f.perhaps) reserved.at_rest) ∙ reserved.at_rest;
+  nonce = reserved.nonce;
+}
+
 pub fits_left : (counter : Counter) (history : History) (step : Step) (done : Bool) → LeavesNonce step → CounterFits counter history
     → CounterFits counter (with_act step done history)
 fits_left counter history step done leaves fits = record {
-  reserved = counts_left counter.reserved history step done leaves fits.reserved;
+  reserved = reserved_left counter.reserved history step done leaves fits.reserved;
   free = counts_left counter.free history step done leaves fits.free;
 }
 
@@ -321,31 +327,31 @@ pub replace_told : {T : Type 0} (free number : ℕ) (text : List ℕ) (before no
 replace_told free number text before now result is fits within s e =
     replace_by free number before now result fits within s (subst (λ (b : List ℕ). Acts (ReplaceBy Nonce b) before now result) is e)
 
-counts_by : (number : ℕ) (before now : Option Told) → number < 2 ^ 64 → now ≡ option_map (acted (reserves number) true) before
-    → Between before now (λ b n. Counts number n)
-counts_by number None now fits e = tt
-counts_by number (Some t) now fits e = (acted (reserves number) true t, e, counts_done number t.history fits)
+reserved_by : (number : ℕ) (before now : Option Told) → number < 2 ^ 64 → now ≡ option_map (acted (reserves number) true) before
+    → Between before now (λ b n. IsReserved number n)
+reserved_by number None now fits e = tt
+reserved_by number (Some t) now fits e = (acted (reserves number) true t, e, reserved_done number t.history fits)
 
-pub counts_told : (number : ℕ) (text : List ℕ) (before now : Option Told) → text ≡ number_text number → number < 2 ^ 64
-    → now ≡ option_map (acted (ReplaceBy Nonce text) true) before → Between before now (λ b n. Counts number n)
-counts_told number text before now is fits e =
-    counts_by number before now fits (subst (λ (b : List ℕ). now ≡ option_map (acted (ReplaceBy Nonce b) true) before) is e)
+pub reserved_told : (number : ℕ) (text : List ℕ) (before now : Option Told) → text ≡ number_text number → number < 2 ^ 64
+    → now ≡ option_map (acted (ReplaceBy Nonce text) true) before → Between before now (λ b n. IsReserved number n)
+reserved_told number text before now is fits e =
+    reserved_by number before now fits (subst (λ (b : List ℕ). now ≡ option_map (acted (ReplaceBy Nonce b) true) before) is e)
 
 -- ---- a counter after a draw
 
 pub fits_more : (old : Counter) (free reserved more : ℕ) (spent : Bool) (before now : Option Told) → reserved ≡ more → free ≤ more
-    → Between before now (λ b n. Counts more n)
+    → Between before now (λ b n. IsReserved more n)
     → Between before now (λ b n. CounterFits old b → CounterFits (record { free = free; reserved = reserved; spent = spent }) n)
 fits_more old free reserved more spent before now is within counts =
-    between_map before now (λ b n. Counts more n)
+    between_map before now (λ b n. IsReserved more n)
     (λ b n. CounterFits old b → CounterFits (record { free = free; reserved = reserved; spent = spent }) n)
-    (λ b n counts fits. record { reserved = subst (λ (k : ℕ). Counts k n) (sym is) counts; free = counts_less more free n within counts }) counts
+    (λ b n counts fits. record { reserved = subst (λ (k : ℕ). IsReserved k n) (sym is) counts; free = counts_reserved more free n within counts }) counts
 
 pub fits_same : (old : Counter) (free : ℕ) (before : Option Told) → free ≤ old.reserved
     → Between before before (λ b n. CounterFits old b → CounterFits (record old { free = free }) n)
 fits_same old free None within = tt
 fits_same old free (Some t) within =
-    (t, refl, λ fits. record { reserved = fits.reserved; free = counts_less old.reserved free t.history within fits.reserved })
+    (t, refl, λ fits. record { reserved = fits.reserved; free = counts_reserved old.reserved free t.history within fits.reserved })
 
 -- ---- a Settle stays done
 

@@ -62,9 +62,15 @@ spends (Err fault) = false
 
 -- ---- a counter and its file
 
--- The file's number is at least what a counter has reserved, and not below its next free number; nothing of the file is in doubt.
+-- The file has this number, and nothing else may be left of it.
+pub record IsReserved (number : ℕ) (history : History) : Type 0 where
+  pub file : Option (List ℕ)
+  pub at_rest : plain_in history Nonce ≡ record { read = file; perhaps = None }
+  pub nonce : IsNonce file number
+
+-- The file's number is the one up to which a counter has reserved, and not below its next free number; nothing of the file is in doubt.
 pub record CounterFits (counter : Counter) (history : History) : Type 0 where
-  pub reserved : Counts counter.reserved history
+  pub reserved : IsReserved counter.reserved history
   pub free : Counts counter.free history
 
 -- An act doesn't replace the file.

@@ -6,10 +6,10 @@ ghost use Rattle.ferry_disk.specs.Files.{contents_at, file_at};
 ghost use Rattle.ferry_disk.specs.Image.{plain_in, settled};
 ghost use Rattle.ferry_disk.specs.Moments.{Between};
 ghost use Rattle.ferry_disk.specs.declared.name.Name.TheVariants.{Nonce};
-ghost use Rattle.ferry_nonce.specs.Counter.{CounterFits, FitIn, HasNoNumber, IsExactly, IsExhausted, KeepsAbove, Reads, ReadsFile, Reserves, drawn, file_size};
-ghost use Rattle.ferry_nonce.specs.Counter.{reservation, reserved_for, spends};
+ghost use Rattle.ferry_nonce.specs.Counter.{CounterFits, FitIn, HasNoNumber, IsExactly, IsExhausted, IsReserved, KeepsAbove, Reads, ReadsFile};
+ghost use Rattle.ferry_nonce.specs.Counter.{Reserves, drawn, file_size, reservation, reserved_for, spends};
 ghost use Rattle.ferry_nonce.specs.Fault.{nonce_failed};
-ghost use Rattle.ferry_stops.specs.Counters.{IsNonce, Counts};
+ghost use Rattle.ferry_stops.specs.Counters.{IsNonce};
 ghost use Rattle.ferry_stops.specs.Tells.{TellsNothing};
 
 use crate::fault::NonceFault;
@@ -114,7 +114,7 @@ impl Counter {
         ensures reserved { OnOk result (self.new ≡ record self.old { reserved = behind + reservation }) }
         ensures refused { OnErr result (self.new ≡ record self.old { spent = spends result }) }
         ensures replaced { Reserves (behind + reservation) (D.told depot.old) (D.told depot.new) result }
-        ensures fits { OnOk result (Between (D.told depot.old) (D.told depot.new) (λ before now. Counts (behind + reservation) now)) }
+        ensures fits { OnOk result (Between (D.told depot.old) (D.told depot.new) (λ before now. IsReserved (behind + reservation) now)) }
         ensures moments { Between (D.told depot.old) (D.told depot.new) (KeepsAbove self.old.free) }
         ensures stays_settled { IfSome (D.told depot.new) (λ t. settled t.history.acts ≡ true) }
         ensures untold { Between (D.told depot.old) (D.told depot.new) TellsNothing }

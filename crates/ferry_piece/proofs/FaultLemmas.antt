@@ -109,7 +109,7 @@ target_is Stores.Entropy = refl
 target_is Stores.Memory = refl
 
 -- what a call of the store says of the files is said of the fault that is handed up
-pub target_stops : (now : Option Told) (keys : Keys) (refusal : StoreRefusal) → IfSome now (λ t. StopsAt (told_files t) keys refusal)
+pub target_stops : (now : Option Told) (keys : Keys) (refusal : StoreRefusal) → IfSome now (λ t. StopsAt t.history.start (told_files t) keys refusal)
     → StopsTarget now keys (target_fault refusal)
 target_stops now keys (Stores.Repo fault) stops = stops
 target_stops now keys (Stores.Write fault) stops = stops
@@ -121,14 +121,14 @@ target_stops now keys Stores.Memory stops = tt
 
 -- where it isn't that a manifest is too large
 pub pieces_stop : (now : Option Told) (keys : Keys) (refusal : StoreRefusal) → IfSome now (λ t. refusal ≢ Stores.TooLarge)
-    → IfSome now (λ t. StopsAt (told_files t) keys refusal) → StopsPieces now keys (target_fault refusal)
+    → IfSome now (λ t. StopsAt t.history.start (told_files t) keys refusal) → StopsPieces now keys (target_fault refusal)
 pieces_stop now keys refusal small stops = by refusal (both now small stops) where
-  both : (o : Option Told) → IfSome o (λ t. refusal ≢ Stores.TooLarge) → IfSome o (λ t. StopsAt (told_files t) keys refusal)
-      → IfSome o (λ t. (refusal ≢ Stores.TooLarge) × StopsAt (told_files t) keys refusal)
+  both : (o : Option Told) → IfSome o (λ t. refusal ≢ Stores.TooLarge) → IfSome o (λ t. StopsAt t.history.start (told_files t) keys refusal)
+      → IfSome o (λ t. (refusal ≢ Stores.TooLarge) × StopsAt t.history.start (told_files t) keys refusal)
   both None p q = tt
   both (Some t) p q = (p, q)
 
-  by : (r : StoreRefusal) → IfSome now (λ t. (r ≢ Stores.TooLarge) × StopsAt (told_files t) keys r) → StopsPieces now keys (target_fault r)
+  by : (r : StoreRefusal) → IfSome now (λ t. (r ≢ Stores.TooLarge) × StopsAt t.history.start (told_files t) keys r) → StopsPieces now keys (target_fault r)
   by (Stores.Repo fault) s = s
   by (Stores.Write fault) s = s
   by (Stores.Nonce fault) s = s

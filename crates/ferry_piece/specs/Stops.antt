@@ -15,10 +15,10 @@ is_target fault = false
 
 -- What a refusal of the target says of its files as they are then.
 abbrev pub StopsTarget : Option Told → Keys → CarryFault → Type 0
-StopsTarget now keys (Target refusal) = IfSome now (λ t. StopsAt (told_files t) keys refusal)
+StopsTarget now keys (Target refusal) = IfSome now (λ t. StopsAt t.history.start (told_files t) keys refusal)
 StopsTarget now keys fault = Unit {0}
 
 -- The same of a body that puts no manifest, so that none is too large.
 abbrev pub StopsPieces : Option Told → Keys → CarryFault → Type 0
-StopsPieces now keys (Target refusal) = IfSome now (λ t. (refusal ≢ TooLarge) × StopsAt (told_files t) keys refusal)
+StopsPieces now keys (Target refusal) = IfSome now (λ t. (refusal ≢ TooLarge) × StopsAt t.history.start (told_files t) keys refusal)
 StopsPieces now keys fault = Unit {0}

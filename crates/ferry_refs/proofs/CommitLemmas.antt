@@ -1,25 +1,33 @@
 -- Lemmas on specs/DeleteSteps.antt: chunks that were dropped are deleted with the name of their archive.
-use Rattle.std.proofs.Common.{◌≡◌, ◌≢◌, ◌⊎◌, ◌<◌, inl, inr, ℕ, Bool, false, List, length, Option, Some, Result, Ok, Err, IfSome, IfErr, OnOk}
+use Rattle.std.proofs.Common.{◌≡◌, ◌<◌, inl, inr, ℕ, Bool, false, List, length, Option, Some, None, Result, Ok, Err, IfSome, IfErr, OnOk}
 use Rattle.std.proofs.Common.{refl, sym, ◌∙◌, ap, subst}
-use Rattle.ferry_base.specs.Limits.{zero_id}
+use Rattle.ferry_base.specs.Limits.{content_limit, zero_id}
+use Rattle.ferry_blob.specs.Blob.{blocks}
 use Rattle.ferry_disk.proofs.MomentLemmas.{between_both, between_map, between_then}
 use Rattle.ferry_disk.specs.Act.{History, files_now}
-use Rattle.ferry_disk.specs.Device.{Told}
+use Rattle.ferry_disk.specs.Device.{Told, told_files}
+use Rattle.ferry_disk.specs.Faults.{EndsAtFault, FailedWhere}
 use Rattle.ferry_disk.specs.Files.{Files}
 use Rattle.ferry_disk.specs.Moments.{Between, Moments}
 use Rattle.ferry_manifest.specs.Manifest.Text.{ManifestText}
+use Rattle.ferry_manifest.specs.Manifest.Writing.{manifest_text}
+use Rattle.ferry_nonce.specs.Counter.{IsExhausted}
+use Rattle.ferry_nonce.specs.declared.fault.NonceFault.TheVariants as Nonces
 use Rattle.ferry_next.specs.Next.{without_entry, written_at}
 use Rattle.ferry_repo.specs.Opening.{RepoState, repo_view}
-use Rattle.ferry_refs.specs.DeleteSteps.{DeletesWith, DropsAll, SoundWith, with_drops}
-use Rattle.ferry_refs.specs.Deleting.{AreGoing, LeavesCommitted, ShowsEither, next_without, with_deleted}
-use Rattle.ferry_segment.specs.Entry.{LogEntry, PutEntry}
-use Rattle.ferry_store.proofs.StepLemmas.{did_as, did_front, did_then, moments_map, moments_then}
-use Rattle.ferry_store.specs.Commit.{CommitsEntry, ShowsManifest, accepted_in, IsSettled}
-use Rattle.ferry_store.specs.Dropping.{CommitsWithout, FitsWithout}
+use Rattle.ferry_refs.specs.DeleteSteps.{DeletesWith, DropsAll, RefusesDrops, RefusesWith, SoundWith, with_drops}
+use Rattle.ferry_refs.specs.Deleting.{AreGoing, LacksManifestBlocks, LeavesCommitted, ShowsEither, next_without}
+use Rattle.ferry_segment.specs.Entry.{PutEntry}
+use Rattle.ferry_store.proofs.StepLemmas.{did_as, did_front, did_then, moments_then}
+use Rattle.ferry_store.proofs.CauseLemmas.{lacks_blocks}
+use Rattle.ferry_store.specs.Commit.{CommitsEntry, IsSettled, IsUnspentBy, RefusesManifestOf, ShowsManifest, accepted_in}
+use Rattle.ferry_store.specs.Counting.{LacksBlocks}
+use Rattle.ferry_store.specs.Dropping.{CommitsWithout, FitsWithout, IsWriting}
+use Rattle.ferry_store.specs.Fault.{depot_failed}
 use Rattle.ferry_store.specs.Standing.{HoldsManifest, entries_committed, with_manifest}
 use Rattle.ferry_store.specs.State.{Did, IsSound, IsUnderWay, KeepsSound, ShowsStanding, Written, all_committed, with_entry}
-use Rattle.ferry_store.specs.Store.{StoreFits}
 use Rattle.ferry_store.specs.declared.fault.StoreRefusal.{StoreRefusal}
+use Rattle.ferry_store.specs.declared.fault.StoreRefusal.TheVariants as Refusal
 use Rattle.ferry_store.specs.declared.store.Store.{Store}
 use Rattle.ferry_write.specs.Script.{AllDone}
 use Rattle.ferry_piece.proofs.GatherLemmas.{sound_moments}
@@ -184,3 +192,54 @@ leaves_both store now ids {T} a b c n m x some keeps =
     between_then a b c (λ h g. LeavesCommitted store h g × (AllDone h g × DropsAll store ids now h g)) (KeepsSound now.session now.counter)
     (LeavesCommitted store) (λ h g i e f. leaves_then store now ids h g i e.0 e.1.0 e.1.1 f)
     (between_both a b (LeavesCommitted store) (λ h g. AllDone h g × DropsAll store ids now h g) some.each some.end) keeps
+
+-- ---- refusals
+
+-- no chunk was dropped
+pub drops_refused : (repo : RepoState) (name time : List ℕ) (now : Option Told) (refusal : StoreRefusal) → RefusesDrops refusal
+    → RefusesWith repo name time now refusal
+drops_refused repo name time now (Refusal.Write fault) refused = tt
+drops_refused repo name time now Refusal.Memory refused = tt
+drops_refused repo name time now (Refusal.Repo fault) refused = absurd refused
+drops_refused repo name time now (Refusal.Nonce fault) refused = absurd refused
+drops_refused repo name time now Refusal.Committed refused = absurd refused
+drops_refused repo name time now Refusal.TooLarge refused = absurd refused
+drops_refused repo name time now Refusal.Entropy refused = absurd refused
+
+-- the manifest wasn't committed, of which there are so many bytes
+module _ (repo : RepoState) (name time : List ℕ) (store last : Store) (salt text : List ℕ) (sized : length salt ≡ 64)
+    (same : text ≡ manifest_text repo.keys salt (next_without repo.manifest name time)) where
+  -- the counter blocks of its blob aren't left
+  lacks_then : (b e : Option Told) → IfSome b (λ t. IsWriting store t.history) → FailedWhere false b e → IsExhausted store.counter (blocks (length text))
+      → Between b e (λ h g. g ≡ h) → IfSome e (λ t. LacksManifestBlocks repo name time t.history.start (told_files t))
+  lacks_then b None writes ends exhausted kept = tt
+  lacks_then None (Some now) writes ends exhausted kept = absurd (let no : ⊥ = cc in no)
+  lacks_then (Some told) (Some now) writes ends exhausted kept =
+      let first : now ≡ kept.0 = (let f = kept.1 in cc) in
+      let is : now.history ≡ told.history = ap (λ (t : Told). t.history) first ∙ kept.2 in
+      let lacks : LacksBlocks told.history.start (files_now told.history) (blocks (length text)) =
+      lacks_blocks false store.session store.counter writes.written told.history (blocks (length text)) exhausted writes.under_way in (
+        salt,
+        (
+          sized,
+          subst (λ (x : List ℕ). LacksBlocks now.history.start (files_now now.history) (blocks (length x))) same
+              (subst (λ (h : History). LacksBlocks h.start (files_now h) (blocks (length text))) (sym is) lacks),
+        ),
+      )
+
+  pub commit_refused : (b e : Option Told) (r : Result (Unit {0}) StoreRefusal) → IfSome b (λ t. IsWriting store t.history)
+      → EndsAtFault depot_failed b e r → IfErr r (RefusesManifestOf store.counter (length text)) → IfErr r (IsUnspentBy store last b e)
+      → IfErr r (RefusesWith repo name time e)
+  commit_refused b e (Ok x) writes ends refused kept = tt
+  commit_refused b e (Err Refusal.TooLarge) writes ends refused kept =
+      (salt, (sized, subst (λ (x : List ℕ). content_limit < length x) same refused))
+  commit_refused b e (Err (Refusal.Nonce Nonces.Exhausted)) writes ends refused kept = lacks_then b e writes ends refused (kept refl).1
+  commit_refused b e (Err (Refusal.Nonce Nonces.Missing)) writes ends refused kept = tt
+  commit_refused b e (Err (Refusal.Nonce Nonces.Text)) writes ends refused kept = tt
+  commit_refused b e (Err (Refusal.Nonce Nonces.Device)) writes ends refused kept = tt
+  commit_refused b e (Err (Refusal.Nonce Nonces.Memory)) writes ends refused kept = tt
+  commit_refused b e (Err (Refusal.Repo fault)) writes ends refused kept = absurd refused
+  commit_refused b e (Err (Refusal.Write fault)) writes ends refused kept = tt
+  commit_refused b e (Err Refusal.Committed) writes ends refused kept = tt
+  commit_refused b e (Err Refusal.Entropy) writes ends refused kept = tt
+  commit_refused b e (Err Refusal.Memory) writes ends refused kept = tt

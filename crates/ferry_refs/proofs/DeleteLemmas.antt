@@ -1,5 +1,5 @@
 -- Lemmas on specs/Deleting.antt: what was read, dropped and committed is a deletion.
-use Rattle.std.proofs.Common.{◌≡◌, ◌≢◌, inl, inr, ℕ, Bool, false, List, length, Option, Some, None, Result, Ok, Err, IfSome, IfErr, refl, sym, ◌∙◌, ap, subst}
+use Rattle.std.proofs.Common.{◌≡◌, ◌≢◌, ℕ, false, List, length, Option, Result, Ok, Err, IfSome, sym, ◌∙◌, ap, subst}
 use Rattle.std.proofs.lemmas.Option.{IfSome_then}
 use Rattle.ferry_piece.proofs.FaultLemmas.{failed_target}
 use Rattle.ferry_piece.proofs.WorkLemmas.{works_err, works_nothing, works_ok}
@@ -15,17 +15,16 @@ use Rattle.ferry_disk.specs.Device.{Told, told_files}
 use Rattle.ferry_disk.specs.Files.{Files}
 use Rattle.ferry_disk.specs.Moments.{Between, Moments}
 use Rattle.ferry_repo.specs.Opening.{RepoState, repo_view}
-use Rattle.ferry_repo.specs.declared.fault.RepoFault.{RepoFault}
 use Rattle.ferry_repo.specs.declared.fault.RepoFault.TheVariants as Repos
+use Rattle.ferry_nonce.specs.declared.fault.NonceFault.TheVariants as Nonces
 use Rattle.ferry_refs.specs.DeleteSteps.{DeletesWith, ReadsGoing, RefusesGoing, RefusesWith, SoundWith}
-use Rattle.ferry_refs.specs.Deleting.{AreGoing, Deletes, DeletesSound, HasDeleted, LeavesCommitted, RefusesDelete, ShowsEither, next_without, with_deleted}
+use Rattle.ferry_refs.specs.Deleting.{AreGoing, Deletes, DeletesSound, LeavesCommitted, RefusesDelete, ShowsEither, next_without, with_deleted}
 use Rattle.ferry_stops.specs.Tells.{TellsNothing}
-use Rattle.ferry_store.proofs.StepLemmas.{did_then, here_each, moments_then}
+use Rattle.ferry_store.proofs.StepLemmas.{did_then, moments_then}
 use Rattle.ferry_store.specs.Causes.{StopsAt}
 use Rattle.ferry_store.specs.Fault.{depot_failed}
 use Rattle.ferry_store.specs.Standing.{with_manifest}
 use Rattle.ferry_store.specs.State.{Did, IsSound, ShowsStanding, Written}
-use Rattle.ferry_store.specs.Store.{StoreFits}
 use Rattle.ferry_store.specs.declared.fault.StoreRefusal.{StoreRefusal}
 use Rattle.ferry_store.specs.declared.fault.StoreRefusal.TheVariants as Refusal
 use Rattle.ferry_store.specs.declared.store.Store.{Store}
@@ -180,13 +179,21 @@ module _ (told now : Option Told) (repo : RepoState) (name time : List ℕ) (nam
   read_refused Refusal.Memory refused = told_any told (λ f. Unit {0}) (λ f. tt)
 
   -- it wasn't deleted
-  pub delete_refused : (refusal : StoreRefusal) → RefusesWith repo name time refusal
-      → IfSome now (λ t. StopsAt (told_files t) repo.keys refusal) → Refuses (target_fault refusal)
+  pub delete_refused : (refusal : StoreRefusal) → RefusesWith repo name time now refusal
+      → IfSome now (λ t. StopsAt t.history.start (told_files t) repo.keys refusal) → Refuses (target_fault refusal)
   delete_refused (Refusal.Repo fault) refused stops = absurd refused
   delete_refused (Refusal.Write fault) refused stops =
       told_any told (λ f. RefusesDelete f repo name time now (Carry.Target (Refusal.Write fault))) (λ f. (named, stops))
-  delete_refused (Refusal.Nonce fault) refused stops =
-      told_any told (λ f. RefusesDelete f repo name time now (Carry.Target (Refusal.Nonce fault))) (λ f. (named, stops))
+  delete_refused (Refusal.Nonce Nonces.Exhausted) refused stops =
+      told_any told (λ f. RefusesDelete f repo name time now (Carry.Target (Refusal.Nonce Nonces.Exhausted))) (λ f. (named, refused))
+  delete_refused (Refusal.Nonce Nonces.Missing) refused stops =
+      told_any told (λ f. RefusesDelete f repo name time now (Carry.Target (Refusal.Nonce Nonces.Missing))) (λ f. (named, stops))
+  delete_refused (Refusal.Nonce Nonces.Text) refused stops =
+      told_any told (λ f. RefusesDelete f repo name time now (Carry.Target (Refusal.Nonce Nonces.Text))) (λ f. (named, stops))
+  delete_refused (Refusal.Nonce Nonces.Device) refused stops =
+      told_any told (λ f. RefusesDelete f repo name time now (Carry.Target (Refusal.Nonce Nonces.Device))) (λ f. (named, stops))
+  delete_refused (Refusal.Nonce Nonces.Memory) refused stops =
+      told_any told (λ f. RefusesDelete f repo name time now (Carry.Target (Refusal.Nonce Nonces.Memory))) (λ f. (named, stops))
   delete_refused Refusal.Committed refused stops =
       told_any told (λ f. RefusesDelete f repo name time now (Carry.Target Refusal.Committed)) (λ f. (named, stops))
   delete_refused Refusal.TooLarge refused stops =

@@ -1,24 +1,20 @@
 -- Lemmas on specs/Deleting.antt: what is left where an archive was deleted.
-use Rattle.std.proofs.Common.{◌≡◌, ◌≢◌, ◌⊎◌, ◌↔◌, ◌<◌, ◌≤◌, inl, inr, ℕ, Bool, true, false, cond, ◌||◌, List, [], ◌∷◌, ◌++◌, map}
-use Rattle.std.proofs.Common.{Option, Some, None, refl, sym, ◌∙◌, ap, subst, arith}
-use Rattle.std.specs.BTreeSet.{BTreeSet}
+use Rattle.std.proofs.Common.{◌≡◌, ◌≢◌, ◌↔◌, inl, inr, ℕ, Bool, true, false, cond, ◌||◌, List, [], ◌∷◌, ◌++◌, map}
+use Rattle.std.proofs.Common.{Some, None, refl, sym, ◌∙◌, ap, subst, arith}
 use Rattle.std.specs.Cmp.Lexicographic.{nat_list_cmp_total}
-use Rattle.std.specs.List.{AllByRecursion, flat_map}
+use Rattle.std.specs.List.{AllByRecursion}
 use Rattle.std.specs.Ordering.{eq_by_cmp}
 use Rattle.std.specs.Str.{bytes_eq}
-use Rattle.std.proofs.lemmas.List.{append_assoc, append-nil}
+use Rattle.std.proofs.lemmas.List.{append_assoc}
 use Rattle.std.proofs.lemmas.Map.Lookups.{btree_set_from_contains, exact_bytes}
 use Rattle.ferry_base.specs.Limits.{zero_id}
-use Rattle.ferry_check.proofs.ChunkLemmas.{or_true, true_or}
+use Rattle.ferry_check.proofs.ChunkLemmas.{or_true}
 use Rattle.ferry_check.proofs.MarkLemmas.{either_way, key_itself, same_key}
-use Rattle.ferry_check.specs.Report.{AreRead, ArchiveRead, IsRead, ids_used, is_among}
-use Rattle.ferry_check.specs.Verify.{IsChunk}
+use Rattle.ferry_check.specs.Report.{ArchiveRead, ids_used, is_among}
 use Rattle.ferry_disk.specs.Files.{Files}
 use Rattle.ferry_log.specs.Live.{key_cmp}
 use Rattle.ferry_log.specs.State.{LogState}
 use Rattle.ferry_mac.specs.declared.keys.Keys.{Keys}
-use Rattle.ferry_manifest.specs.Manifest.Text.{ManifestText}
-use Rattle.ferry_manifest.specs.declared.manifest.ArchiveRef.{ArchiveRef}
 use Rattle.ferry_next.proofs.PlaceLemmas.{without_named}
 use Rattle.ferry_repo.proofs.LawLemmas.{one_repo}
 use Rattle.ferry_repo.specs.Archives.{archive_named}
@@ -26,12 +22,12 @@ use Rattle.ferry_repo.specs.Objects.{HasBlob, HoldsChunk}
 use Rattle.ferry_repo.specs.Opening.{OpensFilesTo, RepoState}
 use Rattle.ferry_repo.specs.Whole.{HasWhole, IsWhole, WholeArchive}
 use Rattle.ferry_repo.specs.declared.secret.Secret.{Secret}
-use Rattle.ferry_segment.specs.Entry.{DeleteEntry, LogEntry, PutEntry}
+use Rattle.ferry_segment.specs.Entry.{DeleteEntry, LogEntry}
 use Rattle.ferry_stops.specs.Entries.{Shows}
 use Rattle.ferry_store.proofs.LiveLemmas.{live_deleted, live_nil, live_spared}
 use Rattle.ferry_store.proofs.StandingLemmas.{live_manifest, opened_manifest, opened_unlocks, stands_live, state_live}
-use Rattle.ferry_store.specs.Standing.{OpensLive, committed_of, live_in, with_manifest}
-use Rattle.ferry_store.specs.State.{ShowsStanding, Written, found}
+use Rattle.ferry_store.specs.Standing.{committed_of, live_in, with_manifest}
+use Rattle.ferry_store.specs.State.{ShowsStanding, found}
 use Rattle.ferry_refs.specs.Deleting.{AreGoing, Goes, KeepsOthers, ShowsDeleted, ShowsEither, next_without, with_deleted, without_name}
 use Rattle.ferry_refs.specs.Refs.{occurrences}
 use Rattle.ferry_refs.proofs.GoingLemmas.{turned_among}

@@ -1,21 +1,21 @@
 -- Lemmas on specs/DeleteSteps.antt: chunks that are dropped, one after another.
-use Rattle.std.proofs.Common.{◌≡◌, ◌≢◌, ◌+◌, ◌<◌, ℕ, zero, suc, Bool, true, false, List, [], ◌∷◌, ◌++◌, length, take, get_or, map}
-use Rattle.std.proofs.Common.{Option, Some, None, Result, Ok, Err, IfSome, IsSome, refl, sym, ◌∙◌, ap, subst, arith, append_assoc, append-nil}
+use Rattle.std.proofs.Common.{◌≡◌, ◌+◌, ◌<◌, ℕ, zero, suc, true, false, List, [], ◌∷◌, ◌++◌, length, take, get_or, map}
+use Rattle.std.proofs.Common.{Option, Result, Ok, Err, IfSome, IsSome, refl, sym, ◌∙◌, ap, subst, arith, append_assoc, append-nil}
 use Rattle.std.specs.List.{AllByRecursion}
 use Rattle.std.proofs.lemmas.List.{take_more}
 use Rattle.ferry_check.specs.Verify.{IsChunk}
 use Rattle.ferry_disk.specs.Act.{History}
 use Rattle.ferry_disk.specs.Device.{Told}
-use Rattle.ferry_disk.specs.Moments.{Between, Moments}
+use Rattle.ferry_disk.specs.Moments.{Between}
 use Rattle.ferry_disk.proofs.MomentLemmas.{between_then}
-use Rattle.ferry_log.specs.State.{LogState, place_in}
+use Rattle.ferry_log.specs.State.{LogState}
 use Rattle.ferry_log.specs.declared.place.Place.{Place}
 use Rattle.ferry_refs.specs.DeleteSteps.{DropsAll, with_drops}
 use Rattle.ferry_refs.specs.Deleting.{LeavesCommitted}
 use Rattle.ferry_repo.specs.Objects.{IsMissing}
 use Rattle.ferry_segment.specs.Entry.{DeleteEntry, LogEntry}
 use Rattle.ferry_stops.specs.Tells.{TellsNothing}
-use Rattle.ferry_store.specs.Dropping.{Drops, FitsWithout, IsWriting}
+use Rattle.ferry_store.specs.Dropping.{Drops, IsWriting}
 use Rattle.ferry_store.specs.State.{Did, IsSound, IsUnderWay, KeepsSound, ShowsStanding, Written, with_entry}
 use Rattle.ferry_store.specs.Store.{StoreFits}
 use Rattle.ferry_store.specs.declared.fault.StoreRefusal.{StoreRefusal}

@@ -1,26 +1,22 @@
 -- Lemmas on specs/Deleting.antt: the archives without one of them, how often the others use an id, and the chunks that go with it.
-use Rattle.std.proofs.Common.{◌≡◌, ◌≢◌, ◌⊎◌, ◌↔◌, inl, inr, ℕ, zero, suc, ◌+◌, ◌-◌, ◌<◌, ◌≤◌, Bool, true, false, not, cond, ◌&&◌, ◌||◌, eqb, ltb}
+use Rattle.std.proofs.Common.{◌≡◌, ◌≢◌, ◌⊎◌, ◌↔◌, inl, inr, ℕ, suc, ◌+◌, ◌-◌, ◌<◌, Bool, true, false, not, cond, ◌&&◌, ◌||◌, eqb, ltb}
 use Rattle.std.proofs.Common.{ltb-true, lt-ltb, eqb-true, eq-eqb, List, [], ◌∷◌, ◌++◌, Option, Some, None, IfSome, IsSome, is_some, filter}
 use Rattle.std.proofs.Common.{unwrap_or, refl, sym, ◌∙◌, ap, subst, arith}
-use Rattle.std.specs.BTreeMap.{BTreeMap, IsOrdered, is_at, keys, get}
-use Rattle.std.specs.Cmp.Lexicographic.{slice_cmp}
+use Rattle.std.specs.BTreeMap.{IsOrdered, is_at, keys, get}
 use Rattle.std.specs.List.{AllByRecursion, flat_map, list_any}
-use Rattle.std.specs.List.Sorted.{IsStrictlySortedBy}
-use Rattle.std.specs.Ordering.{eq_by_cmp, nat_cmp}
+use Rattle.std.specs.Ordering.{eq_by_cmp}
 use Rattle.std.specs.Str.{bytes_eq}
-use Rattle.std.specs.declared.cmp.Ordering.TheVariants.{Less}
 use Rattle.std.proofs.lemmas.List.Kept.{IsStrictlySortedBy-filter}
 use Rattle.std.proofs.lemmas.Map.Made.{is_some-lookup}
 use Rattle.std.proofs.lemmas.Slice.Eq.{bytes_eq-Decides}
 use Rattle.ferry_base.specs.Limits.{zero_id}
-use Rattle.ferry_check.proofs.ArchiveLemmas.{zero_or}
 use Rattle.ferry_check.proofs.ChunkLemmas.{or_true, true_or}
-use Rattle.ferry_check.proofs.MarkLemmas.{either_way, key_itself, same_key}
+use Rattle.ferry_check.proofs.MarkLemmas.{same_key}
 use Rattle.ferry_check.specs.Report.{ArchiveRead, IsRead, AreRead, ids_used, is_among}
 use Rattle.ferry_check.specs.Verify.{IsChunk, IsNamed}
 use Rattle.ferry_disk.specs.Device.{Told, told_files, heard}
 use Rattle.ferry_disk.specs.Files.{Files}
-use Rattle.ferry_disk.proofs.DeviceLemmas.{told_any, told_then, told_with}
+use Rattle.ferry_disk.proofs.DeviceLemmas.{told_with}
 use Rattle.ferry_log.specs.Live.{key_cmp}
 use Rattle.ferry_log.specs.State.{LogState, place_in}
 use Rattle.ferry_manifest.specs.Manifest.Writing.{AreIncreasing, archive_names}
@@ -31,7 +27,7 @@ use Rattle.ferry_next.specs.Next.{without_archive}
 use Rattle.ferry_repo.specs.Archives.{archive_named}
 use Rattle.ferry_repo.specs.Opening.{RepoState}
 use Rattle.ferry_repo.specs.declared.fault.RepoFault.{RepoFault}
-use Rattle.ferry_refs.specs.Deleting.{AreGoing, FallsAway, Goes, without_name}
+use Rattle.ferry_refs.specs.Deleting.{AreGoing, FallsAway, without_name}
 use Rattle.ferry_refs.specs.Refs.{CountsRefs, Refs, RefusesRead, RefusesRefs, count_in, occurrences}
 use Rattle.ferry_refs.specs.Steps.{Adds, CountsArchive, Tally, goes_by, no_tally}
 use Rattle.ferry_refs.specs.declared.counts.Counts.{Counts}

@@ -1,11 +1,10 @@
 -- Lemmas on specs/DeleteSteps.antt: what goes with an archive, read from the repository of a store.
-use Rattle.std.proofs.Common.{◌≡◌, ◌⊎◌, ◌<◌, inl, inr, ℕ, Bool, false, List, Option, Some, None, Result, Ok, Err, IfSome, IsSome, refl, sym, ◌∙◌, ap, subst}
+use Rattle.std.proofs.Common.{◌≡◌, ◌⊎◌, ◌<◌, inl, inr, ℕ, Bool, false, List, Option, Some, None, Result, Ok, Err, IfSome, IsSome, refl, sym, subst}
 use Rattle.std.specs.FinMap.{get}
 use Rattle.ferry_disk.proofs.FaultLemmas.{keeps_end}
 use Rattle.ferry_disk.proofs.MomentLemmas.{between_map}
 use Rattle.ferry_disk.specs.Act.{History, files_now}
 use Rattle.ferry_disk.specs.Device.{KeepsTold, RoseWhere, Told, told_files}
-use Rattle.ferry_disk.specs.Files.{Files}
 use Rattle.ferry_disk.specs.Moments.{Between}
 use Rattle.ferry_repo.specs.Fault.{IsOfFiles, repo_failed}
 use Rattle.ferry_repo.specs.Opening.{FitsRepo, RepoState, cached_in, repo_view}
@@ -21,11 +20,10 @@ use Rattle.ferry_store.proofs.ReadLemmas.{between_end, known_read, with_repo}
 use Rattle.ferry_store.proofs.StepLemmas.{done_here, known_then, same_told}
 use Rattle.ferry_store.proofs.StoreLemmas.{repo_is}
 use Rattle.ferry_store.specs.Content.{IsThere}
-use Rattle.ferry_store.specs.Fault.{repo_refusal, source_failed}
+use Rattle.ferry_store.specs.Fault.{repo_refusal}
 use Rattle.ferry_store.specs.Standing.{CommitsManifest, HoldsLive, committed_of, entries_of, live_in}
 use Rattle.ferry_store.specs.State.{Did}
 use Rattle.ferry_store.specs.Store.{IsKnown, StoreFits}
-use Rattle.ferry_store.specs.declared.fault.StoreRefusal.{StoreRefusal}
 use Rattle.ferry_store.specs.declared.store.Store.{Store}
 use Rattle.ferry_write.specs.Room.{behind}
 use Rattle.ferry_write.specs.Script.{AllDone}

@@ -1,5 +1,5 @@
 -- Lemmas on specs/Refs.antt and specs/Deleting.antt: what is read over other files in which the same blobs lie.
-use Rattle.std.proofs.Common.{◌≡◌, ◌≢◌, ◌⊎◌, ◌↔◌, inl, inr, ℕ, List, [], ◌∷◌, Option, Some, None}
+use Rattle.std.proofs.Common.{◌≢◌, inl, inr, ℕ, List, [], ◌∷◌, Option, Some, None}
 use Rattle.ferry_base.specs.Limits.{zero_id}
 use Rattle.ferry_check.specs.Report.{ArchiveRead, AreRead, IsRead}
 use Rattle.ferry_check.specs.Verify.{IsNamed}
@@ -10,6 +10,7 @@ use Rattle.ferry_manifest.specs.Record.Text.{ArchiveText}
 use Rattle.ferry_manifest.specs.declared.manifest.ArchiveRef.{ArchiveRef}
 use Rattle.ferry_piece.specs.declared.fault.CarryFault.{CarryFault}
 use Rattle.ferry_piece.specs.declared.fault.CarryFault.TheVariants as Carry
+use Rattle.ferry_nonce.specs.declared.fault.NonceFault.TheVariants as Nonces
 use Rattle.ferry_refs.specs.Deleting.{AreGoing, Goes, RefusesDelete, without_name}
 use Rattle.ferry_refs.specs.Refs.{EndsStream, Refs, RefusesRead, RefusesRefs}
 use Rattle.ferry_repo.specs.Archives.{HoldsRecord, RefusesNamed, RefusesRecord, archive_named}
@@ -225,7 +226,11 @@ delete_refused_same files other repo name time now (Carry.Target (Stores.Repo Re
 delete_refused_same files other repo name time now (Carry.Target (Stores.Repo Repos.Memory)) lie refused =
     of_files_same files other repo name Repos.Memory lie refused
 delete_refused_same files other repo name time now (Carry.Target (Stores.Write f)) lie refused = refused
-delete_refused_same files other repo name time now (Carry.Target (Stores.Nonce f)) lie refused = refused
+delete_refused_same files other repo name time now (Carry.Target (Stores.Nonce Nonces.Missing)) lie refused = refused
+delete_refused_same files other repo name time now (Carry.Target (Stores.Nonce Nonces.Text)) lie refused = refused
+delete_refused_same files other repo name time now (Carry.Target (Stores.Nonce Nonces.Exhausted)) lie refused = refused
+delete_refused_same files other repo name time now (Carry.Target (Stores.Nonce Nonces.Device)) lie refused = refused
+delete_refused_same files other repo name time now (Carry.Target (Stores.Nonce Nonces.Memory)) lie refused = refused
 delete_refused_same files other repo name time now (Carry.Target Stores.Committed) lie refused = refused
 delete_refused_same files other repo name time now (Carry.Target Stores.TooLarge) lie refused = refused
 delete_refused_same files other repo name time now (Carry.Target Stores.Entropy) lie refused = refused

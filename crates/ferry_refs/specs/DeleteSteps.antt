@@ -2,17 +2,18 @@
 use Rattle.std.specs.Prelude.{◌≡◌, ◌++◌, ℕ, Bool, List, length, map, Option, IfSome}
 use Rattle.ferry_disk.specs.Act.{History, files_now}
 use Rattle.ferry_disk.specs.Device.{Told, told_files}
+use Rattle.ferry_nonce.specs.declared.fault.NonceFault.TheVariants as Nonces
 use Rattle.ferry_repo.specs.Fault.{IsOfFiles}
 use Rattle.ferry_repo.specs.Opening.{RepoState, repo_view}
 use Rattle.ferry_repo.specs.declared.fault.RepoFault.TheVariants as Repos
-use Rattle.ferry_refs.specs.Deleting.{AreGoing, Deletes, DeletesSound, HasLargeManifest}
+use Rattle.ferry_refs.specs.Deleting.{AreGoing, Deletes, DeletesSound, HasLargeManifest, LacksManifestBlocks}
 use Rattle.ferry_refs.specs.Refs.{RefusesRefs}
 use Rattle.ferry_segment.specs.Entry.{DeleteEntry}
 use Rattle.ferry_store.specs.Dropping.{FitsWithout}
 use Rattle.ferry_store.specs.State.{Written}
 use Rattle.ferry_store.specs.Store.{StoreFits}
 use Rattle.ferry_store.specs.declared.fault.StoreRefusal.{StoreRefusal}
-use Rattle.ferry_store.specs.declared.fault.StoreRefusal.TheVariants.{Repo, Write, TooLarge, Memory}
+use Rattle.ferry_store.specs.declared.fault.StoreRefusal.TheVariants.{Repo, Write, Nonce, TooLarge, Memory}
 use Rattle.ferry_store.specs.declared.store.Store.{Store}
 
 -- ---- what is read
@@ -58,8 +59,10 @@ abbrev pub DeletesWith : List ℕ → List ℕ → List (List ℕ) → Store →
 DeletesWith name time ids store store_now before now =
     AreGoing (files_now before) (repo_view store.repo) name ids → Deletes name time store store_now (length ids) before now
 
--- Why they aren't: the manifest without the archive is too large, or the target failed, its numbers are used up, or memory was refused.
-abbrev pub RefusesWith : RepoState → List ℕ → List ℕ → StoreRefusal → Type 0
-RefusesWith repo name time (Repo fault) = ⊥
-RefusesWith repo name time TooLarge = HasLargeManifest repo name time
-RefusesWith repo name time refusal = Unit {0}
+-- Why they aren't: the manifest without the archive is too large, or its counter blocks aren't left in what the target tells then, or the target failed,
+-- its numbers are used up, or memory was refused.
+abbrev pub RefusesWith : RepoState → List ℕ → List ℕ → Option Told → StoreRefusal → Type 0
+RefusesWith repo name time now (Repo fault) = ⊥
+RefusesWith repo name time now TooLarge = HasLargeManifest repo name time
+RefusesWith repo name time now (Nonce Nonces.Exhausted) = IfSome now (λ t. LacksManifestBlocks repo name time t.history.start (told_files t))
+RefusesWith repo name time now refusal = Unit {0}

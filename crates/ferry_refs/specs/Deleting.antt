@@ -1,11 +1,12 @@
 -- What deleting an archive takes out of a repository: its name, and the chunks that no other archive uses.
 use Rattle.std.specs.Prelude.{◌≡◌, ◌≢◌, ◌⊎◌, ◌↔◌, ◌<◌, ◌++◌, ℕ, suc, Bool, true, false, if◌then◌else◌, List, [], length, map}
-use Rattle.std.specs.Prelude.{unwrap_or, Option, None, Some, IfSome}
+use Rattle.std.specs.Prelude.{unwrap_or, Option, None, IfSome}
 use Rattle.std.specs.List.Sorted.{IsStrictlySortedBy}
 use Rattle.std.specs.Str.{bytes_eq}
 use Rattle.ferry_base.specs.Limits.{content_limit, zero_id}
+use Rattle.ferry_blob.specs.Blob.{blocks}
 use Rattle.ferry_piece.specs.declared.fault.CarryFault.{CarryFault}
-use Rattle.ferry_piece.specs.declared.fault.CarryFault.TheVariants.{Source, Target, Taken, NotFound, Pieces, Memory, Record}
+use Rattle.ferry_piece.specs.declared.fault.CarryFault.TheVariants.{Target, NotFound, Memory}
 use Rattle.ferry_check.specs.Report.{is_among}
 use Rattle.ferry_check.specs.Verify.{IsChunk, IsNamed}
 use Rattle.ferry_disk.specs.Act.{History, files_now}
@@ -16,6 +17,7 @@ use Rattle.ferry_log.specs.Live.{key_cmp}
 use Rattle.ferry_manifest.specs.Manifest.Text.{ManifestText}
 use Rattle.ferry_manifest.specs.Manifest.Writing.{manifest_text}
 use Rattle.ferry_next.specs.Next.{without_entry, written_at}
+use Rattle.ferry_nonce.specs.declared.fault.NonceFault.TheVariants as Nonces
 use Rattle.ferry_refs.specs.Refs.{Refs, RefusesRefs}
 use Rattle.ferry_repo.specs.Archives.{archive_named}
 use Rattle.ferry_repo.specs.Fault.{IsOfFiles}
@@ -26,11 +28,12 @@ use Rattle.ferry_repo.specs.declared.fault.RepoFault.TheVariants as Repos
 use Rattle.ferry_repo.specs.declared.secret.Secret.{Secret}
 use Rattle.ferry_segment.specs.Entry.{DeleteEntry, PutEntry}
 use Rattle.ferry_store.specs.Causes.{StopsAt}
+use Rattle.ferry_store.specs.Counting.{LacksBlocks}
 use Rattle.ferry_store.specs.Dropping.{FitsWithout}
 use Rattle.ferry_store.specs.Standing.{CommitsManifest, with_manifest}
 use Rattle.ferry_store.specs.State.{IsSound, ShowsStanding, Written, all_committed, with_entry}
 use Rattle.ferry_store.specs.Store.{StoreFits}
-use Rattle.ferry_store.specs.declared.fault.StoreRefusal.TheVariants.{Repo, TooLarge}
+use Rattle.ferry_store.specs.declared.fault.StoreRefusal.TheVariants.{Repo, Nonce, TooLarge}
 use Rattle.ferry_store.specs.declared.store.Store.{Store}
 
 -- ---- what goes
@@ -126,6 +129,11 @@ abbrev pub HasLargeManifest : RepoState → List ℕ → List ℕ → Type 0
 HasLargeManifest repo name time = (salt : List ℕ) × ((length salt ≡ 64)
     × (content_limit < length (manifest_text repo.keys salt (next_without repo.manifest name time))))
 
+-- With some salt of 64 bytes the counter blocks of that manifest aren't left in these files, where the run began with those at its start.
+abbrev pub LacksManifestBlocks : RepoState → List ℕ → List ℕ → Files → Files → Type 0
+LacksManifestBlocks repo name time start now = (salt : List ℕ) × ((length salt ≡ 64)
+    × LacksBlocks start now (blocks (length (manifest_text repo.keys salt (next_without repo.manifest name time)))))
+
 -- Why an archive isn't deleted: there is none of its name; or there is, and an archive's record or stream doesn't read, or what a refusal of the target says
 -- holds of its files as they are then.
 abbrev pub RefusesDelete : Files → RepoState → List ℕ → List ℕ → Option Told → CarryFault → Type 0
@@ -133,6 +141,8 @@ RefusesDelete files repo name time now (NotFound missing) = (missing ≡ name) �
 RefusesDelete files repo name time now (Target (Repo Repos.Device)) = Unit {0}
 RefusesDelete files repo name time now (Target (Repo fault)) = IsNamed repo name × (IsOfFiles fault × RefusesRefs files repo fault)
 RefusesDelete files repo name time now (Target TooLarge) = IsNamed repo name × HasLargeManifest repo name time
-RefusesDelete files repo name time now (Target refusal) = IsNamed repo name × IfSome now (λ t. StopsAt (told_files t) repo.keys refusal)
+RefusesDelete files repo name time now (Target (Nonce Nonces.Exhausted)) =
+    IsNamed repo name × IfSome now (λ t. LacksManifestBlocks repo name time t.history.start (told_files t))
+RefusesDelete files repo name time now (Target refusal) = IsNamed repo name × IfSome now (λ t. StopsAt t.history.start (told_files t) repo.keys refusal)
 RefusesDelete files repo name time now Memory = Unit {0}
 RefusesDelete files repo name time now fault = ⊥

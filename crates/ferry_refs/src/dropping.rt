@@ -38,8 +38,8 @@ pub(crate) fn delete_with<D: Depot, E: Entropy>(
     ensures did { Did (SoundWith name.now time.now ids.now store.old) (λ _. DeletesWith name.now time.now ids.now store.old store.new)
         (D.told depot.old) (D.told depot.new) (D.faults depot.old) (D.faults depot.new) result }
     ensures untold { Between (D.told depot.old) (D.told depot.new) TellsNothing }
-    ensures refused { IfErr result (RefusesWith (repo_view store.old.repo) name.now time.now) }
-    ensures stops { IfErr result (λ refusal. IfSome (D.told depot.new) (λ t. StopsAt (told_files t) (repo_view store.old.repo).keys refusal)) }
+    ensures refused { IfErr result (RefusesWith (repo_view store.old.repo) name.now time.now (D.told depot.new)) }
+    ensures stops { IfErr result (λ refusal. IfSome (D.told depot.new) (λ t. StopsAt t.history.start (told_files t) (repo_view store.old.repo).keys refusal)) }
     ensures keeps { IfErr result (λ refusal. depot_failed refusal ≡ false → refusal ≢ Refusal.Memory
         → Between (D.told depot.old) (D.told depot.new) (LeavesCommitted store.old)) }
     ensures entropy { HasCause source_failed (E.faults entropy.old) (E.faults entropy.new) result }
@@ -59,7 +59,7 @@ fn drop_chunks<D: Depot>(store: &mut Store, depot: &mut D, ids: &[Id]) -> Result
     ensures untold { Between (D.told depot.old) (D.told depot.new) TellsNothing }
     ensures rest { store.new ≡ record store.old { session = store.new.session; spent = store.new.spent } }
     ensures refused { IfErr result RefusesDrops }
-    ensures stops { IfErr result (λ refusal. IfSome (D.told depot.new) (λ t. StopsAt (told_files t) (repo_view store.old.repo).keys refusal)) }
+    ensures stops { IfErr result (λ refusal. IfSome (D.told depot.new) (λ t. StopsAt t.history.start (told_files t) (repo_view store.old.repo).keys refusal)) }
     ensures unspent { OnOk result (IsUnspent store.new) }
 {
     for place in 0..ids.len() {

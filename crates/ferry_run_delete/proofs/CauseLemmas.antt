@@ -64,7 +64,7 @@ undeleted_refused asked store (Some t) b c fault opens opened refused = λ begun
     })
 
 -- it was deleted, and that isn't told
-told_stops : (now : Option Told) (repo : RepoState) → IfSome now (λ t. StopsAt (told_files t) repo.keys (Stores.Write Writes.Device))
+told_stops : (now : Option Told) (repo : RepoState) → IfSome now (λ t. StopsAt t.history.start (told_files t) repo.keys (Stores.Write Writes.Device))
 told_stops None repo = tt
 told_stops (Some t) repo = tt
 
@@ -107,7 +107,8 @@ untold_kept Stores.Entropy refused work = refused
 
 -- what is asked is there
 module _ (asked : Deletion) (start : Files) (now : Told) (ready : IsReadyToDelete asked start) where
-  opened_ends : (fault : RepoFault) → RefusesRepo start asked.secret fault → IsDeletedUnless asked ready.repo (told_files now) (target_status fault)
+  opened_ends : (fault : RepoFault) → RefusesRepo start asked.secret fault
+      → IsDeletedUnless asked ready.repo now.history.start (told_files now) (target_status fault)
   opened_ends Repos.NoCommit refused = absurd (repo_apart start asked.secret ready.repo Repos.NoCommit ready.opens tt refused)
   opened_ends (Repos.Damaged segment at) refused = absurd (repo_apart start asked.secret ready.repo (Repos.Damaged segment at) ready.opens tt refused)
   opened_ends (Repos.Config cause) refused = absurd (repo_apart start asked.secret ready.repo (Repos.Config cause) ready.opens tt refused)
@@ -125,7 +126,7 @@ module _ (asked : Deletion) (start : Files) (now : Told) (ready : IsReadyToDelet
   opened_ends Repos.Memory refused = tt
 
   begun_ends : (refusal : StoreRefusal) → RefusesOpen asked.secret start refusal
-      → IsDeletedUnless asked ready.repo (told_files now) (carry_status (target_fault refusal))
+      → IsDeletedUnless asked ready.repo now.history.start (told_files now) (carry_status (target_fault refusal))
   begun_ends (Stores.Repo fault) refused = opened_ends fault refused
   begun_ends (Stores.Write Writes.Device) refused = tt
   begun_ends (Stores.Write Writes.Memory) refused = tt
@@ -152,7 +153,7 @@ module _ (asked : Deletion) (start : Files) (now : Told) (ready : IsReadyToDelet
   deleting_read : (fault : RepoFault) → IsNamed ready.repo asked.name × (IsOfFiles fault × RefusesRefs start ready.repo fault) → ⊥
   deleting_read fault refused = all_read fault refused.1.0 refused.1.1
 
-  deleting_ends : (fault : CarryFault) → Refuses fault → IsDeletedUnless asked ready.repo (told_files now) (carry_status fault)
+  deleting_ends : (fault : CarryFault) → Refuses fault → IsDeletedUnless asked ready.repo now.history.start (told_files now) (carry_status fault)
   deleting_ends (Carry.NotFound missing) refused =
       absurd (let e : false ≡ true = subst (λ (o : Option ArchiveRef). IsSome o) refused.1 ready.there in let no : ⊥ = cc in no)
   deleting_ends (Carry.Target (Stores.Repo Repos.NoCommit)) refused = absurd (deleting_read Repos.NoCommit refused)
@@ -189,9 +190,10 @@ module _ (asked : Deletion) (start : Files) (now : Told) (ready : IsReadyToDelet
   deleting_ends Carry.Record refused = absurd refused
 
   refused_ends : (fault : CarryFault) → RefusesStore asked start fault ⊎ RefusesOpened asked start (Some now) fault
-      → IsDeletedUnless asked ready.repo (told_files now) (carry_status fault)
+      → IsDeletedUnless asked ready.repo now.history.start (told_files now) (carry_status fault)
   refused_ends fault (inl refused) =
-      subst (λ (f : CarryFault). IsDeletedUnless asked ready.repo (told_files now) (carry_status f)) (sym refused.1.0) (begun_ends refused.0 refused.1.1)
+      subst (λ (f : CarryFault). IsDeletedUnless asked ready.repo now.history.start (told_files now) (carry_status f)) (sym refused.1.0)
+      (begun_ends refused.0 refused.1.1)
   refused_ends fault (inr refused) =
       deleting_ends fault
       (subst (λ (r : RepoState). RefusesDelete start r asked.name (time_of asked.timestamp r.manifest) (Some now) fault)
@@ -202,7 +204,7 @@ pub deletes_done : (asked : Deletion) (before now : Option Told) (status : Statu
 deletes_done asked None now status end = tt
 deletes_done asked (Some b) None status end = tt
 deletes_done asked (Some b) (Some t) status (inl done) = λ begun ready.
-    subst (IsDeletedUnless asked ready.repo (told_files t)) (sym done) tt
+    subst (IsDeletedUnless asked ready.repo t.history.start (told_files t)) (sym done) tt
 deletes_done asked (Some b) (Some t) status (inr refused) = λ begun ready.
-    subst (IsDeletedUnless asked ready.repo (told_files t)) (sym refused.status_is)
+    subst (IsDeletedUnless asked ready.repo t.history.start (told_files t)) (sym refused.status_is)
     (refused_ends asked (told_files b) t ready refused.fault (refused.refuses begun))

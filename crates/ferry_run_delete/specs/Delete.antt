@@ -9,23 +9,22 @@ use Rattle.ferry_disk.specs.Device.{Told, told_files}
 use Rattle.ferry_disk.specs.Files.{Files, file_at}
 use Rattle.ferry_disk.specs.Moments.{Between, Moments}
 use Rattle.ferry_disk.specs.declared.name.Name.TheVariants.{Nonce as NonceFile}
-use Rattle.ferry_refs.specs.Deleting.{AreGoing, HasLargeManifest, KeepsOthers, RefusesDelete, time_of}
+use Rattle.ferry_refs.specs.Deleting.{AreGoing, HasLargeManifest, KeepsOthers, LacksManifestBlocks, RefusesDelete, time_of}
 use Rattle.ferry_repo.specs.Opening.{OpensFilesTo, RepoState}
 use Rattle.ferry_repo.specs.declared.secret.Secret.{Secret}
 use Rattle.ferry_stops.specs.Chance.{EachStop}
 use Rattle.ferry_stops.specs.Counters.{SpellsNumber}
 use Rattle.ferry_stops.specs.Tells.{lines_of}
-use Rattle.ferry_store.specs.Causes.{HasFewBlocks, HasLastSegment}
-use Rattle.ferry_store.specs.Store.{InitKeeps, NumbersOn, RefusesOpen}
+use Rattle.ferry_store.specs.Causes.{HasLastSegment}
+use Rattle.ferry_store.specs.Store.{RefusesOpen, WritesEach}
 use Rattle.ferry_store.specs.declared.fault.StoreRefusal.{StoreRefusal}
 use Rattle.ferry_text.specs.Text.{escaped}
-use Rattle.ferry_status.specs.Devices.{Devices}
+use Rattle.ferry_status.specs.Devices.{Devices, IsRefusedBy}
 use Rattle.ferry_status.specs.Status.{carry_status, is_of_work}
 use Rattle.ferry_status.specs.declared.status.Limit.{Limit}
 use Rattle.ferry_status.specs.declared.status.Limit.TheVariants as Limits
 use Rattle.ferry_status.specs.declared.status.Status.{Status}
 use Rattle.ferry_status.specs.declared.status.Status.TheVariants as Statuses
-use Rattle.ferry_write.specs.Session.{SettlesFirst}
 
 -- what a deletion is asked for: the target's secret, the archive's name, and the time of the manifest, where it is given
 pub record Deletion : Type 0 where
@@ -52,9 +51,9 @@ abbrev pub DeleteShows : Deletion → History → History → Type 0
 DeleteShows asked before now = before.acts ≡ [] → (repo : RepoState) → OpensFilesTo (files_now before) asked.secret repo
     → Moments (EachStop (λ image. (gone : Bool) × LeavesOthers asked (files_now before) repo gone image)) before now
 
--- At each moment of the command: its stops, the counter blocks of all runs, those of its own and the number in the file `nonce`, and its first act.
+-- At each moment of the command.
 abbrev pub DeleteEach : Deletion → History → History → Type 0
-DeleteEach asked before now = DeleteShows asked before now × (InitKeeps before now × (NumbersOn before now × SettlesFirst before now))
+DeleteEach asked before now = WritesEach (DeleteShows asked) before now
 
 -- ---- the end
 
@@ -100,10 +99,8 @@ RefusesDeletion asked before now fault = IfSome before (λ t. t.history.acts ≡
     ⊎ RefusesOpened asked (told_files t) now fault)
 
 -- A status is that of a refusal, which says this of the files.
-pub record IsDeletionRefused (asked : Deletion) (before now : Option Told) (status : Status) : Type 0 where
-  pub fault : CarryFault
-  pub status_is : status ≡ carry_status fault
-  pub refuses : RefusesDeletion asked before now fault
+abbrev pub IsDeletionRefused : Deletion → Option Told → Option Told → Status → Type 0
+IsDeletionRefused asked before now status = IsRefusedBy carry_status (RefusesDeletion asked before now) status
 
 -- ---- where a deletion is done
 
@@ -120,26 +117,26 @@ pub record IsReadyToDelete (asked : Deletion) (start : Files) : Type 0 where
   pub reads : List ArchiveRead
   pub are_read : AreRead start repo repo.manifest.archives reads
 
--- a limit that is met
-abbrev pub LimitsDeletion : Deletion → RepoState → Files → Limit → Type 0
-LimitsDeletion asked repo image Limits.Nonce = HasFewBlocks image
-LimitsDeletion asked repo image Limits.Manifest = HasLargeManifest repo asked.name (time_of asked.timestamp repo.manifest)
-LimitsDeletion asked repo image Limits.Segment = HasLastSegment image
-LimitsDeletion asked repo image limit = ⊥
+-- a limit that is met, in a run that began with the files at its start
+abbrev pub LimitsDeletion : Deletion → RepoState → Files → Files → Limit → Type 0
+LimitsDeletion asked repo start image Limits.Nonce = LacksManifestBlocks repo asked.name (time_of asked.timestamp repo.manifest) start image
+LimitsDeletion asked repo start image Limits.Manifest = HasLargeManifest repo asked.name (time_of asked.timestamp repo.manifest)
+LimitsDeletion asked repo start image Limits.Segment = HasLastSegment image
+LimitsDeletion asked repo start image limit = ⊥
 
 -- It is done, unless memory was refused, a device failed, or a limit was met.
-abbrev pub IsDeletedUnless : Deletion → RepoState → Files → Status → Type 0
-IsDeletedUnless asked repo image Statuses.Done = Unit {0}
-IsDeletedUnless asked repo image Statuses.Memory = Unit {0}
-IsDeletedUnless asked repo image Statuses.TargetDevice = Unit {0}
-IsDeletedUnless asked repo image Statuses.EntropyDevice = Unit {0}
-IsDeletedUnless asked repo image (Statuses.Limit limit) = LimitsDeletion asked repo image limit
-IsDeletedUnless asked repo image status = ⊥
+abbrev pub IsDeletedUnless : Deletion → RepoState → Files → Files → Status → Type 0
+IsDeletedUnless asked repo start image Statuses.Done = Unit {0}
+IsDeletedUnless asked repo start image Statuses.Memory = Unit {0}
+IsDeletedUnless asked repo start image Statuses.TargetDevice = Unit {0}
+IsDeletedUnless asked repo start image Statuses.EntropyDevice = Unit {0}
+IsDeletedUnless asked repo start image (Statuses.Limit limit) = LimitsDeletion asked repo start image limit
+IsDeletedUnless asked repo start image status = ⊥
 
 -- Where what is asked is there, a deletion is done unless that.
 abbrev pub DeletesDone : Deletion → Option Told → Option Told → Status → Type 0
 DeletesDone asked before now status = IfSome before (λ b. IfSome now (λ t. b.history.acts ≡ [] → (ready : IsReadyToDelete asked (told_files b))
-    → IsDeletedUnless asked ready.repo (told_files t) status))
+    → IsDeletedUnless asked ready.repo t.history.start (told_files t) status))
 
 -- ---- the whole of what is claimed
 

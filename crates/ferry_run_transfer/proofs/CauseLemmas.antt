@@ -17,7 +17,7 @@ use Rattle.ferry_carry.specs.Telling.{AreLines, BeginsAll, TellsNames}
 use Rattle.ferry_piece.specs.declared.fault.CarryFault.{CarryFault}
 use Rattle.ferry_piece.specs.declared.fault.CarryFault.TheVariants as Carry
 use Rattle.ferry_carry.specs.declared.options.Options.{Options}
-use Rattle.ferry_disk.specs.Act.{History, files_now}
+use Rattle.ferry_disk.specs.Act.{Act, History, applied, files_now}
 use Rattle.ferry_disk.specs.Device.{Told, told_files}
 use Rattle.ferry_disk.specs.Files.{Files}
 use Rattle.ferry_disk.specs.Moments.{Between}
@@ -33,6 +33,7 @@ use Rattle.ferry_repo.specs.declared.secret.Secret.{Secret}
 use Rattle.ferry_segment.specs.Entry.{LogEntry}
 use Rattle.ferry_stops.specs.Entries.{Shows}
 use Rattle.ferry_stops.specs.Tells.{TellsNothing, lines_of}
+use Rattle.ferry_store.proofs.StepLemmas.{moments_begin}
 use Rattle.ferry_store.proofs.StandingLemmas.{opened_unlocks, opens_live, state_live}
 use Rattle.ferry_store.specs.Causes.{StopsAt}
 use Rattle.ferry_store.specs.Commit.{accepted_in}
@@ -105,7 +106,7 @@ stops_writing : (request : Request) (source start image : Files) (before : RepoS
     → OpensFilesTo start request.secrets.target before → KeepsArchives request start before.manifest lines image → (refusal : StoreRefusal)
     → (refusal ≡ Store.TooLarge → HasLargeTarget request source start lines)
     → ((id : List ℕ) (fault : BlobFault) → refusal ≡ Store.Repo (Repos.Blob id fault) → IsOfAdded request source start id)
-    → StopsAt image before.keys refusal → StopsWriting request source start lines image refusal
+    → StopsAt start image before.keys refusal → StopsWriting request source start lines image refusal
 stops_writing request source start image before lines opens keeps (Store.Repo (Repos.Blob id fault)) large last breaks =
     so (keeps.opening before opens id breaks.blob breaks.chunk
     ((state_live image keeps.repo.log breaks.entries keeps.opens.opens.unlocks.reads breaks.shown id breaks.blob).1 breaks.live))
@@ -151,7 +152,7 @@ stops_writing request source start image before lines opens keeps Store.Memory l
 -- what was asked, over a source that opened, and a target that opened to the repository of a store
 module _ (secrets : Secrets) (options : Options) (names : List (List ℕ)) (source : RepoState) (t a b d : Told) (chosen : List (List ℕ)) (store now : TheStore)
     (source_opens : OpensFilesTo (told_files t) secrets.source source) (chosen_is : chosen ≡ chosen_of names source.manifest)
-    (opens : OpensFilesTo (told_files a) secrets.target (repo_view store.repo)) (begun : a.history.acts ≡ [])
+    (opens : OpensFilesTo (told_files a) secrets.target (repo_view store.repo)) (begun : a.history.acts ≡ []) (started : d.history.start ≡ told_files a)
     (untold : TellsNothing a.history b.history) (accepts : accepted_in store ≡ (repo_view store.repo).manifest) where
   abbrev asks : Request
   asks = asked secrets options names (Some t)
@@ -241,13 +242,14 @@ module _ (secrets : Secrets) (options : Options) (names : List (List ℕ)) (sour
   -- the target isn't written
   target_told : Keeps → (added : List Addition) → Begins added → (refusal : StoreRefusal)
       → IsOfLast (repo_view store.repo).keys added (Carry.Target refusal) → (Carry.Target refusal ≡ Carry.Target Store.TooLarge → Limited)
-      → StopsAt (told_files d) (repo_view store.repo).keys refusal
+      → StopsAt d.history.start (told_files d) (repo_view store.repo).keys refusal
       → StopsWriting asks (told_files t) (told_files a) (lines_of d.history.acts) (told_files d) refusal
   target_told keeps added begins refusal last limit stops =
       stops_writing asks (told_files t) (told_files a) (told_files d) (repo_view store.repo) (lines_of d.history.acts) opens keeps refusal
       (λ is. large_there (limit (ap Carry.Target is)))
       (λ id fault is.
-      last_added added begins id fault (subst (λ (r : StoreRefusal). IsOfLast (repo_view store.repo).keys added (Carry.Target r)) is last)) stops
+      last_added added begins id fault (subst (λ (r : StoreRefusal). IsOfLast (repo_view store.repo).keys added (Carry.Target r)) is last))
+      (subst (λ (f : Files). StopsAt f (told_files d) (repo_view store.repo).keys refusal) started stops)
 
   -- a fault that isn't that of a line
   told_line : (X : Type 0) (fault : CarryFault) → is_of_telling fault ≡ false → is_of_telling fault ≡ true → X
@@ -318,6 +320,9 @@ module _ (secrets : Secrets) (options : Options) (names : List (List ℕ)) (sour
       × HasLargeRecord (told_files t) (from_source asks (told_files t) repo) target.keys name) refused refused.refused
   refused_told keeps added begins Carry.Record last limit (inr untold) = told_line _ Carry.Record refl untold.0
 
+files_begun : (h : History) → h.acts ≡ [] → files_now h ≡ h.start
+files_begun h e = ap (λ (acts : List Act). applied h.start acts) e
+
 -- a transfer that was refused while archives came
 pub names_refused : (secrets : Secrets) (options : Options) (names : List (List ℕ)) (source : RepoState) (told a b d : Option Told) (chosen : List (List ℕ))
     (store now : TheStore) → IfSome told (λ t. OpensFilesTo (told_files t) secrets.source source) → chosen ≡ chosen_of names source.manifest
@@ -337,7 +342,8 @@ names_refused secrets options names source (Some t) (Some a) (Some b) (Some d) c
     λ begun.
     let same : each.0 ≡ d = (let e : Some d ≡ Some each.0 = each.1 in cc) in
     let first : untold.0 ≡ b = (let e : Some b ≡ Some untold.0 = untold.1 in cc) in
-    let left = left_of (asked secrets options names (Some t)) a.history d.history
-    (subst (λ (x : Told). TransferEach (asked secrets options names (Some t)) a.history x.history) same each.2) begun (repo_view store.repo) opens in
-    refused_told secrets options names source t a b d chosen store now from is opens begun
+    let all = subst (λ (x : Told). TransferEach (asked secrets options names (Some t)) a.history x.history) same each.2 in
+    let left = left_of (asked secrets options names (Some t)) a.history d.history all begun (repo_view store.repo) opens in
+    let started = ap (λ (k : History). k.start) (moments_begin _ a.history d.history (all.1.1.0 begun)).last ∙ sym (files_begun a.history begun) in
+    refused_told secrets options names source t a b d chosen store now from is opens begun started
     (subst (λ (x : Told). TellsNothing a.history x.history) first untold.2) accepts left last.0 last.1.0 fault last.1.1 limit refused

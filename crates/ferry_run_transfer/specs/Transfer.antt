@@ -26,9 +26,8 @@ use Rattle.ferry_segment.specs.Entry.{LogEntry}
 use Rattle.ferry_stops.specs.Chance.{EachStop}
 use Rattle.ferry_stops.specs.Entries.{Shows}
 use Rattle.ferry_stops.specs.Tells.{lines_of}
-use Rattle.ferry_store.specs.Store.{InitKeeps, NumbersOn}
+use Rattle.ferry_store.specs.Store.{WritesEach}
 use Rattle.ferry_status.specs.declared.status.Secrets.{Secrets}
-use Rattle.ferry_write.specs.Session.{SettlesFirst}
 
 -- ---- what is asked for
 
@@ -165,7 +164,7 @@ TransferShows request before now = before.acts ≡ [] → (repo : RepoState) →
 
 -- At each moment of the command: its stops, the counter blocks of all runs, those of its own and the number in the file `nonce`, and its first act.
 abbrev pub TransferEach : Request → History → History → Type 0
-TransferEach request before now = TransferShows request before now × (InitKeeps before now × (NumbersOn before now × SettlesFirst before now))
+TransferEach request before now = WritesEach (TransferShows request) before now
 
 -- ---- the end
 

@@ -29,6 +29,7 @@ use Rattle.ferry_store.specs.Store.{RefusesOpen}
 use Rattle.ferry_store.specs.declared.fault.StoreRefusal.{StoreRefusal}
 use Rattle.ferry_store.specs.declared.fault.StoreRefusal.TheVariants as Store
 use Rattle.ferry_run_transfer.specs.Rerun.{IsAbsentOrEqual, LacksName}
+use Rattle.ferry_status.specs.Devices.{IsRefusedBy}
 use Rattle.ferry_status.specs.Status.{carry_status}
 use Rattle.ferry_run_transfer.specs.Transfer.{KeepsArchives, NoneCollide, Request, chosen_of, from_source}
 use Rattle.ferry_status.specs.declared.status.Limit.{Limit}
@@ -93,8 +94,8 @@ pub record HasLargeTarget (request : Request) (source start : Files) (lines : Li
   pub limits : LimitsNames request.timestamp repo.manifest target.keys target.manifest (chosen_of request.names repo.manifest)
       (AreLines target.manifest [] lines)
 
--- Why the target isn't written: a chunk that is live in it, and whose id is that of a content that is added, breaks a rule, it has few counter blocks left at
--- the end, or the numbers of segments are used up then; or its manifest is too large, a device failed, or memory was refused.
+-- Why the target isn't written: a chunk that is live in it, and whose id is that of a content that is added, breaks a rule, the counter blocks of a blob aren't
+-- left at the end, or the numbers of segments are used up then; or its manifest is too large, a device failed, or memory was refused.
 abbrev pub StopsWriting : Request → Files → Files → List (List ℕ) → Files → StoreRefusal → Type 0
 StopsWriting request source start lines image (Store.Repo (Repos.Blob id fault)) =
     IsOfTarget request start (λ repo. (id ≢ zero_id) × BreaksObject start repo.log repo.keys id fault) × IsOfAdded request source start id
@@ -102,7 +103,7 @@ StopsWriting request source start lines image (Store.Repo Repos.Device) = Unit {
 StopsWriting request source start lines image (Store.Repo fault) = ⊥
 StopsWriting request source start lines image (Store.Write Writes.Numbers) = HasLastSegment image
 StopsWriting request source start lines image (Store.Write fault) = Unit {0}
-StopsWriting request source start lines image (Store.Nonce Nonces.Exhausted) = HasFewBlocks image
+StopsWriting request source start lines image (Store.Nonce Nonces.Exhausted) = HasFewBlocks start image
 StopsWriting request source start lines image (Store.Nonce Nonces.Device) = Unit {0}
 StopsWriting request source start lines image (Store.Nonce fault) = ⊥
 StopsWriting request source start lines image Store.Committed = ⊥
@@ -176,10 +177,8 @@ RefusesAsked request before now fault =
     WhereRead request.source before now (λ source start lines image. RefusesTransfer request source start lines image fault)
 
 -- A status is that of a refusal, which says this of the files.
-pub record IsRefusedSo (request : Request) (before now : Option Told) (status : Status) : Type 0 where
-  pub fault : CarryFault
-  pub status_is : status ≡ carry_status fault
-  pub refuses : RefusesAsked request before now fault
+abbrev pub IsRefusedSo : Request → Option Told → Option Told → Status → Type 0
+IsRefusedSo request before now status = IsRefusedBy carry_status (RefusesAsked request before now) status
 
 -- ---- where a transfer is done
 
@@ -202,7 +201,7 @@ pub record IsReadyFor (request : Request) (source start : Files) : Type 0 where
 
 -- a limit that is met
 abbrev pub MeetsLimit : Request → Files → Files → List (List ℕ) → Files → Limit → Type 0
-MeetsLimit request source start lines image Limits.Nonce = HasFewBlocks image
+MeetsLimit request source start lines image Limits.Nonce = HasFewBlocks start image
 MeetsLimit request source start lines image Limits.Manifest = HasLargeTarget request source start lines
 MeetsLimit request source start lines image Limits.Archive = HasLargeChosen request source start lines
 MeetsLimit request source start lines image Limits.Segment = HasLastSegment image

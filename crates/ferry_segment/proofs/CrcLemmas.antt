@@ -59,7 +59,7 @@ reduced_by-xor (suc n) h r =
     ap (λ k. reduced_by n (reduced (bit_xor k r))) e ∙ (ap (reduced_by n) (reduced-xor (h * 2 ^ n) r) ∙ reduced_by-xor n h (reduced r))
 
 -- to divide bits one at a time is to add them all and divide
-fold-low_bits : (n r b : ℕ) → fold after_bit r (low_bits n b) ≡ reduced_by n (bit_xor r (b % 2 ^ n))
+pub fold-low_bits : (n r b : ℕ) → fold after_bit r (low_bits n b) ≡ reduced_by n (bit_xor r (b % 2 ^ n))
 unfolding reduced_by
 fold-low_bits zero r b = let e : b % 1 ≡ 0 = omega arith in sym (ap (bit_xor r) e ∙ xor_zero_r r)
 fold-low_bits (suc n) r b =
@@ -94,7 +94,7 @@ every_below p (suc n) h i l =
       | inr g ↦ every_below p n (and_r (p n) _ h) i (omega arith)
     ]
 
-is_true : (b : Bool) → T b → b ≡ true
+pub is_true : (b : Bool) → T b → b ≡ true
 is_true true h = refl
 is_true false h = absurd h
 
@@ -215,11 +215,11 @@ bit_times-xor zero (suc (suc b)) p q = absurd (omega arith)
 bit_times-xor (suc zero) (suc (suc b)) p q = absurd (omega arith)
 bit_times-xor (suc (suc a)) b p q = absurd (omega arith)
 
-xor_pairs : (a b c d : ℕ) → bit_xor (bit_xor a b) (bit_xor c d) ≡ bit_xor (bit_xor a c) (bit_xor b d)
+pub xor_pairs : (a b c d : ℕ) → bit_xor (bit_xor a b) (bit_xor c d) ≡ bit_xor (bit_xor a c) (bit_xor b d)
 xor_pairs a b c d = cc (xor_assoc a b (bit_xor c d), xor_assoc b c d, xor_comm b c, xor_assoc c b d, xor_assoc a c (bit_xor b d))
 
 -- the remainder of a sum is the sum of the remainders
-reduced-sum : (a b : ℕ) → reduced (bit_xor a b) ≡ bit_xor (reduced a) (reduced b)
+pub reduced-sum : (a b : ℕ) → reduced (bit_xor a b) ≡ bit_xor (reduced a) (reduced b)
 reduced-sum a b =
     ap (λ k. bit_xor k (bit_xor a b % 2 * polynomial)) (xor_shr a b 1)
     ∙ (ap (λ k. bit_xor (bit_xor (a / 2) (b / 2)) (k * polynomial)) (xor_mod a b 1)
@@ -231,7 +231,7 @@ unfolding reduced_by
 reduced_by-sum zero a b = refl
 reduced_by-sum (suc n) a b = ap (reduced_by n) (reduced-sum a b) ∙ reduced_by-sum n (reduced a) (reduced b)
 
-reduced_by-more : (m n r : ℕ) → reduced_by (m + n) r ≡ reduced_by n (reduced_by m r)
+pub reduced_by-more : (m n r : ℕ) → reduced_by (m + n) r ≡ reduced_by n (reduced_by m r)
 unfolding reduced_by
 reduced_by-more zero n r = ap (λ k. reduced_by k r) (let e : 0 + n ≡ n = omega arith in e)
 reduced_by-more (suc m) n r = ap (λ k. reduced_by k r) (let e : suc m + n ≡ suc (m + n) = omega arith in e) ∙ reduced_by-more m n (reduced r)
@@ -318,7 +318,7 @@ joined-xor r b n small =
     sym (xor_assoc (n * 2 ^ 8) r b) ∙ (ap (λ k. bit_xor k b) (xor_comm (n * 2 ^ 8) r) ∙ (xor_assoc r (n * 2 ^ 8) b ∙ ap (bit_xor r) (sym whole)))
 
 -- bytes that meet the register as one number
-register_after-joined : (bs : List ℕ) (r : ℕ) → ((i : ℕ) → get_or bs i 0 < 256) → register_after r bs ≡ reduced_by (8 * length bs) (bit_xor r (joined bs))
+pub register_after-joined : (bs : List ℕ) (r : ℕ) → ((i : ℕ) → get_or bs i 0 < 256) → register_after r bs ≡ reduced_by (8 * length bs) (bit_xor r (joined bs))
 unfolding reduced_by
 register_after-joined [] r small = register_after-nil r ∙ sym (xor_zero_r r)
 register_after-joined (b ∷ bs) r small =
@@ -333,11 +333,11 @@ register_after-joined (b ∷ bs) r small =
 look : {a b c d : ℕ} → a ≡ c → b ≡ d → bit_xor a b ≡ bit_xor c d
 look {a} {b} {c} {d} p q = ap (λ k. bit_xor k b) p ∙ ap (bit_xor c) q
 
-first_small : (b : ℕ) (bs : List ℕ) → b < 256 → ((i : ℕ) → get_or bs i 0 < 256) → (i : ℕ) → get_or (b ∷ bs) i 0 < 256
+pub first_small : (b : ℕ) (bs : List ℕ) → b < 256 → ((i : ℕ) → get_or bs i 0 < 256) → (i : ℕ) → get_or (b ∷ bs) i 0 < 256
 first_small b bs p q zero = p
 first_small b bs p q (suc i) = q i
 
-none_small : (i : ℕ) → get_or [] i 0 < 256
+pub none_small : (i : ℕ) → get_or [] i 0 < 256
 none_small i = omega arith
 
 -- sixteen bytes: the first four as one word, and the others by look-ups
@@ -390,13 +390,13 @@ sixteen_by_tables r x w bs sized small p q =
     ∙ (sixteen_sum r w front back refl refl (listed_small 4 0 bs small) (listed_small 12 4 bs small) (q ∙ ap (λ k. reduced_by 128 (bit_xor r k)) word)
     ∙ ap (register_after r) whole)
 
--- many bytes, sixteen at a time
-pub register_after_sixteen : (r after : ℕ) (bytes : List ℕ) (i : ℕ) → after ≡ register_after r (take 16 (drop i bytes))
-    → register_after after (drop (i + 16) bytes) ≡ register_after r (drop i bytes)
-register_after_sixteen r after bytes i e =
-    ap (λ k. register_after k (drop (i + 16) bytes)) e
-    ∙ (sym (register_after-append r (take 16 (drop i bytes)) (drop (i + 16) bytes))
-    ∙ ap (register_after r) (ap (λ k. take 16 (drop i bytes) ++ k) (sym (drop-drop 16 i bytes)) ∙ take-append-drop 16 (drop i bytes)))
+-- many bytes, some of them at a time
+pub register_after_some : (n r after : ℕ) (bytes : List ℕ) (i : ℕ) → after ≡ register_after r (take n (drop i bytes))
+    → register_after after (drop (i + n) bytes) ≡ register_after r (drop i bytes)
+register_after_some n r after bytes i e =
+    ap (λ k. register_after k (drop (i + n) bytes)) e
+    ∙ (sym (register_after-append r (take n (drop i bytes)) (drop (i + n) bytes))
+    ∙ ap (register_after r) (ap (λ k. take n (drop i bytes) ++ k) (sym (drop-drop n i bytes)) ∙ take-append-drop n (drop i bytes)))
 
 -- ---- crc_more
 

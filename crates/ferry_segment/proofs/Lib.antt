@@ -1,4 +1,5 @@
 mod CrcLemmas
 pub mod EntryLemmas
+mod FoldingLemmas
 pub mod HeadLemmas
 pub mod SegmentLemmas

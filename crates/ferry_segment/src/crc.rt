@@ -1,7 +1,8 @@
-//! The CRC-32 of IEEE 802.3 by sixteen tables: sixteen bytes at a time, and one by one what is left.
+//! The CRC-32 of IEEE 802.3. Few bytes are divided by sixteen tables, and many are folded before.
 ghost use Rattle.std.specs.Prelude.{◌≡◌, ◌∷◌, ◌++◌, [], ℕ, List, length, bit_xor};
 ghost use Rattle.ferry_segment.specs.Crc.{crc, crc_more, register_after, reduced_by};
 
+use crate::folding::{LEAST, by_folding};
 use crate::remainders::{
     AFTER_8, AFTER_16, AFTER_24, AFTER_32, AFTER_40, AFTER_48, AFTER_56, AFTER_64, AFTER_72,
     AFTER_80, AFTER_88, AFTER_96, AFTER_104, AFTER_112, AFTER_120, AFTER_128,
@@ -29,6 +30,17 @@ pub fn crc32_more(before: u32, bytes: &[u8]) -> u32
 
 /// The register after these bytes.
 pub(crate) fn after_bytes(register: u32, bytes: &[u8]) -> u32
+    ensures { result ≡ register_after register bytes.now }
+{
+    if bytes.len() < LEAST {
+        by_tables(register, bytes)
+    } else {
+        by_folding(register, bytes)
+    }
+}
+
+/// The register after these bytes, sixteen at a time, and one by one what is left.
+pub(crate) fn by_tables(register: u32, bytes: &[u8]) -> u32
     ensures { result ≡ register_after register bytes.now }
 {
     let mut after = register;

@@ -7,6 +7,7 @@
 
 mod crc;
 mod entry;
+mod folding;
 mod head;
 mod laws;
 mod remainders;

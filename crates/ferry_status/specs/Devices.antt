@@ -39,6 +39,12 @@ written bytes faults = record { bytes = bytes; faults = faults }
 abbrev pub devices : Store → Store → Drawn → Written → Devices
 devices source target entropy output = record { source = source; target = target; entropy = entropy; output = output }
 
+-- A status is that of a fault, which says this.
+pub record IsRefusedBy {Fault : Type 0} (status_of : Fault → Status) (Says : Fault → Type 0) (status : Status) : Type 0 where
+  pub fault : Fault
+  pub status_is : status ≡ status_of fault
+  pub refuses : Says fault
+
 -- The table of causes. A failed device is the status only where its count of faults rose, and at every other status that count is what it
 -- was, but for the output's, whose fault line may fail. A failed call of a repository is the last one. The source tells what it told.
 pub record HasCauses (status : Status) (before after : Devices) : Type 0 where

@@ -30,6 +30,7 @@ use Rattle.ferry_nonce.specs.declared.fault.NonceFault.{NonceFault}
 use Rattle.ferry_nonce.specs.declared.fault.NonceFault.TheVariants as Nonces
 use Rattle.ferry_stops.specs.Counters.{IsNonce}
 use Rattle.ferry_blob.proofs.LawLemmas.{block_of_sealed}
+use Rattle.ferry_blob.proofs.SealLemmas.{length-sealed}
 use Rattle.ferry_blob.specs.Blob.{IsBlockOf, blocks, sealed}
 use Rattle.ferry_blob.specs.declared.mode.Mode.{Mode}
 use Rattle.ferry_config.specs.Text.{config_text}
@@ -470,8 +471,8 @@ object_both session now counter drawn entry number first a b c n m k result bloc
     p q
 
 -- a DELETE takes no block
-takes_none : (id : List ℕ) (first behind : ℕ) → TakesBlocks (DeleteEntry id) first behind
-takes_none id first behind blob number put = absurd (let e = put.1 in let no : ⊥ = cc in no)
+takes_none : (id : List ℕ) (first : ℕ) → TakesBlocks (DeleteEntry id) first first
+takes_none id first = (λ blob number put. absurd (let e = put.1 in let no : ⊥ = cc in no), omega arith)
 
 -- a counter that draws nothing
 undrawn : (counts : Bool) (session : Session) (counter : Counter) (written : Written) (h : History) → IsUnderWay counts session counter written h
@@ -480,7 +481,7 @@ undrawn counts session counter written h u = draw_stands counts session counter 
 
 delete_keeps : (session : Session) (counter : Counter) (id : List ℕ) (h g : History) → PutsAt session (DeleteEntry id) h g → KeepsSound session counter h g
 delete_keeps session counter id h g puts counts written u =
-    put_sound counts session counter.free counter written (DeleteEntry id) h g (takes_none id counter.free counter.free)
+    put_sound counts session counter.free counter written (DeleteEntry id) h g (takes_none id counter.free)
     (undrawn counts session counter written h u) puts.0 puts.1.0 puts.1.1
 
 pub delete_ok : (session now : Session) (counter : Counter) (id : List ℕ) (a b : Option Told) (n m : ℕ)
@@ -490,7 +491,7 @@ delete_ok session now counter id a b n m p =
     did_as {T = Unit {0}} {U = Unit {0}} (PutsAt session (DeleteEntry id)) (λ _. HasPut session (DeleteEntry id) now) (KeepsSound session counter)
     (λ _. TakesEntry session counter (DeleteEntry id) now counter) a b n m tt tt (delete_keeps session counter id)
     (λ h g f counts written u.
-    put_stands counts session now counter.free counter written (DeleteEntry id) h g (takes_none id counter.free counter.free)
+    put_stands counts session now counter.free counter written (DeleteEntry id) h g (takes_none id counter.free)
     (undrawn counts session counter written h u) f.1.0 f.1.1.0 f.1.1.1.0 f.1.1.1.1 f.0)
     p
 
@@ -547,10 +548,14 @@ object_grows session counter drawn number first a b c n m order p stays =
 -- the blocks of a sealed content
 pub sealed_blocks : (keys : Keys) (mode : Mode) (first : ℕ) (id content : List ℕ) (behind : ℕ) → first < 2 ^ 64 → behind ≡ first + blocks (length content)
     → TakesBlocks (PutEntry id (sealed keys mode first content)) first behind
-sealed_blocks keys mode first id content behind fits is blob number put block =
-    let same : blob ≡ sealed keys mode first content = put_same id (sealed keys mode first content) blob put in
-    let range = (block_of_sealed keys mode first number content fits).0 (subst (λ (x : List ℕ). IsBlockOf x number) same block) in
-    (range.0, omega (arith, range.1, is))
+sealed_blocks keys mode first id content behind fits is = (
+  λ blob number put block.
+      let same : blob ≡ sealed keys mode first content = put_same id (sealed keys mode first content) blob put in
+      let range = (block_of_sealed keys mode first number content fits).0 (subst (λ (x : List ℕ). IsBlockOf x number) same block) in
+      (range.0, omega (arith, range.1, is)),
+  (let size : length (sealed keys mode first content) - 43 ≡ length content = omega (arith, length-sealed keys mode first content) in
+      ap (λ (n : ℕ). first + blocks n) size ∙ sym is),
+)
 
 pub object_blocks : (keys : Keys) (mode : Mode) (counter now : Counter) (n first : ℕ) (id buffer blob : List ℕ) → first ≡ counter.free → first < 2 ^ 64
     → blob ≡ sealed keys mode first (drop 43 buffer) → n ≡ blocks (length buffer - 43) → now ≡ drawn counter n

@@ -10,7 +10,7 @@ use Rattle.ferry_disk.specs.Act.{History, files_now}
 use Rattle.ferry_disk.specs.Device.{Told, told_files}
 use Rattle.ferry_disk.specs.Faults.{FailedWhere}
 use Rattle.ferry_disk.specs.Files.{Files}
-use Rattle.ferry_disk.specs.Image.{PlainFate}
+use Rattle.ferry_disk.specs.Image.{Fate, PlainFate}
 use Rattle.ferry_disk.specs.Moments.{Between}
 use Rattle.ferry_disk.specs.declared.name.Name.TheVariants.{Nonce as NonceFile}
 use Rattle.ferry_nonce.specs.Counter.{IsExhausted, Reserves}
@@ -27,7 +27,8 @@ use Rattle.ferry_stops.specs.Entries.{CommittedBelow, ShowsAt}
 use Rattle.ferry_store.proofs.CallLemmas.{OnlyGrows, reserved_step}
 use Rattle.ferry_store.proofs.StepLemmas.{Reads, here_each}
 use Rattle.ferry_store.proofs.WritingLemmas.{told_writing}
-use Rattle.ferry_store.specs.Causes.{BreaksLive, HasFewBlocks, HasLastSegment, Stops, StopsAt, most_blocks}
+use Rattle.ferry_store.specs.Counting.{HaveAll, LacksBlocks}
+use Rattle.ferry_store.specs.Causes.{BreaksLive, HasLastSegment, Stops, StopsAt, most_blocks}
 use Rattle.ferry_store.specs.Content.{RefusesOld}
 use Rattle.ferry_store.specs.Dropping.{IsWriting}
 use Rattle.ferry_store.specs.Fault.{depot_failed, nonce_refusal, write_refusal}
@@ -41,7 +42,7 @@ use Rattle.ferry_write.proofs.LawLemmas.{fits_now}
 use Rattle.ferry_write.proofs.StandLemmas.{read_is}
 use Rattle.ferry_write.specs.Room.{AreUsedUp, behind}
 use Rattle.ferry_write.specs.Script.{AllDone}
-use Rattle.ferry_write.specs.Session.{IsCurrent, LastIs, OnlyAppends, Stands, Stays}
+use Rattle.ferry_write.specs.Session.{IsCurrent, LastIs, OnlyAppends, SessionFits, Stands, Stays}
 use Rattle.ferry_write.specs.declared.fault.WriteFault.{WriteFault}
 use Rattle.ferry_write.specs.declared.fault.WriteFault.TheVariants as Writes
 use Rattle.ferry_write.specs.declared.session.Session.{Session}
@@ -80,7 +81,7 @@ breaks_live store h id fault fits chunk unknown breaks =
 
 -- over the files that were read
 old_stops : (store : Store) (h : History) (id : List ℕ) (refusal : StoreRefusal) → StoreFits false store h → id ≢ zero_id → (IsKnown store id → ⊥)
-    → RefusesOld (files_now h) (repo_view store.repo) id refusal → StopsAt (files_now h) (repo_view store.repo).keys refusal
+    → RefusesOld (files_now h) (repo_view store.repo) id refusal → StopsAt h.start (files_now h) (repo_view store.repo).keys refusal
 old_stops store h id (Repo (Repos.Blob named fault)) fits chunk unknown is =
     subst (λ (i : List ℕ). BreaksLive (files_now h) (repo_view store.repo).keys i fault) (sym is.0) (breaks_live store h id fault fits chunk unknown is.1)
 old_stops store h id (Repo Repos.Device) fits chunk unknown is = tt
@@ -106,15 +107,28 @@ old_stops store h id Entropy fits chunk unknown is = absurd is
 
 -- ---- counter blocks
 
--- the file `nonce` of a counter for which no blocks are left
-few_blocks : (counts : Bool) (session : Session) (counter : Counter) (written : Written) (h : History) (blocks : ℕ) → blocks ≤ most_blocks
-    → IsExhausted counter blocks → IsUnderWay counts session counter written h → HasFewBlocks (files_now h)
-few_blocks counts session counter written h blocks few exhausted u =
-    let free = u.counter_fits.free in
-    let read : (files_now h).nonce ≡ free.file = plain_read h.start h.acts NonceFile nonce_plain ∙ ap (λ (f : PlainFate). f.read) free.at_rest in
-    let above = exhausted.1 in
-    let within = free.within in
-    (free.value, (subst (λ (file : Option (List ℕ)). IsNonce file free.value) (sym read) free.nonce, omega (arith, few, above, within)))
+-- the segments that are there have all that was written
+have_all : (session : Session) (committed : Option (List LogEntry)) (pending : List LogEntry) (h : History) → SessionFits session committed pending h
+    → HaveAll (files_now h) (unwrap_or committed [] ++ pending)
+have_all session committed pending h fits =
+    (behind session.last, (fits.entries, λ n above. sym (read_is h n) ∙ ap (λ (f : Fate). f.read) (fits.none n above)))
+
+-- the files of a counter for which these blocks aren't left
+pub lacks_blocks : (counts : Bool) (session : Session) (counter : Counter) (written : Written) (h : History) (count : ℕ) → IsExhausted counter count
+    → IsUnderWay counts session counter written h → LacksBlocks h.start (files_now h) count
+lacks_blocks counts session counter written h count exhausted u =
+    let at = u.counter_fits.reserved in
+    let read : (files_now h).nonce ≡ at.file = plain_read h.start h.acts NonceFile nonce_plain ∙ ap (λ (f : PlainFate). f.read) at.at_rest in
+    record {
+      entries = unwrap_or written.committed [] ++ written.pending;
+      all = have_all session written.committed written.pending h u.fits;
+      free = counter.free;
+      next = u.next;
+      reserved = counter.reserved;
+      nonce = subst (λ (file : Option (List ℕ)). IsNonce file counter.reserved) (sym read) at.nonce;
+      unreserved = exhausted.0;
+      none_left = exhausted.1;
+    }
 
 -- where no call of the depot was made
 told_here : (E : History → History → Type 0) (a b : Option Told) → b ≡ a → ((h : History) → E h h) → Between a b E
@@ -126,7 +140,7 @@ pub draw_stops : (session : Session) (counter : Counter) (blocks number : ℕ) (
     → Between a b (Stops session counter (nonce_refusal fault))
 draw_stops session counter blocks number Nonces.Exhausted a b few left exhausted =
     told_here (Stops session counter (Nonce Nonces.Exhausted)) a b left
-    (λ h keys counts written u. few_blocks counts session counter written h blocks few (exhausted.0 refl) u)
+    (λ h keys counts written u. (blocks, (few, lacks_blocks counts session counter written h blocks (exhausted.0 refl) u)))
 draw_stops session counter blocks number Nonces.Device a b few left exhausted =
     between_map a b _ (Stops session counter (Nonce Nonces.Device)) (λ h g e keys counts written u. tt)
     (reserved_step {T = ℕ} number a b (Err Nonces.Device) left)
@@ -207,7 +221,7 @@ pub memory_stops : (session : Session) (counter : Counter) (refusal : StoreRefus
     → Between a b E → Between a b (Stops session counter refusal)
 memory_stops session counter refusal E a b is between =
     between_map a b E (Stops session counter refusal)
-    (λ h g e keys counts written u. subst (λ (f : StoreRefusal). StopsAt (files_now g) keys f) (sym is) tt) between
+    (λ h g e keys counts written u. subst (λ (f : StoreRefusal). StopsAt g.start (files_now g) keys f) (sym is) tt) between
 
 packed_by : (session : Session) (counter : Counter) (size : ℕ) (refusal : StoreRefusal) (h : History) → RefusesManifest size refusal
     → Stops session counter refusal h h
@@ -243,27 +257,27 @@ untold_still true now e = let no : ⊥ = cc in no
 -- of the files as they are told behind a call on a store that writes
 pub writing_stops : (store : Store) (refusal : StoreRefusal) (a b : Option Told) → IfSome a (λ t. IsWriting store t.history)
     → FailedWhere (depot_failed refusal) a b → Between a b (Stops store.session store.counter refusal)
-    → IfSome b (λ t. StopsAt (told_files t) (repo_view store.repo).keys refusal)
+    → IfSome b (λ t. StopsAt t.history.start (told_files t) (repo_view store.repo).keys refusal)
 writing_stops store refusal a None writes ends stops = tt
 writing_stops store refusal None (Some now) writes ends stops = absurd (untold_still (depot_failed refusal) now ends)
 writing_stops store refusal (Some told) (Some now) writes ends stops =
     let same : now ≡ stops.0 = (let f = stops.1 in cc) in
-    subst (λ (t : Told). StopsAt (told_files t) (repo_view store.repo).keys refusal) (sym same)
+    subst (λ (t : Told). StopsAt t.history.start (told_files t) (repo_view store.repo).keys refusal) (sym same)
     (stops.2 (repo_view store.repo).keys false writes.written writes.under_way)
 
 -- on a store that fits
 pub store_stops : (store : Store) (refusal : StoreRefusal) (a b : Option Told) → IfSome a (λ t. StoreFits false store t.history)
     → FailedWhere (depot_failed refusal) a b → Between a b (Stops store.session store.counter refusal)
-    → IfSome b (λ t. StopsAt (told_files t) (repo_view store.repo).keys refusal)
+    → IfSome b (λ t. StopsAt t.history.start (told_files t) (repo_view store.repo).keys refusal)
 store_stops store refusal a b fits ends stops = writing_stops store refusal a b (told_writing store a fits) ends stops
 
 -- a chunk that is live doesn't open, by calls that read
 pub opened_stops : (store : Store) (id : List ℕ) (refusal : StoreRefusal) (a b : Option Told) → IfSome a (λ t. StoreFits false store t.history)
     → id ≢ zero_id → (IsKnown store id → ⊥) → IfSome a (λ t. RefusesOld (told_files t) (repo_view store.repo) id refusal)
-    → FailedWhere (depot_failed refusal) a b → Between a b Reads → IfSome b (λ t. StopsAt (told_files t) (repo_view store.repo).keys refusal)
+    → FailedWhere (depot_failed refusal) a b → Between a b Reads → IfSome b (λ t. StopsAt t.history.start (told_files t) (repo_view store.repo).keys refusal)
 opened_stops store id refusal a None fits chunk unknown refused ends reads = tt
 opened_stops store id refusal None (Some now) fits chunk unknown refused ends reads = absurd (untold_still (depot_failed refusal) now ends)
 opened_stops store id refusal (Some told) (Some now) fits chunk unknown refused ends reads =
     let same : now ≡ reads.0 = (let f = reads.1 in cc) in
-    subst (λ (h : History). StopsAt (files_now h) (repo_view store.repo).keys refusal) (sym (ap (λ (t : Told). t.history) same ∙ reads.2))
+    subst (λ (h : History). StopsAt h.start (files_now h) (repo_view store.repo).keys refusal) (sym (ap (λ (t : Told). t.history) same ∙ reads.2))
     (old_stops store told.history id refusal fits chunk unknown refused)

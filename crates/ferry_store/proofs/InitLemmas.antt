@@ -91,6 +91,7 @@ pub first_settings : (basis : Basis) (timestamp salt : List ℕ) (session : Sess
 first_settings basis timestamp salt session counter a b n m refusal is p = record {
   did = λ secret opens. first_front secret session counter basis.config
       (λ _. TakesFirst basis.config (manifest_blob basis timestamp salt counter.free) session counter session counter) a b n m refusal p;
+  reads = tt;
   openable = λ secret opens. tt;
   fits = tt;
   refused = target_first session counter (length (manifest_bytes basis timestamp salt)) refusal is;
@@ -107,6 +108,7 @@ first_unput basis timestamp salt session now counter drawn a b c n m k refusal p
       (λ _. TakesFirst basis.config (manifest_blob basis timestamp salt counter.free) session counter now drawn) a c n k refusal (λ h g e. e)
       (first_both secret basis.config session now counter drawn (PutEntry zero_id (manifest_blob basis timestamp salt counter.free)) a b c n m k (Err refusal)
       p puts.did);
+  reads = tt;
   openable = λ secret opens. tt;
   fits = tt;
   refused = puts.refused;
@@ -126,6 +128,7 @@ first_committed basis timestamp salt session now done counter drawn a b c d n m 
       did = λ secret opens. first_commit secret basis.config blob session now done counter drawn a c d n k j r
           (openable secret basis timestamp salt counter.free reads opens puts.reads free)
           (first_both secret basis.config session now counter drawn (PutEntry zero_id blob) a b c n m k (Ok tt) p puts.did) q;
+      reads = always (config_of (config_text basis.config) ≡ Ok basis.config) r reads;
       openable = λ secret opens. always (IsOpenable secret (config_text basis.config) blob) r
           (openable secret basis timestamp salt counter.free reads opens puts.reads free);
       fits = always ((length bytes ≤ content_limit) × (IsExhausted counter (blocks (length bytes)) → ⊥)) r puts.fits;
@@ -234,14 +237,14 @@ still_cause refusal n e = subst (λ (d : Bool). RoseWhere d n n) (sym e) refl
 -- a repository is made
 pub makes_ok : (secret : Secret) (iterations : ℕ) (timestamp : List ℕ) (basis : Basis) (counter : Counter) (session : Session) (counter_now : Counter)
     (session_now : Session) (old mid now : Option (List ℕ)) (a b c : Option Told) (n m k : ℕ) → BasisOpens secret basis
-    → (bytes : List ℕ) × IsBasis secret iterations bytes basis × (mid ≡ option_map (λ (d : List ℕ). d ++ bytes) old)
+    → session_now.limit ≡ basis.config.limit → (bytes : List ℕ) × IsBasis secret iterations bytes basis × (mid ≡ option_map (λ (d : List ℕ). d ++ bytes) old)
     → IfSome a (λ t. IsNonce (file_at (told_files t) NonceFile) counter.free)
     → Did {T = Counter × Session} BeginsFirst (λ x. Begins None x.0 x.1) a b n m (Ok (counter, session))
     → (salt : List ℕ) × (length salt ≡ 64 × (now ≡ option_map (λ (d : List ℕ). d ++ salt) mid)
     × MakesFirst basis timestamp salt session counter session_now counter_now b c m k (Ok tt))
     → (bytes : List ℕ) × ((now ≡ option_map (λ (d : List ℕ). d ++ bytes) old)
     × Did {T = Counter × Session} (MakesSound secret) (λ x. MakesOf secret iterations timestamp bytes x.0 x.1) a c n k (Ok (counter_now, session_now)))
-makes_ok secret iterations timestamp basis counter session counter_now session_now old mid now a b c n m k opens drawn number p made =
+makes_ok secret iterations timestamp basis counter session counter_now session_now old mid now a b c n m k opens limit drawn number p made =
     let bytes = drawn.0 ++ made.0 in
     let salt = made.0 in
     let blob = manifest_blob basis timestamp salt counter.free in
@@ -264,6 +267,8 @@ makes_ok secret iterations timestamp basis counter session counter_now session_n
               number = e.0;
               openable = first.openable secret opens;
               makes = e.1;
+              reads = first.reads;
+              limit = limit;
             })
             (did_known (λ h. IsNonce (file_at (files_now h) NonceFile) counter.free) (MakesSound secret) (λ _. Makes basis.config blob counter_now session_now)
             a c n k (counter_now, session_now) number

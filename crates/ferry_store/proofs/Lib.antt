@@ -7,6 +7,7 @@ pub mod StandingLemmas
 pub mod LearntLemmas
 pub mod NewLemmas
 pub mod KnownLemmas
+pub mod CountingLemmas
 pub mod SoundLemmas
 pub mod CallLemmas
 pub mod PutLemmas
@@ -17,6 +18,7 @@ pub mod ContentLemmas
 pub mod AddLemmas
 pub mod WritingLemmas
 pub mod CauseLemmas
+pub mod LimitLemmas
 pub mod CommitLemmas
 pub mod UseLemmas
 pub mod RenewLemmas

@@ -1,5 +1,5 @@
 -- Each moment of a repository that is written is sound.
-use Rattle.std.proofs.Common.{◌≡◌, ◌⊎◌, inl, inr, ℕ, ◌<◌, ◌≤◌, Bool, true, false, List, [], Option, Some, None, IsSome}
+use Rattle.std.proofs.Common.{◌≡◌, ◌⊎◌, inl, inr, ℕ, ◌+◌, ◌<◌, ◌≤◌, Bool, true, false, List, [], ◌++◌, Option, Some, None, IsSome, unwrap_or}
 use Rattle.std.proofs.Common.{refl, sym, ◌∙◌, ap, subst, arith}
 use Rattle.ferry_blob.specs.Blob.{IsBlockOf, blocks}
 use Rattle.ferry_disk.specs.Act.{Step, ReplaceBy, SettleAll, Act, History, files_now, with_act}
@@ -11,7 +11,7 @@ use Rattle.ferry_disk.specs.declared.name.Name.TheVariants.{Config as ConfigFile
 use Rattle.ferry_disk.proofs.ImageLemmas.{start_is_image, unsettled_image}
 use Rattle.ferry_nonce.proofs.MomentLemmas.{same_keeps, file_left, fits_left, numbers_now, since_drawn, since_more}
 use Rattle.ferry_nonce.proofs.TextLemmas.{one_number}
-use Rattle.ferry_nonce.specs.Counter.{CounterFits, IsDrawnSince, IsFrom, KeepsAbove, KeepsNumbers, LeavesNonce, begin_of, reserves}
+use Rattle.ferry_nonce.specs.Counter.{CounterFits, IsDrawnSince, IsFrom, IsReserved, KeepsAbove, KeepsNumbers, LeavesNonce, begin_of, reserves}
 use Rattle.ferry_nonce.specs.declared.counter.Counter.{Counter}
 use Rattle.ferry_segment.specs.Entry.{LogEntry, PutEntry}
 use Rattle.ferry_stops.proofs.BlobLemmas.{begin_traced}
@@ -20,7 +20,9 @@ use Rattle.ferry_stops.specs.Blobs.{BlobOf, AllTraced, Gains}
 use Rattle.ferry_stops.specs.Chance.{EachStop}
 use Rattle.ferry_stops.specs.Counters.{IsNonce, AreApart, TakenBelow, IsAbove, IsFresh, IsKept, Counts}
 use Rattle.ferry_stops.specs.Entries.{Shows}
+use Rattle.ferry_store.proofs.CountingLemmas.{next_committed, next_none, next_put}
 use Rattle.ferry_store.proofs.StepLemmas.{moments_map, moments_both, moments_begin, moments_settled, step_moments}
+use Rattle.ferry_store.specs.Counting.{IsNext, blocks_of}
 use Rattle.ferry_store.specs.State.{AreTaken, IsUnderWay, IsSound, Written, BeginsSound, Begins, with_entry, all_committed, IsStep, ShowsEither}
 use Rattle.ferry_store.specs.State.{EndsAtCommit, ShowsStanding, found}
 use Rattle.ferry_write.proofs.LawLemmas.{beside_fits, beside_rows, beside_blobs}
@@ -233,9 +235,13 @@ counts_kept n h g plain counts = record {
   within = counts.within;
 }
 
+reserved_kept : (n : ℕ) (h g : History) → KeepsPlain h g → IsReserved n h → IsReserved n g
+reserved_kept n h g plain reserved =
+    record { file = reserved.file; at_rest = (plain NonceFile reserved.file reserved.at_rest).last; nonce = reserved.nonce }
+
 pub counter_kept : (counter : Counter) (h g : History) → KeepsPlain h g → CounterFits counter h → CounterFits counter g
 counter_kept counter h g plain fits = record {
-  reserved = counts_kept counter.reserved h g plain fits.reserved;
+  reserved = reserved_kept counter.reserved h g plain fits.reserved;
   free = counts_kept counter.free h g plain fits.free;
 }
 
@@ -261,6 +267,20 @@ since_begun free h g e begins rest back number = record {
   stays = λ some. subst (λ (f : PlainFate). IsSome f.read) (sym rest) (subst (λ (k : History). IsSome k.start.nonce) begins some);
 }
 
+-- no entry was put
+next_begun : (free : ℕ) (committed : Option (List LogEntry)) (after : Option ℕ) (h g : History) → h.acts ≡ [] → begin_of g ≡ begin_of h
+    → IsNonce (file_at (files_now h) NonceFile) free → CommittedUpTo after committed (files_now h) → IsNext free (unwrap_or committed [] ++ []) g.start
+next_begun free committed after h g e begins number shown =
+    subst (IsNext free (unwrap_or committed [] ++ [])) (sym (ap (λ (k : History). k.start) begins)) (record {
+      first = free;
+      nonce = subst (λ (f : Files). IsNonce f.nonce free) (files_begun h e) number;
+      found = committed;
+      shown = (behind after, subst (CommittedUpTo after committed) (files_begun h e) shown);
+      put = [];
+      entries_are = refl;
+      free_is = next_none free;
+    })
+
 pub begin_stands : (after : Option ℕ) (counter : Counter) (session : Session) (h g : History) → IsNonce (file_at (files_now h) NonceFile) counter.free
     → ((plain_in h NonceFile).perhaps ≡ None → CounterFits counter h) → SessionBegins after session h g → BeginsRows session h g → BeginBrings h g
     → KeepsPlain h g → EndsAtCommit session → Begins after counter session h g
@@ -277,6 +297,7 @@ begin_stands after counter session h g number opened begins rows brings plain en
       counter_fits = counter_kept counter h g plain (opened (ap (λ (f : PlainFate). f.perhaps) rest));
       config = (plain ConfigFile (file_at h.start ConfigFile) (plain_begun h ConfigFile e)).last ∙ ap (λ (f : Files). rests_at f.config) (sym same);
       readme = (plain Readme (file_at h.start Readme) (plain_begun h Readme e)).last ∙ ap (λ (f : Files). rests_at f.readme) (sym same);
+      next = next_begun counter.free committed after h g e begins_is number begun.shown;
       numbers = since_begun counter.free h g e begins_is (plain NonceFile (file_at h.start NonceFile) rest).last back number;
       taken = λ c. taken_later counter.free h g back (taken_begun counter.free h e (begun.kept c) number);
     }
@@ -284,8 +305,12 @@ begin_stands after counter session h g number opened begins rows brings plain en
 -- ---- an entry that is put
 
 -- the blob of an entry that is put is new, with blocks from a number on, or is none
+abbrev pub HasBlocks : LogEntry → ℕ → ℕ → Type 0
+HasBlocks entry first behind = (blob : List ℕ) (number : ℕ) → IsPutOf entry blob → IsBlockOf blob number → (first ≤ number) × (number < behind)
+
+-- the same with all of its blocks
 abbrev pub TakesBlocks : LogEntry → ℕ → ℕ → Type 0
-TakesBlocks entry first behind = (blob : List ℕ) (number : ℕ) → IsPutOf entry blob → IsBlockOf blob number → (first ≤ number) × (number < behind)
+TakesBlocks entry first behind = HasBlocks entry first behind × (first + blocks_of entry ≡ behind)
 
 pub put_same : (id blob other : List ℕ) → IsPutOf (PutEntry id blob) other → other ≡ blob
 put_same id blob other put = let e = put.1 in cc
@@ -293,7 +318,7 @@ put_same id blob other put = let e = put.1 in cc
 one_put : (entry : LogEntry) (a b : List ℕ) → IsPutOf entry a → IsPutOf entry b → a ≡ b
 one_put entry a b x y = let both : PutEntry x.0 a ≡ PutEntry y.0 b = sym x.1 ∙ y.1 in cc
 
-gained_taken : (first behind : ℕ) (entry : LogEntry) (h g : History) → first ≤ behind → TakesBlocks entry first behind → Gains h (IsPutOf entry) g
+gained_taken : (first behind : ℕ) (entry : LogEntry) (h g : History) → first ≤ behind → HasBlocks entry first behind → Gains h (IsPutOf entry) g
     → AreTaken first h → AreTaken behind g
 gained_taken first behind entry h g order blocks gains taken = record {
   apart = λ a b x y. by_sums a b (gains.gained a x) (gains.gained b y);
@@ -313,7 +338,7 @@ gained_taken first behind entry h g order blocks gains taken = record {
       let lower = taken.below b number y q in let upper = (blocks a number x p).0 in let no : ⊥ = omega (arith, lower, upper) in no)
 
 -- no block of a blob that is put is below the first that it takes
-gained_from : (first behind : ℕ) (entry : LogEntry) (h g : History) → TakesBlocks entry first behind → Gains h (IsPutOf entry) g → (blob : List ℕ)
+gained_from : (first behind : ℕ) (entry : LogEntry) (h g : History) → HasBlocks entry first behind → Gains h (IsPutOf entry) g → (blob : List ℕ)
     → BlobOf g blob → BlobOf h blob ⊎ IsFrom first blob
 gained_from first behind entry h g blocks gains blob known = by_sum (gains.gained blob known) where
   by_sum : BlobOf h blob ⊎ IsPutOf entry blob → BlobOf h blob ⊎ IsFrom first blob
@@ -328,6 +353,7 @@ pub record HasDrawn (counts : Bool) (session : Session) (first : ℕ) (counter :
   pub config : plain_in history ConfigFile ≡ rests_at written.config
   pub readme : plain_in history Readme ≡ rests_at written.readme
   pub order : first ≤ counter.free
+  pub next : IsNext first (unwrap_or written.committed [] ++ written.pending) history.start
   pub numbers : IsDrawnSince first history
   pub taken : counts ≡ true → AreTaken first history
 
@@ -347,9 +373,9 @@ put_sound counts session first counter written entry h g blocks u keeps brings p
       shows = λ image left. (all.0.0 image left, config_left m written.config image all.1.0.1 all.1.1.0 left.image_is);
       traced = all.0.1.traced;
       numbers = numbers_now counter.free m all.1.1.0 rest
-          (since_later first counter.free h m u.counter_fits.free.file all.1.1.1 u.order (gained_from first counter.free entry h m blocks all.0.1)
+          (since_later first counter.free h m u.counter_fits.free.file all.1.1.1 u.order (gained_from first counter.free entry h m blocks.0 all.0.1)
           u.counter_fits.free.at_rest all.1.0.0 u.numbers);
-      fresh = λ e. fresh_by counter.free m all.1.1.0 rest (gained_taken first counter.free entry h m u.order blocks all.0.1 (u.taken e));
+      fresh = λ e. fresh_by counter.free m all.1.1.0 rest (gained_taken first counter.free entry h m u.order blocks.0 all.0.1 (u.taken e));
     })
     (moments_both _ _ h g (moments_both _ _ h g shows gains)
     (moments_both _ _ h g (moments_both _ _ h g nonce config) (moments_both _ _ h g is_settled begins)))
@@ -364,11 +390,13 @@ put_stands counts session now first counter written entry h g blocks u puts rows
   counter_fits = counter_kept counter h g plain u.counter_fits;
   config = (plain ConfigFile written.config u.config).last;
   readme = (plain Readme written.readme u.readme).last;
+  next = next_put first counter.free written.committed written.pending entry h.start g.start
+      (ap (λ (k : History). k.start) (moments_begin _ h g (brings written.committed written.pending u.fits u.rows)).last) blocks.1 u.next;
   numbers = since_later first counter.free h g u.counter_fits.free.file
       (moments_begin _ h g (brings written.committed written.pending u.fits u.rows)).last u.order
-      (gained_from first counter.free entry h g blocks (brings written.committed written.pending u.fits u.rows).last) u.counter_fits.free.at_rest
+      (gained_from first counter.free entry h g blocks.0 (brings written.committed written.pending u.fits u.rows).last) u.counter_fits.free.at_rest
       (plain NonceFile u.counter_fits.free.file u.counter_fits.free.at_rest).last u.numbers;
-  taken = λ e. gained_taken first counter.free entry h g u.order blocks (brings written.committed written.pending u.fits u.rows).last (u.taken e);
+  taken = λ e. gained_taken first counter.free entry h g u.order blocks.0 (brings written.committed written.pending u.fits u.rows).last (u.taken e);
 }
 
 -- ---- an act beside the session
@@ -407,6 +435,7 @@ readme_stands counts session counter written bytes h u =
       counter_fits = fits_left counter h step true tt u.counter_fits;
       config = plain_next h step true ConfigFile ∙ u.config;
       readme = plain_next h step true Readme;
+      next = u.next;
       numbers = since_beside counter.free step true h tt tt u.counter_fits.free u.numbers;
       taken = λ e. taken_later counter.free h g (λ blob. (beside_blobs h step true blob tt).0) (u.taken e);
     }
@@ -424,6 +453,7 @@ config_stands counts session counter written bytes h u =
       counter_fits = fits_left counter h step true tt u.counter_fits;
       config = plain_next h step true ConfigFile;
       readme = plain_next h step true Readme ∙ u.readme;
+      next = u.next;
       numbers = since_beside counter.free step true h tt tt u.counter_fits.free u.numbers;
       taken = λ e. taken_later counter.free h g (λ blob. (beside_blobs h step true blob tt).0) (u.taken e);
     }
@@ -485,6 +515,7 @@ draw_stands counts session counter drawn written number h g u (inl e) order fits
       config = u.config;
       readme = u.readme;
       order = order;
+      next = u.next;
       numbers = u.numbers;
       taken = u.taken;
     })
@@ -498,6 +529,7 @@ draw_stands counts session counter drawn written number h g u (inr e) order fits
       config = plain_next h step true ConfigFile ∙ u.config;
       readme = plain_next h step true Readme ∙ u.readme;
       order = order;
+      next = u.next;
       numbers = since_drawn counter.free number true h u.numbers;
       taken = λ c. taken_later counter.free h k (λ blob. (beside_blobs h step true blob tt).0) (u.taken c);
     })
@@ -540,6 +572,8 @@ commit_stands counts session now counter written h g u commits rows brings plain
   counter_fits = counter_kept counter h g plain u.counter_fits;
   config = (plain ConfigFile written.config u.config).last;
   readme = (plain Readme written.readme u.readme).last;
+  next = next_committed counter.free written.committed written.pending h.start g.start
+      (ap (λ (k : History). k.start) (moments_begin _ h g (brings written.committed written.pending u.fits u.rows)).last) u.next;
   numbers = since_kept counter.free h g u.counter_fits.free.file
       (moments_begin _ h g (brings written.committed written.pending u.fits u.rows)).last
       (none_new h g (brings written.committed written.pending u.fits u.rows).last) u.counter_fits.free.at_rest

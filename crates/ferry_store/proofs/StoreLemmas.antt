@@ -1,6 +1,10 @@
 -- What `init` leaves, from what its parts did.
-use Rattle.std.proofs.Common.{◌≡◌, inl, inr, ℕ, Bool, true, false, List, [], Option, Some, None, Result, Ok, Err, IfSome}
+use Rattle.std.proofs.Common.{◌≡◌, inl, inr, ℕ, Bool, true, false, List, [], Option, Some, None, unwrap_or, Result, Ok, Err, IfSome}
 use Rattle.std.proofs.Common.{refl, sym, ◌∙◌, ap, subst}
+use Rattle.ferry_config.specs.Config.{config_of}
+use Rattle.ferry_config.specs.Text.{config_text}
+use Rattle.ferry_config.specs.declared.config.Config.{Config}
+use Rattle.ferry_config.specs.declared.fault.ConfigFault.{ConfigFault}
 use Rattle.ferry_disk.proofs.ImageLemmas.{plain_read, config_plain, readme_plain}
 use Rattle.ferry_disk.proofs.FaultLemmas.{keeps_end}
 use Rattle.ferry_disk.proofs.MomentLemmas.{between_map}
@@ -19,7 +23,8 @@ use Rattle.ferry_repo.proofs.LawLemmas.{opens_fits, repo_apart}
 use Rattle.ferry_repo.specs.Fault.{IsOfFiles, repo_failed}
 use Rattle.ferry_repo.specs.declared.fault.RepoFault.{RepoFault}
 use Rattle.ferry_repo.specs.declared.fault.RepoFault.TheVariants as Repos
-use Rattle.ferry_repo.specs.Opening.{FitsRepo, OpensFilesTo, RefusesRepo, cached_in, repo_view}
+use Rattle.ferry_repo.specs.Opening.{FitsRepo, OpenedText, OpensFilesTo, RefusesRepo, RepoState, UnlockedText, cached_in, opened_key, repo_view}
+use Rattle.ferry_repo.specs.Opening.{unlocked, unlocked_where, unlocked_with}
 use Rattle.ferry_repo.specs.declared.repo.Repo.{Repo}
 use Rattle.ferry_repo.specs.declared.secret.Secret.{Secret}
 use Rattle.ferry_stops.proofs.EntryLemmas.{uncommitted_shown, unshown_uncommitted}
@@ -42,7 +47,7 @@ use Rattle.ferry_store.specs.declared.fault.StoreRefusal.{StoreRefusal}
 use Rattle.ferry_store.specs.declared.fault.StoreRefusal.TheVariants.{Repo as RepoRefusal, Write, Nonce, Committed, TooLarge, Entropy, Memory}
 use Rattle.ferry_store.specs.New.{IsNothingOrNew, MakesSound, OpensNew, ShowsNew, first_written, manifest_blob, new_entries}
 use Rattle.ferry_store.specs.State.{Did, IsBegun, IsSound}
-use Rattle.ferry_store.specs.Store.{InitEach, InitFits, InitKeeps, InitMakes, InitShows, NumbersOn, RefusesFiles, RefusesInit}
+use Rattle.ferry_store.specs.Store.{HasLimit, InitEach, InitFits, InitKeeps, InitMakes, InitShows, NumbersOn, RefusesFiles, RefusesInit}
 use Rattle.ferry_store.specs.declared.store.Store.{Store}
 use Rattle.ferry_write.proofs.LawLemmas.{fits_now}
 use Rattle.ferry_write.specs.Room.{behind}
@@ -97,12 +102,12 @@ pub numbers_here : (h : History) → NumbersOn h h
 numbers_here h e = moments_here KeepsNumbers h (numbers_begun h e)
 
 pub each_here : (secret : Secret) (h : History) → InitEach secret h h
-each_here secret h = (shows_here secret h, (keeps_here h, (numbers_here h, (first_here h, λ committed. refl))))
+each_here secret h = ((shows_here secret h, λ committed. refl), (keeps_here h, (numbers_here h, first_here h)))
 
 pub each_of : (secret : Secret) (h g : History) → IsUncommitted (files_now h) → MakesSound secret h g → InitEach secret h g
 each_of secret h g none made = (
-  shows_of secret h g made,
-  (keeps_of secret h g none made, (numbers_of secret h g none made, (first_of secret h g none made, λ committed. absurd (committed none)))),
+  (shows_of secret h g made, λ committed. absurd (committed none)),
+  (keeps_of secret h g none made, (numbers_of secret h g none made, first_of secret h g none made)),
 )
 
 -- ---- the end
@@ -292,6 +297,51 @@ init_makes secret iterations timestamp bytes x a c d n k p same =
     before_same (InitMakes secret iterations timestamp bytes) a c d
     (between_map a c (λ h g. AllDone h g × MadeOf secret iterations timestamp bytes x h g) (InitMakes secret iterations timestamp bytes)
     (λ h g e. makes_files secret iterations timestamp bytes x.0 x.1 h g e.1.0 e.1.1) p.end) same
+
+-- ---- the settings of a repository that was made
+
+abbrev config_in : Config → Result UnlockedText RepoFault → Config
+config_in other (Ok text) = text.config
+config_in other (Err fault) = other
+
+with_config : (config : Config) (key : Result OpenedText RepoFault) → config_in config (unlocked_with config key) ≡ config
+with_config config (Ok text) = refl
+with_config config (Err fault) = refl
+
+-- they are those that the file `config` has
+config_is : (secret : Secret) (files : Files) (config : Config) (repo : RepoState) → files.config ≡ Some (config_text config)
+    → config_of (config_text config) ≡ Ok config → OpensFilesTo files secret repo → repo.config ≡ config
+unfolding unlocked
+config_is secret files config repo at reads opens =
+    let u = opens.opens.unlocks in
+    let text : unlocked (config_text config) secret ≡ Ok (record { config = repo.config; text = record { iterations = u.iterations; key = u.key } }) =
+    subst (λ (o : Option (List ℕ)). unlocked (unwrap_or o []) secret ≡ Ok (record {
+      config = repo.config;
+      text = record { iterations = u.iterations; key = u.key };
+    }))
+    at u.unlocks in
+    let known : unlocked_where secret (Ok config) ≡ Ok (record { config = repo.config; text = record { iterations = u.iterations; key = u.key } }) =
+    subst (λ (x : Result Config ConfigFault). unlocked_where secret x ≡ Ok (record {
+      config = repo.config;
+      text = record { iterations = u.iterations; key = u.key };
+    })) reads text in
+    sym (ap (config_in config) known) ∙ with_config config (opened_key config secret)
+
+limit_by : (secret : Secret) (iterations : ℕ) (timestamp bytes : List ℕ) (store : Store) (h g : History) → h.acts ≡ []
+    → MadeOf secret iterations timestamp bytes (store.counter, store.session) h g → OpensFilesTo (files_now g) secret (repo_view store.repo) → HasLimit store
+limit_by secret iterations timestamp bytes store h g e made opens =
+    let u = made.1.makes false (begun_by false h e made.0 (λ c. absurd (let no : ⊥ = cc in no))) in
+    let at = config_now g _ u.config in
+    made.1.limit ∙ ap (λ (config : Config). config.limit)
+    (sym (config_is secret (files_now g) made.1.basis.config (repo_view store.repo) at made.1.reads opens))
+
+pub init_limit : (secret : Secret) (iterations : ℕ) (timestamp bytes : List ℕ) (store : Store) (a c : Option Told) (n k : ℕ)
+    → Did (InitEach secret) (MadeOf secret iterations timestamp bytes) a c n k (Ok (store.counter, store.session))
+    → IfSome c (λ t. OpensFilesTo (told_files t) secret (repo_view store.repo)) → IfSome a (λ t. t.history.acts ≡ [] → HasLimit store)
+init_limit secret iterations timestamp bytes store None c n k p opens = tt
+init_limit secret iterations timestamp bytes store (Some t) c n k p opens = λ e.
+    limit_by secret iterations timestamp bytes store t.history p.end.0.history e p.end.2.1
+    (subst (λ (o : Option Told). IfSome o (λ x. OpensFilesTo (told_files x) secret (repo_view store.repo))) p.end.1 opens)
 
 -- ---- a repository that was made isn't refused
 

@@ -19,6 +19,7 @@ uncounted counts session counter written h u = record {
   counter_fits = u.counter_fits;
   config = u.config;
   readme = u.readme;
+  next = u.next;
   numbers = u.numbers;
   taken = λ c. absurd (let no : ⊥ = cc in no);
 }

@@ -1,10 +1,11 @@
 -- Archives that a store accepts, and the manifest that it commits with them.
-use Rattle.std.specs.Prelude.{◌≡◌, ◌⊎◌, ◌<◌, ◌≤◌, ℕ, Bool, List}
+use Rattle.std.specs.Prelude.{◌≡◌, ◌⊎◌, ◌<◌, ◌≤◌, ℕ, Bool, false, List, Option}
 use Rattle.ferry_base.specs.Limits.{content_limit, zero_id}
 use Rattle.ferry_blob.specs.Blob.{blocks}
 use Rattle.ferry_disk.specs.Act.{History}
+use Rattle.ferry_disk.specs.Device.{Told}
 use Rattle.ferry_disk.specs.Files.{Files}
-use Rattle.ferry_disk.specs.Moments.{Moments}
+use Rattle.ferry_disk.specs.Moments.{Between, Moments}
 use Rattle.ferry_manifest.specs.Manifest.Text.{ManifestText, manifest_view}
 use Rattle.ferry_manifest.specs.Manifest.Writing.{manifest_text}
 use Rattle.ferry_nonce.specs.Counter.{IsExhausted}
@@ -13,6 +14,7 @@ use Rattle.ferry_nonce.specs.declared.fault.NonceFault.TheVariants as Nonces
 use Rattle.ferry_repo.specs.Opening.{RepoState, repo_view}
 use Rattle.ferry_segment.specs.Entry.{LogEntry, PutEntry}
 use Rattle.ferry_store.specs.Content.{blob_for}
+use Rattle.ferry_store.specs.Fault.{spends}
 use Rattle.ferry_store.specs.Standing.{HoldsManifest, entries_committed}
 use Rattle.ferry_store.specs.State.{IsSound, IsUnderWay, ShowsStanding, Written, all_committed, with_entry}
 use Rattle.ferry_store.specs.Store.{StoreFits}
@@ -37,6 +39,10 @@ IsSettled store = accepted_in store ≡ (repo_view store.repo).manifest
 pub record ReadsStore (store store_now : Store) : Type 0 where
   pub repo : repo_view store_now.repo ≡ repo_view store.repo
   pub rest : store_now ≡ record store { repo = store_now.repo }
+
+-- A refusal that doesn't spend a store left it as it was, but for the contents that its repository keeps in memory, and made no act.
+abbrev pub IsUnspentBy : Store → Store → Option Told → Option Told → StoreRefusal → Type 0
+IsUnspentBy store store_now before now refusal = spends refusal ≡ false → ReadsStore store store_now × Between before now (λ h g. g ≡ h)
 
 -- ---- a manifest that is committed
 

@@ -1,7 +1,8 @@
 -- What the steps of `init` make of a place where nothing is committed.
-use Rattle.std.specs.Prelude.{◌≡◌, ◌≤◌, ◌<◌, ℕ, false, List, ◌++◌, length, Option, Result, OnOk, IfErr}
+use Rattle.std.specs.Prelude.{◌≡◌, ◌≤◌, ◌<◌, ℕ, false, List, ◌++◌, length, Option, Result, Ok, OnOk, IfErr}
 use Rattle.ferry_base.specs.Limits.{content_limit}
 use Rattle.ferry_blob.specs.Blob.{blocks}
+use Rattle.ferry_config.specs.Config.{config_of}
 use Rattle.ferry_config.specs.Text.{config_text}
 use Rattle.ferry_disk.specs.Act.{History, files_now}
 use Rattle.ferry_disk.specs.Device.{Told}
@@ -26,6 +27,7 @@ pub record MakesFirst (basis : Basis) (timestamp salt : List ℕ) (session : Ses
     (before now : Option Told) (count after : ℕ) (result : Result (Unit {0}) StoreRefusal) : Type 0 where
   pub did : (secret : Secret) → BasisOpens secret basis → Did (FirstSound secret session counter)
       (λ _. TakesFirst basis.config (manifest_blob basis timestamp salt counter.free) session counter session_now counter_now) before now count after result
+  pub reads : OnOk result (config_of (config_text basis.config) ≡ Ok basis.config)
   pub openable : (secret : Secret) → BasisOpens secret basis
       → OnOk result (IsOpenable secret (config_text basis.config) (manifest_blob basis timestamp salt counter.free))
   pub fits : OnOk result ((length (manifest_bytes basis timestamp salt) ≤ content_limit)
@@ -47,6 +49,8 @@ pub record IsMadeBy (secret : Secret) (iterations : ℕ) (timestamp : List ℕ) 
   pub number : IsNonce (file_at (files_now before) NonceFile) free
   pub openable : IsOpenable secret (config_text basis.config) (manifest_blob basis timestamp salt free)
   pub makes : Makes basis.config (manifest_blob basis timestamp salt free) counter session before now
+  pub reads : config_of (config_text basis.config) ≡ Ok basis.config
+  pub limit : session.limit ≡ basis.config.limit
 
 abbrev pub MakesOf : Secret → ℕ → List ℕ → List ℕ → Counter → Session → History → History → Type 0
 MakesOf secret iterations timestamp bytes counter session before now = IsMadeBy secret iterations timestamp bytes counter session before now

@@ -1,5 +1,6 @@
 pub mod Fault
 pub mod Key
+pub mod Counting
 pub mod State
 pub mod Standing
 pub mod New
@@ -9,4 +10,5 @@ pub mod Store
 pub mod Adding
 pub mod Commit
 pub mod Causes
+pub mod Limits
 pub mod Dropping

@@ -1,5 +1,5 @@
 -- What is known of a repository while a run writes it: its session, its counter and its plain files, and the blobs of all runs.
-use Rattle.std.specs.Prelude.{◌≡◌, ◌⊎◌, ℕ, Bool, true, false, List, [], ◌∷◌, ◌++◌, Option, Some, None, Result, IfOk, IsTrue, codes, ◌<◌}
+use Rattle.std.specs.Prelude.{◌≡◌, ◌⊎◌, ℕ, Bool, true, false, List, [], ◌∷◌, ◌++◌, Option, Some, None, Result, IfOk, IsTrue, codes, unwrap_or, ◌<◌}
 use Rattle.ferry_base.specs.Limits.{content_limit}
 use Rattle.ferry_config.specs.Text.{config_text}
 use Rattle.ferry_config.specs.declared.config.Config.{Config}
@@ -22,6 +22,7 @@ use Rattle.ferry_stops.specs.Blobs.{BlobOf, AllTraced}
 use Rattle.ferry_stops.specs.Chance.{EachStop}
 use Rattle.ferry_stops.specs.Counters.{AreApart, TakenBelow, IsFresh, IsKept}
 use Rattle.ferry_stops.specs.Entries.{Shows}
+use Rattle.ferry_store.specs.Counting.{IsNext}
 use Rattle.ferry_store.specs.Fault.{depot_failed}
 use Rattle.ferry_store.specs.declared.fault.StoreRefusal.{StoreRefusal}
 use Rattle.ferry_store.specs.declared.fault.StoreRefusal.TheVariants.{Repo, Write, Nonce, Committed, TooLarge, Entropy, Memory}
@@ -68,8 +69,8 @@ abbrev pub EndsAtCommit : Session → Type 0
 EndsAtCommit session = session.size ≡ None → session.last ≡ session.after
 
 -- A repository is written: the session and the counter fit, a session that writes no segment ends at its commit, nothing of the plain
--- files is in doubt, neither the counter nor the blobs that the run put have a lower number than it began with, and, where the blocks of the runs
--- before count, each block that was taken is below the counter.
+-- files is in doubt, the counter is behind the number that the run began with by the blocks of the blobs that it put, none of which has a lower
+-- number, and, where the blocks of the runs before count, each block that was taken is below the counter.
 pub record IsUnderWay (counts : Bool) (session : Session) (counter : Counter) (written : Written) (history : History) : Type 0 where
   pub fits : SessionFits session written.committed written.pending history
   pub rows : SessionRows session history
@@ -77,6 +78,7 @@ pub record IsUnderWay (counts : Bool) (session : Session) (counter : Counter) (w
   pub counter_fits : CounterFits counter history
   pub config : plain_in history ConfigFile ≡ rests_at written.config
   pub readme : plain_in history Readme ≡ rests_at written.readme
+  pub next : IsNext counter.free (unwrap_or written.committed [] ++ written.pending) history.start
   pub numbers : IsDrawnSince counter.free history
   pub taken : counts ≡ true → AreTaken counter.free history
 

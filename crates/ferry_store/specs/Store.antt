@@ -67,6 +67,10 @@ pub record IsUnspent (store : Store) : Type 0 where
   pub counter : store.counter.spent ≡ false
   pub itself : store.spent ≡ false
 
+-- The session's limit is that of the settings.
+abbrev pub HasLimit : Store → Type 0
+HasLimit store = store.session.limit ≡ (repo_view store.repo).config.limit
+
 -- ---- `init`
 
 -- The files that are made where nothing is committed, where the run had made no act.
@@ -101,10 +105,14 @@ NumbersOn before now = before.acts ≡ [] → Moments KeepsNumbers before now
 abbrev pub InitLeaves : History → History → Type 0
 InitLeaves before now = (IsUncommitted (files_now before) → ⊥) → now ≡ before
 
+-- At each moment of a call that writes, and at its end: this, the counter blocks of all runs, those of its own and the number in the file `nonce`, and its
+-- first act.
+abbrev pub WritesEach : (History → History → Type 0) → History → History → Type 0
+WritesEach Each before now = Each before now × (InitKeeps before now × (NumbersOn before now × SettlesFirst before now))
+
 -- At each moment of `init`, and at its end.
 abbrev pub InitEach : Secret → History → History → Type 0
-InitEach secret before now = InitShows secret before now
-    × (InitKeeps before now × (NumbersOn before now × (SettlesFirst before now × InitLeaves before now)))
+InitEach secret before now = WritesEach (λ h g. InitShows secret h g × InitLeaves h g) before now
 
 -- Why a repository isn't made of these files. Each but `Committed`, the devices and memory says as well that nothing is committed.
 abbrev pub RefusesFiles : Secret → List ℕ → Files → StoreRefusal → Type 0
@@ -142,7 +150,7 @@ OpenFits store before now = (counts : Bool) → before.acts ≡ [] → (counts �
 
 -- At each moment of `open`, and at its end.
 abbrev pub OpenEach : History → History → Type 0
-OpenEach before now = OpenShows before now × (InitKeeps before now × (NumbersOn before now × SettlesFirst before now))
+OpenEach before now = WritesEach OpenShows before now
 
 -- Why these files don't open to be written. `Nonce` says as well that the repository opens.
 abbrev pub RefusesOpen : Secret → Files → StoreRefusal → Type 0

@@ -10,6 +10,7 @@ ghost use Rattle.ferry_stops.specs.Tells.{TellsNothing};
 ghost use Rattle.ferry_store.specs.Causes.{Stops};
 ghost use Rattle.ferry_store.specs.Commit.{CommitsEntry, HasCommitted, RefusesManifestOf, manifest_entry};
 ghost use Rattle.ferry_store.specs.Fault.{depot_failed, source_failed};
+ghost use Rattle.ferry_store.specs.Limits.{LeavesBoth, LimitsManifest};
 ghost use Rattle.ferry_store.specs.Standing.{with_manifest};
 ghost use Rattle.ferry_store.specs.State.{Did, KeepsSound};
 ghost use Rattle.ferry_store.specs.declared.fault.StoreRefusal.TheVariants as Refusal;
@@ -45,8 +46,11 @@ pub(crate) fn commit_manifest<D: Depot, E: Entropy>(
         (λ _. HasCommitted (with_manifest (repo_view repo.now) (manifest_view manifest.now)) session.old counter.old
         (manifest_entry (repo_view repo.now) counter.old (manifest_view manifest.now) salt)
         session.new counter.new) (D.told depot.old) (D.told depot.new) (D.faults depot.old) (D.faults depot.new) result
-        × IfErr result (RefusesManifestOf counter.old (length (manifest_text (repo_view repo.now).keys salt (manifest_view manifest.now))))) }
+        × IfErr result (RefusesManifestOf counter.old (length (manifest_text (repo_view repo.now).keys salt (manifest_view manifest.now))))
+        × LimitsManifest result session.old counter.old (length (manifest_text (repo_view repo.now).keys salt (manifest_view manifest.now)))) }
     ensures untold { Between (D.told depot.old) (D.told depot.new) TellsNothing }
+    ensures limit { session.new.limit ≡ session.old.limit }
+    ensures leaves { IfErr result (LeavesBoth session.old counter.old session.new counter.new (D.told depot.old) (D.told depot.new)) }
     ensures session { OnOk result (session.new.spent ≡ false) }
     ensures counter { OnOk result (counter.new.spent ≡ false) }
     ensures stops { IfErr result (λ refusal. Between (D.told depot.old) (D.told depot.new) (Stops session.old counter.old refusal)) }

@@ -1,8 +1,8 @@
 //! Contents that are added: put where they are new, and opened where they are live.
-ghost use Rattle.std.specs.Prelude.{◌≡◌, ◌≢◌, ◌≤◌, length, true, false, IfErr, IfSome, OnOk, OnErr};
+ghost use Rattle.std.specs.Prelude.{◌≡◌, ◌≢◌, ◌≤◌, ◌+◌, length, true, false, IfErr, IfSome, OnOk, OnErr};
 ghost use Rattle.std.specs.BTreeSet.{IsUnchanged, Updates};
 ghost use Rattle.ferry_base.specs.Limits.{content_limit, zero_id};
-ghost use Rattle.ferry_blob.specs.Blob.{OpensTo, content_id};
+ghost use Rattle.ferry_blob.specs.Blob.{OpensTo, blocks, content_id};
 ghost use Rattle.ferry_disk.specs.Device.{HasCause, KeepsTold, told_files};
 ghost use Rattle.ferry_disk.specs.Image.{settled};
 ghost use Rattle.ferry_disk.specs.Moments.{Between};
@@ -12,7 +12,8 @@ ghost use Rattle.ferry_repo.specs.Opening.{FitsRepo, cached_in, repo_view};
 ghost use Rattle.ferry_stops.specs.Tells.{TellsNothing};
 ghost use Rattle.ferry_store.specs.Causes.{Stops};
 ghost use Rattle.ferry_store.specs.Content.{blob_for, HasPut, IsThere, Learns, RefusesNew, RefusesOld};
-ghost use Rattle.ferry_store.specs.Fault.{depot_failed, source_failed};
+ghost use Rattle.ferry_store.specs.Fault.{depot_failed, source_failed, spends};
+ghost use Rattle.ferry_store.specs.Limits.{LeavesBoth, LimitsPut};
 ghost use Rattle.ferry_store.specs.State.{Did, KeepsSound};
 
 use crate::fault::StoreRefusal;
@@ -59,6 +60,11 @@ pub(crate) fn put_content<D: Depot>(
     ensures after { OnOk result (session.new.after ≡ session.old.after) }
     ensures counter { OnOk result (counter.new.spent ≡ false) }
     ensures refused { IfErr result (RefusesNew session.old counter.old content.now) }
+    ensures limits { LimitsPut result session.old counter.old (84 + length content.now) (blocks (length content.now)) }
+    ensures limit { session.new.limit ≡ session.old.limit }
+    ensures config { (repo_view repo.new).config ≡ (repo_view repo.old).config }
+    ensures leaves { IfErr result (LeavesBoth session.old counter.old session.new counter.new (D.told depot.old) (D.told depot.new)) }
+    ensures unlearnt { IfErr result (λ refusal. spends refusal ≡ false → repo.new ≡ repo.old) }
     ensures stops { IfErr result (λ refusal. Between (D.told depot.old) (D.told depot.new) (Stops session.old counter.old refusal)) }
 {
     let mut buffer = behind_head(alloc, content)?;
@@ -83,6 +89,7 @@ pub(crate) fn open_content<D: Depot>(
     ensures kept { repo_view repo.new ≡ repo_view repo.old }
     ensures noted { OnOk result (Updates key_cmp opened.old opened.new id true) }
     ensures unnoted { OnErr result (IsUnchanged opened.old opened.new) }
+    ensures untouched { IfErr result (λ refusal. spends refusal ≡ false → opened.new ≡ opened.old) }
     ensures refused { IfErr result (λ refusal. IfSome (D.told depot.old) (λ t. RefusesOld (told_files t) (repo_view repo.old) id refusal)) }
     ensures drawn { IfErr result (λ refusal. source_failed refusal ≡ false) }
     ensures same { KeepsTold depot_failed (D.told depot.old) (D.told depot.new) result }

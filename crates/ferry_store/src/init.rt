@@ -27,6 +27,7 @@ fn commit_first<D: Depot>(depot: &mut D, session: &mut Session) -> Result<(), St
     ensures did { (counter : Counter) → Did (CommitsSound session.old counter) (λ _. TakesCommit session.old counter session.new)
         (D.told depot.old) (D.told depot.new) (D.faults depot.old) (D.faults depot.new) result }
     ensures unspent { OnOk result (session.new.spent ≡ false) }
+    ensures limit { session.new.limit ≡ session.old.limit }
     ensures refused { IfErr result IsTarget }
 {
     commit(depot, session)
@@ -49,6 +50,7 @@ fn write_first<D: Depot, E: Entropy>(
         × MakesFirst basis.now timestamp.now salt session.old counter.old session.new counter.new (D.told depot.old) (D.told depot.new)
         (D.faults depot.old) (D.faults depot.new) result) }
     ensures unspent { OnOk result ((session.new.spent ≡ false) × (counter.new.spent ≡ false)) }
+    ensures limit { session.new.limit ≡ session.old.limit }
     ensures cause { HasCause source_failed (E.faults entropy.old) (E.faults entropy.new) result }
 {
     replace_settings(alloc, depot, &basis.config)?;

@@ -17,6 +17,7 @@ ghost use Rattle.ferry_stops.specs.Tells.{TellsNothing};
 ghost use Rattle.ferry_store.specs.Causes.{Stops};
 ghost use Rattle.ferry_store.specs.Dropping.{RefusesDrop};
 ghost use Rattle.ferry_store.specs.Fault.{source_failed};
+ghost use Rattle.ferry_store.specs.Limits.{LeavesBoth, LimitsPut};
 ghost use Rattle.ferry_store.specs.New.{IsPacked, PutsManifest, first_manifest};
 ghost use Rattle.ferry_store.specs.State.{Did, IsPlaced, KeepsSound, RefusesManifest, RefusesPut, TakesEntry};
 ghost use Rattle.ferry_store.specs.declared.fault.StoreRefusal.TheVariants as Refusal;
@@ -68,6 +69,9 @@ pub(crate) fn put_object<D: Depot>(
     ensures counter { OnOk result (counter.new.spent ≡ false) }
     ensures refused { IfErr result (RefusesPut session.old (41 + length buffer.old)) }
     ensures exhausted { IsErrOf result (Refusal.Nonce Nonces.Exhausted) ↔ IsExhausted counter.old (blocks (length buffer.old - 43)) }
+    ensures limits { LimitsPut result session.old counter.old (41 + length buffer.old) (blocks (length buffer.old - 43)) }
+    ensures limit { session.new.limit ≡ session.old.limit }
+    ensures leaves { IfErr result (LeavesBoth session.old counter.old session.new counter.new (D.told depot.old) (D.told depot.new)) }
     ensures stops { IfErr result (λ refusal. Between (D.told depot.old) (D.told depot.new) (Stops session.old counter.old refusal)) }
 {
     let blocks = blocks_of((buffer.len() - HEAD) as u64);
@@ -167,6 +171,7 @@ pub(crate) fn put_manifest<D: Depot, E: Entropy>(
         × PutsManifest basis.now timestamp.now salt session.old counter.old session.new counter.new (D.told depot.old) (D.told depot.new)
         (D.faults depot.old) (D.faults depot.new) result) }
     ensures unspent { OnOk result ((session.new.spent ≡ false) × (counter.new.spent ≡ false)) }
+    ensures limit { session.new.limit ≡ session.old.limit }
     ensures cause { HasCause source_failed (E.faults entropy.old) (E.faults entropy.new) result }
 {
     let mut buffer = first_manifest(alloc, entropy, &basis.keys, timestamp)?;
@@ -195,6 +200,7 @@ pub(crate) fn put_delete<D: Depot>(
         (D.told depot.old) (D.told depot.new) (D.faults depot.old) (D.faults depot.new) result }
     ensures untold { Between (D.told depot.old) (D.told depot.new) TellsNothing }
     ensures session { OnOk result (session.new ≡ after_entry session.old 41) }
+    ensures limit { session.new.limit ≡ session.old.limit }
     ensures refused { IfErr result (RefusesDrop session.old) }
     ensures numbers { IsErrOf result (Refusal.Write Writes.Numbers)
         ↔ (IsTrue (must_begin session.old.last session.old.size session.old.limit 41) × AreUsedUp session.old.last) }

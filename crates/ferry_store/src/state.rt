@@ -113,6 +113,7 @@ pub(crate) fn commit<D: Depot>(depot: &mut D, session: &mut Session) -> Result<(
         (D.told depot.old) (D.told depot.new) (D.faults depot.old) (D.faults depot.new) result }
     ensures untold { Between (D.told depot.old) (D.told depot.new) TellsNothing }
     ensures session { OnOk result (session.new ≡ after_commit session.old) }
+    ensures limit { session.new.limit ≡ session.old.limit }
     ensures refused { IfErr result (RefusesCommit session.old) }
     ensures stops { (counter : Counter) → IfErr result (λ refusal. Between (D.told depot.old) (D.told depot.new) (Stops session.old counter refusal)) }
     ensures numbers { IsErrOf result (Refusal.Write Writes.Numbers) ↔ AreUsedUp session.old.last }

@@ -1,5 +1,5 @@
 //! A repository that is written.
-ghost use Rattle.std.specs.Prelude.{◌≡◌, ◌≢◌, ◌↔◌, ◌≤◌, ◌++◌, ◌||◌, ℕ, List, [], true, false, None, length, is_some, map, option_map, IsSome};
+ghost use Rattle.std.specs.Prelude.{◌≡◌, ◌≢◌, ◌↔◌, ◌≤◌, ◌+◌, ◌++◌, ◌||◌, ℕ, List, [], true, false, None, length, is_some, map, option_map, IsSome};
 ghost use Rattle.std.specs.Prelude.{Ok, IfOk, IfErr, IfSome, IsErrOf, OnOk, OnErr, IsTrue};
 ghost use Rattle.std.specs.Borrow.{Lends, sem};
 ghost use Rattle.ferry_base.specs.Limits.{content_limit, zero_id};
@@ -17,14 +17,15 @@ ghost use Rattle.ferry_repo.specs.contracts.repo.Repo.{the_row as row_of_repo};
 ghost use Rattle.ferry_stops.specs.Tells.{TellsNothing};
 ghost use Rattle.ferry_store.specs.Adding.{Adds, Checkpoints, RefusesAdd, id_under, pending_after};
 ghost use Rattle.ferry_store.specs.Causes.{Stops, StopsAt};
-ghost use Rattle.ferry_store.specs.Commit.{Commits, CommitsEntry, HasCommitted, RefusesManifestOf, accepted_in, manifest_entry};
-ghost use Rattle.ferry_blob.specs.Blob.{OpensTo};
+ghost use Rattle.ferry_store.specs.Commit.{Commits, CommitsEntry, HasCommitted, IsUnspentBy, RefusesManifestOf, accepted_in, manifest_entry};
+ghost use Rattle.ferry_blob.specs.Blob.{OpensTo, blocks};
 ghost use Rattle.ferry_store.specs.Content.{IsNew, Learns, RefusesNew, RefusesOld, blob_for};
 ghost use Rattle.ferry_store.specs.Dropping.{CommitsWithout, Drops, IsWriting, RefusesDrop};
 ghost use Rattle.ferry_store.specs.Fault.{depot_failed, source_failed, spends};
+ghost use Rattle.ferry_store.specs.Limits.{LeavesBoth, LimitsManifest, LimitsPut};
 ghost use Rattle.ferry_store.specs.Standing.{with_manifest};
 ghost use Rattle.ferry_store.specs.State.{CommitsSound, Did, KeepsSound, RefusesCommit};
-ghost use Rattle.ferry_store.specs.Store.{InitEach, InitFits, InitMakes, IsKnown, IsUnspent, OpenEach, OpenFits, RefusesInit, RefusesOpen, StoreFits};
+ghost use Rattle.ferry_store.specs.Store.{HasLimit, InitEach, InitFits, InitMakes, IsKnown, IsUnspent, OpenEach, OpenFits, RefusesInit, RefusesOpen, StoreFits};
 ghost use Rattle.ferry_store.specs.contracts.store.Store.{the_row};
 ghost use Rattle.ferry_store.specs.declared.fault.StoreRefusal.TheVariants as Refusal;
 ghost use Rattle.ferry_write.specs.Room.{AreUsedUp, must_begin};
@@ -94,6 +95,8 @@ impl Store {
         ensures fresh { IfOk result (λ store. (cached_in store.repo ≡ []) × (store.pending ≡ 0)) }
         ensures accepted { IfOk result (λ store. accepted_in store ≡ (repo_view store.repo).manifest) }
         ensures unspent { IfOk result IsUnspent }
+        // The limit of the settings is the session's.
+        ensures limit { IfOk result (λ store. IfSome (D.told depot.old) (λ t. t.history.acts ≡ [] → HasLimit store)) }
         ensures packable { IfOk result (λ store. IsPackable (accepted_in store)) }
     {
         expect_no_commit(alloc, depot)?;
@@ -134,6 +137,8 @@ impl Store {
         ensures accepted { IfOk result (λ store. accepted_in store ≡ (repo_view store.repo).manifest) }
         ensures drawn { IfErr result (λ refusal. source_failed refusal ≡ false) }
         ensures unspent { IfOk result IsUnspent }
+        // The limit of the settings is the session's.
+        ensures limit { IfOk result HasLimit }
         ensures packable { IfOk result (λ store. IsPackable (accepted_in store)) }
     {
         let repo = Repo::open(alloc, depot, secret)?;
@@ -203,9 +208,17 @@ impl Store {
         ensures accepted { self.new.accepted ≡ self.old.accepted }
         ensures pending { IfOk result (λ added. self.new.pending ≡ pending_after self.old.pending added.new) }
         ensures refused { IfErr result (λ refusal. IfSome (D.told depot.old) (λ t. RefusesAdd self.old content.now (told_files t) refusal)) }
-        ensures stops { IfErr result (λ refusal. IfSome (D.told depot.new) (λ t. StopsAt (told_files t) (repo_view self.old.repo).keys refusal)) }
+        // A new content is refused exactly where no blocks, or else no segment, are left for it.
+        ensures limits { IsNew (repo_view self.old.repo) (id_under self.old content.now)
+            → LimitsPut result self.old.session self.old.counter (84 + length content.now) (blocks (length content.now)) }
+        ensures stops { IfErr result (λ refusal. IfSome (D.told depot.new)
+            (λ t. StopsAt t.history.start (told_files t) (repo_view self.old.repo).keys refusal)) }
         ensures drawn { IfErr result (λ refusal. source_failed refusal ≡ false) }
         ensures unspent { OnOk result (IsUnspent self.new) }
+        // A refusal that doesn't spend the store leaves it and the files as they were.
+        ensures kept { IfErr result (IsUnspentBy self.old self.new (D.told depot.old) (D.told depot.new)) }
+        // The limit of the settings is the session's.
+        ensures limit { HasLimit self.old → HasLimit self.new }
         ensures spent { IfErr result (λ refusal. self.new.spent ≡ spends refusal) }
     {
         let id = id_of(self.repo.keys(), content);
@@ -240,8 +253,14 @@ impl Store {
         ensures accepted { self.new.accepted ≡ self.old.accepted }
         ensures pending { OnOk result (self.new.pending ≡ pending_after self.old.pending true) }
         ensures refused { IfErr result (RefusesNew self.old.session self.old.counter content.now) }
-        ensures stops { IfErr result (λ refusal. IfSome (D.told depot.new) (λ t. StopsAt (told_files t) (repo_view self.old.repo).keys refusal)) }
+        ensures limits { LimitsPut result self.old.session self.old.counter (84 + length content.now) (blocks (length content.now)) }
+        ensures stops { IfErr result (λ refusal. IfSome (D.told depot.new)
+            (λ t. StopsAt t.history.start (told_files t) (repo_view self.old.repo).keys refusal)) }
         ensures unspent { OnOk result (IsUnspent self.new) }
+        // A refusal that doesn't spend the store leaves it and the files as they were.
+        ensures kept { IfErr result (IsUnspentBy self.old self.new (D.told depot.old) (D.told depot.new)) }
+        // The limit of the settings is the session's.
+        ensures limit { HasLimit self.old → HasLimit self.new }
         ensures spent { IfErr result (λ refusal. self.new.spent ≡ spends refusal) }
     {
         let put = put_content(
@@ -278,9 +297,14 @@ impl Store {
         ensures accepted { self.new.accepted ≡ self.old.accepted }
         ensures pending { self.new.pending ≡ self.old.pending }
         ensures refused { IfErr result (λ refusal. IfSome (D.told depot.old) (λ t. RefusesOld (told_files t) (repo_view self.old.repo) id refusal)) }
-        ensures stops { IfErr result (λ refusal. IfSome (D.told depot.new) (λ t. StopsAt (told_files t) (repo_view self.old.repo).keys refusal)) }
+        ensures stops { IfErr result (λ refusal. IfSome (D.told depot.new)
+            (λ t. StopsAt t.history.start (told_files t) (repo_view self.old.repo).keys refusal)) }
         ensures drawn { IfErr result (λ refusal. source_failed refusal ≡ false) }
         ensures unspent { OnOk result (IsUnspent self.new) }
+        // A refusal that doesn't spend the store leaves it and the files as they were.
+        ensures kept { IfErr result (IsUnspentBy self.old self.new (D.told depot.old) (D.told depot.new)) }
+        // The limit of the settings is the session's.
+        ensures limit { HasLimit self.old → HasLimit self.new }
         ensures spent { IfErr result (λ refusal. self.new.spent ≡ spends refusal) }
     {
         match open_content(depot, &mut self.repo, &mut self.opened, id) {
@@ -301,9 +325,11 @@ impl Store {
         ensures refused { IfErr result (RefusesCommit self.old.session) }
         // The same of the files, where the store fits.
         ensures stops { IfSome (D.told depot.old) (λ t. StoreFits false self.old t.history)
-            → IfErr result (λ refusal. IfSome (D.told depot.new) (λ t. StopsAt (told_files t) (repo_view self.old.repo).keys refusal)) }
+            → IfErr result (λ refusal. IfSome (D.told depot.new) (λ t. StopsAt t.history.start (told_files t) (repo_view self.old.repo).keys refusal)) }
         ensures numbers { IsErrOf result (Refusal.Write Writes.Numbers) ↔ AreUsedUp self.old.session.last }
         ensures unspent { OnOk result (IsUnspent self.new) }
+        // The limit of the settings is the session's.
+        ensures limit { HasLimit self.old → HasLimit self.new }
         ensures spent { OnErr result (self.new.spent ≡ true) }
     {
         match commit(depot, &mut self.session) {
@@ -345,7 +371,9 @@ impl Store {
             (manifest_entry (repo_view self.old.repo) self.old.counter (written_at (accepted_in self.old) timestamp.now) salt)
             self.new.session self.new.counter) (D.told depot.old) (D.told depot.new) (D.faults depot.old) (D.faults depot.new) result
             × IfErr result (RefusesManifestOf self.old.counter
-            (length (manifest_text (repo_view self.old.repo).keys salt (written_at (accepted_in self.old) timestamp.now))))) }
+            (length (manifest_text (repo_view self.old.repo).keys salt (written_at (accepted_in self.old) timestamp.now))))
+            × LimitsManifest result self.old.session self.old.counter
+            (length (manifest_text (repo_view self.old.repo).keys salt (written_at (accepted_in self.old) timestamp.now)))) }
         ensures untold { Between (D.told depot.old) (D.told depot.new) TellsNothing }
         ensures manifest { IfOk result (λ both. manifest_view both.0 ≡ written_at (accepted_in self.old) timestamp.now) }
         ensures written { IfOk result (λ both. both.1 ≡ timestamp.now) }
@@ -355,6 +383,8 @@ impl Store {
         // Where neither the device failed nor memory was refused, nothing is committed.
         ensures keeps { IfErr result (λ refusal. depot_failed refusal ≡ false → refusal ≢ Refusal.Memory
             → Between (D.told depot.old) (D.told depot.new) (KeepsSound self.old.session self.old.counter)) }
+        ensures limit { self.new.session.limit ≡ self.old.session.limit }
+        ensures leaves { IfErr result (LeavesBoth self.old.session self.old.counter self.new.session self.new.counter (D.told depot.old) (D.told depot.new)) }
         ensures session { OnOk result (self.new.session.spent ≡ false) }
         ensures counter { OnOk result (self.new.counter.spent ≡ false) }
         ensures entropy { HasCause source_failed (E.faults entropy.old) (E.faults entropy.new) result }
@@ -462,8 +492,11 @@ impl Store {
         ensures refused { IfErr result (RefusesDrop self.old.session) }
         ensures numbers { IsErrOf result (Refusal.Write Writes.Numbers)
             ↔ (IsTrue (must_begin self.old.session.last self.old.session.size self.old.session.limit 41) × AreUsedUp self.old.session.last) }
-        ensures stops { IfErr result (λ refusal. IfSome (D.told depot.new) (λ t. StopsAt (told_files t) (repo_view self.old.repo).keys refusal)) }
+        ensures stops { IfErr result (λ refusal. IfSome (D.told depot.new)
+            (λ t. StopsAt t.history.start (told_files t) (repo_view self.old.repo).keys refusal)) }
         ensures unspent { OnOk result (IsUnspent self.new) }
+        // The limit of the settings is the session's.
+        ensures limit { HasLimit self.old → HasLimit self.new }
         ensures spent { IfErr result (λ refusal. self.new.spent ≡ spends refusal) }
     {
         match put_delete(depot, &mut self.session, id) {
@@ -488,7 +521,9 @@ impl Store {
             (λ _. Commits self.old (manifest_entry (repo_view self.old.repo) self.old.counter (written_at (accepted_in self.old) timestamp.now) salt)
             self.new) (D.told depot.old) (D.told depot.new) (D.faults depot.old) (D.faults depot.new) result
             × IfErr result (RefusesManifestOf self.old.counter
-            (length (manifest_text (repo_view self.old.repo).keys salt (written_at (accepted_in self.old) timestamp.now))))) }
+            (length (manifest_text (repo_view self.old.repo).keys salt (written_at (accepted_in self.old) timestamp.now))))
+            × LimitsManifest result self.old.session self.old.counter
+            (length (manifest_text (repo_view self.old.repo).keys salt (written_at (accepted_in self.old) timestamp.now)))) }
         // The same of a store from which chunks were dropped.
         ensures without { OnOk result (Between (D.told depot.old) (D.told depot.new) (CommitsWithout self.old self.new)) }
         ensures untold { Between (D.told depot.old) (D.told depot.new) TellsNothing }
@@ -498,8 +533,13 @@ impl Store {
         ensures packable { IsPackable (accepted_in self.new) }
         ensures pending { OnOk result (self.new.pending ≡ 0) }
         ensures unspent { OnOk result (IsUnspent self.new) }
+        // A refusal that doesn't spend the store leaves it and the files as they were.
+        ensures kept { IfErr result (IsUnspentBy self.old self.new (D.told depot.old) (D.told depot.new)) }
+        // The limit of the settings is the session's.
+        ensures limit { HasLimit self.old → HasLimit self.new }
         ensures spent { IfErr result (λ refusal. self.new.spent ≡ spends refusal) }
-        ensures stops { IfErr result (λ refusal. IfSome (D.told depot.new) (λ t. StopsAt (told_files t) (repo_view self.old.repo).keys refusal)) }
+        ensures stops { IfErr result (λ refusal. IfSome (D.told depot.new)
+            (λ t. StopsAt t.history.start (told_files t) (repo_view self.old.repo).keys refusal)) }
         // Where neither the device failed nor memory was refused, nothing is committed.
         ensures keeps { IfErr result (λ refusal. depot_failed refusal ≡ false → refusal ≢ Refusal.Memory
             → Between (D.told depot.old) (D.told depot.new) (KeepsSound self.old.session self.old.counter)) }

@@ -42,7 +42,7 @@ fits_settled : (store : StoreValue) (h g : History) → InitFits store h g → h
 fits_settled store h g fits e = (fits false e (λ c. absurd (let no : ⊥ = cc in no))).under_way.fits.own.safe.settled_is
 
 pub each_command : (secret : Secret) (h g : History) → InitEach secret h g → CommandEach secret h g
-each_command secret h g each = (each.0, (each.1.0, (each.1.1.0, (each.1.1.1.0, λ e. each.1.1.1.1))))
+each_command secret h g each = ((each.0.0, λ e. each.0.1), (each.1.0, (each.1.1.0, each.1.1.1)))
 
 -- `init` of the store has failed
 pub did_failed : {T : Type 0} (secret : Secret) (Q : T → History → History → Type 0) (R : Unit {0} → History → History → Type 0) (a b : Option Told)
@@ -57,15 +57,12 @@ did_failed secret Q R a b n m refusal did = record {
 each_then : (secret : Secret) (iterations : ℕ) (timestamp bytes : List ℕ) (store : StoreValue) (line : List ℕ) (h g i : History) → InitEach secret h g
     → AllDone h g → InitFits store h g → InitMakes secret iterations timestamp bytes h g → IsStep (TellOf line) g i → CommandEach secret h i
 each_then secret iterations timestamp bytes store line h g i each done fits makes is = (
-  shows_then secret line h g i each.0 done is,
+  (shows_then secret line h g i each.0.0 done is, λ e no. absurd (no (makes e).uncommitted)),
   (
     keeps_then line h g i each.1.0 done is,
     (
       numbers_then line h g i each.1.1.0 done is,
-      (
-        first_then (TellOf line) h g i each.1.1.1.0 (λ e. settled_some g.acts (fits_settled store h g fits e)) is,
-        λ e no. absurd (no (makes e).uncommitted),
-      ),
+      first_then (TellOf line) h g i each.1.1.1 (λ e. settled_some g.acts (fits_settled store h g fits e)) is,
     ),
   ),
 )
@@ -263,4 +260,4 @@ ready_refused secret timestamp files Store.Memory ready r = inl refl
 pub init_completes : (secret : Secret) (timestamp : List ℕ) (told : Told) (status : Status) → told.history.acts ≡ []
     → IsReady secret timestamp (told_files told) → IsRefused secret timestamp (Some told) status → IsFault status
 init_completes secret timestamp told status e ready refused =
-    subst IsFault (sym refused.status_is) (ready_refused secret timestamp (told_files told) refused.refusal ready (refused.refuses e))
+    subst IsFault (sym refused.status_is) (ready_refused secret timestamp (told_files told) refused.fault ready (refused.refuses e))

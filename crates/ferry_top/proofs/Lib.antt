@@ -4,3 +4,4 @@ pub mod ItemsLemmas
 pub mod CheckLemmas
 pub mod InitLemmas
 pub mod RunLemmas
+pub mod ReadyLemmas

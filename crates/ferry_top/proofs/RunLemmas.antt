@@ -1,5 +1,6 @@
 -- Lemmas on specs/Run.antt: which statuses a command ends with, and what they say of devices that it doesn't use.
-use Rattle.std.proofs.Common.{◌≡◌, ◌⊎◌, inl, inr, ℕ, true, false, List, Option, Some, None, Result, Ok, Err, IfSome, refl, sym, subst}
+use Rattle.std.proofs.Common.{◌≡◌, ◌⊎◌, inl, inr, ℕ, Bool, true, false, List, Option, Some, None, Result, Ok, Err, IfSome, refl, sym, ap, subst}
+use Rattle.ferry_disk.proofs.MomentLemmas.{between_map}
 use Rattle.ferry_disk.specs.Device.{Told, Rose}
 use Rattle.ferry_disk.specs.Files.{Files}
 use Rattle.ferry_disk.specs.Moments.{Between}
@@ -12,7 +13,9 @@ use Rattle.ferry_status.proofs.StatusLemmas.{IsOfStore, of_store}
 use Rattle.ferry_run_plan.proofs.PlanLemmas.{plans_nothing}
 use Rattle.ferry_run_transfer.proofs.DoneLemmas.{transfers_nothing}
 use Rattle.ferry_top.specs.Check.{Checks}
-use Rattle.ferry_status.specs.Devices.{Devices, HasCauses, Written}
+use Rattle.ferry_status.specs.Devices.{Devices, HasCauses, Store as Target, Written}
+use Rattle.ferry_store.proofs.CallLemmas.{first_here, read_first}
+use Rattle.ferry_store.proofs.StepLemmas.{here_each}
 use Rattle.ferry_store.proofs.StoreLemmas.{each_here}
 use Rattle.ferry_store.specs.Store.{RefusesInit}
 use Rattle.ferry_store.specs.declared.fault.StoreRefusal.TheVariants as Store
@@ -28,6 +31,7 @@ use Rattle.ferry_status.specs.declared.status.Secrets.{Secrets}
 use Rattle.ferry_status.specs.declared.status.Status.{Status}
 use Rattle.ferry_status.specs.declared.status.Status.TheVariants.{Done, No, Usage, Memory, SourceDevice, TargetDevice, EntropyDevice, OutputDevice}
 use Rattle.ferry_status.specs.declared.status.Status.TheVariants.{SourceRefused, TargetRefused, Taken, NotFound, Limit}
+use Rattle.ferry_write.specs.Session.{SettlesFirst}
 use Rattle.ferry_words.specs.declared.command.Command.{Command}
 use Rattle.ferry_words.specs.declared.command.Command.TheVariants.{Keys, Key, List as ListArchives, ListItems, Extract, Check}
 use Rattle.ferry_words.specs.declared.command.Command.TheVariants.{Init, MakeKey, Transfer, Plan, Delete, Compact}
@@ -193,7 +197,7 @@ of_refusal status is = record { source = is.source; output = is.output; used = i
 pub of_init : (secret : Secret) (timestamp : List ℕ) (target : Option Told) (status : Status) → (status ≡ Done) ⊎ IsRefused secret timestamp target status
     → IsOfInit status
 of_init secret timestamp target status (inl e) = subst IsOfInit (sym e) done_is
-of_init secret timestamp target status (inr r) = subst IsOfInit (sym r.status_is) (of_refusal _ (of_store r.refusal))
+of_init secret timestamp target status (inr r) = subst IsOfInit (sym r.status_is) (of_refusal _ (of_store r.fault))
 
 -- ---- the fault line
 
@@ -213,6 +217,34 @@ reported (NotFound what) n between after rose r e = absurd (let no : ⊥ = cc in
 reported (Taken name) n between after rose r e = absurd (let no : ⊥ = cc in no)
 reported (Limit limit) n between after rose r e = absurd (let no : ⊥ = cc in no)
 
+-- ---- the first act
+
+-- a target that isn't used
+unused_first : (before after : Devices) → after.target ≡ before.target → Between before.target.told after.target.told SettlesFirst
+unused_first before after same =
+    subst (λ (s : Target). Between before.target.told s.told SettlesFirst) (sym same) (here_each SettlesFirst before.target.told first_here)
+
+first_of : (words : Result Command ℕ) (secrets : Secrets) (before after : Devices) (status : Status) → DoesCommand words secrets before status after
+    → Between before.target.told after.target.told SettlesFirst
+first_of (Ok Keys) secrets before after status does = unused_first before after does.target
+first_of (Ok Key) secrets before after status does = unused_first before after does.target
+first_of (Ok ListArchives) secrets before after status does = unused_first before after does.target
+first_of (Ok (ListItems name)) secrets before after status does = unused_first before after does.target
+first_of (Ok (Extract name path)) secrets before after status does = unused_first before after does.target
+first_of (Ok Check) secrets before after status does = unused_first before after does.target
+first_of (Ok (MakeKey iterations)) secrets before after status does = unused_first before after does.target
+first_of (Ok (Init iterations timestamp)) secrets before after status does =
+    between_map before.target.told after.target.told _ SettlesFirst (λ h g each. each.1.1.1) does.each
+first_of (Ok (Transfer block checkpoint timestamp names)) secrets before after status does =
+    between_map before.target.told after.target.told _ SettlesFirst (λ h g each. each.1.1.1) does.each
+first_of (Ok (Delete timestamp name)) secrets before after status does =
+    between_map before.target.told after.target.told _ SettlesFirst (λ h g each. each.1.1.1) does.each
+first_of (Ok (Compact threshold)) secrets before after status does =
+    between_map before.target.told after.target.told _ SettlesFirst (λ h g each. each.1.1.1) does.each
+first_of (Ok (Plan block names)) secrets before after status does =
+    read_first {T = Unit {0}} {F = Bool} (λ failed. failed) before.target.told after.target.told (Err (target_failed status)) does.target
+first_of (Err word) secrets before after status does = unused_first before after (ap (λ (d : Devices). d.target) does)
+
 pub runs_reported : (words : Result Command ℕ) (secrets : Secrets) (before after : Devices) (between : Written) (status : Status)
     → DoesCommand words secrets before status (record after { output = between }) → HasCauses status before (record after { output = between })
     → Reports status between after.output → Runs words secrets before status after
@@ -220,6 +252,7 @@ runs_reported words secrets before after between status does causes reports = re
   between = between;
   command = does;
   report = reports;
+  first = first_of words secrets before (record after { output = between }) status does;
   causes = record {
     source = causes.source;
     kept = causes.kept;
@@ -252,7 +285,7 @@ does_nothing (Ok (Init iterations timestamp)) secrets all = record {
   output = refl;
   made = λ e. absurd (let no : ⊥ = cc in no);
   each = each_told secrets.target all.target.told;
-  refused = inr (record { refusal = Store.Memory; status_is = refl; refuses = memory_told secrets.target (time_or timestamp) all.target.told });
+  refused = inr (record { fault = Store.Memory; status_is = refl; refuses = memory_told secrets.target (time_or timestamp) all.target.told });
 }
 does_nothing (Ok (MakeKey iterations)) secrets all = record { source = refl; target = refl; prints = inl refl }
 does_nothing (Ok (Transfer block checkpoint timestamp names)) secrets all =

@@ -12,14 +12,12 @@ use Rattle.ferry_repo.specs.declared.fault.RepoFault.{RepoFault}
 use Rattle.ferry_repo.specs.declared.secret.Secret.{Secret}
 use Rattle.ferry_store.specs.Init.{HasNoBlocks, IsTooLarge}
 use Rattle.ferry_store.specs.Key.{RefusesGiven}
-use Rattle.ferry_store.specs.Store.{InitKeeps, InitLeaves, InitShows, MakesFiles, NumbersOn, RefusesInit}
-use Rattle.ferry_store.specs.declared.fault.StoreRefusal.{StoreRefusal}
+use Rattle.ferry_store.specs.Store.{InitLeaves, InitShows, MakesFiles, RefusesInit, WritesEach}
 use Rattle.ferry_store.specs.declared.fault.StoreRefusal.TheVariants.{Repo}
-use Rattle.ferry_status.specs.Devices.{Devices}
+use Rattle.ferry_status.specs.Devices.{Devices, IsRefusedBy}
 use Rattle.ferry_status.specs.Status.{store_status, target_failed, entropy_failed}
 use Rattle.ferry_status.specs.declared.status.Status.{Status}
 use Rattle.ferry_status.specs.declared.status.Status.TheVariants.{Done, Memory as NoMemory}
-use Rattle.ferry_write.specs.Session.{SettlesFirst}
 
 -- the timestamp that the words give, or the begin of 1970
 abbrev pub time_or : Option (List ℕ) → List ℕ
@@ -41,14 +39,12 @@ InitTells secret iterations timestamp bytes before now = before.acts ≡ [] → 
 
 -- At each moment of the command, and at its end.
 abbrev pub CommandEach : Secret → History → History → Type 0
-CommandEach secret before now = InitShows secret before now × (InitKeeps before now × (NumbersOn before now × (SettlesFirst before now
-    × (before.acts ≡ [] → InitLeaves before now))))
+CommandEach secret before now = WritesEach (λ h g. InitShows secret h g × (h.acts ≡ [] → InitLeaves h g)) before now
 
 -- A status is that of a refusal, which says this of the target.
-pub record IsRefused (secret : Secret) (timestamp : List ℕ) (target : Option Told) (status : Status) : Type 0 where
-  pub refusal : StoreRefusal
-  pub status_is : status ≡ store_status refusal
-  pub refuses : IfSome target (λ t. RefusesInit secret timestamp t.history refusal)
+abbrev pub IsRefused : Secret → List ℕ → Option Told → Status → Type 0
+IsRefused secret timestamp target status =
+    IsRefusedBy store_status (λ refusal. IfSome target (λ t. RefusesInit secret timestamp t.history refusal)) status
 
 -- A repository is made in the target, or that is refused. Whatever a stop leaves at any moment has no commit, or is the new repository; the
 -- counter blocks of the runs before stay apart, and none of this run's, and no number of the file `nonce`, is below the one that it began with. Source and

@@ -6,4 +6,5 @@ pub mod List
 pub mod MakeKey
 pub mod Items
 pub mod Run
+pub mod Ready
 pub mod Words

@@ -3,6 +3,7 @@ use Rattle.std.specs.Prelude.{◌≡◌, ℕ, Option, Result, Ok, Err}
 use Rattle.ferry_disk.specs.Files.{contents_at}
 use Rattle.ferry_disk.specs.declared.name.Name.TheVariants as Name
 use Rattle.ferry_disk.specs.Device.{Told}
+use Rattle.ferry_disk.specs.Moments.{Between}
 use Rattle.ferry_repo.specs.declared.secret.Secret.{Secret}
 use Rattle.ferry_status.specs.Output.{Prints, PrintsAsRead, Reports}
 use Rattle.ferry_status.specs.Devices.{Devices, Written, HasCauses}
@@ -25,6 +26,7 @@ use Rattle.ferry_words.specs.declared.command.Command.TheVariants.{Keys, Key, Li
 use Rattle.ferry_words.specs.declared.command.Command.TheVariants.{Init, MakeKey, Transfer, Plan, Delete, Compact}
 use Rattle.ferry_status.specs.declared.status.Secrets.{Secrets}
 use Rattle.ferry_status.specs.declared.status.Status.{Status}
+use Rattle.ferry_write.specs.Session.{SettlesFirst}
 
 -- what each command of the source writes, under the source's secret: the live keys, the key, the archives, the items of one, the content of
 -- a file of it, or the report of a check; the other commands are none of the source
@@ -73,9 +75,10 @@ DoesCommand (Ok (Delete timestamp name)) secrets before status after =
 DoesCommand (Ok (Compact threshold)) secrets before status after = CompactsTarget threshold before status after
 DoesCommand (Err word) secrets before status after = after ≡ before
 
--- what a run leaves: what its command does, then the fault line, and the causes of its status
+-- what a run leaves: what its command does, then the fault line, and the causes of its status; the first act in the target, where there is one, is a Settle
 pub record Runs (words : Result Command ℕ) (secrets : Secrets) (before : Devices) (status : Status) (after : Devices) : Type 0 where
   pub between : Written
   pub command : DoesCommand words secrets before status (record after { output = between })
   pub report : Reports status between after.output
+  pub first : Between before.target.told after.target.told SettlesFirst
   pub causes : HasCauses status before after

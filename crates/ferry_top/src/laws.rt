@@ -1,13 +1,16 @@
-//! A law of the command that makes a repository, the contract of a function with nothing to do.
-ghost use Rattle.std.specs.Prelude.{◌≡◌, List, [], ℕ, Some};
-ghost use Rattle.ferry_disk.specs.Device.{Told, told_files};
-ghost use Rattle.ferry_repo.specs.declared.secret.Secret.{Secret};
-ghost use Rattle.ferry_top.specs.Init.{IsFault, IsReady, IsRefused};
+//! A law of all commands, the contract of a function with nothing to do.
+ghost use Rattle.std.specs.Prelude.{◌≡◌, [], IfSome, Ok};
+ghost use Rattle.ferry_status.specs.Devices.{Devices};
+ghost use Rattle.ferry_status.specs.declared.status.Secrets.{Secrets as TheSecrets};
 ghost use Rattle.ferry_status.specs.declared.status.Status.{Status as TheStatus};
+ghost use Rattle.ferry_top.specs.Ready.{IsDoneOr, IsReadyTo, Meets};
+ghost use Rattle.ferry_top.specs.Run.{Runs};
+ghost use Rattle.ferry_words.specs.declared.command.Command.{Command as TheCommand};
 
-/// Where nothing is committed, the key file reads and opens where there is one, `nonce` has a number, and no limit is met, `init` is refused by
-/// nothing but want of memory and a device that failed.
-pub fn init_laws()
-    ensures complete { (secret : Secret) (timestamp : List ℕ) (told : Told) (status : TheStatus) → told.history.acts ≡ []
-        → IsReady secret timestamp (told_files told) → IsRefused secret timestamp (Some told) status → IsFault status }
+/// Where what a command asks is there, its run is done, unless memory was refused, a device failed, or one of its limits was met.
+pub fn complete_laws()
+    ensures complete { (command : TheCommand) (secrets : TheSecrets) (before after : Devices) (status : TheStatus)
+        → IfSome before.target.told (λ t. t.history.acts ≡ [])
+        → IsReadyTo command secrets before.source.told before.target.told after.target.told → Runs (Ok command) secrets before status after
+        → IsDoneOr (Meets command secrets before.source.told before.target.told after.target.told) status }
 {}

@@ -51,9 +51,20 @@ pub fn extract<S: Shelf, K: Sink>(
         Err(fault) => return Err(fault),
     };
     match find_file(repo, shelf, &mut walk, path) {
-        Ok(Some(chunks)) => write_file(repo, shelf, out, &mut walk, &chunks),
-        Ok(None) => Err(ViewFault::NotFound),
-        Err(fault) => Err(fault),
+        Ok(Some(chunks)) => {
+            let done = write_file(repo, shelf, out, &mut walk, &chunks);
+            drop(chunks);
+            drop(walk);
+            done
+        }
+        Ok(None) => {
+            drop(walk);
+            Err(ViewFault::NotFound)
+        }
+        Err(fault) => {
+            drop(walk);
+            Err(fault)
+        }
     }
 }
 
@@ -179,7 +190,7 @@ fn finish<S: Shelf>(repo: &mut Repo, shelf: &mut S, walk: &mut Walk) -> Result<(
 {
     for _ in 0..u64::MAX {
         match walk.step(repo, shelf)? {
-            Some(_item) => {}
+            Some(item) => drop(item),
             None => return Ok(()),
         }
     }

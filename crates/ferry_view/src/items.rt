@@ -83,7 +83,11 @@ fn write_items<S: Shelf, K: Sink>(
     let mut text = Vec::new(alloc);
     for _ in 0..u64::MAX {
         match walk.step(repo, shelf) {
-            Ok(Some(item)) => add_item(&item, &mut text, out)?,
+            Ok(Some(item)) => {
+                let added = add_item(&item, &mut text, out);
+                drop(item);
+                added?;
+            }
             Ok(None) => return send(&text, out),
             Err(fault) => return end_lines(&text, fault, out),
         }

@@ -26,14 +26,14 @@ loop-place-init g c = record {
   faults = refl;
 }
 
-pub check_archive-requires-clause-sizes : goal.check_archive-requires-clause-sizes
-check_archive-requires-clause-sizes g c =
+pub check_archive-tagged-requires-clause-sizes : goal.check_archive-tagged-requires-clause-sizes
+check_archive-tagged-requires-clause-sizes g c =
     sizes_now (g.S.Shelf.told c.args.shelf.now) (g.S.Shelf.told c.loop-place.shelf) (repo_view c.args.repo.now) (repo_view c.loop-place.repo)
     (take c.loop-place.place (repo_view c.args.repo.now).manifest.archives) (get key_cmp c.args.chunks.now) (get key_cmp c.loop-place.chunks)
     c.loop-place.untagged c.loop-place.invariant.same c.loop-place.invariant.repo c.loop-place.invariant.checks c.requires.sizes
 
-pub check_archive-requires-clause-named : goal.check_archive-requires-clause-named
-check_archive-requires-clause-named g c =
+pub check_archive-tagged-requires-clause-named : goal.check_archive-tagged-requires-clause-named
+check_archive-tagged-requires-clause-named g c =
     let archives = (repo_view c.loop-place.repo).manifest.archives in
     let place = c.loop-place.place in
     let first : place < length (repo_view c.args.repo.now).manifest.archives = omega (arith, c.archive_count-place-end.ensures.count) in
@@ -51,18 +51,18 @@ loop-place-preserved g c =
     let place = c.loop-place.place in
     let old = get key_cmp c.args.chunks.now in
     let known = get key_cmp c.loop-place.chunks in
-    let next = get key_cmp c.check_archive.new.chunks in
-    let tagged = c.in_ok-tagged.tagged in
+    let next = get key_cmp c.check_archive-tagged.new.chunks in
+    let tagged = c.in_ok-tagged.field-0 in
     let lt : place < length archives = omega (arith, c.archive_count-place-end.ensures.count) in
     let name_is = c.deref.ensures.value
     ∙ (c.in_ok-name.ensures.name no_archive ∙ ap (λ (r : RepoState). (get_or r.manifest.archives place no_archive).name) c.loop-place.invariant.repo) in
     let one = subst (λ n. ChecksArchive later now_repo n known next tagged) name_is c.in_ok-tagged.ensures.archive in
     record {
       checks = subst (λ n. ChecksArchives told repo (take (place + 1) archives) old next (c.loop-place.untagged + n))
-          (sym c.one_untagged-untagged.ensures.count)
+          (sym c.one_untagged.ensures.count)
           (archives_next told later repo now_repo archives place no_archive old known next c.loop-place.untagged tagged c.loop-place.invariant.same
           c.loop-place.invariant.repo lt c.loop-place.invariant.checks one);
-      small = omega (arith, c.one_untagged-untagged.ensures.small);
+      small = omega (arith, c.one_untagged.ensures.small);
       fits = c.in_ok-tagged.ensures.fits;
       repo = c.in_ok-tagged.ensures.kept ∙ c.loop-place.invariant.repo;
       same = c.in_ok-tagged.ensures.same ∙ c.loop-place.invariant.same;

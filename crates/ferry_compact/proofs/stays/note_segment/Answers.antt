@@ -29,7 +29,8 @@ returns-in_err-head-clause-noted g c files tells entries has =
     let now = tells_on (g.D.Shelf.told c.args.depot.now) (g.D.Shelf.told c.loop-at.depot) files old.same tells in
     err_matches c.from_residual.result c.in_err-head.field-0.0
     (λ x. TakesNotes c.args.log.now c.args.among (located extent.segment 8 entries) c.args.stays.now.entries c.loop-at.stays.entries) IsOutside
-    c.from_residual.ensures.1 (c.in_err-head.ensures.head files now there.0 there.1)
+    c.from_residual.ensures.1
+    (c.in_err-head.ensures.head files now (record { entry = there.0; begins = there.1; sized = has.sized }))
 
 pub returns-in_err-at-clause-noted : goal.returns-in_err-at-clause-noted
 returns-in_err-at-clause-noted g c files tells entries has =
@@ -37,8 +38,11 @@ returns-in_err-at-clause-noted g c files tells entries has =
     let extent = c.args.extent.now in
     let bytes = segment_bytes files extent.segment in
     let now = tells_on (g.D.Shelf.told c.args.depot.now) (g.D.Shelf.told c.loop-at.depot) files old.same tells in
-    let head = c.in_ok-head.ensures.head files now in
+    let read = (old.noted files tells entries has).read in
+    let lt = c.loop-at-test.true in
     let sized = has.sized in
+    let there = begins_there bytes c.loop-at.at _ entries read has.split (omega (arith, lt, sized)) in
+    let head = c.in_ok-head.ensures.head files now (record { entry = there.0; begins = there.1; sized = sized }) in
     let small : length bytes < 2 ^ 64 = omega (arith, sized) in
     place_fits bytes c.loop-at.at c.in_ok-head.head _ head small c.in_err-at.ensures.refused.1
 
@@ -50,7 +54,11 @@ loop-at-preserved g c =
       noted = λ files tells entries has.
           let bytes = segment_bytes files extent.segment in
           let now = tells_on (g.D.Shelf.told c.args.depot.now) (g.D.Shelf.told c.loop-at.depot) files old.same tells in
-          let head = c.in_ok-head.ensures.head files now in
+          let read = (old.noted files tells entries has).read in
+          let lt = c.loop-at-test.true in
+          let sized = has.sized in
+          let there = begins_there bytes c.loop-at.at _ entries read has.split (omega (arith, lt, sized)) in
+          let head = c.in_ok-head.ensures.head files now (record { entry = there.0; begins = there.1; sized = sized }) in
           noted_more c.args.log.now c.args.among extent.segment bytes c.loop-at.at c.in_ok-at.at c.in_ok-head.head head.0 c.args.stays.now.entries
           c.loop-at.stays.entries c.note_head.new.stays.entries (old.noted files tells entries has) head.1 head.2 c.in_ok-at.ensures.place.0
           (c.in_ok-note_head.ensures.noted c.loop-at.at head.0 head.2);

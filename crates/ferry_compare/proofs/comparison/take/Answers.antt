@@ -7,8 +7,8 @@ use Rattle.ferry_compare.specs.Steps.{FindsBeside, TakesItem}
 use Rattle.ferry_compare.proofs.StepLemmas.{on_ok, log_fits, takes_found, takes_none}
 use Rattle.ferry_compare.proofs.comparison.take.Goals as goal
 
-pub returns-in_ok-same-in-Some-clause-takes : goal.returns-in_ok-same-in-Some-clause-takes
-returns-in_ok-same-in-Some-clause-takes g c =
+pub returns-in_ok-compared-in-Some-clause-takes : goal.returns-in_ok-compared-in-Some-clause-takes
+returns-in_ok-compared-in-Some-clause-takes g c =
     let told = g.S.Shelf.told c.args.shelf.now in
     let source = repo_view c.args.source.now in
     let heard = g.T.Shelf.told c.args.other.now in
@@ -21,8 +21,8 @@ returns-in_ok-same-in-Some-clause-takes g c =
     c.in_ok-beside.ensures.finds in
     subst (λ (w : Option WalkState). TakesItem told source heard target item from w) (sym c.keep_where.ensures.kept)
     (takes_found told source heard (g.T.Shelf.told c.next_beside.new.other) target (repo_view c.next_beside.new.target) item found from now
-    c.in_ok-same-in-Some.same c.in_ok-beside.ensures.same c.in_ok-beside.ensures.kept (log_fits heard target _ c.requires.target_fits)
-    c.requires.walk_fits finds c.in_ok-same-in-Some.ensures.compares)
+    c.in_ok-compared-in-Some.field-0 c.in_ok-beside.ensures.same c.in_ok-beside.ensures.kept (log_fits heard target _ c.requires.target_fits)
+    c.requires.walk_fits finds c.in_ok-compared-in-Some.ensures.compares)
 
 pub returns-in-None-clause-takes : goal.returns-in-None-clause-takes
 returns-in-None-clause-takes g c =

@@ -40,7 +40,7 @@ returns c l inside =
     let counted : (k : ℕ) → k < 4 → slice_index counts k ≡ length (behind_key (text_at texts k)) / 64 =
     below_4 (λ k. slice_index counts k ≡ length (behind_key (text_at texts k)) / 64)
     c.block_count.ensures c.block_count-2.ensures c.block_count-3.ensures c.block_count-4.ensures in
-    let below : slice_index counts l ≤ c.loop-n.n = omega (arith, c.most-n-end.ensures l inside) in
+    let below : slice_index counts l ≤ c.loop-n.n = omega (arith, c.most-n-end.ensures.each l inside) in
     let here : slice_index counts l ≡ length (behind_key (text_at texts l)) / 64 = counted l inside in
     let done : min c.loop-n.n (length (behind_key (text_at texts l)) / 64) ≡ length (behind_key (text_at texts l)) / 64 = omega arith in
     rw (text_at-map texts l) (c.loop-n.invariant l inside

@@ -9,7 +9,6 @@ use Rattle.ferry_piece.specs.declared.fault.CarryFault.TheVariants as Carry
 use Rattle.ferry_refs.proofs.DeleteLemmas.{did_at, keeps_behind, works_done, works_here, works_memory, works_undone, works_unread}
 use Rattle.ferry_refs.proofs.DropLemmas.{leaves_here, untold_then}
 use Rattle.ferry_refs.proofs.deleting.delete.Goals as goal
-use Rattle.ferry_refs.specs.DeleteSteps.{ReadsGoing}
 use Rattle.ferry_refs.specs.Deleting.{Deletes, DeletesSound, LeavesCommitted, time_of}
 use Rattle.ferry_repo.specs.Opening.{RepoState, repo_view}
 use Rattle.ferry_stops.specs.Tells.{TellsNothing}

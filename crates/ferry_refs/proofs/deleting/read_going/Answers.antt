@@ -1,4 +1,4 @@
-use Rattle.std.proofs.Common.{◌≡◌, Global, List, Result, Vec, ℕ, ◌∙◌, ap, subst, IfErr, IfSome}
+use Rattle.std.proofs.Common.{Global, List, Result, Vec, ℕ, ◌∙◌, ap, subst, IfErr, IfSome}
 use Rattle.ferry_disk.specs.Device.{told_files}
 use Rattle.ferry_repo.specs.Opening.{RepoState, repo_view}
 use Rattle.ferry_store.proofs.StepLemmas.{err_is}

@@ -12,6 +12,7 @@ use Rattle.ferry_repo.specs.Opening.{mode_of, repo_view}
 use Rattle.ferry_segment.specs.Entry.{PutEntry}
 use Rattle.ferry_stops.proofs.TellLemmas.{told_both, told_none}
 use Rattle.ferry_store.proofs.CauseLemmas.{packed_stops, put_stops}
+use Rattle.ferry_store.proofs.LimitLemmas.{manifest_uncommitted_at, manifest_unpacked, manifest_unput_at, nothing_done}
 use Rattle.ferry_store.proofs.RenewLemmas.{manifest_held, nothing_committed, packed_refused, put_commits, put_refused, still_packed}
 use Rattle.ferry_store.proofs.RenewLemmas.{uncommitted_refused, unput_refused}
 use Rattle.ferry_store.proofs.StepLemmas.{err_is, here_each}
@@ -21,6 +22,7 @@ use Rattle.ferry_store.specs.Commit.{CommitsEntry, HasCommitted, RefusesManifest
 use Rattle.ferry_store.specs.Content.{blob_for}
 use Rattle.ferry_store.proofs.PutLemmas.{always, keeps_here}
 use Rattle.ferry_store.specs.Fault.{depot_failed}
+use Rattle.ferry_store.specs.Limits.{LeavesBoth, LimitsManifest}
 use Rattle.ferry_store.specs.New.{IsPacked}
 use Rattle.ferry_store.specs.Standing.{with_manifest}
 use Rattle.ferry_store.specs.State.{Did, KeepsSound, RefusesManifest, TakesEntry}
@@ -55,6 +57,8 @@ returns-in_err-buffer-clause-committed g c =
             c.from_residual.ensures.1 (nothing_committed {T = Unit {0}} next session counter entry R a n f (still_packed size f refused)),
         err_is c.from_residual.result f (λ (r : Result (Unit {0}) StoreRefusal). IfErr r (RefusesManifestOf counter size)) c.from_residual.ensures.1
             (packed_refused counter size f refused),
+        err_is c.from_residual.result f (λ (r : Result (Unit {0}) StoreRefusal). LimitsManifest r session counter size) c.from_residual.ensures.1
+            (manifest_unpacked session counter size f refused),
       ),
     )
 
@@ -105,6 +109,10 @@ returns-in_err-put_object-clause-committed g c =
         err_is c.from_residual-in_err-put_object.result f
             (λ (r : Result (Unit {0}) StoreRefusal). IfErr r (RefusesManifestOf counter (length text))) c.from_residual-in_err-put_object.ensures.1
             (unput_refused session counter (length text) (length buffer) f size c.in_err-put_object.ensures.refused c.in_err-put_object.ensures.exhausted),
+        err_is c.from_residual-in_err-put_object.result f
+            (λ (r : Result (Unit {0}) StoreRefusal). LimitsManifest r session counter (length text)) c.from_residual-in_err-put_object.ensures.1
+            (manifest_unput_at session counter (length text) f (length buffer) size packed.3 c.in_err-put_object.ensures.refused
+            c.in_err-put_object.ensures.limits),
       ),
     )
 
@@ -155,6 +163,8 @@ returns-clause-committed g c =
         put_commits next session put done counter drawn entry blob place (41 + length buffer) a b d n m k r held c.in_ok-put_object.ensures.session
             c.commit.ensures.session did c.in_ok-put_object.ensures.placed (c.commit.ensures.did drawn),
         uncommitted_refused put counter (length text) r c.commit.ensures.refused,
+        manifest_uncommitted_at session counter (length text) put r place (length buffer) (ap length is ∙ packed.1) packed.3
+            c.in_ok-put_object.ensures.session c.in_ok-put_object.ensures.limits c.commit.ensures.numbers c.commit.ensures.refused,
       ),
     )
 
@@ -186,6 +196,15 @@ returns-clause-stops g c =
     let drawn = c.put_object.new.counter in
     put_stops {T = Place} {U = Unit {0}} c.args.session.now c.put_object.new.session c.args.counter.now drawn _ c.in_ok-put_object.field-0 a b d n m
     c.commit.result c.in_ok-put_object.ensures.did (c.commit.ensures.stops drawn)
+
+pub returns-in_err-buffer-clause-leaves : goal.returns-in_err-buffer-clause-leaves
+returns-in_err-buffer-clause-leaves g c =
+    let a = g.D.Shelf.told c.args.depot.now in
+    let session = c.args.session.now in
+    let counter = c.args.counter.now in
+    err_is c.from_residual.result c.in_err-buffer.field-0.0
+    (λ (r : Result (Unit {0}) StoreRefusal). IfErr r (LeavesBoth session counter session counter a a)) c.from_residual.ensures.1
+    (λ still. (refl, (refl, nothing_done a)))
 
 pub returns-in_err-buffer-clause-keeps : goal.returns-in_err-buffer-clause-keeps
 returns-in_err-buffer-clause-keeps g c =

@@ -1,4 +1,4 @@
-use Rattle.std.proofs.Common.{◌≡◌, ◌++◌, ℕ, List, [], None, Ok, Err, Result, IfErr, IfSome, OnOk, option_map}
+use Rattle.std.proofs.Common.{◌≡◌, ◌++◌, ℕ, List, [], None, Ok, Err, Result, IfErr, IfSome, OnOk, option_map, sym, ◌∙◌, ap}
 use Rattle.ferry_disk.specs.Device.{HasCause, told_files}
 use Rattle.ferry_nonce.specs.declared.counter.Counter.{Counter}
 use Rattle.ferry_store.proofs.CallLemmas.{makes_begun, makes_front, makes_refused}
@@ -141,6 +141,8 @@ returns-clause-made g c =
     let session = c.in_ok-counter.session in
     makes_ok c.args.secret.now c.args.iterations c.args.timestamp.now c.in_ok-basis.basis counter session c.write_first.new.counter
     c.write_first.new.session (g.E.Entropy.drawn c.args.entropy.now) (g.E.Entropy.drawn c.basis_of.new.entropy)
-    (g.E.Entropy.drawn c.write_first.new.entropy) a b d n m k c.in_ok-basis.ensures.opens c.in_ok-basis.ensures.made c.in_ok-counter.ensures.number
+    (g.E.Entropy.drawn c.write_first.new.entropy) a b d n m k c.in_ok-basis.ensures.opens
+    (c.in_ok-write_first.ensures.limit ∙ (ap (λ (s : Session). s.limit) c.in_ok-counter.ensures.fresh.session_is ∙ sym c.in_ok-basis.ensures.limits.1))
+    c.in_ok-basis.ensures.made c.in_ok-counter.ensures.number
     (did_also {T = Counter × Session} (BeginsSound None) SettlesFirst (λ x. Begins None x.0 x.1) a b n m (Ok (counter, session)) c.in_ok-counter.ensures.first
     c.in_ok-counter.ensures.did) c.in_ok-write_first.ensures.made

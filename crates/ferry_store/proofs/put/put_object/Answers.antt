@@ -14,6 +14,8 @@ use Rattle.ferry_store.specs.Causes.{Stops}
 use Rattle.ferry_store.specs.Fault.{nonce_refusal, write_refusal}
 use Rattle.ferry_store.specs.State.{Did, IsPlaced, KeepsSound, TakesEntry}
 use Rattle.ferry_store.specs.declared.fault.StoreRefusal.{StoreRefusal}
+use Rattle.ferry_store.proofs.LimitLemmas.{undrawn_leaves}
+use Rattle.ferry_store.specs.Limits.{LeavesBoth}
 
 pub draw-requires-clause-some : goal.draw-requires-clause-some
 draw-requires-clause-some g c =
@@ -152,6 +154,20 @@ pub returns-clause-untold : goal.returns-clause-untold
 returns-clause-untold g c =
     told_both (g.D.Shelf.told c.args.depot.now) (g.D.Shelf.told c.draw.new.depot) (g.D.Shelf.told c.put.new.depot) c.in_ok-first.ensures.untold
     c.in_ok-place.ensures.untold
+
+pub returns-in_err-first-clause-leaves : goal.returns-in_err-first-clause-leaves
+returns-in_err-first-clause-leaves g c =
+    let a = g.D.Shelf.told c.args.depot.now in
+    let b = g.D.Shelf.told c.draw.new.depot in
+    let session = c.args.session.now in
+    let counter = c.args.counter.now in
+    let fault = c.in_err-first.field-0.0 in
+    let number = c.blocks_of-blocks.result in
+    let unfit : FitIn counter number → ⊥ = λ fit. let kept = (c.in_err-first.ensures.kept fit).0 in let no : ⊥ = cc in no in
+    err_is c.from_residual.result (nonce_refusal fault)
+    (λ (r : Result Place StoreRefusal). IfErr r (LeavesBoth session counter session c.draw.new.self a b)) c.from_residual.ensures.1
+    (undrawn_leaves session counter c.draw.new.self (reserved_for counter number) fault a b c.requires.counter c.in_err-first.ensures.refused
+    (c.in_err-first.ensures.replaced unfit))
 
 pub returns-in_err-first-clause-stops : goal.returns-in_err-first-clause-stops
 returns-in_err-first-clause-stops g c =

@@ -21,7 +21,7 @@ returns-in-Ok-clause-made g c e =
 
 pub returns-clause-refused : goal.returns-clause-refused
 returns-clause-refused g c = inr (record {
-  refusal = c.in-Err.refusal;
+  fault = c.in-Err.refusal;
   status_is = c.of_store.ensures;
   refuses = subst (λ (time : List ℕ). IfSome (g.D.Shelf.told c.args.target.now)
       (λ t. RefusesInit c.args.secret.now time t.history c.in-Err.refusal)) c.time_of-time.ensures

@@ -28,8 +28,8 @@ find_file-requires-clause-walk_fits g c =
     begun_fits (g.S.Shelf.told c.args.shelf.now) (g.S.Shelf.told c.begin.new.shelf) (repo_view c.args.repo.now) (repo_view c.begin.new.repo)
     c.args.name.now (walk_view c.in-Ok.walk) c.in-Ok.ensures.same c.in-Ok.ensures.kept c.in-Ok.ensures.begins
 
-pub write_file-requires-clause-walk_fits : goal.write_file-requires-clause-walk_fits
-write_file-requires-clause-walk_fits g c =
+pub write_file-done-requires-clause-walk_fits : goal.write_file-done-requires-clause-walk_fits
+write_file-done-requires-clause-walk_fits g c =
     let told = g.S.Shelf.told c.args.shelf.now in
     let mid = g.S.Shelf.told c.begin.new.shelf in
     let later = g.S.Shelf.told c.find_file.new.shelf in
@@ -65,9 +65,9 @@ returns-in-Ok-Some-clause-ok g c =
     c.in-Ok.ensures.begins finds in
     let same = c.in-Ok-Some.ensures.same ∙ c.in-Ok.ensures.same in
     let kept = c.in-Ok-Some.ensures.kept ∙ c.in-Ok.ensures.kept in
-    on_ok c.write_file.result _ _ (λ all.
+    on_ok c.write_file-done.result _ _ (λ all.
     file_at_end told later repo (repo_view c.find_file.new.repo) name path walk now chunks (g.K.Sink.written c.args.out.now)
-    (g.K.Sink.written c.write_file.new.out) same kept found all) c.write_file.ensures.ok
+    (g.K.Sink.written c.write_file-done.new.out) same kept found all) c.write_file-done.ensures.ok
 
 pub returns-in-Ok-Some-clause-err : goal.returns-in-Ok-Some-clause-err
 returns-in-Ok-Some-clause-err g c =
@@ -87,9 +87,9 @@ returns-in-Ok-Some-clause-err g c =
     c.in-Ok.ensures.begins finds in
     let same = c.in-Ok-Some.ensures.same ∙ c.in-Ok.ensures.same in
     let kept = c.in-Ok-Some.ensures.kept ∙ c.in-Ok.ensures.kept in
-    on_err c.write_file.result _ _ (λ some.
+    on_err c.write_file-done.result _ _ (λ some.
     file_some told later repo (repo_view c.find_file.new.repo) name path walk now chunks (g.K.Sink.written c.args.out.now)
-    (g.K.Sink.written c.write_file.new.out) same kept found some) c.write_file.ensures.err
+    (g.K.Sink.written c.write_file-done.new.out) same kept found some) c.write_file-done.ensures.err
 
 pub returns-in-Ok-Some-clause-all : goal.returns-in-Ok-Some-clause-all
 returns-in-Ok-Some-clause-all g c =
@@ -109,9 +109,9 @@ returns-in-Ok-Some-clause-all g c =
     c.in-Ok.ensures.begins finds in
     let same = c.in-Ok-Some.ensures.same ∙ c.in-Ok.ensures.same in
     let kept = c.in-Ok-Some.ensures.kept ∙ c.in-Ok.ensures.kept in
-    IfErr-weaker c.write_file.result _ _ (λ fault all of.
+    IfErr-weaker c.write_file-done.result _ _ (λ fault all of.
     file_all told later repo (repo_view c.find_file.new.repo) name path walk now chunks (g.K.Sink.written c.args.out.now)
-    (g.K.Sink.written c.write_file.new.out) same kept found (all of)) c.write_file.ensures.all
+    (g.K.Sink.written c.write_file-done.new.out) same kept found (all of)) c.write_file-done.ensures.all
 
 pub returns-in-Ok-Some-clause-refused : goal.returns-in-Ok-Some-clause-refused
 returns-in-Ok-Some-clause-refused g c =
@@ -131,8 +131,8 @@ returns-in-Ok-Some-clause-refused g c =
     c.in-Ok.ensures.begins finds in
     let same = c.in-Ok-Some.ensures.same ∙ c.in-Ok.ensures.same in
     let kept = c.in-Ok-Some.ensures.kept ∙ c.in-Ok.ensures.kept in
-    IfErr-weaker c.write_file.result _ _ (λ fault ends.
-    file_refused_at told later repo (repo_view c.find_file.new.repo) name path walk now chunks fault same kept found ends) c.write_file.ensures.refused
+    IfErr-weaker c.write_file-done.result _ _ (λ fault ends.
+    file_refused_at told later repo (repo_view c.find_file.new.repo) name path walk now chunks fault same kept found ends) c.write_file-done.ensures.refused
 
 pub returns-in-Ok-None-clause-err : goal.returns-in-Ok-None-clause-err
 returns-in-Ok-None-clause-err g c =
@@ -151,19 +151,19 @@ returns-in-Ok-None-clause-refused g c =
     c.args.name.now c.args.path.now (walk_view c.in-Ok.walk) c.in-Ok.ensures.same c.in-Ok.ensures.kept c.in-Ok.ensures.begins
     (c.in-Ok-None.ensures.none (ap Ok c.in-Ok-None.field-0-is))
 
-pub returns-clause-err : goal.returns-clause-err
-returns-clause-err g c =
+pub returns-in-Err-find_file-clause-err : goal.returns-in-Err-find_file-clause-err
+returns-in-Err-find_file-clause-err g c =
     no_content (g.S.Shelf.told c.args.shelf.now) (repo_view c.args.repo.now) c.args.name.now c.args.path.now (g.K.Sink.written c.args.out.now)
     (g.K.Sink.written c.args.out.now) (log_fits _ _ _ c.requires.fits) refl
 
-pub returns-clause-all : goal.returns-clause-all
-returns-clause-all g c = λ of.
+pub returns-in-Err-find_file-clause-all : goal.returns-in-Err-find_file-clause-all
+returns-in-Err-find_file-clause-all g c = λ of.
     file_before_all (g.S.Shelf.told c.args.shelf.now) (g.S.Shelf.told c.begin.new.shelf) (repo_view c.args.repo.now) (repo_view c.begin.new.repo)
     c.args.name.now c.args.path.now (walk_view c.in-Ok.walk) (g.K.Sink.written c.args.out.now) c.in-Err-find_file.fault of c.in-Ok.ensures.same
     c.in-Ok.ensures.kept c.in-Ok.ensures.begins c.in-Err-find_file.ensures.refused
 
-pub returns-clause-refused : goal.returns-clause-refused
-returns-clause-refused g c =
+pub returns-in-Err-find_file-clause-refused : goal.returns-in-Err-find_file-clause-refused
+returns-in-Err-find_file-clause-refused g c =
     file_before (g.S.Shelf.told c.args.shelf.now) (g.S.Shelf.told c.begin.new.shelf) (repo_view c.args.repo.now) (repo_view c.begin.new.repo)
     c.args.name.now c.args.path.now (walk_view c.in-Ok.walk) c.in-Err-find_file.fault c.in-Ok.ensures.same c.in-Ok.ensures.kept c.in-Ok.ensures.begins
     c.in-Err-find_file.ensures.refused

@@ -16,12 +16,12 @@ loop-preserved g c =
     let now = walk_view c.loop.walk in
     let after = walk_view c.step.new.self in
     let leads = subst (λ o. IfSome o (λ i. IfSome later (λ t. LeadsOn (told_files t) now_repo.log now_repo.keys now (item_view i ∷ []) after)))
-    c.in-Some.is c.in_ok-_item.ensures.item in
+    c.in-Some.is c.in_ok-item.ensures.item in
     record {
-      goes = goes_next told later repo now_repo from now after (item_view c.in-Some._item) c.loop.invariant.same c.loop.invariant.repo
-          c.loop.invariant.goes leads c.in_ok-_item.ensures.walk_fits;
-      fits = c.in_ok-_item.ensures.fits;
-      repo = c.in_ok-_item.ensures.kept ∙ c.loop.invariant.repo;
-      same = c.in_ok-_item.ensures.same ∙ c.loop.invariant.same;
-      faults = c.in_ok-_item.ensures.cause ∙ c.loop.invariant.faults;
+      goes = goes_next told later repo now_repo from now after (item_view c.in-Some.item) c.loop.invariant.same c.loop.invariant.repo
+          c.loop.invariant.goes leads c.in_ok-item.ensures.walk_fits;
+      fits = c.in_ok-item.ensures.fits;
+      repo = c.in_ok-item.ensures.kept ∙ c.loop.invariant.repo;
+      same = c.in_ok-item.ensures.same ∙ c.loop.invariant.same;
+      faults = c.in_ok-item.ensures.cause ∙ c.loop.invariant.faults;
     }

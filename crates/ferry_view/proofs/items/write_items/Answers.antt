@@ -49,8 +49,8 @@ returns-in-Err-clause-refused g c =
     (ends_at told (g.S.Shelf.told c.loop.shelf) repo (repo_view c.loop.repo) from (walk_view c.loop.walk) lists.done c.in-Err.fault
     c.loop.invariant.same c.loop.invariant.repo lists.answers c.in-Err.ensures.refused)
 
-pub returns-in_err-add_item-in-Ok-Some-clause-err : goal.returns-in_err-add_item-in-Ok-Some-clause-err
-returns-in_err-add_item-in-Ok-Some-clause-err g c =
+pub returns-in_err-added-in-Ok-Some-clause-err : goal.returns-in_err-added-in-Ok-Some-clause-err
+returns-in_err-added-in-Ok-Some-clause-err g c =
     let told = g.S.Shelf.told c.args.shelf.now in
     let later = g.S.Shelf.told c.loop.shelf in
     let repo = repo_view c.args.repo.now in
@@ -65,8 +65,8 @@ returns-in_err-add_item-in-Ok-Some-clause-err g c =
     c.in-Ok-Some.field-0-is c.in-Ok-Some.ensures.item in
     let next = lists_next told later repo now_repo from now after old out c.loop.text.items item c.loop.invariant.same c.loop.invariant.repo
     c.loop.invariant.lists leads c.in-Ok-Some.ensures.walk_fits in
-    err_holds _ _ (lists_cut told repo from after old out (g.K.Sink.written c.add_item.new.out) (c.loop.text.items ++ item_line item)
-    (log_fits _ _ _ c.requires.fits) next c.in_err-add_item-in-Ok-Some.ensures.err)
+    err_holds _ _ (lists_cut told repo from after old out (g.K.Sink.written c.add_item-added.new.out) (c.loop.text.items ++ item_line item)
+    (log_fits _ _ _ c.requires.fits) next c.in_err-added-in-Ok-Some.ensures.err)
 
 pub returns-in-Ok-None-clause-ok : goal.returns-in-Ok-None-clause-ok
 returns-in-Ok-None-clause-ok g c =
@@ -103,13 +103,13 @@ loop-preserved g c =
     let next = lists_next told later repo now_repo from now after old out c.loop.text.items item c.loop.invariant.same c.loop.invariant.repo
     c.loop.invariant.lists leads c.in-Ok-Some.ensures.walk_fits in
     record {
-      lists = lists_sent told repo from after old out (g.K.Sink.written c.add_item.new.out) (c.loop.text.items ++ item_line item)
-          c.add_item.new.text.items next c.in_ok-add_item-in-Ok-Some.ensures.ok;
+      lists = lists_sent told repo from after old out (g.K.Sink.written c.add_item-added.new.out) (c.loop.text.items ++ item_line item)
+          c.add_item-added.new.text.items next c.in_ok-added-in-Ok-Some.ensures.ok;
       fits = c.in-Ok-Some.ensures.fits;
       repo = c.in-Ok-Some.ensures.kept ∙ c.loop.invariant.repo;
       same = c.in-Ok-Some.ensures.same ∙ c.loop.invariant.same;
       faults = c.in-Ok-Some.ensures.cause ∙ c.loop.invariant.faults;
-      out = c.in_ok-add_item-in-Ok-Some.ensures.cause ∙ c.loop.invariant.out;
+      out = c.in_ok-added-in-Ok-Some.ensures.cause ∙ c.loop.invariant.out;
     }
 
 pub returns-clause-err : goal.returns-clause-err

@@ -3,7 +3,7 @@ use Rattle.ferry_disk.specs.Act.{ReplaceBy}
 use Rattle.ferry_disk.specs.declared.name.Name.TheVariants.{Nonce}
 use Rattle.ferry_nonce.specs.Counter.{reservation}
 use Rattle.ferry_nonce.specs.Text.{number_text}
-use Rattle.ferry_nonce.proofs.MomentLemmas.{same_told, replace_told, counts_told, stays_settled}
+use Rattle.ferry_nonce.proofs.MomentLemmas.{same_told, replace_told, reserved_told, stays_settled}
 use Rattle.ferry_nonce.proofs.counter.Counter.reserve.Goals as goal
 use Rattle.ferry_stops.proofs.TellLemmas.{told_act, told_none}
 
@@ -13,7 +13,7 @@ returns-in_default-clause-moments g c =
 
 pub returns-in-Ok-clause-fits : goal.returns-in-Ok-clause-fits
 returns-in-Ok-clause-fits g c =
-    counts_told (c.args.behind + reservation) c.spell_number.result (g.D.Shelf.told c.args.depot.now) (g.D.Shelf.told c.replace.new.self)
+    reserved_told (c.args.behind + reservation) c.spell_number.result (g.D.Shelf.told c.args.depot.now) (g.D.Shelf.told c.replace.new.self)
     (c.spell_number.ensures.text ∙ ap number_text c.in-Some.ensures.1) c.in-Some.ensures.0 c.in-Ok.ensures.act
 
 pub returns-in-Ok-clause-moments : goal.returns-in-Ok-clause-moments

@@ -53,5 +53,5 @@ returns-in-Err-clause-stops g c =
     c.put_content-put.ensures.did in
     let stops = subst (λ (r : Result (Unit {0}) StoreRefusal). IfErr r (λ f. Between a b (Stops store.session store.counter f))) c.in-Err.is
     c.put_content-put.ensures.stops in
-    subst (λ (f : StoreRefusal). IfSome b (λ t. StopsAt (told_files t) (repo_view store.repo).keys f)) (sym c.spend.ensures.same)
+    subst (λ (f : StoreRefusal). IfSome b (λ t. StopsAt t.history.start (told_files t) (repo_view store.repo).keys f)) (sym c.spend.ensures.same)
     (store_stops store refusal a b c.requires.fits did.ends stops)

@@ -1,5 +1,5 @@
 use Rattle.std.proofs.Common.{IfSome, OnOk, Result, Err, refl, sym, subst, IfErr}
-use Rattle.std.proofs.Common.{true}
+use Rattle.std.proofs.Common.{◌≡◌, true, false}
 use Rattle.std.specs.BTreeSet.{Updates}
 use Rattle.ferry_disk.proofs.FaultLemmas.{keeps_end}
 use Rattle.ferry_disk.specs.Device.{HasCause, KeepsTold, told_files}
@@ -9,13 +9,15 @@ use Rattle.ferry_stops.proofs.TellLemmas.{told_kept}
 use Rattle.ferry_store.proofs.AddLemmas.{opened_did}
 use Rattle.ferry_store.proofs.CallLemmas.{read_refused}
 use Rattle.ferry_store.proofs.CauseLemmas.{opened_stops}
+use Rattle.ferry_store.proofs.LimitLemmas.{unopened_kept}
 use Rattle.ferry_store.proofs.PutLemmas.{keeps_here}
 use Rattle.ferry_store.proofs.StepLemmas.{same_told}
 use Rattle.ferry_store.proofs.store.Store.add_old.Goals as goal
 use Rattle.ferry_store.specs.Adding.{Adds}
 use Rattle.ferry_store.specs.Causes.{StopsAt}
+use Rattle.ferry_store.specs.Commit.{IsUnspentBy}
 use Rattle.ferry_store.specs.Content.{IsThere, RefusesOld}
-use Rattle.ferry_store.specs.Fault.{depot_failed}
+use Rattle.ferry_store.specs.Fault.{depot_failed, spends}
 use Rattle.ferry_store.specs.State.{Did, KeepsSound}
 use Rattle.ferry_store.specs.declared.content.Added.{Added}
 use Rattle.ferry_store.specs.declared.fault.StoreRefusal.{StoreRefusal}
@@ -70,6 +72,21 @@ returns-in-Err-clause-stops g c =
     let same = subst (λ (r : Result (Unit {0}) StoreRefusal). KeepsTold depot_failed a b r) c.in-Err.is c.open_content.ensures.same in
     let refused = subst (λ (r : Result (Unit {0}) StoreRefusal). IfErr r (λ f. IfSome a (λ t. RefusesOld (told_files t) (repo_view store.repo) id f)))
     c.in-Err.is c.open_content.ensures.refused in
-    subst (λ (f : StoreRefusal). IfSome b (λ t. StopsAt (told_files t) (repo_view store.repo).keys f)) (sym c.spend.ensures.same)
+    subst (λ (f : StoreRefusal). IfSome b (λ t. StopsAt t.history.start (told_files t) (repo_view store.repo).keys f)) (sym c.spend.ensures.same)
     (opened_stops store id refusal a b c.requires.fits c.requires.chunk c.requires.unknown refused
     (keeps_end {T = Unit {0}} depot_failed a b (Err refusal) same) (same_told {T = Unit {0}} depot_failed a b (Err refusal) same))
+
+pub returns-in-Err-clause-kept : goal.returns-in-Err-clause-kept
+returns-in-Err-clause-kept g c =
+    let a = g.D.Shelf.told c.args.depot.now in
+    let b = g.D.Shelf.told c.open_content.new.depot in
+    let store = c.args.self.now in
+    let repo = c.open_content.new.repo in
+    let opened = c.open_content.new.opened in
+    let refusal = c.in-Err.refusal in
+    let same = subst (λ (r : Result (Unit {0}) StoreRefusal). KeepsTold depot_failed a b r) c.in-Err.is c.open_content.ensures.same in
+    let untouched = subst (λ (r : Result (Unit {0}) StoreRefusal). IfErr r (λ f. spends f ≡ false → opened ≡ store.opened)) c.in-Err.is
+    c.open_content.ensures.untouched in
+    subst (IsUnspentBy store c.spend.new.self a b) (sym c.spend.ensures.same)
+    (unopened_kept store c.spend.new.self repo opened refusal a b c.requires.unspent.itself c.open_content.ensures.kept untouched c.spend.ensures.spent
+    (same_told {T = Unit {0}} depot_failed a b (Err refusal) same))

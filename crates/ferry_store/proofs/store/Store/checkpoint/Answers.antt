@@ -60,5 +60,5 @@ returns-in-Err-clause-stops g c fits =
     (c.commit.ensures.did store.counter) in
     let stops = subst (λ (r : Result (Unit {0}) StoreRefusal). IfErr r (λ f. Between a b (Stops store.session store.counter f))) c.in-Err.is
     (c.commit.ensures.stops store.counter) in
-    subst (λ (f : StoreRefusal). IfSome b (λ t. StopsAt (told_files t) (repo_view store.repo).keys f)) (sym c.spend.ensures.same)
+    subst (λ (f : StoreRefusal). IfSome b (λ t. StopsAt t.history.start (told_files t) (repo_view store.repo).keys f)) (sym c.spend.ensures.same)
     (store_stops store refusal a b fits did.ends stops)

@@ -8,6 +8,7 @@ use Rattle.ferry_repo.specs.Opening.{cached_in, repo_view}
 use Rattle.ferry_repo.specs.declared.repo.Repo.{Repo}
 use Rattle.ferry_store.proofs.CauseLemmas.{writing_stops}
 use Rattle.ferry_store.proofs.DropLemmas.{committed_without}
+use Rattle.ferry_store.proofs.LimitLemmas.{manifest_ok_as}
 use Rattle.ferry_store.proofs.RenewLemmas.{store_committed, with_commit}
 use Rattle.ferry_store.proofs.StepLemmas.{did_as}
 use Rattle.ferry_store.proofs.store.Store.commit.Goals as goal
@@ -56,6 +57,7 @@ returns-in-Ok-clause-committed g c =
             (store_committed store now.repo middle.session middle.counter now.accepted blob text h k view cached done))
             made.1.2,
         tt,
+        manifest_ok_as store.session store.counter _ _ tt made.1.4,
       ),
     )
 
@@ -92,5 +94,5 @@ returns-in-Err-clause-stops g c =
     let b = g.D.Shelf.told c.commit_accepted.new.depot in
     let store = c.args.self.now in
     let made = c.in-Err.ensures.committed in
-    subst (λ (f : StoreRefusal). IfSome b (λ t. StopsAt (told_files t) (repo_view store.repo).keys f)) (sym c.spend.ensures.same)
+    subst (λ (f : StoreRefusal). IfSome b (λ t. StopsAt t.history.start (told_files t) (repo_view store.repo).keys f)) (sym c.spend.ensures.same)
     (writing_stops store c.in-Err.refusal a b c.requires.fits made.1.2.ends c.in-Err.ensures.stops)

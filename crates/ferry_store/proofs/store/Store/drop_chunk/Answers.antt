@@ -66,5 +66,5 @@ returns-in-Err-clause-stops g c =
     (c.put_delete.ensures.did store.counter) in
     let stops = subst (λ (r : Result (Unit {0}) StoreRefusal). IfErr r (λ f. Between a b (Stops store.session store.counter f))) c.in-Err.is
     (c.put_delete.ensures.stops store.counter) in
-    subst (λ (f : StoreRefusal). IfSome b (λ t. StopsAt (told_files t) (repo_view store.repo).keys f)) (sym c.spend.ensures.same)
+    subst (λ (f : StoreRefusal). IfSome b (λ t. StopsAt t.history.start (told_files t) (repo_view store.repo).keys f)) (sym c.spend.ensures.same)
     (writing_stops store c.in-Err.refusal a b c.requires.fits did.ends stops)

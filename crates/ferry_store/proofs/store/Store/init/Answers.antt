@@ -3,7 +3,7 @@ use Rattle.ferry_disk.specs.Device.{HasCause}
 use Rattle.ferry_repo.specs.Fault.{repo_failed}
 use Rattle.ferry_store.proofs.InitLemmas.{still_cause}
 use Rattle.ferry_store.proofs.StepLemmas.{err_is, same_told}
-use Rattle.ferry_store.proofs.StoreLemmas.{given_still, init_front, init_made, init_makes, init_opened, init_uncopied, init_ungiven, init_unopened}
+use Rattle.ferry_store.proofs.StoreLemmas.{given_still, init_front, init_limit, init_made, init_makes, init_opened, init_uncopied, init_ungiven, init_unopened}
 use Rattle.ferry_store.proofs.StoreLemmas.{init_unread, memory_refused, open_refused}
 use Rattle.ferry_store.proofs.store.Store.init.Goals as goal
 use Rattle.ferry_store.specs.Fault.{repo_refusal, source_failed}
@@ -174,3 +174,28 @@ returns-clause-did g c =
     (init_made secret c.args.iterations c.args.timestamp.now made.0 a b d n m k (Ok (c.in_ok-counter.counter, c.in_ok-counter.session))
     c.in_ok-expect_no_commit.ensures.none c.in_ok-expect_no_commit.ensures.same c.in_ok-expect_no_commit.ensures.cause made.1.1)
     c.in_ok-repo.ensures.same c.in_ok-repo.ensures.cause c.in_ok-repo.ensures.repository c.in_ok-repo.ensures.cached c.new.ensures.empty refl
+
+pub returns-clause-limit : goal.returns-clause-limit
+returns-clause-limit g c =
+    let a = g.D.Shelf.told c.args.depot.now in
+    let b = g.D.Shelf.told c.expect_no_commit.new.depot in
+    let d = g.D.Shelf.told c.make_repository.new.depot in
+    let n = g.D.Shelf.faults c.args.depot.now in
+    let m = g.D.Shelf.faults c.expect_no_commit.new.depot in
+    let k = g.D.Shelf.faults c.make_repository.new.depot in
+    let secret = c.args.secret.now in
+    let made = c.in_ok-counter.ensures.made in
+    init_limit secret c.args.iterations c.args.timestamp.now made.0
+    (record {
+      alloc = c.args.alloc;
+      repo = c.in_ok-repo.repo;
+      session = c.in_ok-counter.session;
+      counter = c.in_ok-counter.counter;
+      pending = 0;
+      opened = c.new.result;
+      accepted = c.in_ok-accepted.accepted;
+      spent = false;
+    }) a d n k
+    (init_made secret c.args.iterations c.args.timestamp.now made.0 a b d n m k (Ok (c.in_ok-counter.counter, c.in_ok-counter.session))
+    c.in_ok-expect_no_commit.ensures.none c.in_ok-expect_no_commit.ensures.same c.in_ok-expect_no_commit.ensures.cause made.1.1)
+    c.in_ok-repo.ensures.repository

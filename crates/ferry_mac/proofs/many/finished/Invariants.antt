@@ -1,0 +1,11 @@
+use Rattle.std.proofs.Common.{◌≡◌, ℕ, ◌<◌, ◌+◌, List, slice_index, min}
+use Rattle.sha2.specs.Sha256.{hash_after}
+use Rattle.ferry_mac.specs.Lanes.{behind_key, lane}
+use Rattle.ferry_mac.specs.Many.{IsHashed, text_of}
+use Rattle.ferry_mac.proofs.many.finished.Given as goal
+
+abbrev pub invariant-loop-n : goal.invariant-loop-n
+invariant-loop-n l =
+    (start : List ℕ) (k : ℕ) → k < 4 → IsHashed start l.texts l.lanes l.fn.state k
+    → lane l.state k
+    ≡ hash_after start (behind_key (text_of l.texts l.lanes k)) (slice_index l.lanes.done k + min l.n (slice_index l.lanes.lefts k))

@@ -1,0 +1,20 @@
+use Rattle.std.proofs.Common.{◌≡◌, ◌∙◌, ◌+◌, ◌-◌, ap, take, drop, arith}
+use Rattle.std.proofs.lemmas.List.{take_rest}
+use Rattle.ferry_segment.specs.Crc.{register_after}
+use Rattle.ferry_segment.proofs.CrcLemmas.{register_after_some}
+use Rattle.ferry_segment.proofs.folding.by_folding.Goals as goal
+
+pub loop-at-preserved : goal.loop-at-preserved
+loop-at-preserved c =
+    let count = c.min-count.result in
+    let some : c.loop-at.at + count - c.loop-at.at ≡ count = omega arith in
+    record {
+      within = omega arith;
+      left =
+          register_after_some count c.loop-at.after _ c.args.bytes.now c.loop-at.at (c.after_piece-after.ensures
+          ∙ ap (λ n. register_after c.loop-at.after (take n (drop c.loop-at.at c.args.bytes.now))) some)
+          ∙ c.loop-at.invariant.left;
+    }
+
+pub returns : goal.returns
+returns c = rw take_rest at c.by_tables.ensures ∙ c.loop-at.invariant.left

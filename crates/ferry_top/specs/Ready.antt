@@ -1,0 +1,89 @@
+-- What a command asks of what its devices tell, and that it is done where that is there.
+use Rattle.std.specs.Prelude.{◌≡◌, ℕ, List, Option, Some, None, Ok}
+use Rattle.ferry_check.specs.Verify.{Verifies}
+use Rattle.ferry_config.specs.Config.{config_of}
+use Rattle.ferry_config.specs.declared.config.Config.{Config as Settings}
+use Rattle.ferry_disk.specs.Device.{Told, told_files}
+use Rattle.ferry_disk.specs.Files.{Files, contents_at}
+use Rattle.ferry_disk.specs.declared.name.Name.TheVariants.{Config}
+use Rattle.ferry_log.specs.State.{IsStateOf, LogState}
+use Rattle.ferry_repo.specs.Opening.{OpensFilesTo, RepoState}
+use Rattle.ferry_repo.specs.declared.secret.Secret.{Secret}
+use Rattle.ferry_run_compact.specs.Compact.{IsCompactedUnless}
+use Rattle.ferry_run_delete.specs.Delete.{IsReadyToDelete, LimitsDeletion, deletion}
+use Rattle.ferry_run_plan.specs.Planning.{CanBePlanned, planned_for}
+use Rattle.ferry_run_transfer.specs.Transfer.{KeepsArchives, NoneCollide, Request, asked}
+use Rattle.ferry_run_transfer.specs.TransferCauses.{IsReadyFor, MeetsLimit}
+use Rattle.ferry_status.specs.declared.status.Limit.{Limit as LimitKind}
+use Rattle.ferry_status.specs.declared.status.Secrets.{Secrets}
+use Rattle.ferry_status.specs.declared.status.Status.{Status}
+use Rattle.ferry_status.specs.declared.status.Status.TheVariants.{Done, Memory, SourceDevice, TargetDevice, EntropyDevice, OutputDevice, Limit}
+use Rattle.ferry_stops.specs.Tells.{lines_of}
+use Rattle.ferry_top.specs.Init.{IsReady, time_or}
+use Rattle.ferry_top.specs.Items.{OpensWith, ShowsFile, ShowsItems}
+use Rattle.ferry_top.specs.Key.{IsIdLine}
+use Rattle.ferry_top.specs.Keys.{IsListing}
+use Rattle.ferry_top.specs.List.{IsArchiveListing}
+use Rattle.ferry_words.specs.declared.command.Command.{Command}
+use Rattle.ferry_words.specs.declared.command.Command.TheVariants.{Keys, Key, List as ListArchives, ListItems, Extract, Check}
+use Rattle.ferry_words.specs.declared.command.Command.TheVariants.{Init, MakeKey, Transfer, Plan, Delete, Compact}
+
+-- A device tells, and this holds of it.
+abbrev pub Tells : Option Told → (Told → Type 0) → Type 0
+Tells None P = ⊥
+Tells (Some t) P = P t
+
+-- what a command of the source asks of its files: that they have what it shows
+abbrev pub HasShown : Command → Secret → Files → Type 0
+HasShown Keys secret files = (text : List ℕ) × IsListing files text
+HasShown Key secret files = (text : List ℕ) × IsIdLine secret (contents_at files Config) text
+HasShown ListArchives secret files = (text : List ℕ) × IsArchiveListing secret files text
+HasShown (ListItems name) secret files = (text : List ℕ) × ShowsItems secret name files text
+HasShown (Extract name path) secret files = (text : List ℕ) × ShowsFile secret name path files text
+HasShown Check secret files = OpensWith secret Verifies files
+HasShown command secret files = ⊥
+
+-- what a transfer asks, with what it kept at its end: no contents collide among those that it added and those that were live at its begin
+abbrev pub IsReadyToCopy : Request → Files → Told → Told → Type 0
+IsReadyToCopy request source start now = (ready : IsReadyFor request source (told_files start))
+    × ((keeps : KeepsArchives request (told_files start) ready.repo.manifest (lines_of now.history.acts) (told_files now))
+    × NoneCollide request (told_files start) keeps.begun)
+
+-- what a compaction asks of its target: that its log and its settings read
+abbrev pub IsReadyToCompact : Files → Type 0
+IsReadyToCompact files = (state : LogState) × (IsStateOf files state × ((config : Settings) × (config_of (contents_at files Config) ≡ Ok config)))
+
+-- what each command asks of what the source and the target tell before it, and `transfer` also of what the target tells behind it
+abbrev pub IsReadyTo : Command → Secrets → (source before now : Option Told) → Type 0
+IsReadyTo (Init iterations timestamp) secrets source before now = Tells before (λ b. IsReady secrets.target (time_or timestamp) (told_files b))
+IsReadyTo (MakeKey iterations) secrets source before now = Unit {0}
+IsReadyTo (Transfer block checkpoint timestamp names) secrets source before now = Tells source (λ s. Tells before (λ b. Tells now (λ t.
+    IsReadyToCopy (asked secrets (record { block = block; checkpoint = checkpoint; timestamp = timestamp }) names (Some s)) (told_files s) b t)))
+IsReadyTo (Plan block names) secrets source before now =
+    Tells source (λ s. Tells before (λ b. CanBePlanned (planned_for secrets block names (Some s)) (told_files s) (told_files b)))
+IsReadyTo (Delete timestamp name) secrets source before now =
+    Tells before (λ b. Tells now (λ t. IsReadyToDelete (deletion secrets.target name timestamp) (told_files b)))
+IsReadyTo (Compact threshold) secrets source before now = Tells before (λ b. Tells now (λ t. IsReadyToCompact (told_files b)))
+IsReadyTo command secrets source before now = Tells source (λ s. HasShown command secrets.source (told_files s))
+
+-- the limits that a command can meet, each with what it says then
+abbrev pub Meets : Command → Secrets → (source before now : Option Told) → LimitKind → Type 0
+Meets (Transfer block checkpoint timestamp names) secrets source before now limit = Tells source (λ s. Tells before (λ b. Tells now (λ t.
+    MeetsLimit (asked secrets (record { block = block; checkpoint = checkpoint; timestamp = timestamp }) names (Some s)) (told_files s) (told_files b)
+    (lines_of t.history.acts) (told_files t) limit)))
+Meets (Delete timestamp name) secrets source before now limit = Tells before (λ b. Tells now (λ t. (repo : RepoState)
+    × (OpensFilesTo (told_files b) secrets.target repo
+    × LimitsDeletion (deletion secrets.target name timestamp) repo t.history.start (told_files t) limit)))
+Meets (Compact threshold) secrets source before now limit = Tells now (λ t. IsCompactedUnless (told_files t) (Limit limit))
+Meets command secrets source before now limit = ⊥
+
+-- It is done, unless memory was refused, a device failed, or a limit was met, so.
+abbrev pub IsDoneOr : (LimitKind → Type 0) → Status → Type 0
+IsDoneOr IsMet Done = Unit {0}
+IsDoneOr IsMet Memory = Unit {0}
+IsDoneOr IsMet SourceDevice = Unit {0}
+IsDoneOr IsMet TargetDevice = Unit {0}
+IsDoneOr IsMet EntropyDevice = Unit {0}
+IsDoneOr IsMet OutputDevice = Unit {0}
+IsDoneOr IsMet (Limit limit) = IsMet limit
+IsDoneOr IsMet status = ⊥

@@ -1,0 +1,13 @@
+pub mod Nodes
+pub mod Memory
+pub mod Planning
+pub mod Index
+pub mod Plans
+pub mod Growth
+pub mod Making
+pub mod Placing
+pub mod Shapes
+pub mod Faults
+pub mod Filling
+pub mod Restoring
+pub mod Wholes
