@@ -1,4 +1,4 @@
-//! The devices over the system: a repository's folder, which is read or also written, standard output, and random bytes.
+//! The devices over the system: a repository's folder, which is read or also written, a folder in which a tree is made, standard output, and random bytes.
 //!
 //! Each counts its failures and tells nothing, since no contract knows a disk. A caller may rely on the traits of `ferry_disk`: numbers of
 //! segments increase, a read gives at most what there is room for, and a failure is counted. What the calls do to a folder is tested. What
@@ -16,6 +16,7 @@ mod settling;
 mod shelf;
 mod sink;
 mod stable;
+mod tree;
 mod walk;
 mod writer;
 
@@ -25,3 +26,4 @@ pub use folder::Presence;
 pub use progress::{Progress, Terminals};
 pub use shelf::FolderShelf;
 pub use sink::StdSink;
+pub use tree::FolderTree;

@@ -11,7 +11,7 @@ use std::rt::Runtime;
 const FILE_MODE: u32 = 0o600;
 
 /// The same of folders.
-const FOLDER_MODE: u32 = 0o700;
+pub const FOLDER_MODE: u32 = 0o700;
 
 /// What an error of the system is to a call that writes. What it has left isn't known, so each is a fault, want of memory too.
 pub fn failed(_error: Error) -> StoreFault {

@@ -4,4 +4,6 @@
 #[cfg(test)]
 mod fixture;
 #[cfg(test)]
+mod folder;
+#[cfg(test)]
 mod restoring;

@@ -3,12 +3,12 @@
 use crate::fixture::{secret, shelf};
 use ferry_disk::Shelf;
 use ferry_repo::{Repo, Secret};
-use ferry_tree::{Counts, MemoryTree, Node, PlaceFault, RestoreFault, restore, restore_laws};
+use ferry_tree::{Counts, MemoryTree, Node, PlaceFault, RestoreFault, Tree, restore, restore_laws};
 use std::alloc::{AllocError, Global};
 
 /// What is answered: the status that stands for it, and for `Ok` how many files, folders, links and skipped items there were, for a place fault its number
 /// and whether it has the path that is expected.
-type Said = [u64; 5];
+pub(crate) type Said = [u64; 5];
 
 /// What is in a tree: at each of the paths 0 for nothing, 1 for a folder, 2 for a file, 3 for a symbolic link and 4 for a hard link, how many bytes `d/f` has,
 /// and how many bytes were given as holes.
@@ -56,11 +56,11 @@ fn said(answer: Result<Counts, RestoreFault>, path: &[u8]) -> Said {
 }
 
 /// What `restore` says of an archive of the repository on a shelf.
-fn restored_on<S: Shelf>(
+fn restored_on<S: Shelf, T: Tree>(
     alloc: Global,
     shelf: &mut S,
     secret: &Secret,
-    tree: &mut MemoryTree,
+    tree: &mut T,
     name: &[u8],
     path: &[u8],
 ) -> Said {
@@ -75,7 +75,7 @@ fn restored_on<S: Shelf>(
 }
 
 /// What `restore` says of an archive.
-fn restored(alloc: Global, tree: &mut MemoryTree, name: &[u8], path: &[u8]) -> Said {
+pub(crate) fn restored<T: Tree>(alloc: Global, tree: &mut T, name: &[u8], path: &[u8]) -> Said {
     match (shelf(alloc), secret(alloc)) {
         (Ok(mut shelf), Ok(secret)) => {
             let said = restored_on(alloc, &mut shelf, &secret, tree, name, path);

@@ -1,0 +1,234 @@
+//! A folder in which files, folders and links are made.
+ghost use Rattle.std.specs.Prelude.{◌≡◌, None};
+ghost use Rattle.ferry_disk.specs.Device.{HasCause};
+ghost use Rattle.ferry_tree.specs.Nodes.{tree_failed};
+
+use crate::stable::{FOLDER_MODE, make_file, make_folder};
+use ferry_disk::StoreFault;
+use ferry_layout::write_all;
+use ferry_tree::{Tree, TreeFault};
+use std::alloc::{AllocError, Global};
+use std::fs;
+use std::fs::{DirBuilder, OpenFile};
+use std::io::Error;
+use std::os::unix::fs::{DirBuilderExt, symlink};
+use std::rt::Runtime;
+
+/// A folder in which files, folders and links are made, which their owner alone may read. It tells nothing of them, and counts its faults.
+///
+/// What is made is new: where anything has its name, a link too, the call fails. A path, or the target of a symbolic link, that isn't UTF-8 is a fault, since
+/// the calls of the system are asked by texts.
+#[derive(Drop)]
+pub struct FolderTree<R: Runtime> {
+    maker: Maker<R>,
+    faults: u64,
+}
+
+impl<R: Runtime> FolderTree<R> {
+    /// The folder at this path; nothing is looked at yet. The word `-` and an empty path name no folder, and each call fails then.
+    pub fn new(rt: R, alloc: Global, place: &str) -> Result<FolderTree<R>, AllocError> {
+        let place = place_of(alloc, place)?;
+        let maker = Maker {
+            rt,
+            alloc,
+            place,
+            current: None,
+        };
+        Ok(FolderTree { maker, faults: 0 })
+    }
+}
+
+/// What makes files, folders and links in a folder. No fault is counted here.
+#[derive(Drop)]
+struct Maker<R: Runtime> {
+    rt: R,
+    alloc: Global,
+    /// The path of the folder with a slash behind, empty where the word stands for no folder.
+    place: String,
+    /// The file that was made last, which stays open until the next call that makes something.
+    current: Option<Current<R>>,
+}
+
+/// An open file, and how many bytes it has.
+#[derive(Drop)]
+struct Current<R: Runtime> {
+    file: R::File,
+    length: u64,
+}
+
+impl<R: Runtime> Maker<R> {
+    /// Whether nothing is in the folder, which is made where it isn't there.
+    fn look(&self) -> Result<bool, TreeFault> {
+        if self.place.is_empty() {
+            return Err(TreeFault::Failed);
+        }
+        match make_folder(&self.rt, self.place.as_str()) {
+            Ok(true) => Ok(true),
+            Ok(false) => self.has_nothing(),
+            Err(fault) => Err(of_store(fault)),
+        }
+    }
+
+    /// Whether nothing is in the folder.
+    fn has_nothing(&self) -> Result<bool, TreeFault> {
+        match fs::read_dir(&self.rt, self.place.as_str()) {
+            Ok(mut entries) => Ok(entries.next().is_none()),
+            Err(error) => Err(failed(error)),
+        }
+    }
+
+    /// Where a path of the tree lies.
+    fn path_of(&self, path: &[u8]) -> Result<String, TreeFault> {
+        if self.place.is_empty() {
+            return Err(TreeFault::Failed);
+        }
+        let Ok(text) = str::from_utf8(path) else {
+            return Err(TreeFault::Failed);
+        };
+        let mut whole = String::from_str(self.alloc, self.place.as_str())?;
+        whole.push_str(text)?;
+        Ok(whole)
+    }
+
+    /// Makes a folder.
+    fn make_folder(&mut self, path: &[u8]) -> Result<(), TreeFault> {
+        self.current = None;
+        let path = self.path_of(path)?;
+        DirBuilder::new()
+            .mode(FOLDER_MODE)
+            .create(&self.rt, path.as_str())
+            .map_err(failed)
+    }
+
+    /// Makes a file of no bytes, which stays open.
+    fn make_file(&mut self, path: &[u8]) -> Result<(), TreeFault> {
+        self.current = None;
+        let path = self.path_of(path)?;
+        match make_file(&self.rt, path.as_str()) {
+            Ok(file) => {
+                self.current = Some(Current { file, length: 0 });
+                Ok(())
+            }
+            Err(fault) => Err(of_store(fault)),
+        }
+    }
+
+    /// Makes a symbolic link.
+    fn make_symlink(&mut self, path: &[u8], target: &[u8]) -> Result<(), TreeFault> {
+        self.current = None;
+        let path = self.path_of(path)?;
+        match str::from_utf8(target) {
+            Ok(target) => symlink(&self.rt, target, path.as_str()).map_err(failed),
+            Err(_) => Err(TreeFault::Failed),
+        }
+    }
+
+    /// Makes a hard link of a file.
+    fn make_same(&mut self, path: &[u8], first: &[u8]) -> Result<(), TreeFault> {
+        self.current = None;
+        let path = self.path_of(path)?;
+        let first = self.path_of(first)?;
+        fs::hard_link(&self.rt, first.as_str(), path.as_str()).map_err(failed)
+    }
+
+    /// Appends bytes to the open file.
+    fn append(&mut self, bytes: &[u8]) -> Result<(), TreeFault> {
+        let Some(current) = &mut self.current else {
+            return Err(TreeFault::Failed);
+        };
+        current.length = longer(current.length, bytes.len() as u64)?;
+        write_all(&mut current.file, bytes).map_err(failed)
+    }
+
+    /// Moves the end of the open file, so that the zero bytes behind its old end take no space.
+    fn extend(&mut self, zeros: u64) -> Result<(), TreeFault> {
+        let Some(current) = &mut self.current else {
+            return Err(TreeFault::Failed);
+        };
+        current.length = longer(current.length, zeros)?;
+        current.file.set_len(current.length).map_err(failed)
+    }
+}
+
+/// The path of the folder with a slash behind, empty for the word `-` and an empty path.
+fn place_of(alloc: Global, place: &str) -> Result<String, AllocError> {
+    if place.is_empty() || place == "-" {
+        return Ok(String::new(alloc));
+    }
+    let mut path = String::from_str(alloc, place)?;
+    path.push_str("/")?;
+    Ok(path)
+}
+
+/// A length with so many bytes more.
+fn longer(length: u64, more: u64) -> Result<u64, TreeFault> {
+    match length.checked_add(more) {
+        Some(length) => Ok(length),
+        None => Err(TreeFault::Failed),
+    }
+}
+
+/// What an error of the system is to a tree: each is a fault, want of memory too, as to a call that writes a repository.
+fn failed(_error: Error) -> TreeFault {
+    TreeFault::Failed
+}
+
+/// What a fault of a repository's folder is to a tree.
+fn of_store(fault: StoreFault) -> TreeFault {
+    match fault {
+        StoreFault::Failed => TreeFault::Failed,
+        StoreFault::Memory => TreeFault::Memory,
+    }
+}
+
+/// Counts an answer that is `Failed`, and no other.
+fn count_tree<T>(faults: &mut u64, outcome: Result<T, TreeFault>) -> Result<T, TreeFault>
+    ensures outcome { result ≡ outcome }
+    ensures cause { HasCause tree_failed faults.old faults.new result }
+{
+    if let Err(TreeFault::Failed) = &outcome {
+        *faults = faults.saturating_add(1);
+    }
+    outcome
+}
+
+impl<R: Runtime> Tree for FolderTree<R> {
+    ghost told = { λ _. None };
+
+    ghost faults = { λ t. t.faults };
+
+    fn is_empty(&mut self) -> Result<bool, TreeFault> {
+        let outcome = self.maker.look();
+        count_tree(&mut self.faults, outcome)
+    }
+
+    fn folder(&mut self, path: &[u8]) -> Result<(), TreeFault> {
+        let outcome = self.maker.make_folder(path);
+        count_tree(&mut self.faults, outcome)
+    }
+
+    fn file(&mut self, path: &[u8]) -> Result<(), TreeFault> {
+        let outcome = self.maker.make_file(path);
+        count_tree(&mut self.faults, outcome)
+    }
+
+    fn symlink(&mut self, path: &[u8], target: &[u8]) -> Result<(), TreeFault> {
+        let outcome = self.maker.make_symlink(path, target);
+        count_tree(&mut self.faults, outcome)
+    }
+
+    fn same(&mut self, path: &[u8], first: &[u8]) -> Result<(), TreeFault> {
+        let outcome = self.maker.make_same(path, first);
+        count_tree(&mut self.faults, outcome)
+    }
+
+    fn write(&mut self, bytes: &[u8]) -> Result<(), TreeFault> {
+        let outcome = self.maker.append(bytes);
+        count_tree(&mut self.faults, outcome)
+    }
+
+    fn hole(&mut self, zeros: u64) -> Result<(), TreeFault> {
+        let outcome = self.maker.extend(zeros);
+        count_tree(&mut self.faults, outcome)
+    }
+}
