@@ -1,5 +1,5 @@
 #!/usr/bin/env python3
-"""Measures transfers beside Borg's own way: transfer.py [--program PATH] [--megabytes N] [--files N] [--small N] [--times N] [--block B] [--folder PATH]
+"""Measures transfers beside Borg's own way: transfer.py [--program PATH] [--only PART] [--megabytes N] [--files N] [--small N] [--times N] [--rounds N] [--block B] [--folder PATH]
 
 Borg makes a source of three archives of random bytes, of which each shares half with the one before, stored plain. Measured are the
 transfer of all three into a new target, a second one that finds all present, and, for each archive in turn, `borg export-tar` with `borg import-tar`
@@ -7,12 +7,17 @@ behind it into a repository of Borg's; then transfers of an archive of small fil
 seconds, processor time in user and in system mode, and the peak of memory, of two processes both. The processor time is what the system tells of the
 child as it ends; the peak is the mark that it keeps of the process, asked for as long as it runs, for what it tells at the end has the peak of
 this script in it. Without Borg 1.2 it says `skipped`. The disk needs five times the megabytes.
+
+`mixed` is a source that Borg cut into chunks of uneven sizes: 95 % of the megabytes are text in small and large files, pictures (random bytes of some
+megabytes), programs (random words between runs of zeros) and two files of 40 MB; `even` is one of files of 2 MiB each, and `tiny` one of files of 100
+bytes, ten times SMALL of them. For these the medians of ROUNDS rounds are told, each round beside Borg, and how many times as long as Borg it takes.
 """
 import argparse
 import os
 import random
 import re
 import shutil
+import statistics
 import subprocess
 import sys
 import tempfile
@@ -168,6 +173,135 @@ def small_files(root, program, options):
     print(f"{options.times} times as many small files take {times[1] / max(times[0], 0.001):.1f} times the processor time", flush=True)
 
 
+def write(path, data):
+    os.makedirs(os.path.dirname(path), exist_ok=True)
+    with open(path, "wb") as file:
+        file.write(data)
+
+
+def text_of(numbers, size):
+    """Lines of words, of about this many bytes."""
+    words = ["".join(numbers.choice("etaoinshrdlu") for _ in range(numbers.randrange(1, 10))) for _ in range(2000)]
+    lines = []
+    while size > 0:
+        line = " ".join(numbers.choices(words, k=12))
+        lines.append(line)
+        size -= len(line) + 1
+    return ("\n".join(lines) + "\n").encode()
+
+
+def program_of(numbers, size):
+    """Random words between runs of zeros, of about this many bytes."""
+    parts = []
+    while size > 0:
+        parts.append(numbers.randbytes(numbers.randrange(200, 20000)) + bytes(numbers.randrange(4000)))
+        size -= len(parts[-1])
+    return b"".join(parts)
+
+
+def make_mixed(root, megabytes):
+    """Makes a source whose one archive has text, pictures, programs and two files of 40 MB, 95 % of this many megabytes."""
+    numbers, tree, scale = random.Random(3), os.path.join(root, "tree"), megabytes / 300
+    for number in range(int(1500 * scale)):
+        write(os.path.join(tree, "text", f"{number // 100}", f"{number:05d}.txt"), text_of(numbers, numbers.randrange(200, 40000)))
+    for number in range(int(10 * scale)):
+        write(os.path.join(tree, "text", f"large {number}.txt"), text_of(numbers, numbers.randrange(1000000, 5000000)))
+    for number in range(int(30 * scale)):
+        write(os.path.join(tree, "pictures", f"{number:03d}.jpg"), numbers.randbytes(numbers.randrange(1000000, 5000000)))
+    for number in range(int(40 * scale)):
+        write(os.path.join(tree, "programs", f"{number:03d}"), program_of(numbers, numbers.randrange(20000, 2500000)))
+    for number in range(2):
+        write(os.path.join(tree, "films", f"{number}.mp4"), numbers.randbytes(40000000))
+    borg(root, "init", "-e", "repokey", "mixed")
+    borg(root, "create", "--compression", "none", "mixed::a", "tree")
+    shutil.rmtree(tree)
+
+
+def make_even(root, megabytes):
+    """Makes a source whose one archive has files of 2 MiB each."""
+    numbers, tree = random.Random(4), os.path.join(root, "tree")
+    for number in range(max(int(megabytes * 1e6 / 2097152), 1)):
+        write(os.path.join(tree, f"{number:04d}"), numbers.randbytes(2097152))
+    borg(root, "init", "-e", "repokey", "even")
+    borg(root, "create", "--compression", "none", "--chunker-params", "fixed,2097152", "even::a", "tree")
+    shutil.rmtree(tree)
+
+
+def make_tiny(root, count):
+    """Makes a source whose one archive has this many files of 100 bytes."""
+    numbers, tree = random.Random(5), os.path.join(root, "tree")
+    for number in range(count):
+        write(os.path.join(tree, f"{number // 1000}", f"{number:07d}"), numbers.randbytes(100))
+    borg(root, "init", "-e", "repokey", "tiny")
+    borg(root, "create", "--compression", "none", "tiny::a", "tree")
+    shutil.rmtree(tree)
+
+
+def round_of(root, program, options, source, number):
+    """One round over a source: what is measured, by name, of the program and then of Borg."""
+    target, imported = f"target {source} {number}", f"imported {source} {number}"
+    measured(root, [program, "-", target, "init"])
+    borg(root, "init", "-e", "repokey", imported)
+    cut = ("--compression", "none", "--chunker-params", f"fixed,{options.block}")
+    runs = {
+        "transfer": transfer(root, program, options, source, target, "a"),
+        "transfer again": transfer(root, program, options, source, target, "a"),
+        "check": measured(root, [program, source, "-", "check"]),
+        "list": measured(root, [program, source, "-", "list", "a"]),
+        "borg export-tar | borg import-tar": measured(
+            root, ["borg", "export-tar", f"{source}::a", "-"], ["borg", "import-tar", *cut, f"{imported}::a", "-"]
+        ),
+        "borg check --verify-data": measured(root, ["borg", "check", "--verify-data", source]),
+    }
+    if source == "mixed":
+        film = "tree/films/0.mp4"
+        runs["extract of 40 MB"] = measured(root, [program, source, "-", "extract", "a", film])
+        runs["borg extract of 40 MB"] = measured(root, ["borg", "extract", "--stdout", f"{source}::a", film])
+    shutil.rmtree(os.path.join(root, target))
+    shutil.rmtree(os.path.join(root, imported))
+    return runs
+
+
+BESIDE = {
+    "transfer": "borg export-tar | borg import-tar",
+    "transfer again": "borg export-tar | borg import-tar",
+    "check": "borg check --verify-data",
+    "extract of 40 MB": "borg extract of 40 MB",
+}
+
+
+def beside_borg(root, program, options, source):
+    """Rounds over a source, and the medians of the processor time."""
+    rounds = [round_of(root, program, options, source, number) for number in range(options.rounds)]
+    times = {name: [run[name][1] + run[name][2] for run in rounds] for name in rounds[0]}
+    for name, all_times in times.items():
+        peak = max(max(run[name][3]) for run in rounds)
+        own = ", ".join(f"{one:.2f}" for one in all_times)
+        beside = ""
+        if name in BESIDE:
+            ratios = [mine / other for mine, other in zip(all_times, times[BESIDE[name]])]
+            beside = f"; {statistics.median(ratios):.2f} of {BESIDE[name]}"
+        print(f"{source}: {name}: {statistics.median(all_times):.2f} s of the processor ({own}), peak {peak:.1f} MB{beside}", flush=True)
+
+
+def uneven(root, program, options):
+    make_mixed(root, options.megabytes)
+    beside_borg(root, program, options, "mixed")
+
+
+def even(root, program, options):
+    make_even(root, options.megabytes)
+    beside_borg(root, program, options, "even")
+
+
+def tiny(root, program, options):
+    make_tiny(root, options.small * options.times)
+    beside_borg(root, program, options, "tiny")
+
+
+PARTS = {"shared": shared_archives, "mixed": uneven, "even": even, "tiny": tiny, "small": small_files}
+
+
 def main():
     words = argparse.ArgumentParser(description=__doc__.splitlines()[0])
     words.add_argument("--program", default=os.path.join(TOP, "target", "borgferry"))
@@ -175,15 +309,17 @@ def main():
     words.add_argument("--files", type=int, default=400)
     words.add_argument("--small", type=int, default=20000)
     words.add_argument("--times", type=int, default=10)
+    words.add_argument("--rounds", type=int, default=3)
     words.add_argument("--block", type=int, default=2097152)
+    words.add_argument("--only", choices=PARTS, help="the one part that is measured, all where it isn't given")
     words.add_argument("--folder", help="where the repositories are made, a temporary folder where it isn't given")
     options = words.parse_args()
     if not has_borg():
         print("skipped: there is no borg of 1.2")
         return 0
     with tempfile.TemporaryDirectory(dir=options.folder) as root:
-        shared_archives(root, os.path.abspath(options.program), options)
-        small_files(root, os.path.abspath(options.program), options)
+        for part in [options.only] if options.only else PARTS:
+            PARTS[part](root, os.path.abspath(options.program), options)
     return 0
 
 

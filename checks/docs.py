@@ -1,25 +1,34 @@
 #!/usr/bin/env python3
 """Holds the papers of the repository to it: docs.py [--write] [CRATE ..]
 
-Each public definition of a crate's specs/ stands in docs/DEFINITIONS.md with its sentence and its file; each named clause of a
-public call stands in the README.md of its crate beside the call, and each that the front page or docs/PROMISES.md names is one; crates.txt is the
+Each definition that the clauses of `run` and `restore` reach, and no other, stands in docs/DEFINITIONS.md with its sentence and its file, in the order in which one
+reads them; a crate's README.md has at most 60 lines, and each clause that the front page or docs/PROMISES.md names is one of its call; crates.txt is the
 table of docs/ARCHITECTURE.md; help, manual page and bash's completion have the commands, options and statuses of docs/FORMATS.md; the links of the papers, and the files, wrong bodies and tests that they name, are there; no line
 of code or proofs has more than 160 columns, texts in quotes apart. One line for each thing that is missing, and at the end 'N passed, M failed';
-status 1 where M isn't 0. With names of crates, those alone are looked at. With --write the rows of definitions that are missing
-are first put at the end of their crate's section, and the table of crates gets what crates.txt says.
+status 1 where M isn't 0. In front of it stands how many definitions these calls reach. With names of crates, those alone are looked at. With --write the
+sections of docs/DEFINITIONS.md first get the rows that they lack and lose those of other definitions, and the table of crates gets what crates.txt says.
 """
 import glob
 import os
 import re
 import sys
 
+import reach
+
 TOP = os.path.join(os.path.dirname(os.path.abspath(__file__)), "..")
 WIDEST = 160
+LONGEST_PAGE = 60
 HELP_WIDTH = 80
 DEFINITION = re.compile(r"^(?:(?:abbrev|unfoldable) pub|pub (?:record|data)) ([^\s:({]+)")
 DEFINITION_OF_SEVERAL = re.compile(r"^  pub (?:data )?([^\s:({]+)")
 EDITS = ["crates/*/must-fail", "checks/edits/*"]
 FILE = re.compile(r"(?<![\w/.])((?:src|specs|proofs|must-fail|checks|bench|docs)/[\w./-]+\.(?:rt|antt|py|sh|md|edit)(?:\.in)?)")
+READING = """
+    ferry_base ferry_segment ferry_disk ferry_log ferry_aes ferry_mac ferry_text ferry_msgpack ferry_fields ferry_config ferry_keyfile ferry_keyblob
+    ferry_blob ferry_manifest ferry_item ferry_repo ferry_compare ferry_check ferry_view ferry_stops ferry_nonce ferry_write ferry_compact ferry_next
+    ferry_store ferry_rechunk ferry_piece ferry_carry ferry_refs ferry_plan ferry_words ferry_status ferry_run_compact ferry_run_delete
+    ferry_run_transfer ferry_run_plan ferry_run_tag ferry_top ferry_lanes ferry_tree ferry_run_restore
+""".split()
 SHORT_HEAD = "| Name | One sentence | File |"
 QUOTED = re.compile(r'"(?:[^"\\]|\\.)*"')
 TICKED = re.compile(r"`([^`]+)`")
@@ -103,40 +112,67 @@ def defined_rows(crate, paper):
     return rows
 
 
-def lacking(crate, paper):
-    """The definitions of a crate that have no row with their file."""
+def lacking(crate, paper, kept):
+    """These definitions of a crate that have no row with their file."""
     rows = defined_rows(crate, paper)
-    return [it for it in definitions(crate) if not any(it[2] in " ".join(row) for row in rows.get(it[0], []))]
+    return [it for it in definitions(crate) if it[0] in kept and not any(it[2] in " ".join(row) for row in rows.get(it[0], []))]
 
 
-def look_at_definitions(crate, paper):
-    """Each definition has a row in the section of its crate, with its file, and each row is of one."""
-    there = {name for name, _, _ in definitions(crate)}
-    lacks = {name for name, _, _ in lacking(crate, paper)}
-    for name in sorted(there):
+def look_at_definitions(crate, paper, kept):
+    """Each definition that a call reaches has a row in the section of its crate, with its file, and each row is of one."""
+    lacks = {name for name, _, _ in lacking(crate, paper, kept)}
+    for name in sorted(kept):
         judge(name not in lacks, f"docs/DEFINITIONS.md, {crate}: no row of `{name}`")
-    for name in sorted(set(defined_rows(crate, paper)) - there):
-        judge(False, f"docs/DEFINITIONS.md, {crate}: `{name}` is no public definition of its specs/")
+    for name in sorted(set(defined_rows(crate, paper)) - kept):
+        judge(False, f"docs/DEFINITIONS.md, {crate}: `{name}` is no definition that a call reaches")
 
 
-def write_definitions(crate):
-    """Puts a row for each sentence that has none at the end of a crate's section, the definitions of one sentence in one row."""
-    paper = read("docs/DEFINITIONS.md")
+def look_at_order(paper):
+    """The sections stand in the order in which one reads them."""
+    found = re.findall(r"(?m)^## (\w+)$", paper)
+    judge(found == [it for it in READING if it in found], "docs/DEFINITIONS.md: the sections aren't in the order of READING of checks/docs.py")
+
+
+def without_others(text, kept):
+    """A section with the rows of these definitions alone; a table of which none is left goes."""
+    parts = []
+    for part in text.strip("\n").split("\n\n"):
+        if part.startswith("|"):
+            head, rows = part.splitlines()[:2], []
+            for row in part.splitlines()[2:]:
+                first, _, rest = row[1:].partition("|")
+                names = [name for name in re.findall(r"`[^`]+`(?: \([^)]*\))?", first) if name[1:].split("`")[0].split()[0] in kept]
+                if names:
+                    rows.append(f"| {', '.join(names)} |{rest}")
+            part = "\n".join([*head, *rows]) if rows else ""
+        if part:
+            parts.append(part)
+    return "\n\n".join(parts)
+
+
+def with_rows(text, crate, paper, kept):
+    """A section with a row for each definition that has none, those of one sentence in one row."""
     groups = {}
-    for name, comment, file in lacking(crate, paper):
+    for name, comment, file in lacking(crate, paper, kept):
         groups.setdefault((sentence_of(comment), file), []).append(f"`{name}`")
-    rows = "".join(f"| {', '.join(names)} | {sentence} | {file} |\n" for (sentence, file), names in groups.items())
-    if rows:
-        old = section(paper, crate)
-        table = old.rstrip("\n") + "\n"
-        if table.split("\n\n")[-1].splitlines()[0] != SHORT_HEAD:
-            table += f"\n{SHORT_HEAD}\n|---|---|---|\n"
-        if not old:
-            paper = paper.rstrip("\n") + f"\n\n## {crate}\n"
-        before, _, after = paper.partition(f"\n## {crate}\n")
-        paper = f"{before}\n## {crate}\n{table}{rows}\n{after[len(old):].lstrip(chr(10))}"
-        with open(os.path.join(TOP, "docs", "DEFINITIONS.md"), "w", encoding="utf-8") as file:
-            file.write(paper.rstrip("\n") + "\n")
+    rows = "\n".join(f"| {', '.join(names)} | {sentence} | {file} |" for (sentence, file), names in groups.items())
+    if not rows:
+        return text
+    last = text.split("\n\n")[-1].splitlines()[:1]
+    return f"{text}\n{rows}" if last == [SHORT_HEAD] else f"{text}\n\n{SHORT_HEAD}\n|---|---|---|\n{rows}".lstrip("\n")
+
+
+def write_definitions(reached):
+    """Puts the sections into their order, with a row for each definition that a call reaches and no other."""
+    paper = read("docs/DEFINITIONS.md")
+    parts = [paper.split("\n## ")[0].rstrip("\n")]
+    for crate in READING:
+        kept = reached.get(crate, set())
+        text = with_rows(without_others(section(paper, crate), kept), crate, paper, kept)
+        if kept:
+            parts.append(f"## {crate}\n\n{text}")
+    with open(os.path.join(TOP, "docs", "DEFINITIONS.md"), "w", encoding="utf-8") as file:
+        file.write("\n\n".join(parts) + "\n")
 
 
 def write_architecture(crates):
@@ -193,26 +229,10 @@ def clauses(crate):
                 yield (f"{owner}::{call}" if owner else call), clause[1]
 
 
-def units(paper):
-    """The rows of a page, a row without a call being one more of the call above it, and its paragraphs and points."""
-    call = ""
-    for block in re.split(r"\n\s*\n", paper):
-        if block.lstrip().startswith("|"):
-            for row in rows_of(block):
-                call = row[0] or call
-                yield " | ".join([call, *row[1:]])
-        else:
-            yield from re.split(r"\n(?=[-*] )", block)
-
-
-def look_at_clauses(crate):
-    """Each clause of a public call stands in the crate's page, in a row or paragraph that names the call, or that names none."""
-    named = sorted(set(clauses(crate)))
-    calls = {call.split("::")[-1] for call, _ in named} - {clause for _, clause in named}
-    page = [{word for text in TICKED.findall(unit) for word in re.findall(r"\w+", text)} for unit in units(read(f"crates/{crate}/README.md"))]
-    for call, clause in named:
-        found = any(clause in words and (call.split("::")[-1] in words or not calls & words) for words in page)
-        judge(found, f"crates/{crate}/README.md: no clause `{clause}` of `{call}`")
+def look_at_page(crate):
+    """A crate's page has at most so many lines."""
+    lines = len(read(f"crates/{crate}/README.md").splitlines())
+    judge(lines <= LONGEST_PAGE, f"crates/{crate}/README.md: {lines} lines, more than {LONGEST_PAGE}")
 
 
 def look_at_front_page(crates):
@@ -356,16 +376,20 @@ def look_at_widths(crate):
 def main(words):
     crates = listed()
     chosen = [word for word in words if word != "--write"]
+    kept = reach.reached().values()
+    by_crate = {}
+    for it in kept:
+        by_crate.setdefault(it.crate, set()).add(it.name)
     if "--write" in words:
-        for crate in chosen or crates:
-            write_definitions(crate)
+        write_definitions(by_crate)
         write_architecture(crates)
     paper = read("docs/DEFINITIONS.md")
     for crate in chosen or crates:
-        look_at_definitions(crate, paper)
-        look_at_clauses(crate)
+        look_at_definitions(crate, paper, by_crate.get(crate, set()))
+        look_at_page(crate)
         look_at_widths(crate)
     if not chosen:
+        look_at_order(paper)
         look_at_front_page(crates)
         look_at_architecture(crates)
         look_at_help()
@@ -374,6 +398,7 @@ def main(words):
         look_at_evidence()
         look_at_edits()
     print(*missing, sep="\n", end="\n" if missing else "")
+    print(f"`run` and `restore` reach {len(kept)} definitions in {sum(it.lines for it in kept)} lines")
     print(f"{passed} passed, {len(missing)} failed")
     return 1 if missing or not passed else 0
 

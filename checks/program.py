@@ -30,6 +30,7 @@ import libcrypto
 import repositories
 import segments
 import tracing
+import trees
 from counting import finish, skip
 from repositories import Archive, Item, Keys, fields, pack, repository
 from segments import COMMIT, COMMIT_SEGMENT, MAGIC, delete, put, sealed, segment
@@ -133,11 +134,11 @@ TARGET_WORDS = {
     "{place}": "TARGET", "{passphrase}": "BORG_PASSPHRASE", "{key file}": "BORG_KEY_FILE",
     "{init}": "; borgferry - TARGET init makes a repository there",
 }
-LOCK_ROW = "none", "a lock of Borg lies in TARGET, in front of `init`, `transfer`, `delete` and `compact`"
-INDEX_ROW = "none", "files of Borg's lie in TARGET, behind `delete` and `compact`"
+LOCK_ROW = "none", "a lock of Borg lies in TARGET, in front of `init`, `transfer`, `delete`, `tag-archives` and `compact`"
+INDEX_ROW = "none", "files of Borg's lie in TARGET, behind `delete`, `tag-archives` and `compact`"
 EMPTY_ROW = "none", "`init` or `make-key` is done with an empty passphrase"
 OUTPUT_ROW = "none", "standard output failed, status 7"
-UNREAD_ROW = "target refused: REASON", "an archive, the command delete"
+UNREAD_ROWS = {of: ("target refused: REASON", f"an archive, the command {of}") for of in ("delete", "tag-archives")}
 
 
 def filled(row, side):
@@ -172,7 +173,7 @@ def is_text(word):
 
 
 FAULT_LINE = re.compile(
-    r"(source refused: |target refused: |name taken: |not found: |usage|memory$|key file unreadable$|entropy failed$"
+    r"(source refused: |target refused: |name taken: |not found: |usage|memory$|key file unreadable$|entropy failed$|tree failed$|not empty$"
     r"|source device failed$|target device failed$|limit: |BORG_)[^\n]*\n?$"
 )
 
@@ -182,6 +183,7 @@ def name_of_line(out):
     told = FAULT_LINE.search(out.decode("utf-8", "replace"))
     line = told[0].rstrip("\n") if told else ""
     line = re.sub(r"^(name taken|not found): .*", r"\1: NAME", re.sub(r"\b[0-9a-f]{64}$", "ID", line))
+    line = re.sub(r"^(source refused: place \d) .*", r"\1 PATH", line)
     return re.sub(r"segment \d+ at \d+$", "segment S at A", re.sub(r"^usage: word \d+$", "usage: word N", line))
 
 
@@ -209,15 +211,17 @@ def row_of(words, cwd, status, out, variables, is_record):
     """The row of the table of plain words that a run comes under, `None` where nothing is said, and the repository that it speaks of."""
     if status in (1, 7):
         return (("bad REASON", "") if status == 1 else OUTPUT_ROW), "source"
-    if status == 0 and words[2:3] in (("delete",), ("compact",)) and words[3:4] != ("--help",):
+    if status == 0 and words[2:3] in (("delete",), ("tag-archives",), ("compact",)) and words[3:4] != ("--help",):
         return (INDEX_ROW if has_index(os.path.join(cwd, words[1])) else None), "target"
     if status == 0:
         is_new_key = len(words) > 2 and words[2] in ("init", "make-key") and words[3:4] != ["--help"]
         return (EMPTY_ROW if is_new_key and not variables.get(b"BORG_PASSPHRASE") else None), "target"
     line = name_of_line(out)
-    if words[2:3] == ("delete",) and is_of_archive(line, out):
-        return UNREAD_ROW, "target"
+    if len(words) > 2 and words[2] in UNREAD_ROWS and is_of_archive(line, out):
+        return UNREAD_ROWS[words[2]], "target"
     side = "target" if line.startswith("target ") else "source"
+    if line == "tree failed":
+        return (line, "`-` or an empty word" if words[1] in ("-", "") else ""), side
     common = re.sub(r"^(source|target) (?=refused: )", "", line)
     kinds = {where for name, where in PLAIN if name in (line, common)}
     place = os.fsdecode(words[side == "target"]) if len(words) > 2 else ""
@@ -238,7 +242,7 @@ def has_index(folder):
 
 def is_locked(words, cwd):
     """Whether Borg's lock lies in the target of a command that writes it."""
-    if len(words) < 3 or words[2] not in ("init", "transfer", "delete", "compact"):
+    if len(words) < 3 or words[2] not in ("init", "transfer", "delete", "tag-archives", "compact"):
         return False
     target = os.path.join(cwd, os.fsdecode(words[1]))
     roster = os.path.join(target, "lock.roster")
@@ -494,7 +498,7 @@ def helps(good):
     for part in re.split(rb"(?m)^(?=  [a-z])", text.split(b"\ncommands:\n")[1].split(b"\nvariables")[0])[1:]:
         command = re.match(rb"  ([a-z-]+)", part)[1].decode()
         lines[command] = lines.get(command, b"") + part
-    holds(len(lines) == 11, f"--help: the commands are {list(lines)}")
+    holds(len(lines) == 13, f"--help: the commands are {list(lines)}")
     for command, part in lines.items():
         for given in [(command, "--help"), ("source", "source", command, "--help"), ("u@h:p", "-", command, "--help", "x")]:
             case(f"words {given}", good, (0, part), given, variables={b"BORG_PASSPHRASE": b"\xff"})
@@ -989,6 +993,97 @@ class Deletion:
                 judge(f"delete: {what}: extract {name} {path}", run(words, self.root, OPEN), (0, archive.content(path)))
 
 
+def restored(name, items, folder=None, archive="a", words=None, want=None, left=None, other=None):
+    """An archive of these items, restored: status, line and what is in the folder are those of the plain program, or, where `want` is given, that and
+    the tree of the items `left`. `folder` are files that are there before, `other` a content in whose place another one is stored."""
+    keys = Keys()
+    whole = Archive(keys, b"a", items)
+    chunks = whole.chunks(other=None if other is None else keys.id(other))
+    with tempfile.TemporaryDirectory() as root:
+        place = os.path.join(root, "folder")
+        make(root, inside("source", repository(keys, PASSPHRASE, keys.blob(keys.tagged(fields(whole.named(b"a")))), *chunks)))
+        make(root, {} if folder is None else {"folder": None, **inside("folder", folder)})
+        source, kept = state(os.path.join(root, "source")), state(place)
+        got = run(words or ("source", "folder", "restore", archive), root, OPEN)
+        tree, answer = trees.tree_of(items if left is None else left)
+        judge(f"restore: {name}", got, answer if want is None else want)
+        if want is None or left is not None:
+            found = trees.found_in(place)
+            holds(found == trees.as_found(tree.nodes), f"restore: {name}: {found} for {tree.nodes}")
+            modes = {stat.S_IMODE(os.lstat(path).st_mode) for path in state(place) if not os.path.islink(path)}
+            holds(modes <= {0o600, 0o700}, f"restore: {name}: modes {modes}")
+        else:
+            holds(state(place) == kept, f"restore: {name}: the folder has changed")
+        holds(state(os.path.join(root, "source")) == source, f"restore: {name}: the source has changed")
+
+
+def item(path, contents=None, mode=0o100644, source=None, more=None):
+    """An item of this mode, which is left out where that is None."""
+    return Item(path, contents, source, more={**({} if mode is None else {b"mode": mode}), **(more or {})})
+
+
+def restores():
+    """Archives that are restored in a folder, whole and with items that have no place."""
+    folder, link, pipe = 0o040755, 0o120777, 0o010644
+    row = [item(b"d", mode=folder), item(b"d/f", [b"hello"]), item(b"g", [b"", b"x" * 5000]), item(b"e", []), item(b"s", mode=link, source=b"/etc"), item(b"h", source=b"d/f")]
+    restored("files, a folder and links", row)
+    restored("zeros in one chunk", [item(b"z", [bytes(8193)])])
+    restored("zeros behind a byte", [item(b"z", [b"x" + bytes(4095), bytes(4096) + b"y"])])
+    restored("no items", [])
+    restored("no folders above", [item(b"a/b/c", [b"x"]), item(b"a", mode=folder), item(b"a/b/d", mode=link, source=b"c")])
+    restored("a path twice", [item(b"f", [b"1"]), item(b"f", [b"2"]), item(b"f", mode=folder), item(b"s", mode=link, source=b"f"), item(b"s", [b"3"])])
+    restored("the root", [item(b".", mode=pipe), item(b".", [b"x"]), item(b".", mode=folder), item(b"f", [b"1"])])
+    restored("pipes", [item(b"p", mode=pipe), item(b"q/r", [b"x"], mode=0o020644), item(b"p", [b"1"])])
+    restored("a folder with content", [item(b"d", [b"lost"], mode=folder), item(b"d/f", [b"x"])])
+    restored("a link of a link", [item(b"f", [b"1"]), item(b"g", source=b"f"), item(b"h", source=b"g")])
+    restored("a file with content and a source", [item(b"f", [b"1"], source=b"nothing")])
+    restored("names", [item(b"\xc3\xa4 b", [b"1"]), item(b"-- \n\\", [b"2"]), item(b"\x01", mode=link, source=b"\xc3\xa4 b"), item(b"x" * 255, [b"3"])])
+    restored("behind a link", [item(b"a", mode=link, source=b"/etc"), item(b"a/x", [b"1"])])
+    restored("behind a file", [item(b"f", [b"1"]), item(b"f/x", mode=folder), item(b"g", [b"2"])])
+    restored("behind a hard link", [item(b"f", [b"1"]), item(b"g", source=b"f"), item(b"g/x/y", [b"2"])])
+    for path in (b"../x", b"/x", b"x/", b"a//b", b"a/./b", b"..", b"", b"./x", b"a/..", b"x\0"):
+        restored(f"the path {path}", [item(b"before", [b"1"]), item(path, [b"2"]), item(b"behind", [b"3"])])
+    for mode in (None, 65536, -1, b"x", True):
+        restored(f"the mode {mode}", [item(b"before", [b"1"]), item(b"f", [b"2"], mode)] if mode is not None else [no_mode(b"f")])
+    restored("a mode of the root", [item(b".", mode=65536)])
+    restored("a link without a target", [item(b"s", mode=link)])
+    restored("a link to a number", [item(b"s", mode=link, more={b"source": 7})])
+    restored("a link to nil", [item(b"s", mode=link, more={b"source": None})])
+    restored("a hard link in front", [item(b"h", source=b"f"), item(b"f", [b"1"])])
+    restored("a hard link to nil", [item(b"f", [b"1"]), item(b"h", more={b"source": None})])
+    restored("a hard link to a folder", [item(b"d", mode=folder), item(b"h", source=b"d")])
+    restored("a hard link to a skipped item", [item(b"p", mode=pipe), item(b"h", source=b"p")])
+    restored("a hard link to a symbolic one", [item(b"s", mode=link, source=b"f"), item(b"h", source=b"s")])
+    restored("the order of the rules", [item(b"../x", mode=65536)])
+    restored("a pipe behind a link", [item(b"a", mode=link, source=b"/etc"), item(b"a/p", mode=pipe), item(b"b", [b"1"])])
+    restored("a name that is none", row, archive="b", want=(11, b"not found: b\n"))
+    restored("an empty folder", row, folder={})
+    restored("a folder that isn't empty", row, folder={"x": b"kept"}, want=(14, b"not empty\n"))
+    restored("a folder that isn't empty and no name", row, folder={"x": b"kept"}, archive="b", want=(11, b"not found: b\n"))
+    restored("a file for a folder", row, words=("source", "source/config", "restore", "a"), want=(13, b"tree failed\n"))
+    restored("no folder", row, words=("source", "-", "restore", "a"), want=(13, b"tree failed\n"))
+    restored("no folder above", row, words=("source", "no/where", "restore", "a"), want=(13, b"tree failed\n"))
+    first, last = item(b"a", [b"1"]), item(b"b", [b"3"])
+    restored("a long name", [first, item(b"x" * 256, [b"2"]), last], want=(13, b"tree failed\n"), left=[first])
+    restored("a path that isn't UTF-8", [first, item(b"d/\xff", [b"2"]), last], want=(13, b"tree failed\n"), left=[first, item(b"d", mode=folder)])
+    restored("a target that isn't UTF-8", [first, item(b"s", mode=link, source=b"\xff"), last], want=(13, b"tree failed\n"), left=[first])
+    lost = 8, b"source refused: blob 5 %s\n" % Keys().id(b"22").hex().encode()
+    restored("a content that is another", [first, item(b"f", [b"2", b"22", b"222"]), last], want=lost, left=[first, item(b"f", [b"2"])], other=b"22")
+    restored("the content of a pipe that is another", [first, item(b"p", [b"22"], mode=pipe), last], want=lost, left=[first], other=b"22")
+    restored("a place before a content", [first, item(b"../f", [b"22"]), last], want=(8, b"source refused: place 1 ../f\n"), left=[first], other=b"22")
+    for words, number in ((("restore",), 2), (("restore", "a", "b"), 3), (("restore", "--a"), 2), (("restore", "--"), 3), (("restore", "--", "a", "b"), 4)):
+        restored(f"the words {words}", row, words=("source", "folder", *words), want=(2, b"usage: word %d\n" % number))
+    restored("a name behind --", row, words=("source", "folder", "restore", "--", "a"))
+
+
+def no_mode(path):
+    """An item without a mode."""
+    bare = Item(path, [b"1"])
+    bare.spelled = lambda keys: pack({b"path": path, b"chunks": [[keys.id(b"1"), 1, 44]]})
+    bare.more = {b"mode": None}
+    return bare
+
+
 def deletions():
     """What `delete` takes out of a target: an archive and each chunk that no other uses, and nothing else."""
     keys = Keys(b"other")
@@ -1046,19 +1141,26 @@ def made_manifest(root, keys):
     return repositories.ctr(keys.enc_key, int.from_bytes(blobs[-1][33:41], "big"), blobs[-1][41:])[2:]
 
 
-def undeleted():
-    """What `delete` says where it deletes nothing, and that it writes nothing then."""
-    keys = Keys(b"other")
-    files = [Item(b"f", [b"hello"]), Item(b"l", None, b"f")]
-    good, other = Archive(keys, b"a", files), Archive(keys, b"b", [Item(b"g", [b"own"])])
-
+def telling(command, keys):
+    """A case of a command of the target alone, over archives of which chunks may be changed, with files removed."""
     def told(name, want, archives, *words, says=b"", passphrase=PASSPHRASE, nonce=b"00000000000f4240", removed=(), **changed):
         named = [entry for of, archive in archives.items() for entry in archive.named(of)]
         chunks = dict(chunk for archive in archives.values() for chunk in archive.chunks(**changed))
         made = repository(keys, PASSPHRASE, keys.blob(keys.tagged(fields(named))), *chunks.items())
         made.update({} if nonce is None else {"nonce": nonce})
         beside = inside("target", {place: content for place, content in made.items() if place not in removed})
-        case(f"delete: {name}", None, want, ("-", "target", "delete", *words), beside=beside, variables={b"BORG_PASSPHRASE": passphrase}, says=says)
+        case(f"{command}: {name}", None, want, ("-", "target", command, *words), beside=beside, variables={b"BORG_PASSPHRASE": passphrase}, says=says)
+
+    return told
+
+
+def undeleted():
+    """What `delete` says where it deletes nothing, and that it writes nothing then."""
+    keys = Keys(b"other")
+    files = [Item(b"f", [b"hello"]), Item(b"l", None, b"f")]
+    good, other = Archive(keys, b"a", files), Archive(keys, b"b", [Item(b"g", [b"own"])])
+
+    told = telling("delete", keys)
 
     both = {b"a": good, b"b": other}
     told("a name that isn't there", (11, b"not found: c\n"), both, "c", says=b"no archive of TARGET has this name")
@@ -1096,6 +1198,148 @@ def cut_short():
         make(root, {"target/nonce": b"f" * 16})
         judge("delete: no numbers left", run(("-", "target", "delete", "a"), root, {b"BORG_PASSPHRASE": PASSPHRASE}), (12, b"limit: nonce\n"))
         made.reads("no numbers left")
+
+
+class Tagging:
+    """A target with these archives by name, whose records get tags; and what each command has to say of it, by the plain program."""
+
+    def __init__(self, root, archives, behind=(), **files):
+        self.root, self.keys, self.archives = root, next(iter(archives.values())).keys, archives
+        named = [entry for name, archive in archives.items() for entry in archive.named(name)]
+        chunks = dict([chunk for archive in archives.values() for chunk in archive.chunks()] + list(behind))
+        self.live = set(chunks) | {repositories.ZERO}
+        made = repository(self.keys, PASSPHRASE, self.keys.blob(self.keys.tagged(fields(named))), *chunks.items())
+        make(root, inside("target", {**made, "nonce": b"00000000000f4240", **files}))
+
+    def untagged(self):
+        """The names of the archives whose record has no tag."""
+        return [name for name, archive in sorted(self.archives.items()) if b"tam" not in archive.record]
+
+    def freed(self):
+        """The ids of old records that nothing uses any more: no archive as its content, as a piece of its items or as a record that has a tag."""
+        old = {self.archives[name].id for name in self.untagged()}
+        used = {archive.id for archive in self.archives.values()} - old
+        for archive in self.archives.values():
+            used.update(id for id, _ in archive.pieces)
+            for item in archive.items:
+                used.update(item.ids or [self.keys.id(content) for content in item.contents or []])
+        return old - used
+
+    def tag(self, what, *options, says=b""):
+        """Tags the records; then what is live, listed and read is looked at, and a second run, which writes nothing."""
+        names, freed = self.untagged(), self.freed()
+        words = ("-", "target", "tag-archives", *options)
+        before = state(os.path.join(self.root, "target/data/0"))
+        told = run(words, self.root, {b"BORG_PASSPHRASE": PASSPHRASE}, says=says)
+        judge(f"tag-archives: {what}", told, (0, b"tagged %d\n" % len(names)))
+        left = state(os.path.join(self.root, "target/data/0"))
+        holds(all(left.get(path) == of for path, of in before.items()), f"tag-archives: {what}: a segment that was there has changed")
+        listed = self.listed(what)
+        new = {listed[name] for name in names}
+        holds(len(new) == len(names), f"tag-archives: {what}: two archives share a new record")
+        holds(self.now_live() == self.live - freed | new, f"tag-archives: {what}: something else is live")
+        holds(all(listed[name] == archive.id for name, archive in self.archives.items() if name not in names), f"tag-archives: {what}: a record with a tag was written again")
+        for name in names:
+            self.is_tagged(what, name, listed[name])
+        self.reads(what)
+        judge(f"tag-archives: {what}: again", run(words, self.root, {b"BORG_PASSPHRASE": PASSPHRASE}), (0, b"tagged 0\n"))
+        holds(self.listed(what) == listed, f"tag-archives: {what}: a second run has written a record")
+        return listed
+
+    def now_live(self):
+        return {bytes.fromhex(line.split()[0].decode()) for line in segments.keys(os.path.join(self.root, "target"))[1].splitlines()}
+
+    def listed(self, what):
+        """The ids of the records by name, where the names and times are as they were."""
+        status, out = run(("target", "-", "list"), self.root, OPEN)
+        lines = [line.split(b" ", 2) for line in out.splitlines()]
+        want = [[repositories.escaped(time), repositories.escaped(name)] for of, archive in sorted(self.archives.items()) for name, _, time in archive.named(of)]
+        holds((status, [line[1:] for line in lines]) == (0, want), f"tag-archives: {what}: the names or times are others")
+        return {name: bytes.fromhex(line[0].decode()) for name, line in zip(sorted(self.archives), lines)}
+
+    def content(self, id):
+        """What the newest live chunk of an id has, as it lies in the segments."""
+        blobs = []
+        for _, path in sorted(segments.segments(os.path.join(self.root, "target")).items()):
+            with open(path, "rb") as file:
+                blobs += [blob for tag, key, blob, _ in segments.split(file.read())[0] if tag == segments.PUT and key == id]
+        return repositories.ctr(self.keys.enc_key, int.from_bytes(blobs[-1][33:41], "big"), blobs[-1][41:])[2:]
+
+    def is_tagged(self, what, name, id):
+        """The new record of an archive has a tag, which is that of its bytes under its salt, and its name, comment and items."""
+        content, archive = self.content(id), self.archives[name]
+        behind = (content.index(word) + len(word) for word in (b"\xa4hmac", b"\xa4salt"))
+        tag, salt = (at + {0xD9: 2, 0xDA: 3, 0xDB: 5}[content[at]] for at in behind)
+        secrets = self.keys.id_key + self.keys.enc_key + self.keys.enc_hmac_key
+        key = repositories.mac(repositories.mac(content[salt : salt + 64], secrets, hashlib.sha512), b"borg-metadata-authentication-archive\x01", hashlib.sha512)
+        right = repositories.mac(key, content[:tag] + bytes(64) + content[tag + 64 :], hashlib.sha512)
+        holds(self.keys.id(content) == id and content[tag : tag + 64] == right, f"tag-archives: {what}: the tag of {name} is wrong")
+        said = (b"\xa5plain", *(of for of, _ in archive.pieces))
+        holds(all(part in content for part in said), f"tag-archives: {what}: the record of {name} doesn't say what the old one said")
+
+    def reads(self, what):
+        """What each archive has is as it was, and none is without a tag."""
+        for name, archive in self.archives.items():
+            judge(f"tag-archives: {what}: list {name}", run(("target", "-", "list", "--", os.fsdecode(name)), self.root, OPEN), (0, archive.lines()))
+            for path in {item.path for item in archive.items if item.contents is not None}:
+                words = ("target", "-", "extract", "--", os.fsdecode(name), os.fsdecode(path))
+                judge(f"tag-archives: {what}: extract {name} {path}", run(words, self.root, OPEN), (0, archive.content(path)))
+        status, out = run(("target", "-", "check"), self.root, OPEN)
+        holds(status == 0 and out.endswith(b" untagged 0\n"), f"tag-archives: {what}: check says {out!r}")
+
+
+def taggings():
+    """What `tag-archives` writes: each record without a tag again with one, and no other; each archive is as it was."""
+    keys = Keys(b"other")
+    files = [Item(b"f", [b"hello", b"", b" and more"]), Item(b"e", [])]
+    plain = lambda name, items=files, length=2**20: Archive(keys, name, items, length, how={"tam": "none"})
+    one, other, good = plain(b"a"), plain(b"b", [Item(b"f", [b"hello"]), Item(b"h", [b"own"])], 40), Archive(keys, b"c", files)
+    orphan = (keys.id(b"orphan"), keys.blob(b"orphan"))
+
+    def tagged(what, archives, options=(), says=b"", behind=(), **files):
+        with tempfile.TemporaryDirectory() as root:
+            return Tagging(root, archives, behind, **files).tag(what, *options, says=says)
+
+    tagged("one", {b"a": one})
+    tagged("none", {b"c": good})
+    tagged("two of three", {b"a": one, b"b": other, b"c": good})
+    tagged("two names of one record", {b"a": one, b"z": one, b"c": good})
+    tagged("a record that is another's content", {b"a": one, b"b": Archive(keys, b"b", [Item(b"f", [one.record])])})
+    tagged("a record that is the content of another without a tag", {b"a": one, b"b": plain(b"b", [Item(b"f", [one.record])])})
+    tagged("a chunk that no archive uses", {b"a": one}, behind=[orphan])
+    tagged("odd names", {b"--x": one, b"a\n": other, b"\\": plain(b"z", files[:1])}, ("--timestamp", "noon"))
+    tagged("a lock of Borg", {b"a": one}, says=b"TARGET has a lock of Borg", **{"lock.roster": b'{"exclusive": [["host@1", 2, 0]]}'})
+    tagged("an index of Borg", {b"a": one}, says=b"remove them before a Borg command", **{"index.1": b""})
+    with tempfile.TemporaryDirectory() as root:
+        made = Tagging(root, {b"a": one})
+        made.tag("the time", "--timestamp", "noon")
+        holds(raw(b"timestamp") + raw(b"noon") in made_manifest(root, keys), "tag-archives: the manifest hasn't the time of the words")
+    not_tagged(keys, one, plain(b"b", [Item(b"g", [b"own"])]))
+
+
+def not_tagged(keys, good, other):
+    """What `tag-archives` says where it tags nothing, and that it writes nothing then."""
+    told = telling("tag-archives", keys)
+
+    both = {b"a": good, b"b": other}
+    told("another passphrase", (9, b"target refused: key 5\n"), both, passphrase=b"x")
+    told("no nonce", (9, b"target refused: nonce 1\n"), both, nonce=None)
+    told("a nonce that is no number", (9, b"target refused: nonce 2\n"), both, nonce=b"12")
+    told("a nonce that is used up", (12, b"limit: nonce\n"), both, nonce=b"f" * 16)
+    told("no commit", (9, b"target refused: no commit\n"), both, removed=("data/0/1",))
+    told("no config", (9, b"target refused: config 1\n"), both, removed=("config",))
+    for words, number in [(("a",), 2), (("--timestamp",), 3), (("--timestamp", ""), 3), (("--timestamp", "x", "a"), 4), (("--block", "64"), 2), (("--", "a"), 3)]:
+        told(f"words {words}", wrong_word(number), both, *words)
+    in_the_way = b"TARGET has an archive that doesn't read, and while it has one no record gets a tag"
+    reason = lambda text, id: (9, b"target refused: %s %s\n" % (text, id.hex().encode()))
+    for id in (good.id, other.pieces[0][0]):
+        told("something isn't there", reason(b"missing", id), both, says=in_the_way, without=id)
+        told("something is compressed", reason(b"blob 4", id), both, says=in_the_way, compressed=id)
+        told("something has another id", reason(b"blob 5", id), both, says=in_the_way, other=id)
+    bad = Archive(keys, b"a", good.items, how={"info": b"borg-metadata-authentication-manifest"})
+    told("a tag of a manifest", reason(b"record 4", bad.id), {b"a": bad, b"b": other}, says=in_the_way)
+    bad = Archive(keys, b"a", good.items, behind=b"\xc1")
+    told("items that don't read", reason(b"items 1", bad.id), {b"a": bad, b"b": other}, says=in_the_way)
 
 
 def compactions():
@@ -1458,7 +1702,7 @@ def rows():
 
 
 READING = (folders, logs, damage, memory, names, words, keys_of_configs, listings, archives, checked, every_byte)
-CASES = (*READING, key_files, targets, refused_targets, transfers, plans, deletions, compactions, locks, written, limits, entropy, variables, of_borg, outputs, progress)
+CASES = (*READING, key_files, targets, refused_targets, transfers, plans, restores, deletions, taggings, compactions, locks, written, limits, entropy, variables, of_borg, outputs, progress)
 
 
 def main(chosen):

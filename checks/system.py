@@ -419,8 +419,35 @@ def short_writes(root):
     ended("check after that", run(root, "target", "-", "check"), 0, b"ok archives 0 chunks 0 orphans 0 untagged 0\n")
 
 
+def restored(root):
+    """A folder that takes a part of what is restored has a front of it; one that can't be written stays as it is."""
+    make_source(root)
+    words, folder = ("source", "folder", "restore", "a"), os.path.join(root, "folder")
+    contents = run(root, "source", "-", "extract", "a", "file").stdout
+    for size in (0, 1, 63, 64, 100, 255):
+        what = f"files of {size} bytes at most: restore"
+        ended(what, run(root, *words, preexec_fn=limited(size)), 13, b"tree failed\n")
+        judge(state(folder) == {"file": contents[:size]}, f"{what}: {state(folder)}")
+        ended(f"{what}, and again", run(root, *words), 14, b"not empty\n")
+        judge(state(folder) == {"file": contents[:size]}, f"{what}, and again: {state(folder)}")
+        shutil.rmtree(folder)
+    ended("restore", run(root, *words, preexec_fn=lambda: os.umask(0)), 0, b"restored 1 files 0 folders 0 links 0 skipped\n")
+    judge(state(folder) == {"file": contents}, f"restore: {state(folder)}")
+    judge(os.stat(folder).st_mode & 0o777 == 0o700, "the folder of a restoring isn't its owner's alone")
+    shutil.rmtree(folder)
+    other = other_user(PROGRAM, root)
+    if other is None:
+        skip("a folder that another user can't write: no other user can be taken")
+        return
+    os.makedirs(folder, mode=0o755)
+    ended("a folder that can't be written", run(root, *words, prefix=other), 13, b"tree failed\n")
+    judge(state(folder) == {}, f"a folder that can't be written: {state(folder)}")
+    os.chmod(folder, 0o333)
+    ended("a folder that can't be listed", run(root, *words, prefix=other), 13, b"tree failed\n")
+
+
 NEED_STRACE = (random_bytes, unreadable, unsynced, progress)
-CASES = (*NEED_STRACE, closed_by_mode, drawn, modes, places, outputs, short_writes, closed, passphrases, borders)
+CASES = (*NEED_STRACE, closed_by_mode, drawn, modes, places, outputs, short_writes, restored, closed, passphrases, borders)
 
 
 def main(chosen):

@@ -1,7 +1,7 @@
 # Completion of borgferry's words for bash: folders for SOURCE and TARGET, then a command and its options.
 
 _borgferry() {
-    local word=${COMP_WORDS[COMP_CWORD]} commands="keys key list extract check init plan transfer delete compact make-key" options=""
+    local word=${COMP_WORDS[COMP_CWORD]} commands="keys key list extract check restore init plan transfer delete tag-archives compact make-key" options=""
     case $COMP_CWORD in
     1 | 2)
         mapfile -t COMPREPLY < <(compgen -d -- "$word")
@@ -19,6 +19,7 @@ _borgferry() {
     plan) options="--block" ;;
     transfer) options="--block --checkpoint --timestamp" ;;
     delete) options="--timestamp" ;;
+    tag-archives) options="--timestamp" ;;
     compact) options="--threshold" ;;
     make-key) options="--iterations" ;;
     esac

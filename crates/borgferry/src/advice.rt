@@ -6,7 +6,7 @@ ghost use Rattle.ferry_status.specs.declared.status.Status.TheVariants as TheSta
 
 use crate::refusal::{DEVICE, UNNAMED, of_repo};
 use crate::side::Side;
-use crate::target::{COMMITTED, ENTROPY, TARGET, of_deletion, of_limit, of_nonce};
+use crate::target::{COMMITTED, ENTROPY, TARGET, of_deletion, of_limit, of_nonce, of_tagging};
 use ferry_real::Presence;
 use ferry_top::{Refusal, Status};
 
@@ -54,7 +54,8 @@ pub const MEMORY: &str =
 pub const OUTPUT: &str =
     "standard output can't be written, so lines are missing: see whether its disk is full or the program behind the pipe has ended";
 
-const MISSING: &str = "no archive of SOURCE has this name: list prints the names";
+/// Where no archive of the source has a name.
+pub const MISSING: &str = "no archive of SOURCE has this name: list prints the names";
 
 const MISSING_IN_TARGET: &str =
     "no archive of TARGET has this name: list prints the names, with TARGET in the place of SOURCE";
@@ -123,6 +124,7 @@ fn of_refusal(
 ) -> &'static str {
     match refusal {
         Refusal::Repo(fault) if command == "delete" => of_deletion(fault, presence),
+        Refusal::Repo(fault) if command == "tag-archives" => of_tagging(fault, presence),
         Refusal::Repo(fault) => of_repo(fault, presence, is_record),
         Refusal::Nonce(fault) => of_nonce(*fault),
         Refusal::Committed => COMMITTED,
@@ -162,6 +164,9 @@ fn form_of(command: &str) -> &'static str {
         "delete" => {
             "the form is borgferry SOURCE TARGET delete NAME, with --timestamp T in front of the name, or without; a NAME that begins with -- stands behind --"
         }
+        "tag-archives" => {
+            "the form is borgferry SOURCE TARGET tag-archives, with --timestamp T behind it, or without; it takes no name, since it tags the records of all archives"
+        }
         "compact" => {
             "the form is borgferry SOURCE TARGET compact, with --threshold P, from 0 to 100, behind it, or without"
         }
@@ -169,7 +174,7 @@ fn form_of(command: &str) -> &'static str {
             "the form is borgferry SOURCE TARGET make-key, with --iterations N, from 1 to 10000000, behind it, or without"
         }
         _ => {
-            "the form is borgferry SOURCE TARGET COMMAND, and the commands are keys, key, list, extract, check, init, plan, transfer, delete, compact and make-key; borgferry --help says what they do"
+            "the form is borgferry SOURCE TARGET COMMAND, and the commands are keys, key, list, extract, check, restore, init, plan, transfer, delete, tag-archives, compact and make-key; borgferry --help says what they do"
         }
     }
 }

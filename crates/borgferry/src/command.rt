@@ -184,7 +184,7 @@ fn writes_target(name: &str) -> bool {
 
 /// Whether a command takes objects or segments out of the target, after which Borg's own files are out of date.
 fn removes(name: &str) -> bool {
-    name == "delete" || name == "compact"
+    name == "delete" || name == "tag-archives" || name == "compact"
 }
 
 /// Says what is to be known behind a command that is done.
@@ -203,7 +203,7 @@ fn note_passphrase<R: Runtime>(rt: &R, name: &str, secrets: &Secrets) {
 }
 
 /// Prints a line in plain words of one of the repositories. Where memory is refused for it, the status and the fault line tell alone.
-fn advise_of<R: Runtime>(rt: &R, alloc: Global, text: &str, side: Side) {
+pub fn advise_of<R: Runtime>(rt: &R, alloc: Global, text: &str, side: Side) {
     if let Ok(line) = filled(alloc, text, side) {
         advise(rt, line.as_str());
     }

@@ -7,8 +7,8 @@ pub const VERSION: &str = "borgferry 0.1.0\n";
 pub const HEAD: &str = "\
 borgferry reads a BorgBackup 1.2 repository, the source, whose archives were
 made with --compression none, and makes another, the target, or copies archives
-into it. Only init, transfer, delete and compact write the target, nothing the
-source.
+into it, or into a folder as files. Only init, transfer, delete, tag-archives
+and compact write the target, nothing the source.
 
 usage: borgferry SOURCE TARGET COMMAND ..
        borgferry COMMAND --help
@@ -16,13 +16,25 @@ usage: borgferry SOURCE TARGET COMMAND ..
        borgferry --version
 
 SOURCE and TARGET are folders of repositories; the word - stands for no folder.
+Of restore, TARGET is a folder that is no repository.
 
 commands:
 ";
 
 /// The commands, in the order of the help.
-pub const COMMANDS: [&str; 11] = [
-    "keys", "key", "list", "extract", "check", "init", "plan", "transfer", "delete", "compact",
+pub const COMMANDS: [&str; 13] = [
+    "keys",
+    "key",
+    "list",
+    "extract",
+    "check",
+    "restore",
+    "init",
+    "plan",
+    "transfer",
+    "delete",
+    "tag-archives",
+    "compact",
     "make-key",
 ];
 
@@ -51,6 +63,8 @@ status:
   10  the target has another archive of the name
   11  no archive has the name, or no item with content has the path
   12  a limit of the target is met
+  13  restore: the folder can't be written
+  14  restore: the folder isn't empty
   16  a key file can't be read
 ";
 
@@ -62,10 +76,12 @@ pub fn lines_of(command: &str) -> Option<&'static str> {
         "list" => Some(LIST),
         "extract" => Some(EXTRACT),
         "check" => Some(CHECK),
+        "restore" => Some(RESTORE),
         "init" => Some(INIT),
         "plan" => Some(PLAN),
         "transfer" => Some(TRANSFER),
         "delete" => Some(DELETE),
+        "tag-archives" => Some(TAG_ARCHIVES),
         "compact" => Some(COMPACT),
         "make-key" => Some(MAKE_KEY),
         _ => None,
@@ -98,6 +114,12 @@ const CHECK: &str = "  check
       or the first fault
 ";
 
+const RESTORE: &str = "  restore NAME
+      makes the files, folders and links of an archive of the source in the
+      folder that stands in the place of TARGET, which is empty or isn't there,
+      and prints their numbers; owners, modes, times and attributes aren't set
+";
+
 const INIT: &str = "  init [--iterations N] [--timestamp T]
       makes a repository in the target, with the key of the target's key file
       where there is one, and prints its id
@@ -123,6 +145,12 @@ const PLAN: &str = "  plan [--block B] [NAME ..]
 const DELETE: &str = "  delete [--timestamp T] NAME
       takes an archive out of the target, with the chunks that no other archive
       uses, and prints how many these were; compact gives back their space
+      T: the timestamp of the new manifest, else that of the old one
+";
+
+const TAG_ARCHIVES: &str = "  tag-archives [--timestamp T]
+      writes the record of each archive of the target that has no
+      authentication tag again with one, and prints how many these were
       T: the timestamp of the new manifest, else that of the old one
 ";
 

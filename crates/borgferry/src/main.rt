@@ -1,7 +1,7 @@
 //! The program: its words and its environment.
 //!
-//! `main` makes the devices and calls `ferry_top::run`, which does the command and prints its lines; the program ends with
-//! the number of the status. What a folder or a terminal gives is known to no contract: the devices tell nothing, list
+//! `main` makes the devices and calls `ferry_top::run`, or `ferry_run_restore::restore` for that command, which does it and prints its lines; the program
+//! ends with the number of the status. What a folder or a terminal gives is known to no contract: the devices tell nothing, list
 //! numbers that increase, and count their faults.
 #![tactic(auto)]
 
@@ -11,10 +11,12 @@ mod fault;
 mod lines;
 mod places;
 mod refusal;
+mod restoring;
 mod secrets;
 mod side;
 mod start;
 mod target;
+mod tree;
 
 use ferry_real::Terminals;
 use std::io::IsTerminal;

@@ -137,9 +137,16 @@ fn names_somebody(text: &[u8]) -> bool {
 /// The compressed object that a status names, other than a manifest.
 pub fn compressed(status: &Status) -> Option<Id> {
     match status {
-        Status::SourceRefused(Refusal::Repo(RepoFault::Blob(id, BlobFault::Compressed)))
-        | Status::TargetRefused(Refusal::Repo(RepoFault::Blob(id, BlobFault::Compressed)))
-            if *id != ZERO_ID => { Some(*id) }
+        Status::SourceRefused(Refusal::Repo(fault)) | Status::TargetRefused(Refusal::Repo(fault)) =>
+            compressed_in(fault),
+        _ => None,
+    }
+}
+
+/// The compressed object that the fault of a repository names, other than a manifest.
+pub fn compressed_in(fault: &RepoFault) -> Option<Id> {
+    match fault {
+        RepoFault::Blob(id, BlobFault::Compressed) if *id != ZERO_ID => Some(*id),
         _ => None,
     }
 }

@@ -39,6 +39,12 @@ pub fn secrets<R: Runtime + AllocGlobal>(rt: &R) -> Result<Secrets, StartFault> 
     Ok(Secrets { source, target })
 }
 
+/// The secret of the source alone. Its variables are looked at before the file that one of them names.
+pub fn source_secret<R: Runtime + AllocGlobal>(rt: &R) -> Result<Secret, StartFault> {
+    variable(rt, SOURCE_PASSPHRASE)?;
+    secret(rt, SOURCE_PASSPHRASE, SOURCE_KEY_FILE)
+}
+
 /// The secret whose passphrase one variable has, and the path of whose key file another.
 fn secret<R: Runtime + AllocGlobal>(
     rt: &R,

@@ -5,6 +5,7 @@ use crate::command::{Places, run_command};
 use crate::fault::{StartFault, refuse};
 use crate::lines::{COMMANDS, HEAD, TAIL, VERSION, lines_of};
 use crate::places::{are_one, is_remote};
+use crate::restoring::run_restore;
 use ferry_real::Terminals;
 use ferry_top::places_fit;
 use std::alloc::AllocGlobal;
@@ -15,6 +16,9 @@ use std::rt::Runtime;
 
 /// The status where standard output can't be written.
 const OUTPUT_STATUS: u8 = 7;
+
+/// The command that restores an archive, which has a call of its own.
+const RESTORE: &str = "restore";
 
 /// What is open in the place of a standard stream that is closed: nothing can be written to it.
 const NOTHING: &str = "/dev/null";
@@ -76,9 +80,21 @@ fn run_words<R: Runtime + AllocGlobal>(
                 target: target.as_str(),
             };
             look_at_places(rt, places)?;
-            run_command(rt, terminals, places, command)
+            if is_restore(command) {
+                run_restore(rt, terminals, places, command)
+            } else {
+                run_command(rt, terminals, places, command)
+            }
         }
         _ => Err(StartFault::Usage),
+    }
+}
+
+/// Whether the words of a command are those of `restore`, in whose place of the target stands a folder that is no repository.
+fn is_restore(words: &[String]) -> bool {
+    match words {
+        [name, ..] => name.as_str() == RESTORE,
+        [] => false,
     }
 }
 

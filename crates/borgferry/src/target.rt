@@ -18,15 +18,29 @@ pub const ENTROPY: &str =
 pub const COMMITTED: &str =
     "there is a repository in TARGET already, and none is made over it: name a folder that is empty or isn't there";
 
+/// Where records are to get tags and an archive of the target doesn't read.
+const UNTAGGABLE: &str =
+    "TARGET has an archive that doesn't read, and while it has one no record gets a tag, since an object might go that it uses: list NAME, with TARGET in the place of SOURCE, is refused for it; borg recreate --recompress --compression none --chunker-params fixed,65536 --target NEW TARGET::NAME makes a plain one where Borg reads it, and borg delete --force TARGET::NAME takes it out";
+
 /// Where an archive is to be deleted and one of the target doesn't read, it or another.
 const UNREAD: &str =
     "TARGET has an archive that doesn't read, and while it has one none is deleted, since a chunk might go that it uses: list NAME, with TARGET in the place of SOURCE, is refused for it; borg recreate --recompress --compression none --chunker-params fixed,65536 --target NEW TARGET::NAME makes a plain one where Borg reads it, borg delete --force TARGET::NAME takes it out, and then one borg create --compression none makes a plain manifest";
 
 /// A target of which no archive is deleted. All archives have to read for that, so what the fault names may be an object of any.
 pub fn of_deletion(fault: &RepoFault, presence: Presence) -> &'static str {
+    of_reading(fault, presence, UNREAD)
+}
+
+/// A target whose records get no tags. All archives have to read for that, too.
+pub fn of_tagging(fault: &RepoFault, presence: Presence) -> &'static str {
+    of_reading(fault, presence, UNTAGGABLE)
+}
+
+/// A target of which all archives have to read, with the text for one that doesn't.
+fn of_reading(fault: &RepoFault, presence: Presence, unread: &'static str) -> &'static str {
     match fault {
-        RepoFault::Missing(id) | RepoFault::Blob(id, _) if *id != ZERO_ID => UNREAD,
-        RepoFault::Archive(_, _) | RepoFault::Item(_, _) => UNREAD,
+        RepoFault::Missing(id) | RepoFault::Blob(id, _) if *id != ZERO_ID => unread,
+        RepoFault::Archive(_, _) | RepoFault::Item(_, _) => unread,
         _ => of_repo(fault, presence, false),
     }
 }

@@ -1,7 +1,6 @@
 -- Lemmas on specs/Accepting.antt: the manifest behind an archive, in the words of the target in front of it.
-use Rattle.std.proofs.Common.{◌≡◌, ◌⊎◌, inl, inr, ◌<◌, ◌+◌, ℕ, true, List, [], ◌∷◌, ◌++◌, length, get_or, take}
-use Rattle.std.proofs.Common.{Option, Some, None, IfSome, Result, Ok, Err, OnOk, refl, sym, ◌∙◌, ap, subst}
-use Rattle.std.proofs.lemmas.List.{take_more}
+use Rattle.std.proofs.Common.{◌≡◌, ◌⊎◌, inl, inr, ◌<◌, ℕ, true, List, [], ◌∷◌, ◌++◌, length}
+use Rattle.std.proofs.Common.{Option, Some, None, IfSome, IsSome, Result, Ok, Err, OnOk, refl, sym, ◌∙◌, ap, subst}
 use Rattle.std.proofs.lemmas.Option.{IfSome_then}
 use Rattle.ferry_base.specs.Limits.{content_limit}
 use Rattle.ferry_blob.specs.Blob.{content_id}
@@ -20,13 +19,17 @@ use Rattle.ferry_store.specs.Fault.{store_refusal}
 use Rattle.ferry_store.specs.Standing.{with_manifest}
 use Rattle.ferry_store.specs.declared.fault.StoreRefusal.TheVariants.{TooLarge}
 use Rattle.ferry_store.specs.declared.store.Store.{Store}
-use Rattle.ferry_carry.specs.Accepting.{AreNextOf, HasLargeNext, IsNextOf, LimitsNames, next_named}
+use Rattle.ferry_carry.proofs.NextLemmas.{draws_none, draws_one, next_one}
+use Rattle.ferry_carry.specs.Accepting.{AreNextOf, HasLargeNext, IsNewIn, LimitsNames, NamesNew, named_next, next_named}
+use Rattle.ferry_carry.specs.Carrying.{Origin}
+use Rattle.ferry_carry.specs.Flight.{origin_of}
 use Rattle.ferry_piece.specs.Fault.{target_fault}
 use Rattle.ferry_piece.specs.Gather.{KeepsRest}
-use Rattle.ferry_carry.specs.Naming.{entry_for}
-use Rattle.ferry_carry.specs.Refusals.{IsLimited, is_of_telling, named_next}
-use Rattle.ferry_carry.specs.Telling.{TellsNames}
+use Rattle.ferry_carry.specs.Naming.{Draws, DrawsSalts, TaggedRecord, entry_for, record_ids}
+use Rattle.ferry_carry.specs.Refusals.{IsLimited, is_of_telling}
+use Rattle.ferry_carry.specs.Telling.{AcceptsNames, TellsNames}
 use Rattle.ferry_carry.specs.Time.{time_for}
+use Rattle.ferry_carry.specs.declared.options.Options.{Options}
 use Rattle.ferry_piece.specs.declared.fault.CarryFault.{CarryFault}
 use Rattle.ferry_piece.specs.declared.fault.CarryFault.TheVariants.{Target, NotFound, Memory}
 
@@ -49,39 +52,40 @@ abbrev pub next_with : Option (List ℕ) → RepoState → ArchiveRef → Manife
 next_with given source named accepted manifest id =
     written_at (next_manifest accepted (entry_for named id) source.manifest.item_keys) (time_for given source.manifest.timestamp manifest.timestamp)
 
--- the manifest that is accepted behind a record that was put before, with pieces that keep what was accepted
-pub record_named : (given : Option (List ℕ)) (source : RepoState) (store middle now : Store) (named : ArchiveRef) (id text : List ℕ)
-    → KeepsRest store middle → id ≡ content_id (repo_view store.repo).keys text
+-- the archive that is accepted behind a record that was put before, with pieces that keep what was accepted
+pub record_named : (given : Option (List ℕ)) (source : RepoState) (store middle now : Store) (named : ArchiveRef) (id : List ℕ) (one : TaggedRecord)
+    (before between after : Option (List ℕ)) → KeepsRest store middle → id ≡ content_id (repo_view store.repo).keys one.text
     → repo_view now.repo ≡ with_manifest (repo_view middle.repo) (named_next given source middle named id)
-    → accepted_in now ≡ (repo_view now.repo).manifest
-    → accepted_in now ≡ named_next given source store named (content_id (repo_view store.repo).keys text)
-record_named given source store middle now named id text rest id_is is accepted =
-    accepted
-    ∙ (ap (λ (r : RepoState). r.manifest) is
-    ∙ (ap (λ (m : ManifestText). next_with given source named m (repo_view middle.repo).manifest id) rest.accepted
-    ∙ (ap (λ (m : ManifestText). next_with given source named (accepted_in store) m id) rest.manifest
-    ∙ ap (next_with given source named (accepted_in store) (repo_view store.repo).manifest) id_is)))
+    → accepted_in now ≡ (repo_view now.repo).manifest → Draws one.salt before between → Draws one.manifest_salt between after
+    → NamesNew given source store named (one ∷ []) now before after
+record_named given source store middle now named id one before between after rest id_is is accepted salt manifest_salt = record {
+  one = one;
+  records_are = refl;
+  accepted = accepted
+      ∙ (ap (λ (r : RepoState). r.manifest) is
+      ∙ (ap (λ (m : ManifestText). next_with given source named m (repo_view middle.repo).manifest id) rest.accepted
+      ∙ (ap (λ (m : ManifestText). next_with given source named (accepted_in store) m id) rest.manifest
+      ∙ ap (next_with given source named (accepted_in store) (repo_view store.repo).manifest) id_is)));
+  drew = draws_one one before between after salt manifest_salt;
+}
 
 -- the same of an archive that is named behind pieces
-pub next_rest : (given : Option (List ℕ)) (source after : RepoState) (store middle : Store) (named : ArchiveRef) (manifest : ManifestText)
-    → KeepsRest store middle → after ≡ source
-    → (text : List ℕ) × (manifest ≡ named_next given after middle named (content_id (repo_view middle.repo).keys text))
-    → (text : List ℕ) × (manifest ≡ named_next given source store named (content_id (repo_view store.repo).keys text))
-next_rest given source after store middle named manifest rest same next = (
-  next.0,
-  next.1
-      ∙ (ap (λ (r : RepoState). named_next given r middle named (content_id (repo_view middle.repo).keys next.0)) same
-      ∙ (ap (λ (m : ManifestText). next_with given source named m (repo_view middle.repo).manifest (content_id (repo_view middle.repo).keys next.0))
-      rest.accepted
-      ∙ (ap (λ (m : ManifestText). next_with given source named (accepted_in store) m (content_id (repo_view middle.repo).keys next.0)) rest.manifest
-      ∙ ap (λ (k : Keys). next_with given source named (accepted_in store) (repo_view store.repo).manifest (content_id k next.0)) rest.keys))),
-)
-
-pub next_source : (given : Option (List ℕ)) (source after : RepoState) (store : Store) (named : ArchiveRef) (manifest : ManifestText) → after ≡ source
-    → (text : List ℕ) × (manifest ≡ named_next given after store named (content_id (repo_view store.repo).keys text))
-    → (text : List ℕ) × (manifest ≡ named_next given source store named (content_id (repo_view store.repo).keys text))
-next_source given source after store named manifest same next =
-    (next.0, next.1 ∙ ap (λ (r : RepoState). named_next given r store named (content_id (repo_view store.repo).keys next.0)) same)
+pub next_rest : (given : Option (List ℕ)) (source after : RepoState) (store middle now : Store) (named : ArchiveRef) (records : List TaggedRecord)
+    (x y : Option (List ℕ)) → KeepsRest store middle → after ≡ source → NamesNew given after middle named records now x y
+    → NamesNew given source store named records now x y
+next_rest given source after store middle now named records x y rest same next =
+    let text = next.one.text in
+    record {
+      one = next.one;
+      records_are = next.records_are;
+      accepted = next.accepted
+          ∙ (ap (λ (r : RepoState). named_next given r middle named (content_id (repo_view middle.repo).keys text)) same
+          ∙ (ap (λ (m : ManifestText). next_with given source named m (repo_view middle.repo).manifest (content_id (repo_view middle.repo).keys text))
+          rest.accepted
+          ∙ (ap (λ (m : ManifestText). next_with given source named (accepted_in store) m (content_id (repo_view middle.repo).keys text)) rest.manifest
+          ∙ ap (λ (k : Keys). next_with given source named (accepted_in store) (repo_view store.repo).manifest (content_id k text)) rest.keys)));
+      drew = next.drew;
+    }
 
 -- where an archive is there, nothing is accepted
 pub still_rest : {T : Type 0} (store middle now : Store) (result : Result T CarryFault) (turn : T) → KeepsRest store middle
@@ -113,17 +117,33 @@ lacked_before named was before after called accepted lacks =
     (subst (λ (e : ArchiveRef). archive_named e.name after.archives ≡ None) called lacks)
 
 -- the archive of a flight is named
-pub flown_named : (given other : Option (List ℕ)) (source after : RepoState) (store middle now : Store) (named was : ArchiveRef)
-    → IsSettled middle → other ≡ given → after ≡ source → was ≡ named → accepted_in middle ≡ accepted_in store
-    → (repo_view middle.repo).keys ≡ (repo_view store.repo).keys → archive_named named.name source.manifest.archives ≡ Some named
-    → archive_named was.name (accepted_in middle).archives ≡ None
-    → (text : List ℕ) × (accepted_in now ≡ named_next other after middle was (content_id (repo_view middle.repo).keys text))
-    → IsNextOf given source.manifest (repo_view store.repo).keys (accepted_in store) named.name (accepted_in now)
-flown_named given other source after store middle now named was settled options repo called accepted keys named_is lacks next =
-    inr (
-      record { named = named; named_is = named_is; lacks = lacked_before named was (accepted_in store) (accepted_in middle) called accepted lacks },
-      (next.0, next.1 ∙ settled_next given other source after store middle named was next.0 settled options repo called accepted keys),
+pub flown_named : (told : Option Told) (options other : Options) (source after : RepoState) (store middle now : Store) (named was : ArchiveRef)
+    (records : List TaggedRecord) (x y z : Option (List ℕ)) → IsSettled middle → other ≡ options → after ≡ source → was ≡ named
+    → accepted_in middle ≡ accepted_in store → (repo_view middle.repo).keys ≡ (repo_view store.repo).keys
+    → archive_named named.name source.manifest.archives ≡ Some named → archive_named was.name (accepted_in middle).archives ≡ None → y ≡ x
+    → NamesNew other.timestamp after middle was records now y z
+    → AcceptsNames (origin_of told source options) (named.name ∷ []) records store now x z
+flown_named told options other source after store middle now named was records x y z settled asked repo called accepted keys named_is lacks undrawn next =
+    let given = options.timestamp in
+    let text = next.one.text in
+    let given_is : other.timestamp ≡ given = ap (λ (o : Options). o.timestamp) asked in
+    let new : IsNewIn source.manifest (accepted_in store) named.name =
+    record { named = named; named_is = named_is; lacks = lacked_before named was (accepted_in store) (accepted_in middle) called accepted lacks } in
+    let id = content_id (repo_view store.repo).keys text in
+    let is = next.accepted ∙ settled_next given other.timestamp source after store middle named was text settled given_is repo called accepted keys in (
+      subst (λ (l : List TaggedRecord). AreNextOf given source.manifest (accepted_in store) (named.name ∷ []) (record_ids (repo_view store.repo).keys l)
+          (accepted_in now)) (sym next.records_are)
+          (next_one given source.manifest (accepted_in store) named.name (id ∷ []) (accepted_in now) (inr (new, (id, (refl, is))))),
+      subst (λ (o : Option (List ℕ)). DrawsSalts records o z) undrawn next.drew,
     )
+
+-- it was there
+pub flown_present : (from : Origin) (name : List ℕ) (store now : Store) (records : List TaggedRecord) (x z : Option (List ℕ))
+    → IsSome (archive_named name (accepted_in store).archives) → accepted_in now ≡ accepted_in store → z ≡ x → records ≡ []
+    → AcceptsNames from (name ∷ []) records store now x z
+flown_present from name store now records x z there same undrawn none =
+    subst (λ (l : List TaggedRecord). AcceptsNames from (name ∷ []) l store now x z) (sym none)
+    (next_one from.time from.repo.manifest (accepted_in store) name [] (accepted_in now) (inl (there, (refl, same))), draws_none x z undrawn)
 
 -- or with it the manifest is too large
 pub flown_large : (now : Option Told) (given other : Option (List ℕ)) (source after : RepoState) (store middle : Store) (named was : ArchiveRef)
@@ -152,34 +172,13 @@ begin_small X P fault name (inr e) is = absurd (let both : NotFound name ≡ Tar
 
 -- ---- names, one after another
 
--- behind the archives of names comes that of one more
-pub next_more : (given : Option (List ℕ)) (source : ManifestText) (keys : Keys) (names : List (List ℕ)) (name : List ℕ)
-    (manifest middle now : ManifestText) → AreNextOf given source keys manifest names middle → IsNextOf given source keys middle name now
-    → AreNextOf given source keys manifest (names ++ name ∷ []) now
-next_more given source keys [] name manifest middle now is next =
-    (now, (subst (λ (m : ManifestText). IsNextOf given source keys m name now) is next, refl))
-next_more given source keys (first ∷ names) name manifest middle now are next =
-    (are.0, (are.1.0, next_more given source keys names name are.0 middle now are.1.1 next))
-
--- the same at a place of a list
-pub next_at : (given : Option (List ℕ)) (source after : ManifestText) (keys other : Keys) (names : List (List ℕ)) (place : ℕ) (name d : List ℕ)
-    (manifest middle now : ManifestText) → after ≡ source → other ≡ keys → place < length names → name ≡ get_or names place d
-    → AreNextOf given source keys manifest (take place names) middle → IsNextOf given after other middle name now
-    → AreNextOf given source keys manifest (take (place + 1) names) now
-next_at given source after keys other names place name d manifest middle now repo same lt named are next =
-    subst (λ (l : List (List ℕ)). AreNextOf given source keys manifest l now)
-    (ap (λ (n : List ℕ). take place names ++ n ∷ []) named ∙ sym (take_more names place d lt))
-    (next_more given source keys (take place names) name manifest middle now are
-    (subst (λ (k : Keys). IsNextOf given source k middle name now) same
-    (subst (λ (m : ManifestText). IsNextOf given m other middle name now) repo next)))
-
 -- behind a front of these names the manifest with the next is too large
 pub one_large : (now : Option Told) (given : Option (List ℕ)) (source after : ManifestText) (keys other : Keys) (heard : Option Told)
-    (names done : List (List ℕ)) (name : List ℕ) (rest : List (List ℕ)) (manifest middle : ManifestText) → after ≡ source → other ≡ keys
-    → names ≡ done ++ name ∷ rest → AreNextOf given source keys manifest done middle
+    (names done : List (List ℕ)) (name : List ℕ) (rest ids : List (List ℕ)) (manifest middle : ManifestText) → after ≡ source → other ≡ keys
+    → names ≡ done ++ name ∷ rest → AreNextOf given source manifest done ids middle
     → IfSome heard (λ b. IfSome now (λ t. TellsNames manifest done b.history t.history)) → IfSome now (λ _. HasLargeNext given after other middle name)
     → IfSome heard (λ b. IfSome now (λ t. LimitsNames given source keys manifest names (λ told. TellsNames manifest told b.history t.history)))
-one_large now given source after keys other heard names done name rest manifest middle repo same split are told large =
+one_large now given source after keys other heard names done name rest ids manifest middle repo same split are told large =
     IfSome_then heard told (λ b known. both now b known large) where
       both : (o : Option Told) (b : Told) → IfSome o (λ t. TellsNames manifest done b.history t.history)
           → IfSome o (λ _. HasLargeNext given after other middle name)
@@ -192,6 +191,7 @@ one_large now given source after keys other heard names done name rest manifest 
         split = split;
         told = known;
         middle = middle;
+        ids = ids;
         behind = are;
         large = subst (λ (k : Keys). HasLargeNext given source k middle name) same
             (subst (λ (m : ManifestText). HasLargeNext given m other middle name) repo big);

@@ -207,7 +207,7 @@ named_over counts store h fits blob there from added manifest entry named ready 
           ready.held scope apart.one apart.added (λ id content chunk.
           let object = chunk.object in
           apart.live id object.blob content chunk.chunk ((fits.holds id object.blob chunk.chunk).0 object.has) object.opens) in
-          copied_whole files log keys from.block ready.whole ready.text manifest.archives entry ready.time (record {
+          copied_whole files log keys from.block ready.whole ready.salt ready.text manifest.archives entry ready.time (record {
             entry = entry;
             entry_is = named;
             time = refl;

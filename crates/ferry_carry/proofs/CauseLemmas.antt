@@ -49,15 +49,16 @@ use Rattle.ferry_piece.specs.declared.fault.CarryFault.TheVariants.{Source, Targ
 -- ---- files that are told
 
 -- what holds of the files of a source, by what its shelf tells
-at_origin : (told : Option Told) (source : RepoState) (block most : ℕ) (P : Files → Type 0) → IfSome told (λ t. P (told_files t))
-    → IfSome (origin told source block most).files P
-at_origin None source block most P known = tt
-at_origin (Some t) source block most P known = known
+at_origin : (told : Option Told) (source : RepoState) (block most : ℕ) (time : Option (List ℕ)) (P : Files → Type 0) → IfSome told (λ t. P (told_files t))
+    → IfSome (origin told source block most time).files P
+at_origin None source block most time P known = tt
+at_origin (Some t) source block most time P known = known
 
-where_first : (told heard : Option Told) (source : RepoState) (block most : ℕ) (P : Files → Type 0) → IfSome told (λ t. P (told_files t))
-    → WhereTold (origin told source block most) heard P
-where_first told heard source block most P known =
-    any_told heard (λ d. IfSome (origin told source block most).files P) (λ d. at_origin told source block most P known)
+where_first : (told heard : Option Told) (source : RepoState) (block most : ℕ) (time : Option (List ℕ)) (P : Files → Type 0) → IfSome told (λ t. P (told_files
+    t))
+    → WhereTold (origin told source block most time) heard P
+where_first told heard source block most time P known =
+    any_told heard (λ d. IfSome (origin told source block most time).files P) (λ d. at_origin told source block most time P known)
 
 -- what holds where a target tells its files later holds where it told them before
 where_back : (from : Origin) (a b : Option Told) (E : History → History → Type 0) (P : Files → Type 0) → Between a b E → WhereTold from b P
@@ -78,18 +79,19 @@ lacks_by before after name keeps lacks = by (archive_named name before.archives)
 -- ---- the archive of a name
 
 -- its record isn't read
-pub begin_refused : (told heard now : Option Told) (source : RepoState) (block most : ℕ) (named : ArchiveRef) (store store_now : Store) (fault : CarryFault)
+pub begin_refused : (told heard now : Option Told) (source : RepoState) (block most : ℕ) (time : Option (List ℕ)) (named : ArchiveRef) (store store_now :
+    Store) (fault : CarryFault)
     → archive_named named.name source.manifest.archives ≡ Some named → RefusesBegin told source named.id fault
-    → RefusesName (origin told source block most) heard store now store_now named.name fault
-begin_refused told heard now source block most named store store_now (Source fault) named_is refuses = λ of_files.
-    where_first told heard source block most (λ there. RefusesWhole there source.log source.keys source.manifest.archives named.name fault)
+    → RefusesName (origin told source block most time) heard store now store_now named.name fault
+begin_refused told heard now source block most time named store store_now (Source fault) named_is refuses = λ of_files.
+    where_first told heard source block most time (λ there. RefusesWhole there source.log source.keys source.manifest.archives named.name fault)
     (IfSome_then told (refuses of_files) (λ t r. record { named = named; named_is = named_is; refused = inl r }))
-begin_refused told heard now source block most named store store_now (Target refusal) named_is refuses = absurd refuses
-begin_refused told heard now source block most named store store_now (Taken name) named_is refuses = absurd refuses
-begin_refused told heard now source block most named store store_now (NotFound name) named_is refuses = absurd refuses
-begin_refused told heard now source block most named store store_now Pieces named_is refuses = absurd refuses
-begin_refused told heard now source block most named store store_now Memory named_is refuses = tt
-begin_refused told heard now source block most named store store_now Record named_is refuses = absurd refuses
+begin_refused told heard now source block most time named store store_now (Target refusal) named_is refuses = absurd refuses
+begin_refused told heard now source block most time named store store_now (Taken name) named_is refuses = absurd refuses
+begin_refused told heard now source block most time named store store_now (NotFound name) named_is refuses = absurd refuses
+begin_refused told heard now source block most time named store store_now Pieces named_is refuses = absurd refuses
+begin_refused told heard now source block most time named store store_now Memory named_is refuses = tt
+begin_refused told heard now source block most time named store store_now Record named_is refuses = absurd refuses
 
 -- it isn't copied
 pub step_refused : (from : Origin) (heard now : Option Told) (store store_now : Store) (name : List ℕ) (fault : CarryFault) → LacksName store name
@@ -121,17 +123,18 @@ end_refused from a b now E store middle store_now name Record between same lacks
 )
 
 -- it isn't compared
-pub comparing_refused : (told heard now : Option Told) (source : RepoState) (block most : ℕ) (name : List ℕ) (store store_now : Store) (fault : CarryFault)
+pub comparing_refused : (told heard now : Option Told) (source : RepoState) (block most : ℕ) (time : Option (List ℕ)) (name : List ℕ) (store store_now : Store)
+    (fault : CarryFault)
     → StopsPieces now (repo_view store.repo).keys fault → RefusesComparing told source name fault
-    → RefusesName (origin told source block most) heard store now store_now name fault
-comparing_refused told heard now source block most name store store_now (Source fault) stops refuses = λ of_files.
-    where_first told heard source block most (λ there. RefusesWhole there source.log source.keys source.manifest.archives name fault) (refuses of_files)
-comparing_refused told heard now source block most name store store_now (Target refusal) stops refuses = IfSome_then now stops (λ t s. s.1)
-comparing_refused told heard now source block most name store store_now (Taken taken) stops refuses = absurd refuses
-comparing_refused told heard now source block most name store store_now (NotFound missing) stops refuses = absurd refuses
-comparing_refused told heard now source block most name store store_now Pieces stops refuses = absurd refuses
-comparing_refused told heard now source block most name store store_now Memory stops refuses = tt
-comparing_refused told heard now source block most name store store_now Record stops refuses = absurd refuses
+    → RefusesName (origin told source block most time) heard store now store_now name fault
+comparing_refused told heard now source block most time name store store_now (Source fault) stops refuses = λ of_files.
+    where_first told heard source block most time (λ there. RefusesWhole there source.log source.keys source.manifest.archives name fault) (refuses of_files)
+comparing_refused told heard now source block most time name store store_now (Target refusal) stops refuses = IfSome_then now stops (λ t s. s.1)
+comparing_refused told heard now source block most time name store store_now (Taken taken) stops refuses = absurd refuses
+comparing_refused told heard now source block most time name store store_now (NotFound missing) stops refuses = absurd refuses
+comparing_refused told heard now source block most time name store store_now Pieces stops refuses = absurd refuses
+comparing_refused told heard now source block most time name store store_now Memory stops refuses = tt
+comparing_refused told heard now source block most time name store store_now Record stops refuses = absurd refuses
 
 -- what pends isn't committed
 pub pending_refused : {T : Type 0} (from : Origin) (heard now : Option Told) (store store_now : Store) (keys : Keys) (name : List ℕ)
@@ -148,12 +151,13 @@ pending_refused {T} from heard now store store_now keys name (Err Memory) same t
 pending_refused {T} from heard now store store_now keys name (Err Record) same target stops = absurd (let no : ⊥ = cc in no)
 
 -- archives that differ, where the target was only read
-pub differs_there : {T : Type 0} (told a b : Option Told) (source : RepoState) (block most : ℕ) (target now : RepoState) (name : List ℕ) (x : T) → now ≡ target
-    → KeepsTold {F = CompareFault} other_failed a b (Ok x) → Differ told source a target name → DiffersThere (origin told source block most) b now name
-differs_there {T} told a b source block most target now name x same kept differ =
-    subst (λ (r : RepoState). DiffersThere (origin told source block most) b r name) (sym same) (record {
+pub differs_there : {T : Type 0} (told a b : Option Told) (source : RepoState) (block most : ℕ) (time : Option (List ℕ)) (target now : RepoState) (name : List
+    ℕ) (x : T) → now ≡ target
+    → KeepsTold {F = CompareFault} other_failed a b (Ok x) → Differ told source a target name → DiffersThere (origin told source block most time) b now name
+differs_there {T} told a b source block most time target now name x same kept differ =
+    subst (λ (r : RepoState). DiffersThere (origin told source block most time) b r name) (sym same) (record {
       whole = differ.whole;
-      source = at_origin told source block most (λ there. SaysIn there source name differ.whole) differ.first;
+      source = at_origin told source block most time (λ there. SaysIn there source name differ.whole) differ.first;
       target_is = known_read {T = T} (λ h. Says (files_now h) target name differ.whole → ⊥) other_failed a b (Ok x) kept differ.second;
     })
 

@@ -41,7 +41,7 @@ cut_none accepted from keys archives name among none = absurd (among_none name a
 cuts_on : (from : Origin) (keys : Keys) (before after : ManifestText) (name : List ℕ) → KeepsNames before after → IsCut from keys before.archives name
     → IsCut from keys after.archives name
 cuts_on from keys before after name names cut =
-    IfSome_then from.files cut (λ there c. record { over = entry_kept there from keys before after name names c.over; copy = c.copy })
+    IfSome_then from.files cut (λ there c. record { over = entry_kept there from keys before after name names c.over; salt = c.salt; copy = c.copy })
 
 -- of both
 pub cut_then : (accepted middle : ManifestText) (from : Origin) (keys : Keys) (before after : ManifestText) (some more : List (List ℕ))
@@ -69,7 +69,7 @@ pub cut_one : (accepted : ManifestText) (from : Origin) (added : List Addition) 
     → AreCut accepted from repo.keys manifest.archives (entry.name ∷ [])
 cut_one accepted from added files repo manifest entry is ready name among none =
     subst (IsCut from repo.keys manifest.archives) (among_one entry.name name among)
-    (IfSome_then from.files ready (λ there c. record { over = entry_named there from added files repo manifest entry is c; copy = c.copy }))
+    (IfSome_then from.files ready (λ there c. record { over = entry_named there from added files repo manifest entry is c; salt = c.salt; copy = c.copy }))
 
 -- one that was there isn't new
 pub cut_same : (accepted : ManifestText) (from : Origin) (files : Files) (repo : RepoState) (keys : Keys) (archives : List ArchiveRef) (name : List ℕ)

@@ -163,19 +163,19 @@ archive_filled there from named files store copy added more fault named_is block
     }
 
 -- the same over what the devices tell
-pub copied_filled : (told a : Option Told) (source : RepoState) (block most : ℕ) (named : ArchiveRef) (store : Store) (copy : Copy)
+pub copied_filled : (told a : Option Told) (source : RepoState) (block most : ℕ) (time : Option (List ℕ)) (named : ArchiveRef) (store : Store) (copy : Copy)
     (added more : List Addition) (fault : CarryFault) → archive_named named.name source.manifest.archives ≡ Some named
-    → FillsStep told source copy fault more → IsCopiedSoFar (origin told source block most) named a store copy added
-    → WhereHeard a fault (λ refusal. FillsOne (origin told source block most) (repo_view store.repo).keys named.name refusal (added ++ more))
-copied_filled None a source block most named store copy added more (Source fault) named_is filled so = λ of_files.
-    told_any a (λ _. FillsOne (origin None source block most) (repo_view store.repo).keys named.name fault (added ++ more)) (λ f. tt)
-copied_filled (Some t) a source block most named store copy added more (Source fault) named_is filled so = λ of_files.
+    → FillsStep told source copy fault more → IsCopiedSoFar (origin told source block most time) named a store copy added
+    → WhereHeard a fault (λ refusal. FillsOne (origin told source block most time) (repo_view store.repo).keys named.name refusal (added ++ more))
+copied_filled None a source block most time named store copy added more (Source fault) named_is filled so = λ of_files.
+    told_any a (λ _. FillsOne (origin None source block most time) (repo_view store.repo).keys named.name fault (added ++ more)) (λ f. tt)
+copied_filled (Some t) a source block most time named store copy added more (Source fault) named_is filled so = λ of_files.
     IfSome_then a so.1 (λ d c.
-    archive_filled (told_files t) (origin (Some t) source block most) named (told_files d) store copy added more fault named_is so.0.block c
+    archive_filled (told_files t) (origin (Some t) source block most time) named (told_files d) store copy added more fault named_is so.0.block c
     (filled of_files))
-copied_filled told a source block most named store copy added more (Target refusal) named_is filled so = tt
-copied_filled told a source block most named store copy added more (Taken name) named_is filled so = tt
-copied_filled told a source block most named store copy added more (NotFound name) named_is filled so = tt
-copied_filled told a source block most named store copy added more Pieces named_is filled so = tt
-copied_filled told a source block most named store copy added more Memory named_is filled so = tt
-copied_filled told a source block most named store copy added more Record named_is filled so = tt
+copied_filled told a source block most time named store copy added more (Target refusal) named_is filled so = tt
+copied_filled told a source block most time named store copy added more (Taken name) named_is filled so = tt
+copied_filled told a source block most time named store copy added more (NotFound name) named_is filled so = tt
+copied_filled told a source block most time named store copy added more Pieces named_is filled so = tt
+copied_filled told a source block most time named store copy added more Memory named_is filled so = tt
+copied_filled told a source block most time named store copy added more Record named_is filled so = tt

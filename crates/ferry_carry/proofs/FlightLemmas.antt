@@ -41,6 +41,7 @@ use Rattle.ferry_store.specs.declared.fault.StoreRefusal.TheVariants as Stores
 use Rattle.ferry_store.specs.declared.store.Store.{Store}
 use Rattle.ferry_write.specs.Script.{AllDone}
 use Rattle.ferry_piece.proofs.AddingLemmas.{gathers_all, stops_unbroken}
+use Rattle.ferry_carry.proofs.NextLemmas.{behind_present}
 use Rattle.ferry_carry.proofs.CarryLemmas.{same_over}
 use Rattle.ferry_carry.proofs.CutLemmas.{cut_same}
 use Rattle.ferry_piece.proofs.GatherLemmas.{moved_here, stands_here}
@@ -193,13 +194,14 @@ works_unread {U} T most store repo a b n m fault same kept caused refused repo_f
     }
 
 -- what was compared is the same still
-pub same_read : {T : Type 0} (told a b : Option Told) (source : RepoState) (block most : ℕ) (target now : RepoState) (name : List ℕ) (x : T) → now ≡ target
-    → KeepsTold {F = CompareFault} other_failed a b (Ok x) → AreEqual told source a target name → IsSame (origin told source block most) b now name
-same_read {T} told a b source block most target now name x same kept equal =
-    subst (λ (r : RepoState). IsSame (origin told source block most) b r name) (sym same)
+pub same_read : {T : Type 0} (told a b : Option Told) (source : RepoState) (block most : ℕ) (time : Option (List ℕ)) (target now : RepoState) (name : List ℕ)
+    (x : T) → now ≡ target
+    → KeepsTold {F = CompareFault} other_failed a b (Ok x) → AreEqual told source a target name → IsSame (origin told source block most time) b now name
+same_read {T} told a b source block most time target now name x same kept equal =
+    subst (λ (r : RepoState). IsSame (origin told source block most time) b r name) (sym same)
     (by told b equal.first (known_read (λ h. Says (files_now h) target name equal.whole) other_failed a b (Ok x) kept equal.second)) where
       by : (told b : Option Told) → IfSome told (λ t. Says (told_files t) source name equal.whole)
-          → IfSome b (λ t. Says (told_files t) target name equal.whole) → IsSame (origin told source block most) b target name
+          → IfSome b (λ t. Says (told_files t) target name equal.whole) → IsSame (origin told source block most time) b target name
       by None None first second = tt
       by None (Some d) first second = tt
       by (Some t) None first second = tt
@@ -277,6 +279,8 @@ same_grows earlier from name store now h g accepts rest pending there same gathe
       committed = end.committed;
       config = end.moved.config;
       most = most_from store now rest;
+      next = behind_present from (accepted_in store) (repo_view store.repo).manifest (repo_view now.repo).manifest name there rest.manifest;
+      settled = λ same. rest.accepted ∙ (same ∙ sym rest.manifest);
       carried = (
         subst (λ (k : Keys). IsCarried from all_added base k (committed_of written) (repo_view now.repo).manifest.archives name) (sym rest.keys)
             (subst (λ (m : ManifestText). IsCarried from all_added base (repo_view store.repo).keys (committed_of written) m.archives name)

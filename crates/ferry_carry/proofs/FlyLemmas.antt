@@ -32,10 +32,12 @@ use Rattle.ferry_carry.proofs.HeldLemmas.{grows_all, heard_apart, heard_back, he
 use Rattle.ferry_carry.proofs.HeldLemmas.{known_back}
 use Rattle.ferry_piece.proofs.PutsLemmas.{adds_at, adds_here, allows_within, border_append, front_all, goes_at, goes_same}
 use Rattle.ferry_piece.specs.Adding.{AddsOn, HoldsAll, HoldsRefused, IsNoChunk, StopsLast}
+use Rattle.ferry_carry.specs.Naming.{TaggedRecord}
+use Rattle.ferry_carry.specs.declared.options.Options.{Options}
 use Rattle.ferry_carry.specs.Carrying.{Origin, origin}
 use Rattle.ferry_carry.specs.Counting.{CountsOf, nothing_carried}
 use Rattle.ferry_carry.specs.Flight.{BeginsDone, Flies, FlightFits, IsSame, ListsDone, TakesAll, TakesTurn, TurnLists, TurnStands, WorkFits}
-use Rattle.ferry_carry.specs.Flight.{carried_by, flown_from}
+use Rattle.ferry_carry.specs.Flight.{carried_by, flown_from, origin_of}
 use Rattle.ferry_piece.specs.Gather.{Gathers, GathersAt, KeepsRest, KeepsStanding, KeepsStandingAt, StandsFrom}
 use Rattle.ferry_carry.specs.Grow.{AcceptsMore, Grows, KeepsGrowing}
 use Rattle.ferry_piece.specs.Fault.{IsOfSource, IsOfWork, target_failed}
@@ -64,18 +66,28 @@ use Rattle.ferry_write.specs.Script.{AllDone}
 -- ---- a source
 
 -- a source that tells the same files is the same
-pub origin_kept : (told later : Option Told) (source after : RepoState) (block other most others : ℕ) → heard later ≡ heard told → after ≡ source
-    → other ≡ block → others ≡ most → origin later after other others ≡ origin told source block most
-origin_kept told later source after block other most others alike kept same limit =
-    ap (λ (r : RepoState). origin later r other others) kept
-    ∙ (ap (λ (b : ℕ). origin later source b others) same ∙ (ap (λ (l : ℕ). origin later source block l) limit ∙ by told later alike)) where
-      by : (told later : Option Told) → heard later ≡ heard told → origin later source block most ≡ origin told source block most
+pub origin_kept : (told later : Option Told) (source after : RepoState) (block other most others : ℕ) (time given : Option (List ℕ))
+    → heard later ≡ heard told → after ≡ source → other ≡ block → others ≡ most → given ≡ time
+    → origin later after other others given ≡ origin told source block most time
+origin_kept told later source after block other most others time given alike kept same limit timed =
+    ap (λ (r : RepoState). origin later r other others given) kept
+    ∙ (ap (λ (b : ℕ). origin later source b others given) same ∙ (ap (λ (l : ℕ). origin later source block l given) limit
+    ∙ (ap (λ (t : Option (List ℕ)). origin later source block most t) timed ∙ by told later alike))) where
+      by : (told later : Option Told) → heard later ≡ heard told → origin later source block most time ≡ origin told source block most time
       by None None alike = refl
       by None (Some now) alike = absurd (let no : ⊥ = cc in no)
       by (Some before) None alike = absurd (let no : ⊥ = cc in no)
       by (Some before) (Some now) alike =
           let e : heard_of now ≡ heard_of before = cc in
-          ap (λ (h : Heard). record { files = Some (files_now h.history); repo = source; block = block; most = most }) e
+          ap (λ (h : Heard). record { files = Some (files_now h.history); repo = source; block = block; most = most; time = time }) e
+
+-- the same of one of which archives are copied with the same options
+pub origin_same : (told later : Option Told) (source after : RepoState) (options other : Options) → heard later ≡ heard told → after ≡ source
+    → other ≡ options → origin_of later after other ≡ origin_of told source options
+origin_same told later source after options other alike kept same =
+    ap (origin_of later after) same
+    ∙ origin_kept told later source after options.block options.block options.checkpoint options.checkpoint options.timestamp options.timestamp alike kept
+    refl refl refl
 
 -- ---- turns
 
@@ -148,15 +160,16 @@ present_flies {T} from name store middle now a b c n m k x (Err fault) accepts a
     (carried_gathered_err {T = Turn} {U = Turn} [] from (name ∷ []) [] middle now now [] b c m k fault accepts_middle q))
 
 -- a turn behind a body that added contents
-pub flown_more : {T : Type 0} (earlier : List Addition) (told later : Option Told) (source after : RepoState) (block most : ℕ) (name : List ℕ)
+pub flown_more : {T : Type 0} (earlier : List Addition) (told later : Option Told) (source after : RepoState) (block most : ℕ) (time : Option (List ℕ)) (name :
+    List ℕ)
     (store middle now : Store) (added more : List Addition) (a b c : Option Told) (n m k : ℕ) (x : T) (result : Result Turn CarryFault)
     → heard later ≡ heard told → after ≡ source → AcceptsMore store → KeepsRest store middle → AddsOn {T = T} most store added middle a b n m (Ok x)
-    → Flies (earlier ++ added) (origin later after block most) name more middle now b c m k result
-    → Flies earlier (origin told source block most) name (added ++ more) store now a c n k result
-flown_more {T} earlier told later source after block most name store middle now added more a b c n m k x result alike kept accepts rest p q =
-    let from = origin told source block most in
-    flown_then earlier from (origin later after block most) name name added more store middle now a b c n m k result
-    (origin_kept told later source after block block most most alike kept refl refl) refl
+    → Flies (earlier ++ added) (origin later after block most time) name more middle now b c m k result
+    → Flies earlier (origin told source block most time) name (added ++ more) store now a c n k result
+flown_more {T} earlier told later source after block most time name store middle now added more a b c n m k x result alike kept accepts rest p q =
+    let from = origin told source block most time in
+    flown_then earlier from (origin later after block most time) name name added more store middle now a b c n m k result
+    (origin_kept told later source after block block most most time time alike kept refl refl refl) refl
     (carried_from {T = T} {U = Unit {0}} earlier from (name ∷ []) store middle added a b n m x tt accepts rest p) q
 
 -- a body that added contents, and a fault behind it or in it
@@ -201,12 +214,13 @@ record_unbroken told source id Record refused = absurd refused
 -- ---- how far an archive is
 
 -- the same of a source by the length of the pieces that an archive on its way has, and by its checkpoint
-pub so_far_as : (told : Option Told) (source : RepoState) (block most : ℕ) (named : ArchiveRef) (heard : Option Told) (store : Store) (copy : Copy)
-    (added : List Addition) → IsCopiedSoFar (origin told source block most) named heard store copy added
-    → IsCopiedSoFar (origin told source copy.block copy.contents.checkpoint) named heard store copy added
-so_far_as told source block most named heard store copy added p =
-    subst (λ (b : ℕ). IsCopiedSoFar (origin told source b copy.contents.checkpoint) named heard store copy added) p.0.block
-    (subst (λ (l : ℕ). IsCopiedSoFar (origin told source block l) named heard store copy added) p.0.most p)
+pub so_far_as : (told : Option Told) (source : RepoState) (block most : ℕ) (time : Option (List ℕ)) (named : ArchiveRef) (heard : Option Told) (store : Store)
+    (copy : Copy)
+    (added : List Addition) → IsCopiedSoFar (origin told source block most time) named heard store copy added
+    → IsCopiedSoFar (origin told source copy.block copy.contents.checkpoint time) named heard store copy added
+so_far_as told source block most time named heard store copy added p =
+    subst (λ (b : ℕ). IsCopiedSoFar (origin told source b copy.contents.checkpoint time) named heard store copy added) p.0.block
+    (subst (λ (l : ℕ). IsCopiedSoFar (origin told source block l time) named heard store copy added) p.0.most p)
 
 -- What a step did of an archive of an origin, which has a name.
 abbrev pub StepsOf : Origin → Option Told → Option Told → Store → Store → ArchiveRef → Copy → List Addition → List Addition → ℕ → ℕ
@@ -220,54 +234,62 @@ StepsOf from a b store now named copy added more n m result =
     × IfOk result (CopiesOn from named b now copy added more)))
 
 -- the same, in the words of such a source
-pub stepped_as : (told : Option Told) (source : RepoState) (block most other others : ℕ) (named : ArchiveRef) (a b : Option Told) (store now : Store)
+pub stepped_as : (told : Option Told) (source : RepoState) (block most other others : ℕ) (time : Option (List ℕ)) (named : ArchiveRef) (a b : Option Told)
+    (store now : Store)
     (copy : Copy) (added more : List Addition) (n m : ℕ) (result : Result Bool CarryFault) → other ≡ block → others ≡ most
-    → StepsOf (origin told source other others) a b store now named copy added more n m result
-    → StepsOf (origin told source block most) a b store now named copy added more n m result
-stepped_as told source block most other others named a b store now copy added more n m result same limit p =
-    subst (λ (l : ℕ). StepsOf (origin told source block l) a b store now named copy added more n m result) limit
-    (subst (λ (d : ℕ). StepsOf (origin told source d others) a b store now named copy added more n m result) same p)
+    → StepsOf (origin told source other others time) a b store now named copy added more n m result
+    → StepsOf (origin told source block most time) a b store now named copy added more n m result
+stepped_as told source block most other others time named a b store now copy added more n m result same limit p =
+    subst (λ (l : ℕ). StepsOf (origin told source block l time) a b store now named copy added more n m result) limit
+    (subst (λ (d : ℕ). StepsOf (origin told source d others time) a b store now named copy added more n m result) same p)
 
 -- of a source that tells what it told
-pub so_far_later : (told later : Option Told) (source after : RepoState) (block most : ℕ) (named : ArchiveRef) (heard_now : Option Told) (store : Store)
+pub so_far_later : (told later : Option Told) (source after : RepoState) (block most : ℕ) (time : Option (List ℕ)) (named : ArchiveRef) (heard_now : Option
+    Told) (store : Store)
     (copy : Copy) (added : List Addition) → heard later ≡ heard told → after ≡ source
-    → IsCopiedSoFar (origin told source block most) named heard_now store copy added
-    → IsCopiedSoFar (origin later after block most) named heard_now store copy added
-so_far_later told later source after block most named heard_now store copy added alike kept p =
+    → IsCopiedSoFar (origin told source block most time) named heard_now store copy added
+    → IsCopiedSoFar (origin later after block most time) named heard_now store copy added
+so_far_later told later source after block most time named heard_now store copy added alike kept p =
     subst (λ (f : Origin). IsCopiedSoFar f named heard_now store copy added)
-    (sym (origin_kept told later source after block block most most alike kept refl refl)) p
+    (sym (origin_kept told later source after block block most most time time alike kept refl refl refl)) p
 
 -- ---- what turns added
 
 -- what was added once an archive is done, in the words of a store and a source before
-pub done_before : (from other : Origin) (keys others : Keys) (name : List ℕ) (added given : List Addition) (copied : Bool)
+pub done_before : (from other : Origin) (keys others : Keys) (name : List ℕ) (records : List TaggedRecord) (added given : List Addition) (copied : Bool)
     (E : History → History → Type 0) (a b : Option Told) → Between a b E → other ≡ from → others ≡ keys → given ≡ added
-    → ListsDone b other others name given copied → ListsDone a from keys name added copied
-done_before from other keys others name added given true E a b between is same all done =
-    let there = known_back (ListsOne other others name given) E a b between done in
-    subst (λ (l : List Addition). IfSome a (λ _. ListsOne from keys name l)) all
-    (subst (λ (k : Keys). IfSome a (λ _. ListsOne from k name given)) same
-    (subst (λ (f : Origin). IfSome a (λ _. ListsOne f others name given)) is there))
-done_before from other keys others name added given false E a b between is same all done = sym all ∙ done
+    → ListsDone b other others name records given copied → ListsDone a from keys name records added copied
+done_before from other keys others name records added given true E a b between is same all done =
+    let one = done.0 in
+    let there = known_back (ListsOne other others name one given) E a b between done.1.1 in (
+      one,
+      (
+        done.1.0,
+        subst (λ (l : List Addition). IfSome a (λ _. ListsOne from keys name one l)) all
+            (subst (λ (k : Keys). IfSome a (λ _. ListsOne from k name one given)) same
+            (subst (λ (f : Origin). IfSome a (λ _. ListsOne f others name one given)) is there)),
+      ),
+    )
+done_before from other keys others name records added given false E a b between is same all done = (done.0, sym all ∙ done.1)
 
 -- the same of a turn
 turn_before : (told : Option Told) (source : RepoState) (target : Option Told) (store : Store) (flight : Flight) (from other : Origin) (keys others : Keys)
-    (added more : List Addition) (turn : Turn) (E : History → History → Type 0) (a b : Option Told) → Between a b E → other ≡ from
-    → others ≡ keys → TurnLists told source target store flight b other others added more turn
-    → TurnLists told source target store flight a from keys added more turn
-turn_before told source target store flight from other keys others added more More E a b between is same lists = lists
-turn_before told source target store flight from other keys others added more Named E a b between is same lists =
-    (done_before from other keys others flight.named.name (added ++ more) (added ++ more) true E a b between is same refl lists.0, lists.1)
-turn_before told source target store flight from other keys others added more Present E a b between is same lists = lists
+    (added more : List Addition) (records : List TaggedRecord) (turn : Turn) (E : History → History → Type 0) (a b : Option Told) → Between a b E
+    → other ≡ from → others ≡ keys → TurnLists told source target store flight b other others added more records turn
+    → TurnLists told source target store flight a from keys added more records turn
+turn_before told source target store flight from other keys others added more records More E a b between is same lists = lists
+turn_before told source target store flight from other keys others added more records Named E a b between is same lists =
+    (done_before from other keys others flight.named.name records (added ++ more) (added ++ more) true E a b between is same refl lists.0, lists.1)
+turn_before told source target store flight from other keys others added more records Present E a b between is same lists = lists
 
 turns_before : (told : Option Told) (source : RepoState) (target : Option Told) (store : Store) (flight : Flight) (from other : Origin)
-    (keys others : Keys) (added more : List Addition) (result : Result Turn CarryFault) (E : History → History → Type 0)
+    (keys others : Keys) (added more : List Addition) (records : List TaggedRecord) (result : Result Turn CarryFault) (E : History → History → Type 0)
     (a b : Option Told) → Between a b E → other ≡ from → others ≡ keys
-    → IfOk result (TurnLists told source target store flight b other others added more)
-    → IfOk result (TurnLists told source target store flight a from keys added more)
-turns_before told source target store flight from other keys others added more (Ok turn) E a b between is same lists =
-    turn_before told source target store flight from other keys others added more turn E a b between is same lists
-turns_before told source target store flight from other keys others added more (Err fault) E a b between is same lists = tt
+    → IfOk result (TurnLists told source target store flight b other others added more records)
+    → IfOk result (TurnLists told source target store flight a from keys added more records)
+turns_before told source target store flight from other keys others added more records (Ok turn) E a b between is same lists =
+    turn_before told source target store flight from other keys others added more records turn E a b between is same lists
+turns_before told source target store flight from other keys others added more records (Err fault) E a b between is same lists = tt
 
 -- nothing was put of nothing
 counts_none : CountsOf [] nothing_carried
@@ -277,9 +299,10 @@ counts_none = record { chunks = refl; bytes = refl; meta = refl }
 -- where an archive is there nothing was added
 pub turn_present : (told : Option Told) (source : RepoState) (target : Option Told) (store : Store) (flight : Flight) (before : Option Told)
     (from : Origin) (keys : Keys) (result : Result Turn CarryFault) → flight.put ≡ nothing_carried → IfOk result (λ turn. turn ≡ Present)
-    → IfOk result (TurnLists told source target store flight before from keys [] [])
+    → IfOk result (TurnLists told source target store flight before from keys [] [] [])
 turn_present told source target store flight before from keys (Ok turn) uncounted is =
-    subst (TurnLists told source target store flight before from keys [] []) (sym is) (refl, subst (CountsOf []) (sym uncounted) counts_none)
+    subst (TurnLists told source target store flight before from keys [] [] []) (sym is)
+    ((refl, refl), subst (CountsOf []) (sym uncounted) counts_none)
 turn_present told source target store flight before from keys (Err fault) uncounted is = tt
 
 -- ---- how far it came
@@ -335,30 +358,31 @@ fills_new before from keys accepted name begun fault none known =
     (λ refusal filled. inr (tells_named accepted name none, filled)) known
 
 -- its record isn't read
-record_refused : (told : Option Told) (source : RepoState) (block most : ℕ) (keys : Keys) (named : ArchiveRef) (refusal : RepoFault)
+record_refused : (told : Option Told) (source : RepoState) (block most : ℕ) (time : Option (List ℕ)) (keys : Keys) (named : ArchiveRef) (refusal : RepoFault)
     → archive_named named.name source.manifest.archives ≡ Some named
     → IfSome told (λ t. RefusesRecord (told_files t) source.log source.keys named.id refusal)
-    → FillsOne (origin told source block most) keys named.name refusal []
-record_refused None source block most keys named refusal named_is refused = tt
-record_refused (Some t) source block most keys named refusal named_is refused =
+    → FillsOne (origin told source block most time) keys named.name refusal []
+record_refused None source block most time keys named refusal named_is refused = tt
+record_refused (Some t) source block most time keys named refusal named_is refused =
     record { named = named; named_is = named_is; fills = inl (refl, refused) }
 
-pub fills_begin : (before told : Option Told) (source : RepoState) (block most : ℕ) (keys : Keys) (accepted : ManifestText) (named : ArchiveRef)
+pub fills_begin : (before told : Option Told) (source : RepoState) (block most : ℕ) (time : Option (List ℕ)) (keys : Keys) (accepted : ManifestText) (named :
+    ArchiveRef)
     (fault : CarryFault) → archive_named named.name source.manifest.archives ≡ Some named → RefusesBegin told source named.id fault
-    → FillsFlight before (origin told source block most) keys accepted named.name fault []
-fills_begin before told source block most keys accepted named (Source f) named_is refused = λ of_files.
-    always (FillsName (origin told source block most) keys accepted [] named.name f []) before
+    → FillsFlight before (origin told source block most time) keys accepted named.name fault []
+fills_begin before told source block most time keys accepted named (Source f) named_is refused = λ of_files.
+    always (FillsName (origin told source block most time) keys accepted [] named.name f []) before
     (by (archive_named named.name accepted.archives) refl of_files) where
       by : (o : Option ArchiveRef) → archive_named named.name accepted.archives ≡ o → IsOfFiles f
-          → FillsName (origin told source block most) keys accepted [] named.name f []
-      by None e of_files = inr (tells_named accepted named.name e, record_refused told source block most keys named f named_is (refused of_files))
+          → FillsName (origin told source block most time) keys accepted [] named.name f []
+      by None e of_files = inr (tells_named accepted named.name e, record_refused told source block most time keys named f named_is (refused of_files))
       by (Some entry) e of_files = inl (inl (subst IsSome (sym e) refl), refl)
-fills_begin before told source block most keys accepted named (Target refusal) named_is refused = tt
-fills_begin before told source block most keys accepted named (Taken name) named_is refused = tt
-fills_begin before told source block most keys accepted named (NotFound name) named_is refused = tt
-fills_begin before told source block most keys accepted named Pieces named_is refused = tt
-fills_begin before told source block most keys accepted named Memory named_is refused = tt
-fills_begin before told source block most keys accepted named Record named_is refused = tt
+fills_begin before told source block most time keys accepted named (Target refusal) named_is refused = tt
+fills_begin before told source block most time keys accepted named (Taken name) named_is refused = tt
+fills_begin before told source block most time keys accepted named (NotFound name) named_is refused = tt
+fills_begin before told source block most time keys accepted named Pieces named_is refused = tt
+fills_begin before told source block most time keys accepted named Memory named_is refused = tt
+fills_begin before told source block most time keys accepted named Record named_is refused = tt
 
 -- in the words of a store and a source before
 pub fills_before : (from other : Origin) (keys others : Keys) (accepted manifest : ManifestText) (name called : List ℕ) (added given : List Addition)
@@ -407,7 +431,8 @@ fits_begins told source cached heard store flight fits log_fits accepts = by fli
   by (Copying copy) p =
       begins_new heard from (repo_view store.repo).keys (accepted_in store) flight.named.name fits.added p.1
       (subst (λ (l : List Addition). IfSome heard (λ _. BeginsOne from (repo_view store.repo).keys flight.named.name l)) (append-nil fits.added)
-      (copied_begun told heard source cached flight.options.block flight.options.checkpoint flight.named store copy fits.added [] p.0 log_fits
+      (copied_begun told heard source cached flight.options.block flight.options.checkpoint flight.options.timestamp flight.named store copy fits.added [] p.0
+      log_fits
       fits.stands.named (inl refl) p.3))
   by (Comparing comparison) p = none p.3
 
@@ -527,30 +552,33 @@ pending_uncommitted {T} {U} most store now a b n m fault some p =
     (λ h g e. checkpoint_stands most store [] h g some e.0 e.1) p
 
 -- a refusal that was handed on, of a turn
-pub turned_err : (told : Option Told) (source : RepoState) (from : Origin) (name : List ℕ) (added more : List Addition) (store now : Store)
+pub turned_err : (told : Option Told) (source : RepoState) (from : Origin) (name : List ℕ) (added more : List Addition) (records : List TaggedRecord) (store
+    now : Store)
     (flight : Flight) (a b : Option Told) (n m : ℕ) (result : Result Turn CarryFault) (fault : CarryFault) → IsErrAnd result (λ y. y ≡ fault)
-    → TakesTurn told source from name added more store now flight a b n m (Err fault)
-    → TakesTurn told source from name added more store now flight a b n m result
-turned_err told source from name added more store now flight a b n m result fault e p =
-    err_is result fault (TakesTurn told source from name added more store now flight a b n m) e p
+    → TakesTurn told source from name added more records store now flight a b n m (Err fault)
+    → TakesTurn told source from name added more records store now flight a b n m result
+turned_err told source from name added more records store now flight a b n m result fault e p =
+    err_is result fault (TakesTurn told source from name added more records store now flight a b n m) e p
 
 -- ---- a turn behind a body that added nothing
 
-pub turned_behind : {T : Type 0} (told later seen : Option Told) (source after given : RepoState) (block most : ℕ) (name : List ℕ)
-    (store middle now : Store) (flight : Flight) (more : List Addition) (a b c : Option Told) (n m k : ℕ) (x : T) (result : Result Turn CarryFault)
+pub turned_behind : {T : Type 0} (told later seen : Option Told) (source after given : RepoState) (block most : ℕ) (time : Option (List ℕ)) (name : List ℕ)
+    (store middle now : Store) (flight : Flight) (more : List Addition) (records : List TaggedRecord) (a b c : Option Told) (n m k : ℕ) (x : T)
+    (result : Result Turn CarryFault)
     → heard later ≡ heard told → after ≡ source → AcceptsMore store → KeepsRest store middle
     → AddsOn {T = T} most store [] middle a b n m (Ok x)
-    → TakesTurn seen given (origin later after block most) name [] more middle now flight b c m k result
-    → TakesTurn seen given (origin told source block most) name [] more store now flight a c n k result
+    → TakesTurn seen given (origin later after block most time) name [] more records middle now flight b c m k result
+    → TakesTurn seen given (origin told source block most time) name [] more records store now flight a c n k result
 unfolding border_behind
-turned_behind {T} told later seen source after given block most name store middle now flight more a b c n m k x result alike kept accepts rest p q =
-    let from = origin told source block most in
-    let other = origin later after block most in
-    let same : other ≡ from = origin_kept told later source after block block most most alike kept refl refl in
+turned_behind {T} told later seen source after given block most time name store middle now flight more records a b c n m k x result alike kept accepts rest p q
+    =
+    let from = origin told source block most time in
+    let other = origin later after block most time in
+    let same : other ≡ from = origin_kept told later source after block block most most time time alike kept refl refl refl in
     let keys = (repo_view store.repo).keys in
     let others = (repo_view middle.repo).keys in
     record {
-      flies = flown_more {T = T} [] told later source after block most name store middle now [] more a b c n m k x result alike kept accepts rest p
+      flies = flown_more {T = T} [] told later source after block most time name store middle now [] more a b c n m k x result alike kept accepts rest p
           q.flies;
       begins = begins_before from other keys others (accepted_in store) (accepted_in middle) name name more more (KeepsStanding most store []) a b p.works.each
           same rest.keys rest.accepted refl refl q.begins;
@@ -560,21 +588,23 @@ turned_behind {T} told later seen source after given block most name store middl
           (added_all {T = T} AtBegin most store middle [] a b n m x p) q.held;
       fills = filled_before {T = Turn} from other keys others (accepted_in store) (accepted_in middle) name name more more result
           (KeepsStanding most store []) a b p.works.each same rest.keys rest.accepted refl refl q.fills;
-      lists = turns_before seen given c now flight from other keys others [] more result (KeepsStanding most store []) a b p.works.each same rest.keys q.lists;
+      lists = turns_before seen given c now flight from other keys others [] more records result (KeepsStanding most store []) a b p.works.each same rest.keys
+          q.lists;
     }
 
 -- the end of an archive behind a step that added nothing
-pub turn_ended : {T : Type 0} (from : Origin) (name : List ℕ) (added more : List Addition) (store middle now : Store) (told : Option Told)
+pub turn_ended : {T : Type 0} (from : Origin) (name : List ℕ) (added more : List Addition) (records : List TaggedRecord) (store middle now : Store) (told :
+    Option Told)
     (source : RepoState) (flight : Flight) (a b c : Option Told) (n m k : ℕ) (x : T) (result : Result Turn CarryFault) → AcceptsMore store
     → KeepsRest store middle → archive_named name (accepted_in store).archives ≡ None
     → AddsOn {T = T} from.most store [] middle a b n m (Ok x)
     → Flies added from name more middle now b c m k result → IfSome b (λ _. BeginsOne from (repo_view middle.repo).keys name (added ++ more))
     → IfErr result (λ fault. IsOfWork fault → Between b c (KeepsStanding from.most middle more))
     → StopsLast b (repo_view middle.repo).keys more result → IfErr result (λ fault. IsOfSource fault → ⊥)
-    → IfOk result (λ turn. (turn ≡ Named) × TurnLists told source c now flight a from (repo_view store.repo).keys added more Named)
-    → TakesTurn told source from name added more store now flight a c n k result
+    → IfOk result (λ turn. (turn ≡ Named) × TurnLists told source c now flight a from (repo_view store.repo).keys added more records Named)
+    → TakesTurn told source from name added more records store now flight a c n k result
 unfolding border_behind
-turn_ended {T} from name added more store middle now told source flight a b c n m k x result accepts rest unnamed p flies begun stands last apart
+turn_ended {T} from name added more records store middle now told source flight a b c n m k x result accepts rest unnamed p flies begun stands last apart
     lists = record {
       flies = carried_by_then {T = T} {U = Turn} added from [] (name ∷ []) (λ turn. carried_by turn name) [] more store middle now a b c n m k x result
           (carried_from {T = T} {U = T} added from (name ∷ []) store middle [] a b n m x x accepts rest p)
@@ -592,16 +622,16 @@ turn_ended {T} from name added more store middle now told source flight a b c n 
       at = border_behind AtBegin added
 
       standing : (r : Result Turn CarryFault) → IfErr r (λ fault. IsOfWork fault → Between b c (KeepsStanding from.most middle more))
-          → IfOk r (λ turn. (turn ≡ Named) × TurnLists told source c now flight a from (repo_view store.repo).keys added more Named)
+          → IfOk r (λ turn. (turn ≡ Named) × TurnLists told source c now flight a from (repo_view store.repo).keys added more records Named)
           → TurnStands at from.most store more a c r
       standing (Ok turn) none named = subst (λ (t : Turn). TurnStands at from.most store more a c (Ok t)) (sym named.0) tt
       standing (Err fault) after named = λ work.
           stands_within at from.most store more a c (stands_behind {T = T} from.most store middle [] more a b c n m x rest.keys p.works (after work))
 
       listed : (r : Result Turn CarryFault)
-          → IfOk r (λ turn. (turn ≡ Named) × TurnLists told source c now flight a from (repo_view store.repo).keys added more Named)
-          → IfOk r (TurnLists told source c now flight a from (repo_view store.repo).keys added more)
-      listed (Ok turn) named = subst (TurnLists told source c now flight a from (repo_view store.repo).keys added more) (sym named.0) named.1
+          → IfOk r (λ turn. (turn ≡ Named) × TurnLists told source c now flight a from (repo_view store.repo).keys added more records Named)
+          → IfOk r (TurnLists told source c now flight a from (repo_view store.repo).keys added more records)
+      listed (Ok turn) named = subst (TurnLists told source c now flight a from (repo_view store.repo).keys added more records) (sym named.0) named.1
       listed (Err fault) named = tt
 
 -- ---- turns, up to the last
@@ -635,11 +665,12 @@ takes_added told source from name start more store now flight a b n m before =
 
 -- one more was taken
 pub takes_more : (told later : Option Told) (source after : RepoState) (from other : Origin) (name called : List ℕ) (start more : List Addition)
+    (records : List TaggedRecord)
     (store middle now : Store) (flight flight_now : Flight) (a b c : Option Told) (n m k : ℕ) → other ≡ from → called ≡ name → AcceptsMore middle
     → (before : TakesOn told source from name start store middle flight a b n m)
-    → TakesTurn later after other called before.fits.added more middle now flight_now b c m k (Ok More)
+    → TakesTurn later after other called before.fits.added more records middle now flight_now b c m k (Ok More)
     → TakesOn later after from name start store now flight_now a c n k
-takes_more told later source after from other name called start more store middle now flight flight_now a b c n m k is names accepts before turn =
+takes_more told later source after from other name called start more records store middle now flight flight_now a b c n m k is names accepts before turn =
     record {
       more = before.more ++ more;
       fits = turn.lists.0;
@@ -654,12 +685,14 @@ takes_more told later source after from other name called start more store middl
 
 -- what all of them added, as far as it came
 takes_begun : (told later : Option Told) (source after : RepoState) (from other : Origin) (name called : List ℕ) (start more : List Addition)
+    (records : List TaggedRecord)
     (store middle now : Store) (flight flight_now : Flight) (a b c : Option Told) (n m k : ℕ) (result : Result Turn CarryFault) → other ≡ from
     → called ≡ name → accepted_in middle ≡ accepted_in store → (repo_view middle.repo).keys ≡ (repo_view store.repo).keys
     → (before : TakesOn told source from name start store middle flight a b n m)
-    → TakesTurn later after other called before.fits.added more middle now flight_now b c m k result
+    → TakesTurn later after other called before.fits.added more records middle now flight_now b c m k result
     → BeginsDone a from (repo_view store.repo).keys (accepted_in store) name (start ++ (before.more ++ more))
-takes_begun told later source after from other name called start more store middle now flight flight_now a b c n m k result is names accepted keys before turn =
+takes_begun told later source after from other name called start more records store middle now flight flight_now a b c n m k result is names accepted keys
+    before turn =
     begins_before from other (repo_view store.repo).keys (repo_view middle.repo).keys (accepted_in store) (accepted_in middle) name called
     (start ++ (before.more ++ more)) (before.fits.added ++ more) (KeepsGrowing start from [] store before.more) a b before.stands is
     keys accepted names
@@ -675,37 +708,40 @@ carried_last true name = refl
 carried_last false name = refl
 
 lists_last : (told : Option Told) (source : RepoState) (target : Option Told) (store : Store) (flight : Flight) (before : Option Told) (from : Origin)
-    (keys : Keys) (added more : List Addition) (copied : Bool) → TurnLists told source target store flight before from keys added more (last_turn copied)
-    → ListsDone before from keys flight.named.name (added ++ more) copied × CountsOf (added ++ more) flight.put
-lists_last told source target store flight before from keys added more true lists = lists
-lists_last told source target store flight before from keys added more false lists = lists
+    (keys : Keys) (added more : List Addition) (records : List TaggedRecord) (copied : Bool)
+    → TurnLists told source target store flight before from keys added more records (last_turn copied)
+    → ListsDone before from keys flight.named.name records (added ++ more) copied × CountsOf (added ++ more) flight.put
+lists_last told source target store flight before from keys added more records true lists = lists
+lists_last told source target store flight before from keys added more records false lists = lists
 
 -- the last was taken
 pub takes_last : (told later : Option Told) (source after : RepoState) (from other : Origin) (name called : List ℕ) (start more : List Addition)
+    (records : List TaggedRecord)
     (store middle now : Store) (flight flight_now : Flight) (a b c : Option Told) (n m k : ℕ) (copied : Bool) → other ≡ from → called ≡ name
     → accepted_in middle ≡ accepted_in store → (repo_view middle.repo).keys ≡ (repo_view store.repo).keys → flight_now.named.name ≡ name
     → (before : TakesOn told source from name start store middle flight a b n m)
-    → TakesTurn later after other called before.fits.added more middle now flight_now b c m k (Ok (last_turn copied))
-    → TakesAll from name start (before.more ++ more) store now flight_now a c n k (Ok copied)
-takes_last told later source after from other name called start more store middle now flight flight_now a b c n m k copied is names accepted keys named
+    → TakesTurn later after other called before.fits.added more records middle now flight_now b c m k (Ok (last_turn copied))
+    → TakesAll from name start (before.more ++ more) records store now flight_now a c n k (Ok copied)
+takes_last told later source after from other name called start more records store middle now flight flight_now a b c n m k copied is names accepted keys named
     before turn =
     let all = takes_added told source from name start more store middle flight a b n m before in
     let others = (repo_view middle.repo).keys in
-    let lists = lists_last later after c now flight_now b other others before.fits.added more copied turn.lists in
+    let lists = lists_last later after c now flight_now b other others before.fits.added more records copied turn.lists in
     record {
       carries = flown_as {U = Bool} start from name (name ∷ []) (before.more ++ more) store now a c n k (last_turn copied) copied (carried_last copied name)
           (flown_then start from other name called before.more more store middle now a b c n m k (Ok (last_turn copied)) is names before.works
           (subst (λ (l : List Addition). Flies l other called more middle now b c m k (Ok (last_turn copied))) before.added turn.flies));
-      begins = takes_begun told later source after from other name called start more store middle now flight flight_now a b c n m k (Ok (last_turn copied)) is
+      begins = takes_begun told later source after from other name called start more records store middle now flight flight_now a b c n m k (Ok (last_turn
+          copied)) is
           names accepted keys before turn;
       stands = tt;
       last = tt;
       held = tt;
       fills = tt;
       lists = (
-        done_before from other (repo_view store.repo).keys others name (start ++ (before.more ++ more)) (before.fits.added ++ more) copied
+        done_before from other (repo_view store.repo).keys others name records (start ++ (before.more ++ more)) (before.fits.added ++ more) copied
             (KeepsGrowing start from [] store before.more) a b before.stands is keys all
-            (subst (λ (l : List ℕ). ListsDone b other others l (before.fits.added ++ more) copied) named lists.0),
+            (subst (λ (l : List ℕ). ListsDone b other others l records (before.fits.added ++ more) copied) named lists.0),
         subst (λ (l : List Addition). CountsOf l flight_now.put) all lists.1,
       );
     }
@@ -720,12 +756,14 @@ turns_all start from store now added a b end =
 
 -- one was refused
 pub takes_refused : (told later : Option Told) (source after : RepoState) (from other : Origin) (name called : List ℕ) (start more : List Addition)
+    (records : List TaggedRecord)
     (store middle now : Store) (flight flight_now : Flight) (a b c : Option Told) (n m k : ℕ) (fault : CarryFault) → other ≡ from → called ≡ name
     → accepted_in middle ≡ accepted_in store → (repo_view middle.repo).keys ≡ (repo_view store.repo).keys → AcceptsMore middle
     → (before : TakesOn told source from name start store middle flight a b n m)
-    → TakesTurn later after other called before.fits.added more middle now flight_now b c m k (Err fault)
-    → TakesAll from name start (before.more ++ more) store now flight_now a c n k (Err fault)
-takes_refused told later source after from other name called start more store middle now flight flight_now a b c n m k fault is names accepted keys accepts
+    → TakesTurn later after other called before.fits.added more records middle now flight_now b c m k (Err fault)
+    → TakesAll from name start (before.more ++ more) records store now flight_now a c n k (Err fault)
+takes_refused told later source after from other name called start more records store middle now flight flight_now a b c n m k fault is names accepted keys
+    accepts
     before turn =
     let at : border_behind AtBegin before.fits.added ≡ border_behind (border_behind AtBegin start) before.more =
     ap (border_behind AtBegin) before.added ∙ border_append AtBegin start before.more in
@@ -736,7 +774,7 @@ takes_refused told later source after from other name called start more store mi
       carries = flown_err {U = Bool} start from name (name ∷ []) (before.more ++ more) store now now a c n k fault
           (flown_then start from other name called before.more more store middle now a b c n m k (Err fault) is names before.works
           (subst (λ (l : List Addition). Flies l other called more middle now b c m k (Err fault)) before.added turn.flies));
-      begins = takes_begun told later source after from other name called start more store middle now flight flight_now a b c n m k (Err fault) is names
+      begins = takes_begun told later source after from other name called start more records store middle now flight flight_now a b c n m k (Err fault) is names
           accepted keys before turn;
       stands = λ work.
           growing_behind start from from.most before.more more store middle a b c refl accepts before.stands before.works.end
@@ -752,25 +790,27 @@ takes_refused told later source after from other name called start more store mi
     }
 
 -- a refusal that was handed on
-pub taken_err : (from : Origin) (name : List ℕ) (added more : List Addition) (store now : Store) (flight : Flight) (a b : Option Told) (n m : ℕ)
+pub taken_err : (from : Origin) (name : List ℕ) (added more : List Addition) (records : List TaggedRecord) (store now : Store) (flight : Flight) (a b : Option
+    Told) (n m : ℕ)
     (result : Result Bool CarryFault) (fault : CarryFault) → IsErrAnd result (λ y. y ≡ fault)
-    → TakesAll from name added more store now flight a b n m (Err fault) → TakesAll from name added more store now flight a b n m result
-taken_err from name added more store now flight a b n m result fault e p =
-    err_is result fault (TakesAll from name added more store now flight a b n m) e p
+    → TakesAll from name added more records store now flight a b n m (Err fault) → TakesAll from name added more records store now flight a b n m result
+taken_err from name added more records store now flight a b n m result fault e p =
+    err_is result fault (TakesAll from name added more records store now flight a b n m) e p
 
 -- the same from the begin of an archive on
-pub takes_begin : (from : Origin) (name : List ℕ) (start more : List Addition) (store now : Store) (flight : Flight) (a b : Option Told) (n m : ℕ)
-    (result : Result Bool CarryFault) → start ≡ [] → TakesAll from name start more store now flight a b n m result
-    → TakesAll from name [] more store now flight a b n m result
-takes_begin from name start more store now flight a b n m result none p =
-    subst (λ (l : List Addition). TakesAll from name l more store now flight a b n m result) none p
+pub takes_begin : (from : Origin) (name : List ℕ) (start more : List Addition) (records : List TaggedRecord) (store now : Store) (flight : Flight) (a b :
+    Option Told) (n m : ℕ)
+    (result : Result Bool CarryFault) → start ≡ [] → TakesAll from name start more records store now flight a b n m result
+    → TakesAll from name [] more records store now flight a b n m result
+takes_begin from name start more records store now flight a b n m result none p =
+    subst (λ (l : List Addition). TakesAll from name l more records store now flight a b n m result) none p
 
 -- a further one wasn't taken
 pub takes_end : (told : Option Told) (source : RepoState) (cached : Contents) (from : Origin) (name : List ℕ) (start : List Addition) (store now : Store)
     (flight : Flight) (a b : Option Told) (n m : ℕ) → flown_from told source flight ≡ from → flight.named.name ≡ name → accepted_in now ≡ accepted_in store
     → (repo_view now.repo).keys ≡ (repo_view store.repo).keys → IfSome told (λ t. FitsRepo (told_files t) source cached) → AcceptsMore now
     → (before : TakesOn told source from name start store now flight a b n m)
-    → TakesAll from name start before.more store now flight a b n m (Err Memory)
+    → TakesAll from name start before.more [] store now flight a b n m (Err Memory)
 takes_end told source cached from name start store now flight a b n m is named accepted keys log_fits accepts before = record {
   carries = record { each = before.works.each; end = tt; ends = before.works.ends; cause = before.works.cause };
   begins = begins_before from (flown_from told source flight) (repo_view store.repo).keys (repo_view now.repo).keys (accepted_in store) (accepted_in now) name

@@ -31,12 +31,13 @@ use Rattle.ferry_store.specs.declared.store.Store.{Store}
 use Rattle.ferry_write.specs.Script.{AllDone}
 use Rattle.ferry_carry.proofs.CarryLemmas.{all_carried, apart_behind, apart_parts, named_carried}
 use Rattle.ferry_carry.proofs.CutLemmas.{cut_none, cut_one, cut_then}
+use Rattle.ferry_carry.proofs.NextLemmas.{behind_still, behind_then}
 use Rattle.ferry_piece.proofs.GatherLemmas.{gathers_at, keeps_at, opening_same, opening_then, sound_moments, standing_from, stands_still}
 use Rattle.ferry_piece.proofs.PutsLemmas.{Allows, adds_at, adds_here, adds_manifest, adds_then, allows_settled, border_append, first_all, front_all}
 use Rattle.ferry_piece.proofs.PutsLemmas.{front_of, goes_at, goes_same, goes_then, goes_wider, none_of}
 use Rattle.ferry_piece.proofs.AmongLemmas.{all_both, among_behind, among_front, each_to}
 use Rattle.ferry_piece.specs.Gather.{BringsOpening, Gathers, GathersAt, IsAmong, KeepsRest, KeepsStanding, KeepsStandingAt, StandsFrom}
-use Rattle.ferry_carry.specs.Grow.{AcceptsMore, Grows, GrowsBy, IsNamedBy, KeepsChunks, KeepsGrowing, KeepsGrowingBy, KeepsMost, KeepsNames}
+use Rattle.ferry_carry.specs.Grow.{AcceptsMore, Grows, GrowsBy, IsBehind, IsNamedBy, KeepsChunks, KeepsGrowing, KeepsGrowingBy, KeepsMost, KeepsNames}
 use Rattle.ferry_carry.specs.Grow.{StandsOn}
 use Rattle.ferry_carry.specs.Carrying.{AreCut, IsApart, IsCarried, IsReadyToName, Origin}
 use Rattle.ferry_carry.specs.Flight.{AcceptsOne}
@@ -105,6 +106,7 @@ on_from earlier from chosen within accepted counts store h fits image accepts st
       done = [];
       rest = chosen;
       front = refl;
+      next = behind_still from accepted (repo_view store.repo).manifest (repo_view store.repo).manifest refl;
       carried = tt;
       cut = cut_none accepted from (repo_view store.repo).keys (repo_view store.repo).manifest.archives;
       only = λ name entry is. inl (accepts name entry is);
@@ -175,9 +177,11 @@ unfoldable pub on_then : (earlier : List Addition) (from : Origin) (some more : 
     → GoesOn (border_behind AtBegin earlier) repo.keys from.most added written (committed_of after) → after.config ≡ written.config
     → AllByRecursion (IsCarried from (earlier ++ added) (entries_of written) next.keys (committed_of after) next.manifest.archives) some
     → AreCut accepted from next.keys next.manifest.archives some → IsNamedBy accepted some middle
+    → (accepted ≡ repo.manifest → middle ≡ next.manifest) → IsBehind from accepted repo.manifest some next.manifest
     → StandsOn (earlier ++ added) from more others middle next after image
     → StandsOn earlier from (some ++ more) (added ++ others) accepted repo written image
-on_then earlier from some more added others accepted middle repo next written after image keys names chunks opening puts goes config carried cut only stands =
+on_then earlier from some more added others accepted middle repo next written after image keys names chunks opening puts goes config carried cut only settles
+    behind stands =
     let at = border_behind AtBegin earlier in
     let done = some ++ stands.done in
     record {
@@ -196,6 +200,7 @@ on_then earlier from some more added others accepted middle repo next written af
       done = done;
       rest = stands.rest;
       front = ap (λ (l : List (List ℕ)). some ++ l) stands.front ∙ sym (append_assoc some stands.done stands.rest);
+      next = behind_then from accepted repo.manifest middle next.manifest stands.manifest some stands.done behind settles stands.next;
       carried = subst (λ (k : Keys). AllByRecursion (IsCarried from (earlier ++ (added ++ others)) (entries_of written) k stands.entries
           stands.manifest.archives) done) keys
           (carried_both earlier from some stands.done added others next.keys at (entries_of written) (entries_of after) (committed_of after) stands.entries
@@ -224,6 +229,7 @@ on_wider earlier from some more within all accepted repo written image first sta
   done = stands.done;
   rest = stands.rest ++ more;
   front = ap (λ (l : List (List ℕ)). l ++ more) stands.front ∙ append_assoc stands.done stands.rest more;
+  next = stands.next;
   carried = all_carried from repo.keys (earlier ++ within) (earlier ++ all) (entries_of written) (entries_of written) stands.entries stands.entries
       stands.manifest stands.manifest stands.done
       (λ scope apart.
@@ -308,6 +314,7 @@ stands_on_at earlier from chosen within accepted repo written image allows stand
   done = stands.done;
   rest = stands.rest;
   front = stands.front;
+  next = stands.next;
   carried = carried_behind earlier from within (entries_of written) repo.keys stands.entries stands.manifest stands.done stands.carried;
   cut = stands.cut;
   only = stands.only;
@@ -341,6 +348,8 @@ grows_follows earlier from chosen added store now h g follows grows counts fits 
       committed = goes_on earlier keys from.most added fits.written (committed_of end.fits_now.written) allows end.committed;
       config = end.config;
       most = end.most;
+      next = end.next;
+      settled = end.settled;
       carried = carried_behind earlier from added (entries_of fits.written) (repo_view now.repo).keys (committed_of end.fits_now.written)
           (repo_view now.repo).manifest chosen end.carried;
       cut = end.cut;
@@ -379,6 +388,8 @@ grows_from earlier from store now added h g rest gathers counts fits =
       committed = end.committed;
       config = end.moved.config;
       most = most_from store now rest;
+      next = behind_still from (accepted_in store) (repo_view store.repo).manifest (repo_view now.repo).manifest rest.manifest;
+      settled = λ same. rest.accepted ∙ (same ∙ sym rest.manifest);
       carried = tt;
       cut = cut_none (accepted_in store) from (repo_view now.repo).keys (repo_view now.repo).manifest.archives;
       named = tt;
@@ -400,6 +411,8 @@ grows_here earlier from store h counts fits = record {
   committed = goes_same (border_behind AtBegin earlier) (repo_view store.repo).keys from.most [] fits.written;
   config = refl;
   most = most_here store;
+  next = behind_still from (accepted_in store) (repo_view store.repo).manifest (repo_view store.repo).manifest refl;
+  settled = λ same. same;
   carried = tt;
   cut = cut_none (accepted_in store) from (repo_view store.repo).keys (repo_view store.repo).manifest.archives;
   named = tt;
@@ -435,6 +448,9 @@ grows_then earlier from some more added others store middle now h g i p q counts
           second.committed));
       config = second.config ∙ first.config;
       most = most_then store middle now first.most second.most;
+      next = behind_then from (accepted_in store) (repo_view store.repo).manifest (accepted_in middle) (repo_view middle.repo).manifest
+          (repo_view now.repo).manifest some more first.next first.settled second.next;
+      settled = λ same. second.settled (first.settled same);
       carried = carried_both earlier from some more added others keys at written between (committed_of first.fits_now.written) committed
           (repo_view middle.repo).manifest (repo_view now.repo).manifest
           (subst (λ (k : Keys). AddsAll at k from.most written added between) (sym (second.most.keys ∙ first.most.keys)) first.puts) second.chunks
@@ -465,7 +481,9 @@ growing_then earlier from some more added others store middle h g i before done 
       (sound_moments (StandsOn (earlier ++ added) from more others (accepted_in middle) next first.fits_now.written)
       (StandsOn earlier from (some ++ more) all (accepted_in store) repo fits.written) counts g i
       (λ image stands. on_then earlier from some more added others (accepted_in store) (accepted_in middle) repo next fits.written first.fits_now.written image
-      first.most.keys first.most.names first.chunks first.opening first.puts first.committed first.config first.carried first.cut first.only stands)
+      first.most.keys first.most.names first.chunks first.opening first.puts first.committed first.config first.carried first.cut first.only first.settled
+      first.next
+      stands)
       (after.1 counts first.fits_now)),
 )
 
@@ -504,13 +522,14 @@ module _ (from : Origin) (earlier : List Addition) (at_end : border_behind AtBeg
 
   commit_on : (counts : Bool) (h : History) (fits : StoreFits counts store h) (image : Files) → KeepsNames (repo_view store.repo).manifest manifest
       → manifest.archives ≡ (accepted_in store).archives → AcceptsOne accepted store entry
+      → IsBehind from accepted (repo_view store.repo).manifest (entry.name ∷ []) manifest
       → IsReadyToName from earlier (files_now h) (repo_view store.repo) entry
       → ShowsManifest (with_manifest (repo_view store.repo) manifest) (with_entry fits.written (PutEntry zero_id blob)) image
       → StandsOn earlier from (entry.name ∷ []) [] accepted (repo_view store.repo) fits.written image
-  commit_on counts h fits image names archives one ready (inl shown) =
+  commit_on counts h fits image names archives one behind ready (inl shown) =
       on_from earlier from (entry.name ∷ []) [] accepted counts store h fits image one.keeps
       (standing_from (border_behind AtBegin earlier) from.most [] counts store h fits image shown)
-  commit_on counts h fits image names archives one ready (inr shown) =
+  commit_on counts h fits image names archives one behind ready (inr shown) =
       let named : (name : List ℕ) → archive_named name manifest.archives ≡ archive_named name (accepted_in store).archives =
       λ name. ap (archive_named name) archives in
       let entries = entries_committed (with_entry fits.written (PutEntry zero_id blob)) in
@@ -527,29 +546,32 @@ module _ (from : Origin) (earlier : List Addition) (at_end : border_behind AtBeg
         done = entry.name ∷ [];
         rest = [];
         front = refl;
+        next = behind;
         carried = (named_carried counts store h fits blob from earlier manifest entry (named entry.name ∙ one.there) ready, tt);
         cut = cut_one accepted from earlier (files_now h) (repo_view store.repo) manifest entry (named entry.name ∙ one.there) ready;
         only = λ name other is. one.only name other (sym (named name) ∙ is);
       }
 
   pub commit_growing : (h g : History) → KeepsNames (repo_view store.repo).manifest manifest → manifest.archives ≡ (accepted_in store).archives
-      → AcceptsOne accepted store entry → IsReadyToName from earlier (files_now h) (repo_view store.repo) entry → TellsNothing h g
+      → AcceptsOne accepted store entry → IsBehind from accepted (repo_view store.repo).manifest (entry.name ∷ []) manifest
+      → IsReadyToName from earlier (files_now h) (repo_view store.repo) entry → TellsNothing h g
       → CommitsEntry (with_manifest (repo_view store.repo) manifest) store.session store.counter (PutEntry zero_id blob) h g
       → KeepsGrowingBy earlier accepted from (entry.name ∷ []) store [] h g
-  commit_growing h g names archives one ready untold commits = (
+  commit_growing h g names archives one behind ready untold commits = (
     untold,
     λ counts fits.
         sound_moments (ShowsManifest (with_manifest (repo_view store.repo) manifest) (with_entry fits.written (PutEntry zero_id blob)))
         (StandsOn earlier from (entry.name ∷ []) [] accepted (repo_view store.repo) fits.written) counts h g
-        (λ image shown. commit_on counts h fits image names archives one ready shown)
+        (λ image shown. commit_on counts h fits image names archives one behind ready shown)
         (commits counts fits.written fits.under_way),
   )
 
   pub commit_grows : (now : Store) (h g : History) → KeepsMost store now → manifest.archives ≡ (accepted_in store).archives
       → (repo_view now.repo).manifest ≡ manifest → accepted_in now ≡ (repo_view now.repo).manifest → AcceptsOne accepted store entry
+      → IsBehind from accepted (repo_view store.repo).manifest (entry.name ∷ []) manifest
       → IsReadyToName from earlier (files_now h) (repo_view store.repo) entry → Commits store (PutEntry zero_id blob) now h g
       → GrowsBy earlier accepted from (entry.name ∷ []) [] store now h g
-  commit_grows now h g most archives manifest_is accepted_is one ready commits counts fits =
+  commit_grows now h g most archives manifest_is accepted_is one behind ready commits counts fits =
       let end = commits counts fits in
       let entries = entries_committed (with_entry fits.written (PutEntry zero_id blob)) in
       let at = border_behind AtBegin earlier in
@@ -570,6 +592,8 @@ module _ (from : Origin) (earlier : List Addition) (at_end : border_behind AtBeg
         committed = subst (GoesOn at keys from.most [] fits.written) (sym committed) (goes_adds at keys from.most fits.written entries adds);
         config = ap (λ (w : Written). w.config) end.1;
         most = most;
+        next = subst (IsBehind from accepted (repo_view store.repo).manifest (entry.name ∷ [])) (sym manifest_is) behind;
+        settled = λ _. accepted_is;
         carried = (
           subst (λ (es : List LogEntry). IsCarried from (earlier ++ []) base (repo_view now.repo).keys es (repo_view now.repo).manifest.archives entry.name)
               (sym committed)
@@ -651,6 +675,8 @@ grows_accepted earlier accepted from chosen added store middle now h g same grow
       committed = end.committed;
       config = end.config;
       most = record { keys = end.most.keys; config = end.most.config; names = end.most.names };
+      next = end.next;
+      settled = end.settled;
       carried = end.carried;
       cut = end.cut;
       named = end.named;

@@ -10,6 +10,7 @@ pub mod ProgressLemmas
 pub mod StepLemmas
 pub mod RefusalLemmas
 pub mod NamingLemmas
+pub mod NextLemmas
 pub mod AcceptingLemmas
 pub mod FlightLemmas
 pub mod CauseLemmas

@@ -311,15 +311,16 @@ archive_begun there from named files repo copy added next named_is same so begun
 }
 
 -- the same over what the devices tell
-pub copied_begun : (told a : Option Told) (source : RepoState) (cached : Contents) (block most : ℕ) (named : ArchiveRef) (store : Store) (copy : Copy)
+pub copied_begun : (told a : Option Told) (source : RepoState) (cached : Contents) (block most : ℕ) (time : Option (List ℕ)) (named : ArchiveRef) (store :
+    Store) (copy : Copy)
     (added more : List Addition) → IsReady copy → IfSome told (λ t. FitsRepo (told_files t) source cached)
     → archive_named named.name source.manifest.archives ≡ Some named
-    → BeginsMore told source (repo_view store.repo).keys copy more → IsCopiedSoFar (origin told source block most) named a store copy added
-    → IfSome a (λ _. BeginsOne (origin told source block most) (repo_view store.repo).keys named.name (added ++ more))
-copied_begun None a source cached block most named store copy added more ready fits named_is begun so =
-    told_any a (λ _. BeginsOne (origin None source block most) (repo_view store.repo).keys named.name (added ++ more)) (λ f. inr tt)
-copied_begun (Some t) a source cached block most named store copy added more ready fits named_is begun so =
-    IfSome_then a so.1 (λ d c. inr (inl (archive_begun (told_files t) (origin (Some t) source block most) named (told_files d) (repo_view store.repo) copy
+    → BeginsMore told source (repo_view store.repo).keys copy more → IsCopiedSoFar (origin told source block most time) named a store copy added
+    → IfSome a (λ _. BeginsOne (origin told source block most time) (repo_view store.repo).keys named.name (added ++ more))
+copied_begun None a source cached block most time named store copy added more ready fits named_is begun so =
+    told_any a (λ _. BeginsOne (origin None source block most time) (repo_view store.repo).keys named.name (added ++ more)) (λ f. inr tt)
+copied_begun (Some t) a source cached block most time named store copy added more ready fits named_is begun so =
+    IfSome_then a so.1 (λ d c. inr (inl (archive_begun (told_files t) (origin (Some t) source block most time) named (told_files d) (repo_view store.repo) copy
     added more named_is so.0.block c (next_begun t source (repo_view store.repo).keys copy more fits.log ready.stream_block_is begun))))
 
 -- ---- the end of the items

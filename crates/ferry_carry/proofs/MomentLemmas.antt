@@ -23,6 +23,7 @@ use Rattle.ferry_piece.proofs.PutsLemmas.{front_of}
 use Rattle.ferry_carry.proofs.TellLemmas.{told_gathers, told_stands}
 use Rattle.ferry_carry.proofs.ThereLemmas.{Extends, extends_by}
 use Rattle.ferry_carry.proofs.LinesLemmas.{lines_then, report_none, report_then, report_one, report_whole}
+use Rattle.ferry_carry.specs.Naming.{TaggedRecord}
 use Rattle.ferry_carry.specs.Carrying.{Origin}
 use Rattle.ferry_carry.specs.Chosen.{TellsLine}
 use Rattle.ferry_carry.specs.Counting.{IsTotalOf, TellsNew}
@@ -200,7 +201,8 @@ reported_behind_at from some more added others store middle h g i settled accept
     (reported_behind (ShowsReportOn added from more others between next first.fits_now.written)
     (ShowsReport from (some ++ more) all accepted repo fits.written) counts h g i told.0 told.1.0 (λ lines image s. (
       on_then [] from some more added others accepted between repo next fits.written first.fits_now.written image first.most.keys first.most.names
-          first.chunks first.opening first.puts first.committed first.config first.carried first.cut first.only s.0,
+          first.chunks first.opening first.puts first.committed first.config first.carried first.cut first.only first.settled
+          first.next s.0,
       report_then accepted between told.0 lines some s.0.done (extends_by store middle some settled accepts first.most first.named first.only) told.1.1
           s.1,
     )) (after counts first.fits_now))
@@ -249,7 +251,7 @@ reported_name from copied name added store middle h g i growing done grows accep
           (ShowsReport from (name ∷ []) (added ++ []) accepted repo fits.written) counts h g i [] none (λ lines image s.
           let stands : StandsOn added from [] [] between next now image = on_from added from [] [] between counts middle g first.fits_now image accepts s.1 in (
             on_then [] from (name ∷ []) [] added [] accepted between repo next fits.written now image first.most.keys first.most.names first.chunks
-                first.opening first.puts first.committed first.config first.carried first.cut first.only stands,
+                first.opening first.puts first.committed first.config first.carried first.cut first.only first.settled first.next stands,
             report_one accepted copied name lines stands.done new s.0,
           )) (told_moments at from.most middle line g i counts first.fits_now is))
 
@@ -275,9 +277,10 @@ grows_told earlier from some added store middle line h g i grows tells =
     (grows_then earlier from some [] added [] store middle middle h g i grows
     (grows_from behind from middle middle [] g i (rest_here middle) (told_gathers (border_behind AtBegin behind) from.most middle line g i tells))))
 
-pub carries_told : (from : Origin) (some : List (List ℕ)) (added : List Addition) (store middle : Store) (line : List ℕ) (h g i : History)
-    → CarriesNames from some added store middle h g → TellsLine line g i → CarriesNames from some added store middle h i
-carries_told from some added store middle line h g i carries tells =
+pub carries_told : (from : Origin) (some : List (List ℕ)) (records : List TaggedRecord) (added : List Addition) (store middle : Store) (line : List ℕ) (h g i :
+    History)
+    → CarriesNames from some records added store middle h g → TellsLine line g i → CarriesNames from some records added store middle h i
+carries_told from some records added store middle line h g i carries tells =
     (grows_told [] from some added store middle line h g i carries.0 tells, carries.1)
 
 -- ---- the whole is told behind all

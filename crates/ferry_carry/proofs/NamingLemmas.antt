@@ -17,6 +17,7 @@ use Rattle.ferry_mac.specs.declared.keys.Keys.{Keys}
 use Rattle.ferry_manifest.specs.Manifest.Text.{ManifestText}
 use Rattle.ferry_manifest.specs.Manifest.Writing.{manifest_text}
 use Rattle.ferry_manifest.specs.Record.Text.{ArchiveText, archive_of, archive_view, as_tagged}
+use Rattle.ferry_manifest.specs.Record.Writing.{archive_text}
 use Rattle.ferry_manifest.specs.declared.manifest.ArchiveRef.{ArchiveRef}
 use Rattle.ferry_next.specs.Next.{next_manifest, written_at}
 use Rattle.ferry_repo.specs.Archives.{archive_named}
@@ -39,6 +40,7 @@ use Rattle.ferry_carry.proofs.ProgressLemmas.{any_told, stream_ids}
 use Rattle.ferry_piece.proofs.PutsLemmas.{border_record, bytes_append, count_append}
 use Rattle.ferry_carry.proofs.WorkLemmas.{carried_nothing}
 use Rattle.ferry_piece.proofs.WorkLemmas.{between_known, works_as, works_front}
+use Rattle.ferry_carry.specs.Accepting.{named_next}
 use Rattle.ferry_carry.specs.Carrying.{IsReadyToName, Origin}
 use Rattle.ferry_piece.specs.Fault.{target_failed, target_fault}
 use Rattle.ferry_carry.specs.Copied.{IsCopyOf}
@@ -46,13 +48,13 @@ use Rattle.ferry_carry.specs.Copying.{IsReady}
 use Rattle.ferry_carry.specs.Flight.{AcceptsOne, ListsDone, NamesArchive}
 use Rattle.ferry_carry.specs.Counting.{CountsOf}
 use Rattle.ferry_piece.specs.Gather.{KeepsRest, chunks_of}
-use Rattle.ferry_carry.specs.Grow.{AcceptsMore, GrowsBy, KeepsGrowingBy, KeepsMost, KeepsNames}
+use Rattle.ferry_carry.specs.Grow.{AcceptsMore, GrowsBy, IsBehind, KeepsGrowingBy, KeepsMost, KeepsNames}
 use Rattle.ferry_carry.specs.Listing.{BeginsOne, ListsArchive, ListsContents}
-use Rattle.ferry_carry.specs.Naming.{AddsRecord, AddsUnder, BeginsRecord, copied_in, entry_for}
+use Rattle.ferry_carry.specs.Naming.{AddsRecord, AddsUnder, BeginsRecord, Draws, TaggedRecord, copied_in, entry_for}
 use Rattle.ferry_piece.specs.Piece.{CountsOn}
 use Rattle.ferry_carry.specs.Progress.{CopiesAll, IsAllCopied, IsCopyFrom, WritesItems}
 use Rattle.ferry_piece.specs.Puts.{Addition, AreOf, ArePieces, AtBegin, AtEnd, Content, Kind, Record, Stream, addition, border_behind, put_bytes, put_count}
-use Rattle.ferry_carry.specs.Refusals.{IsLimited, LimitsManifest, RefusesBegin, named_next}
+use Rattle.ferry_carry.specs.Refusals.{IsLimited, LimitsManifest, RefusesBegin}
 use Rattle.ferry_piece.specs.Stops.{StopsPieces}
 use Rattle.ferry_carry.specs.Time.{time_for}
 use Rattle.ferry_carry.specs.declared.copy.Copy.{Copy}
@@ -64,33 +66,37 @@ use Rattle.ferry_piece.specs.declared.piece.PieceWriter.{PieceWriter}
 -- ---- the record
 
 -- What was added of a record, and whose id was answered.
-abbrev pub RecordIs : Keys → ArchiveText → List Addition → Result (List ℕ) CarryFault → Type 0
-RecordIs keys archive more r = BeginsRecord keys archive more × IfOk r (AddsUnder keys archive more)
+abbrev pub RecordIs : Keys → ArchiveText → List Addition → Option (List ℕ) → Option (List ℕ) → Result (List ℕ) CarryFault → Type 0
+RecordIs keys archive more before now r = BeginsRecord keys archive more × IfOk r (AddsUnder keys archive more before now)
 
--- a text that was read under the store's keys, and added
-pub record_put : (r : Result (List ℕ) CarryFault) (keys other : Keys) (text given : List ℕ) (put : Bool) (archive : ArchiveText) → other ≡ keys
-    → text ≡ given → archive_of other given ≡ Ok (as_tagged archive) → IfOk r (λ id. id ≡ content_id keys text)
-    → RecordIs keys archive (addition Record text put ∷ []) r
-record_put r keys other text given put archive same is reads id_is =
+-- a text that was tagged and read under the store's keys, and added
+pub record_put : (r : Result (List ℕ) CarryFault) (keys other : Keys) (salt text given : List ℕ) (put : Bool) (archive : ArchiveText)
+    (before now : Option (List ℕ)) → other ≡ keys → text ≡ given → Draws salt before now → given ≡ archive_text other salt archive
+    → archive_of other given ≡ Ok (as_tagged archive) → IfOk r (λ id. id ≡ content_id keys text)
+    → RecordIs keys archive (addition Record text put ∷ []) before now r
+record_put r keys other salt text given put archive before now same is drew text_is reads id_is =
     let adds : AddsRecord keys archive (addition Record text put ∷ []) =
     record {
+      salt = salt;
+      salt_size = drew.0;
       text = text;
+      text_is = is ∙ (text_is ∙ ap (λ (k : Keys). archive_text k salt archive) same);
       put = put;
       more_is = refl;
       reads = ap (λ (t : List ℕ). archive_of keys t) is ∙ (ap (λ (k : Keys). archive_of k given) (sym same) ∙ reads);
     } in (
       inr adds,
-      IfOk-weaker r (λ id. id ≡ content_id keys text) (AddsUnder keys archive (addition Record text put ∷ []))
-          (λ id under. record { adds = adds; id_is = under }) id_is,
+      IfOk-weaker r (λ id. id ≡ content_id keys text) (AddsUnder keys archive (addition Record text put ∷ []) before now)
+          (λ id under. record { adds = adds; drew = drew; id_is = under }) id_is,
     )
 
 -- the same under the same keys, with the same pieces
 pub record_as : (r : Result (List ℕ) CarryFault) (keys other : Keys) (archive : ArchiveText) (block : ℕ) (pieces given : List ChunkRef)
-    (more : List Addition) → other ≡ keys → given ≡ pieces → RecordIs other (copied_in archive block given) more r
-    → RecordIs keys (copied_in archive block pieces) more r
-record_as r keys other archive block pieces given more same is put =
-    subst (λ (k : Keys). RecordIs k (copied_in archive block pieces) more r) same
-    (subst (λ (p : List ChunkRef). RecordIs other (copied_in archive block p) more r) is put)
+    (more : List Addition) (before now : Option (List ℕ)) → other ≡ keys → given ≡ pieces
+    → RecordIs other (copied_in archive block given) more before now r → RecordIs keys (copied_in archive block pieces) more before now r
+record_as r keys other archive block pieces given more before now same is put =
+    subst (λ (k : Keys). RecordIs k (copied_in archive block pieces) more before now r) same
+    (subst (λ (p : List ChunkRef). RecordIs other (copied_in archive block p) more before now r) is put)
 
 -- what holds behind a body holds where it is `Ok`
 pub on_any : {T : Type 0} {P : Type 0} (r : Result T CarryFault) → P → OnOk r P
@@ -104,31 +110,38 @@ copied_so : (files : Files) (repo : RepoState) (copy : Copy) (wholes : List Whol
     → WritesItems files repo copy wholes added
     → (adds : AddsRecord repo.keys (copied_in (archive_view copy.archive) copy.block (copy.stream.chunks.items
     ++ chunks_of repo.keys (cut copy.stream.cutter.block copy.stream.cutter.piece))) more)
-    → IsCopyOf repo.keys copy.block wholes (archive_view copy.archive).fields adds.text
+    → IsCopyOf repo.keys copy.block wholes (archive_view copy.archive).fields adds.salt adds.text
 copied_so files repo copy wholes added more ready writes adds =
     let given = copy.stream.chunks.items ++ chunks_of repo.keys (cut copy.stream.cutter.block copy.stream.cutter.piece) in
     record {
       some = omega (arith, ready.least);
+      salt_size = adds.salt_size;
       copied = as_tagged (copied_in (archive_view copy.archive) copy.block given);
-      reads = adds.reads;
       same = refl;
       items = stream_ids files repo copy wholes added ready writes;
+      params = refl;
+      tagged = refl;
+      text_is = adds.text_is;
+      reads = adds.reads;
       spelled = writes.spelled;
     }
 
+abbrev pub tagged_as : List ℕ → List ℕ → List ℕ → TaggedRecord
+tagged_as text salt manifest_salt = record { text = text; salt = salt; manifest_salt = manifest_salt }
+
 -- behind the pieces of all items what is left of the stream and the record were added: that is all of the archive
 lists_end : (there : Files) (from : Origin) (named : ArchiveRef) (files : Files) (repo : RepoState) (copy : Copy) (added last more : List Addition)
-    → from.block ≡ copy.block → IsReady copy → ArePieces Stream (cut copy.stream.cutter.block copy.stream.cutter.piece) last
-    → AddsRecord repo.keys (copied_in (archive_view copy.archive) copy.block (copy.stream.chunks.items
-    ++ chunks_of repo.keys (cut copy.stream.cutter.block copy.stream.cutter.piece))) more
-    → CopiesAll there from.repo named files repo copy added → ListsArchive there from repo.keys named.name (added ++ (last ++ more))
-lists_end there from named files repo copy added last more same ready last_is adds all =
+    (manifest_salt : List ℕ) → from.block ≡ copy.block → IsReady copy → ArePieces Stream (cut copy.stream.cutter.block copy.stream.cutter.piece) last
+    → (adds : AddsRecord repo.keys (copied_in (archive_view copy.archive) copy.block (copy.stream.chunks.items
+    ++ chunks_of repo.keys (cut copy.stream.cutter.block copy.stream.cutter.piece))) more)
+    → CopiesAll there from.repo named files repo copy added
+    → ListsArchive there from repo.keys named.name (tagged_as adds.text adds.salt manifest_salt) (added ++ (last ++ more))
+lists_end there from named files repo copy added last more manifest_salt same ready last_is adds all =
     let fields = (archive_view copy.archive).fields in
     record {
       contents = added ++ last;
       lists = items_ended there from named files repo copy added last same ready last_is all;
-      text = adds.text;
-      copy = subst (λ (b : ℕ). IsCopyOf repo.keys b all.wholes fields adds.text) (sym same)
+      copy = subst (λ (b : ℕ). IsCopyOf repo.keys b all.wholes fields adds.salt adds.text) (sym same)
           (copied_so files repo copy all.wholes added more ready all.writes adds);
       put = adds.put;
       added_is = sym (append_assoc added last more) ∙ ap (λ (l : List Addition). (added ++ last) ++ l) adds.more_is;
@@ -140,13 +153,14 @@ begins_end : (there : Files) (from : Origin) (named : ArchiveRef) (files : Files
     → BeginsRecord repo.keys (copied_in (archive_view copy.archive) copy.block (copy.stream.chunks.items
     ++ chunks_of repo.keys (cut copy.stream.cutter.block copy.stream.cutter.piece))) more
     → CopiesAll there from.repo named files repo copy added
-    → ListsContents there from repo.keys named.name (added ++ (last ++ more)) ⊎ ListsArchive there from repo.keys named.name (added ++ (last ++ more))
+    → ListsContents there from repo.keys named.name (added ++ (last ++ more))
+    ⊎ ((one : TaggedRecord) × ListsArchive there from repo.keys named.name one (added ++ (last ++ more)))
 begins_end there from named files repo copy added last more same ready last_is (inl none) all =
     let is : last ≡ last ++ more = sym (append-nil last) ∙ ap (λ (l : List Addition). last ++ l) (sym none) in
     inl (subst (λ (l : List Addition). ListsContents there from repo.keys named.name (added ++ l)) is
     (items_ended there from named files repo copy added last same ready last_is all))
 begins_end there from named files repo copy added last more same ready last_is (inr adds) all =
-    inr (lists_end there from named files repo copy added last more same ready last_is adds all)
+    inr (tagged_as adds.text adds.salt [], lists_end there from named files repo copy added last more [] same ready last_is adds all)
 
 -- the same over what the devices tell
 pub begins_done : (from : Origin) (named : ArchiveRef) (heard : Option Told) (store : Store) (copy : Copy) (added last more : List Addition)
@@ -160,14 +174,19 @@ begins_done from named heard store copy added last more ready last_is begun all 
     (λ there c. inr (begins_end there from named (told_files d) (repo_view store.repo) copy added last more all.0.block ready last_is begun c))))
 
 pub lists_done : (from : Origin) (named : ArchiveRef) (heard : Option Told) (store : Store) (copy : Copy) (added last more : List Addition)
-    → IsReady copy → ArePieces Stream (cut copy.stream.cutter.block copy.stream.cutter.piece) last
-    → AddsRecord (repo_view store.repo).keys (copied_in (archive_view copy.archive) copy.block (copy.stream.chunks.items
-    ++ chunks_of (repo_view store.repo).keys (cut copy.stream.cutter.block copy.stream.cutter.piece))) more
+    (manifest_salt : List ℕ) → IsReady copy → ArePieces Stream (cut copy.stream.cutter.block copy.stream.cutter.piece) last
+    → (adds : AddsRecord (repo_view store.repo).keys (copied_in (archive_view copy.archive) copy.block (copy.stream.chunks.items
+    ++ chunks_of (repo_view store.repo).keys (cut copy.stream.cutter.block copy.stream.cutter.piece))) more)
     → IsAllCopied from named heard store copy added
-    → ListsDone heard from (repo_view store.repo).keys named.name (added ++ (last ++ more)) true
-lists_done from named heard store copy added last more ready last_is adds all =
+    → ListsDone heard from (repo_view store.repo).keys named.name (tagged_as adds.text adds.salt manifest_salt ∷ []) (added ++ (last ++ more)) true
+lists_done from named heard store copy added last more manifest_salt ready last_is adds all = (
+  tagged_as adds.text adds.salt manifest_salt,
+  (
+    refl,
     IfSome_then heard all.1 (λ d known. IfSome_then from.files known
-    (λ there c. lists_end there from named (told_files d) (repo_view store.repo) copy added last more all.0.block ready last_is adds c))
+        (λ there c. lists_end there from named (told_files d) (repo_view store.repo) copy added last more manifest_salt all.0.block ready last_is adds c)),
+  ),
+)
 
 -- the numbers of an archive: those of its pieces, with what was left of the stream, and its record
 pub counts_done : (from : Origin) (copy : Copy) (stream : PieceWriter) (added last more : List Addition) (keys : Keys) (archive : ArchiveText)
@@ -216,15 +235,16 @@ module _ (accepted : ManifestText) (entry : ArchiveRef) (store now : Store) (man
   -- at each moment of the commit
   commit_each : KeepsNames (repo_view store.repo).manifest manifest → manifest.archives ≡ (accepted_in store).archives → AcceptsOne accepted store entry
       → (from : Origin) (earlier : List Addition) → border_behind AtBegin earlier ≡ AtEnd
-      → IfSome a (λ t. IsReadyToName from earlier (told_files t) (repo_view store.repo) entry) → Between a b TellsNothing
+      → IfSome a (λ t. IsReadyToName from earlier (told_files t) (repo_view store.repo) entry)
+      → IsBehind from accepted (repo_view store.repo).manifest (entry.name ∷ []) manifest → Between a b TellsNothing
       → Between a b (CommitsEntry (with_manifest (repo_view store.repo) manifest) store.session store.counter (PutEntry zero_id blob))
       → Between a b (KeepsGrowingBy earlier accepted from (entry.name ∷ []) store [])
-  commit_each names archives one from earlier at_end ready untold each =
+  commit_each names archives one from earlier at_end ready behind untold each =
       let commits = CommitsEntry (with_manifest (repo_view store.repo) manifest) store.session store.counter (PutEntry zero_id blob) in
       between_map a b
       (λ h g. IsReadyToName from earlier (files_now h) (repo_view store.repo) entry × (TellsNothing h g × commits h g))
       (KeepsGrowingBy earlier accepted from (entry.name ∷ []) store [])
-      (λ h g e. commit_growing from earlier at_end accepted entry store manifest blob h g names archives one e.0 e.1.0 e.1.1)
+      (λ h g e. commit_growing from earlier at_end accepted entry store manifest blob h g names archives one behind e.0 e.1.0 e.1.1)
       (between_known (λ h. IsReadyToName from earlier (files_now h) (repo_view store.repo) entry) (λ h g. TellsNothing h g × commits h g) a b ready
       (between_both a b TellsNothing commits untold each))
 
@@ -232,9 +252,9 @@ module _ (accepted : ManifestText) (entry : ArchiveRef) (store now : Store) (man
       → manifest.archives ≡ (accepted_in store).archives → AcceptsOne accepted store entry → Between a b TellsNothing
       → Did {T = Unit {0}} (CommitsEntry (with_manifest (repo_view store.repo) manifest) store.session store.counter (PutEntry zero_id blob))
       (λ _. Commits store (PutEntry zero_id blob) now) a b n m (Err refusal)
-      → NamesArchive accepted entry store now a b n m (Err (target_fault refusal))
-  commit_works_err refusal names archives one untold did from earlier at_end ready = record {
-    each = commit_each names archives one from earlier at_end ready untold did.each;
+      → NamesArchive accepted entry manifest store now a b n m (Err (target_fault refusal))
+  commit_works_err refusal names archives one untold did from earlier at_end ready behind = record {
+    each = commit_each names archives one from earlier at_end ready behind untold did.each;
     end = tt;
     ends = subst (λ (d : Bool). FailedWhere d a b) (sym (failed_target refusal)) did.ends;
     cause = subst (λ (d : Bool). RoseWhere d n m) (sym (failed_target refusal)) did.cause;
@@ -244,15 +264,15 @@ module _ (accepted : ManifestText) (entry : ArchiveRef) (store now : Store) (man
       → (repo_view now.repo).manifest ≡ manifest → accepted_in now ≡ (repo_view now.repo).manifest → AcceptsOne accepted store entry
       → Between a b TellsNothing
       → Did {T = Unit {0}} (CommitsEntry (with_manifest (repo_view store.repo) manifest) store.session store.counter (PutEntry zero_id blob))
-      (λ _. Commits store (PutEntry zero_id blob) now) a b n m (Ok tt) → NamesArchive accepted entry store now a b n m (Ok tt)
-  commit_works names most archives manifest_is accepted_is one untold did from earlier at_end ready = record {
-    each = commit_each names archives one from earlier at_end ready untold did.each;
+      (λ _. Commits store (PutEntry zero_id blob) now) a b n m (Ok tt) → NamesArchive accepted entry manifest store now a b n m (Ok tt)
+  commit_works names most archives manifest_is accepted_is one untold did from earlier at_end ready behind = record {
+    each = commit_each names archives one from earlier at_end ready behind untold did.each;
     end = between_map a b
         (λ h g. IsReadyToName from earlier (files_now h) (repo_view store.repo) entry × (AllDone h g × Commits store (PutEntry zero_id blob) now h g))
         (λ h g. AllDone h g × GrowsBy earlier accepted from (entry.name ∷ []) [] store now h g)
         (λ h g e. (
           e.1.0,
-          commit_grows from earlier at_end accepted entry store manifest blob now h g most archives manifest_is accepted_is one e.0 e.1.1,
+          commit_grows from earlier at_end accepted entry store manifest blob now h g most archives manifest_is accepted_is one behind e.0 e.1.1,
         ))
         (between_known (λ h. IsReadyToName from earlier (files_now h) (repo_view store.repo) entry)
         (λ h g. AllDone h g × Commits store (PutEntry zero_id blob) now h g) a b ready did.end);
@@ -270,21 +290,24 @@ commit_most store now manifest is names = record {
 }
 
 -- a manifest that is committed behind an archive that was accepted
-pub named_behind : (accepted : ManifestText) (entry : ArchiveRef) (store middle now : Store) (a b : Option Told) (n m : ℕ)
-    (result : Result (Unit {0}) CarryFault) → middle ≡ record store { accepted = middle.accepted } → NamesArchive accepted entry middle now a b n m result
-    → NamesArchive accepted entry store now a b n m result
-named_behind accepted entry store middle now a b n m (Ok x) same p from earlier at_end ready =
+pub named_behind : (accepted : ManifestText) (entry : ArchiveRef) (manifest : ManifestText) (store middle now : Store) (a b : Option Told) (n m : ℕ)
+    (result : Result (Unit {0}) CarryFault) → middle ≡ record store { accepted = middle.accepted } → NamesArchive accepted entry manifest middle now a b n m
+    result
+    → NamesArchive accepted entry manifest store now a b n m result
+named_behind accepted entry manifest store middle now a b n m (Ok x) same p from earlier at_end ready behind =
     let works = p from earlier at_end
-    (subst (λ (r : RepoState). IfSome a (λ t. IsReadyToName from earlier (told_files t) r entry)) (sym (ap (λ (s : Store). repo_view s.repo) same)) ready) in
+    (subst (λ (r : RepoState). IfSome a (λ t. IsReadyToName from earlier (told_files t) r entry)) (sym (ap (λ (s : Store). repo_view s.repo) same)) ready)
+    (subst (λ (r : RepoState). IsBehind from accepted r.manifest (entry.name ∷ []) manifest) (sym (ap (λ (s : Store). repo_view s.repo) same)) behind) in
     works_as (KeepsGrowingBy earlier accepted from (entry.name ∷ []) middle [])
     (λ (_ : Unit {0}). GrowsBy earlier accepted from (entry.name ∷ []) [] middle now)
     (KeepsGrowingBy earlier accepted from (entry.name ∷ []) store []) (λ (_ : Unit {0}). GrowsBy earlier accepted from (entry.name ∷ []) [] store now)
     a b n m x x
     (λ h g e. growing_accepted earlier accepted from (entry.name ∷ []) store middle [] h g same e)
     (λ h g e. grows_accepted earlier accepted from (entry.name ∷ []) [] store middle now h g same e) works
-named_behind accepted entry store middle now a b n m (Err fault) same p from earlier at_end ready =
+named_behind accepted entry manifest store middle now a b n m (Err fault) same p from earlier at_end ready behind =
     let works = p from earlier at_end
-    (subst (λ (r : RepoState). IfSome a (λ t. IsReadyToName from earlier (told_files t) r entry)) (sym (ap (λ (s : Store). repo_view s.repo) same)) ready) in
+    (subst (λ (r : RepoState). IfSome a (λ t. IsReadyToName from earlier (told_files t) r entry)) (sym (ap (λ (s : Store). repo_view s.repo) same)) ready)
+    (subst (λ (r : RepoState). IsBehind from accepted r.manifest (entry.name ∷ []) manifest) (sym (ap (λ (s : Store). repo_view s.repo) same)) behind) in
     works_front (KeepsGrowingBy earlier accepted from (entry.name ∷ []) middle [])
     (λ (_ : Unit {0}). GrowsBy earlier accepted from (entry.name ∷ []) [] middle now)
     (KeepsGrowingBy earlier accepted from (entry.name ∷ []) store []) (λ (_ : Unit {0}). GrowsBy earlier accepted from (entry.name ∷ []) [] store now)
@@ -292,9 +315,9 @@ named_behind accepted entry store middle now a b n m (Err fault) same p from ear
     (λ h g e. growing_accepted earlier accepted from (entry.name ∷ []) store middle [] h g same e) works
 
 -- where no call was made
-pub names_nothing : (entry : ArchiveRef) (store now : Store) (a : Option Told) (n : ℕ) (fault : CarryFault) → AcceptsMore store
-    → target_failed fault ≡ false → NamesArchive (accepted_in store) entry store now a a n n (Err fault)
-names_nothing entry store now a n fault accepts still from earlier at_end ready =
+pub names_nothing : (entry : ArchiveRef) (manifest : ManifestText) (store now : Store) (a : Option Told) (n : ℕ) (fault : CarryFault) → AcceptsMore store
+    → target_failed fault ≡ false → NamesArchive (accepted_in store) entry manifest store now a a n n (Err fault)
+names_nothing entry manifest store now a n fault accepts still from earlier at_end ready behind =
     carried_nothing {T = Unit {0}} earlier from (entry.name ∷ []) (entry.name ∷ []) [] store now a n fault accepts still
 
 -- ---- a manifest that is too large

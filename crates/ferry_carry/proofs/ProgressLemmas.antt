@@ -304,21 +304,23 @@ copy_as from copy copy_now added same contents stream is = record {
 }
 
 -- the same over what the shelf and the depot tell
-pub steps_copied : (most : ℕ) (told a b : Option Told) (source : RepoState) (cached : Contents) (named : ArchiveRef) (store now : Store)
+pub steps_copied : (most : ℕ) (time : Option (List ℕ)) (told a b : Option Told) (source : RepoState) (cached : Contents) (named : ArchiveRef) (store now :
+    Store)
     (copy copy_now : Copy) (added more : List Addition) (n m : ℕ) → IfSome told (λ t. FitsRepo (told_files t) source cached)
     → IfSome a (λ d. StoreFits false store d.history)
     → Works {T = Bool} (KeepsStanding most store more) (λ _. Gathers most store more now) a b n m (Ok true) → KeepsRest store now → IsReady copy
     → copy_now.archive ≡ copy.archive → copy_now.block ≡ copy.block → copy_now.contents.checkpoint ≡ copy.contents.checkpoint
     → CopiesItem told source (repo_view store.repo).keys copy more copy_now → CountsStep copy more copy_now
-    → IsCopiedSoFar (origin told source copy.block most) named a store copy added
-    → IsCopiedSoFar (origin told source copy.block most) named b now copy_now (added ++ more)
-steps_copied most None a b source cached named store now copy copy_now added more n m log_fits fits works rest ready archive same same_most step counts so =
-    (copy_from (origin None source copy.block most) copy copy_now added more same same_most counts so.0, any_told b (λ d. Unit {0}) (λ d. tt))
-steps_copied most (Some t) a b source cached named store now copy copy_now added more n m log_fits fits works rest ready archive same same_most step counts
+    → IsCopiedSoFar (origin told source copy.block most time) named a store copy added
+    → IsCopiedSoFar (origin told source copy.block most time) named b now copy_now (added ++ more)
+steps_copied most time None a b source cached named store now copy copy_now added more n m log_fits fits works rest ready archive same same_most step counts so
+    =
+    (copy_from (origin None source copy.block most time) copy copy_now added more same same_most counts so.0, any_told b (λ d. Unit {0}) (λ d. tt))
+steps_copied most time (Some t) a b source cached named store now copy copy_now added more n m log_fits fits works rest ready archive same same_most step counts
     so =
     let P : History → Type 0 = λ h. CopiesSoFar (told_files t) source named (files_now h) (repo_view store.repo) copy added in
     let R : History → Type 0 = λ h. CopiesSoFar (told_files t) source named (files_now h) (repo_view now.repo) copy_now (added ++ more) in (
-      copy_from (origin (Some t) source copy.block most) copy copy_now added more same same_most counts so.0,
+      copy_from (origin (Some t) source copy.block most time) copy copy_now added more same same_most counts so.0,
       works_known {T = Bool} (λ h. StoreFits false store h × P h) R (KeepsStanding most store more) (λ _. Gathers most store more now) a b n m true
           (λ h g known gathers.
           step_copied most false t source named store now copy copy_now added more h g known.0 log_fits.log (gathers false known.0) rest ready archive same
@@ -327,19 +329,20 @@ steps_copied most (Some t) a b source cached named store now copy copy_now added
     )
 
 -- and of the end
-pub steps_ended : (most : ℕ) (told a b : Option Told) (source : RepoState) (named : ArchiveRef) (store now : Store) (copy copy_now : Copy)
+pub steps_ended : (most : ℕ) (time : Option (List ℕ)) (told a b : Option Told) (source : RepoState) (named : ArchiveRef) (store now : Store) (copy copy_now :
+    Copy)
     (added more : List Addition) (n m : ℕ) → archive_named named.name source.manifest.archives ≡ Some named
     → IfSome a (λ d. StoreFits false store d.history)
     → Works {T = Bool} (KeepsStanding most store more) (λ _. Gathers most store more now) a b n m (Ok false) → KeepsRest store now
     → copy_now.archive ≡ copy.archive → copy_now.block ≡ copy.block
-    → EndsItems told source copy more copy_now → IsCopiedSoFar (origin told source copy.block most) named a store copy added
-    → IsAllCopied (origin told source copy.block most) named b now copy_now added
-steps_ended most None a b source named store now copy copy_now added more n m named_is fits works rest archive same step so =
-    (copy_as (origin None source copy.block most) copy copy_now added same step.contents step.stream so.0, any_told b (λ d. Unit {0}) (λ d. tt))
-steps_ended most (Some t) a b source named store now copy copy_now added more n m named_is fits works rest archive same step so =
+    → EndsItems told source copy more copy_now → IsCopiedSoFar (origin told source copy.block most time) named a store copy added
+    → IsAllCopied (origin told source copy.block most time) named b now copy_now added
+steps_ended most time None a b source named store now copy copy_now added more n m named_is fits works rest archive same step so =
+    (copy_as (origin None source copy.block most time) copy copy_now added same step.contents step.stream so.0, any_told b (λ d. Unit {0}) (λ d. tt))
+steps_ended most time (Some t) a b source named store now copy copy_now added more n m named_is fits works rest archive same step so =
     let P : History → Type 0 = λ h. CopiesSoFar (told_files t) source named (files_now h) (repo_view store.repo) copy added in
     let R : History → Type 0 = λ h. CopiesAll (told_files t) source named (files_now h) (repo_view now.repo) copy_now added in (
-      copy_as (origin (Some t) source copy.block most) copy copy_now added same step.contents step.stream so.0,
+      copy_as (origin (Some t) source copy.block most time) copy copy_now added same step.contents step.stream so.0,
       works_known {T = Bool} (λ h. StoreFits false store h × P h) R (KeepsStanding most store more) (λ _. Gathers most store more now) a b n m false
           (λ h g known gathers.
           step_ended most false t source named store now copy copy_now added more h g known.0 named_is (gathers false known.0) rest archive same step known.1)
@@ -393,13 +396,15 @@ counts_none : (limit count put : ℕ) → count ≡ 0 → put ≡ 0 → count �
 counts_none limit count put none nothing = omega (arith, none, nothing)
 
 -- an archive of which nothing was taken is copied so far, in any store
-pub begin_copied : (told later target : Option Told) (source after : RepoState) (block most : ℕ) (named : ArchiveRef) (store : Store) (copy : Copy)
+pub begin_copied : (told later target : Option Told) (source after : RepoState) (block most : ℕ) (time : Option (List ℕ)) (named : ArchiveRef) (store : Store)
+    (copy : Copy)
     → heard later ≡ heard told → after ≡ source → block ≡ copy.block → most ≡ copy.contents.checkpoint
     → IfSome told (λ t. HoldsRecord (told_files t) source.log source.keys named.id (archive_view copy.archive))
     → walk_view copy.walk ≡ begin_walk named.id (archive_view copy.archive).items
     → (copy.stream.cutter.piece ≡ []) × (copy.stream.chunks.items ≡ [])
-    → (copy.contents.put ≡ 0) × ((copy.contents.bytes ≡ 0) × (copy.stream.put ≡ 0)) → IsCopiedSoFar (origin later after block most) named target store copy []
-begin_copied told later target source after block most named store copy alike kept same same_most record_is walk stream counted =
+    → (copy.contents.put ≡ 0) × ((copy.contents.bytes ≡ 0) × (copy.stream.put ≡ 0)) → IsCopiedSoFar (origin later after block most time) named target store
+    copy []
+begin_copied told later target source after block most time named store copy alike kept same same_most record_is walk stream counted =
     let known = at_last told later source after (λ r f. HoldsRecord f r.log r.keys named.id (archive_view copy.archive)) alike kept record_is in (
       record {
         block = same;
@@ -439,14 +444,15 @@ stream_ids files repo copy wholes added ready writes =
 
 -- all that an archive is in a target is there, once what was left of its stream and its record were added
 pub ready_then : (most : ℕ) (counts : Bool) (there : Files) (from : Origin) (named : ArchiveRef) (store middle : Store) (copy : Copy)
-    (added last more : List Addition) (id : List ℕ) (h g : History) (fits : StoreFits counts store h) → from.block ≡ copy.block → IsReady copy
+    (added last more : List Addition) (before after : Option (List ℕ)) (id : List ℕ) (h g : History) (fits : StoreFits counts store h) → from.block ≡
+    copy.block → IsReady copy
     → Gathered Within most counts store (last ++ more) middle h g fits → KeepsRest store middle
     → ArePieces Stream (cut copy.stream.cutter.block copy.stream.cutter.piece) last
     → AddsUnder (repo_view store.repo).keys (copied_in (archive_view copy.archive) copy.block (copy.stream.chunks.items
-    ++ chunks_of (repo_view store.repo).keys (cut copy.stream.cutter.block copy.stream.cutter.piece))) more id
+    ++ chunks_of (repo_view store.repo).keys (cut copy.stream.cutter.block copy.stream.cutter.piece))) more before after id
     → CopiesAll there from.repo named (files_now h) (repo_view store.repo) copy added
     → CanBeNamed there from (added ++ (last ++ more)) (files_now g) (repo_view middle.repo) (entry_for named id)
-ready_then most counts there from named store middle copy added last more id h g fits same ready end rest last_is is all =
+ready_then most counts there from named store middle copy added last more before after id h g fits same ready end rest last_is is all =
     let keys = (repo_view store.repo).keys in
     let block = copy.block in
     let wholes = all.wholes in
@@ -460,13 +466,18 @@ ready_then most counts there from named store middle copy added last more id h g
     stream_taken (files_now h) (repo_view store.repo) copy wholes added ready writes in
     let ids : map (λ (chunk : ChunkRef). chunk.id) given ≡ map (content_id keys) (stream_pieces keys block wholes) =
     stream_ids (files_now h) (repo_view store.repo) copy wholes added ready writes in
-    let copied : IsCopyOf keys block wholes archive.fields text =
+    let salt = is.adds.salt in
+    let copied : IsCopyOf keys block wholes archive.fields salt text =
     record {
       some = omega (arith, ready.least);
+      salt_size = is.adds.salt_size;
       copied = as_tagged (copied_in archive block given);
-      reads = is.adds.reads;
       same = refl;
       items = ids;
+      params = refl;
+      tagged = refl;
+      text_is = is.adds.text_is;
+      reads = is.adds.reads;
       spelled = writes.spelled;
     } in
     let behind : stream_pieces keys block wholes ++ text ∷ [] ≡ writes.taken ++ (left ++ text ∷ []) =
@@ -483,7 +494,7 @@ ready_then most counts there from named store middle copy added last more id h g
     (held_more most counts store middle added (last ++ more) (contents_of block wholes) writes.taken [] (left ++ text ∷ []) h g fits contents end rest
     writes.held) in
     let IsSo : Keys → ℕ → Type 0 = λ k b.
-    IsCopyOf k b wholes archive.fields text × HoldsApart (files_now g) (repo_view middle.repo) all_added (adds_of k b wholes text) in
+    IsCopyOf k b wholes archive.fields salt text × HoldsApart (files_now g) (repo_view middle.repo) all_added (adds_of k b wholes text) in
     let so : IsSo (repo_view middle.repo).keys from.block =
     subst (λ (k : Keys). IsSo k from.block) (sym rest.keys) (subst (IsSo keys) (sym same) (copied, held)) in
     record {
@@ -492,20 +503,21 @@ ready_then most counts there from named store middle copy added last more id h g
       time = refl;
       text = text;
       id = is.id_is ∙ ap (λ (k : Keys). content_id k text) (sym rest.keys);
+      salt = salt;
       copy = so.0;
       held = so.1;
     }
 
 -- the same over what the depot tells
 pub readies : {T : Type 0} (from : Origin) (a b : Option Told) (named : ArchiveRef) (store middle : Store) (copy : Copy) (added last more : List Addition)
-    (id : List ℕ) (n m : ℕ) (x : T) → IfSome a (λ d. StoreFits false store d.history) → IsReady copy
+    (before after : Option (List ℕ)) (id : List ℕ) (n m : ℕ) (x : T) → IfSome a (λ d. StoreFits false store d.history) → IsReady copy
     → Works (KeepsStanding from.most store (last ++ more)) (λ (_ : T). Gathers from.most store (last ++ more) middle) a b n m (Ok x)
     → KeepsRest store middle → ArePieces Stream (cut copy.stream.cutter.block copy.stream.cutter.piece) last
     → AddsUnder (repo_view store.repo).keys (copied_in (archive_view copy.archive) copy.block (copy.stream.chunks.items
-    ++ chunks_of (repo_view store.repo).keys (cut copy.stream.cutter.block copy.stream.cutter.piece))) more id
+    ++ chunks_of (repo_view store.repo).keys (cut copy.stream.cutter.block copy.stream.cutter.piece))) more before after id
     → IsAllCopied from named a store copy added
     → IfSome b (λ d. IsReadyToName from (added ++ (last ++ more)) (told_files d) (repo_view middle.repo) (entry_for named id))
-readies {T} from a b named store middle copy added last more id n m x fits ready works rest last_is is all =
+readies {T} from a b named store middle copy added last more before after id n m x fits ready works rest last_is is all =
     let adds = last ++ more in
     let P : History → Type 0 = λ h. IfSome from.files (λ there. CopiesAll there from.repo named (files_now h) (repo_view store.repo) copy added) in
     let R : History → Type 0 = λ h. IsReadyToName from (added ++ adds) (files_now h) (repo_view middle.repo) (entry_for named id) in
@@ -513,5 +525,6 @@ readies {T} from a b named store middle copy added last more id n m x fits ready
     (λ h g known gathers.
     IfSome_then from.files known.1
     (λ there c.
-    ready_then from.most false there from named store middle copy added last more id h g known.0 all.0.block ready (gathers false known.0) rest last_is is c))
+    ready_then from.most false there from named store middle copy added last more before after id h g known.0 all.0.block ready (gathers false known.0) rest
+    last_is is c))
     (both_known a (λ d. StoreFits false store d.history) (λ d. P d.history) fits all.1) works

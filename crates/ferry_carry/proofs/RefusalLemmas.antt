@@ -59,30 +59,31 @@ contents_refused told later source after refs place d contents Record alike kept
 -- ---- an archive on its way
 
 -- what holds of the files of a source by what holds of them, where the source tells its files and the target too
-where_then : (told heard_of : Option Told) (source : RepoState) (block most : ℕ) (P R : Files → Type 0) (Q : Told → Files → Type 0)
-    → IfSome told (λ t. R (told_files t)) → IfSome heard_of (λ d. IfSome (origin told source block most).files (Q d))
-    → ((d : Told) (there : Files) → R there → Q d there → P there) → WhereTold (origin told source block most) heard_of P
-where_then None heard_of source block most P R Q first known step = any_told heard_of (λ d. Unit {0}) (λ d. tt)
-where_then (Some t) heard_of source block most P R Q first known step = IfSome_then heard_of known (λ d q. step d (told_files t) first q)
+where_then : (told heard_of : Option Told) (source : RepoState) (block most : ℕ) (time : Option (List ℕ)) (P R : Files → Type 0) (Q : Told → Files → Type 0)
+    → IfSome told (λ t. R (told_files t)) → IfSome heard_of (λ d. IfSome (origin told source block most time).files (Q d))
+    → ((d : Told) (there : Files) → R there → Q d there → P there) → WhereTold (origin told source block most time) heard_of P
+where_then None heard_of source block most time P R Q first known step = any_told heard_of (λ d. Unit {0}) (λ d. tt)
+where_then (Some t) heard_of source block most time P R Q first known step = IfSome_then heard_of known (λ d q. step d (told_files t) first q)
 
 -- no further item is taken: the stream is refused there
-pub next_refused : (told heard_of : Option Told) (source : RepoState) (block most : ℕ) (named : ArchiveRef) (store : Store) (copy : Copy)
+pub next_refused : (told heard_of : Option Told) (source : RepoState) (block most : ℕ) (time : Option (List ℕ)) (named : ArchiveRef) (store : Store) (copy :
+    Copy)
     (added : List Addition) (fault : CarryFault)
-    → archive_named named.name source.manifest.archives ≡ Some named → IsCopiedSoFar (origin told source block most) named heard_of store copy added
-    → RefusesNext told source (walk_view copy.walk) fault → RefusesStep (origin told source block most) heard_of named.name fault
-next_refused told heard_of source block most named store copy added (Source fault) named_is so refuses = λ of_files.
-    where_then told heard_of source block most (λ there. RefusesWhole there source.log source.keys source.manifest.archives named.name fault)
+    → archive_named named.name source.manifest.archives ≡ Some named → IsCopiedSoFar (origin told source block most time) named heard_of store copy added
+    → RefusesNext told source (walk_view copy.walk) fault → RefusesStep (origin told source block most time) heard_of named.name fault
+next_refused told heard_of source block most time named store copy added (Source fault) named_is so refuses = λ of_files.
+    where_then told heard_of source block most time (λ there. RefusesWhole there source.log source.keys source.manifest.archives named.name fault)
     (λ there. IsToCome there source.log source.keys (walk_view copy.walk) [] (Some fault))
     (λ d there. CopiesSoFar there source named (told_files d) (repo_view store.repo) copy added) (refuses of_files) so.1
     (λ d there come c.
     refuses_copy there source.log source.keys source.manifest.archives named.name named (archive_view copy.archive) c.items c.wholes (walk_view copy.walk)
     fault named_is c.record_is c.leads come c.come)
-next_refused told heard_of source block most named store copy added (Target refusal) named_is so refuses = tt
-next_refused told heard_of source block most named store copy added (Taken name) named_is so refuses = absurd refuses
-next_refused told heard_of source block most named store copy added (NotFound name) named_is so refuses = absurd refuses
-next_refused told heard_of source block most named store copy added Pieces named_is so refuses = absurd refuses
-next_refused told heard_of source block most named store copy added Memory named_is so refuses = tt
-next_refused told heard_of source block most named store copy added Record named_is so refuses = absurd refuses
+next_refused told heard_of source block most time named store copy added (Target refusal) named_is so refuses = tt
+next_refused told heard_of source block most time named store copy added (Taken name) named_is so refuses = absurd refuses
+next_refused told heard_of source block most time named store copy added (NotFound name) named_is so refuses = absurd refuses
+next_refused told heard_of source block most time named store copy added Pieces named_is so refuses = absurd refuses
+next_refused told heard_of source block most time named store copy added Memory named_is so refuses = tt
+next_refused told heard_of source block most time named store copy added Record named_is so refuses = absurd refuses
 
 -- an item behind those that were taken, where something is to come from behind it
 long_item : (there : Files) (source : RepoState) (from : Origin) (named : ArchiveRef) (files : Files) (repo : RepoState) (copy : Copy)
@@ -97,9 +98,10 @@ long_item there source from named files repo copy added item after same named_is
     let leads = leads_then there source.log source.keys begun (walk_view copy.walk) after so.items (item ∷ []) so.leads taken in
     let comes = leads_come there source.log source.keys named.id ids (so.items ++ item ∷ []) some.0 after some.1.0 leads some.1.1 in
     let long_in : (repo : RepoState) → repo ≡ source
-    → HasLongItem there (record { files = from.files; repo = repo; block = from.block; most = from.most }) named.name =
+    → HasLongItem there (record { files = from.files; repo = repo; block = from.block; most = from.most; time = from.time }) named.name =
     λ repo is.
-    subst (λ (r : RepoState). HasLongItem there (record { files = from.files; repo = r; block = from.block; most = from.most }) named.name) (sym is) (record {
+    subst (λ (r : RepoState). HasLongItem there (record { files = from.files; repo = r; block = from.block; most = from.most; time = from.time }) named.name)
+    (sym is) (record {
       named = named;
       named_is = named_is;
       archive = archive_view copy.archive;
@@ -128,17 +130,19 @@ item_at None source cached before after item fits taken = tt
 item_at (Some t) source cached before after item fits taken = record { fits = fits.log; taken = taken }
 
 -- the content of an item that was taken isn't copied
-pub item_refused : (told later heard_of : Option Told) (source now : RepoState) (cached : Contents) (block block_now most : ℕ) (named : ArchiveRef)
+pub item_refused : (told later heard_of : Option Told) (source now : RepoState) (cached : Contents) (block block_now most : ℕ) (time : Option (List ℕ)) (named
+    : ArchiveRef)
     (store : Store) (copy : Copy) (added : List Addition) (item : ItemText) (after : WalkState) (fault : CarryFault) → heard later ≡ heard told → now ≡ source
     → block_now ≡ block
     → IfSome told (λ t. FitsRepo (told_files t) source cached)
     → IfSome told (λ t. TakesItem (told_files t) source (walk_view copy.walk) item after)
-    → archive_named named.name source.manifest.archives ≡ Some named → IsCopiedSoFar (origin told source block most) named heard_of store copy added
-    → RefusesCopying later now block_now item.chunks fault → RefusesStep (origin told source block most) heard_of named.name fault
-item_refused told later heard_of source now cached block block_now most named store copy added item after (Source fault) alike kept same fits taken named_is so
+    → archive_named named.name source.manifest.archives ≡ Some named → IsCopiedSoFar (origin told source block most time) named heard_of store copy added
+    → RefusesCopying later now block_now item.chunks fault → RefusesStep (origin told source block most time) heard_of named.name fault
+item_refused told later heard_of source now cached block block_now most time named store copy added item after (Source fault) alike kept same fits taken
+    named_is so
     refuses = λ of_files.
     let refused = at_first told later source now (λ r f. RefusesJoined f r.log r.keys item.chunks fault) alike kept (refuses of_files) in
-    where_then told heard_of source block most (λ there. RefusesWhole there source.log source.keys source.manifest.archives named.name fault)
+    where_then told heard_of source block most time (λ there. RefusesWhole there source.log source.keys source.manifest.archives named.name fault)
     (λ there. IsAt there source (walk_view copy.walk) item after × RefusesJoined there source.log source.keys item.chunks fault)
     (λ d there. CopiesSoFar there source named (told_files d) (repo_view store.repo) copy added)
     (told_with told told (λ f. IsAt f source (walk_view copy.walk) item after) (λ f. RefusesJoined f source.log source.keys item.chunks fault)
@@ -149,25 +153,27 @@ item_refused told later heard_of source now cached block block_now most named st
     refuses_content_here there source.log source.keys source.manifest.archives named.name named (archive_view copy.archive) c.items item c.wholes after
     fault r.0.fits named_is c.record_is
     (leads_then there source.log source.keys begun (walk_view copy.walk) after c.items (item ∷ []) c.leads r.0.taken) c.come r.1)
-item_refused told later heard_of source now cached block block_now most named store copy added item after Pieces alike kept same fits taken named_is so
+item_refused told later heard_of source now cached block block_now most time named store copy added item after Pieces alike kept same fits taken named_is so
     refuses =
     let long : IsTooLong block item.chunks = subst (λ (b : ℕ). IsTooLong b item.chunks) same refuses in
-    where_then told heard_of source block most (λ there. HasLongItem there (origin told source block most) named.name)
+    where_then told heard_of source block most time (λ there. HasLongItem there (origin told source block most time) named.name)
     (λ there. IsAt there source (walk_view copy.walk) item after)
     (λ d there. CopiesSoFar there source named (told_files d) (repo_view store.repo) copy added)
     (item_at told source cached (walk_view copy.walk) after item fits taken) so.1
     (λ d there r c.
-    long_item there source (origin told source block most) named (told_files d) (repo_view store.repo) copy added item after refl named_is r.fits c
+    long_item there source (origin told source block most time) named (told_files d) (repo_view store.repo) copy added item after refl named_is r.fits c
     r.taken long)
-item_refused told later heard_of source now cached block block_now most named store copy added item after (Target refusal) alike kept same fits taken
+item_refused told later heard_of source now cached block block_now most time named store copy added item after (Target refusal) alike kept same fits taken
     named_is so refuses = tt
-item_refused told later heard_of source now cached block block_now most named store copy added item after (Taken name) alike kept same fits taken named_is so
+item_refused told later heard_of source now cached block block_now most time named store copy added item after (Taken name) alike kept same fits taken named_is
+    so
     refuses = absurd refuses
-item_refused told later heard_of source now cached block block_now most named store copy added item after (NotFound name) alike kept same fits taken named_is so
+item_refused told later heard_of source now cached block block_now most time named store copy added item after (NotFound name) alike kept same fits taken
+    named_is so
     refuses = absurd refuses
-item_refused told later heard_of source now cached block block_now most named store copy added item after Memory alike kept same fits taken named_is so
+item_refused told later heard_of source now cached block block_now most time named store copy added item after Memory alike kept same fits taken named_is so
     refuses = tt
-item_refused told later heard_of source now cached block block_now most named store copy added item after Record alike kept same fits taken named_is so
+item_refused told later heard_of source now cached block block_now most time named store copy added item after Record alike kept same fits taken named_is so
     refuses = absurd refuses
 
 -- a source whose next item doesn't come is no chunk of the target

@@ -26,7 +26,7 @@ use Rattle.ferry_carry.proofs.NamesLemmas.{ListedAs, listed_as, lists_one}
 use Rattle.ferry_carry.proofs.CountingLemmas.{counts_then, counts_none}
 use Rattle.ferry_carry.proofs.MomentLemmas.{reported_growing, reported_here, names_here, reported_wider, reported_then, names_then, reported_name, told_name}
 use Rattle.ferry_carry.proofs.MomentLemmas.{grows_told, carries_told, reported_whole, told_whole}
-use Rattle.ferry_carry.specs.Accepting.{AreNextOf}
+use Rattle.ferry_carry.proofs.NextLemmas.{accepts_both, accepts_none}
 use Rattle.ferry_piece.specs.Adding.{HoldsAll, IsNoChunk, StopsLast}
 use Rattle.ferry_carry.specs.Carrying.{Origin}
 use Rattle.ferry_carry.specs.Chosen.{TellsLine}
@@ -38,8 +38,9 @@ use Rattle.ferry_carry.specs.Grow.{AcceptsMore, Grows, KeepsGrowing}
 use Rattle.ferry_carry.specs.Lines.{name_line, told_of, total_line}
 use Rattle.ferry_carry.specs.Listing.{ListsNames}
 use Rattle.ferry_piece.specs.Puts.{Addition, AtBegin, border_behind}
+use Rattle.ferry_carry.specs.Naming.{TaggedRecord, record_ids}
 use Rattle.ferry_carry.specs.Refusals.{is_of_telling}
-use Rattle.ferry_carry.specs.Telling.{CarriesNames, KeepsReported, Reports, ReportsWhole, TellsNames, TellsWhole}
+use Rattle.ferry_carry.specs.Telling.{AcceptsNames, CarriesNames, KeepsReported, Reports, ReportsWhole, TellsNames, TellsWhole}
 use Rattle.ferry_piece.specs.Work.{Works}
 use Rattle.ferry_piece.specs.declared.fault.CarryFault.{CarryFault}
 use Rattle.ferry_piece.specs.declared.fault.CarryFault.TheVariants as Carry
@@ -49,12 +50,13 @@ use Rattle.ferry_carry.specs.declared.options.Carried.{Carried}
 -- ---- what bodies did
 
 -- What bodies that tell names say of the end.
-abbrev EndsNames : {T : Type 0} → Origin → List (List ℕ) → List Addition → Store → Store → T → History → History → Type 0
-EndsNames from names added store now _ h g = CarriesNames from names added store now h g × TellsNames (accepted_in store) names h g
+abbrev EndsNames : {T : Type 0} → Origin → List (List ℕ) → List TaggedRecord → List Addition → Store → Store → T → History → History → Type 0
+EndsNames from names records added store now _ h g = CarriesNames from names records added store now h g × TellsNames (accepted_in store) names h g
 
 -- and of a body that tells the whole
-abbrev EndsWhole : Origin → List (List ℕ) → List Addition → Store → Store → Carried → History → History → Type 0
-EndsWhole from names added store now carried h g = CarriesNames from names added store now h g × TellsWhole (accepted_in store) names added carried h g
+abbrev EndsWhole : Origin → List (List ℕ) → List TaggedRecord → List Addition → Store → Store → Carried → History → History → Type 0
+EndsWhole from names records added store now carried h g = CarriesNames from names records added store now h g × TellsWhole (accepted_in store) names added
+    carried h g
 
 -- a line that isn't told is no chunk
 pub telling_unbroken : (fault : CarryFault) → is_of_telling fault ≡ true → IsNoChunk fault
@@ -73,14 +75,17 @@ telling_unbroken Carry.Memory telling = tt
 telling_unbroken Carry.Record telling = tt
 
 -- where no call of the target was made
-reports_none : (from : Origin) (store : Store) (carried : Carried) (a : Option Told) (n : ℕ) → AcceptsMore store → carried.transferred < 2 ^ 64
+reports_none : (from : Origin) (store : Store) (carried : Carried) (a : Option Told) (n : ℕ) (x : Option (List ℕ)) → AcceptsMore store → carried.transferred <
+    2 ^ 64
     → carried.present < 2 ^ 64 → carried.chunks < 2 ^ 64 → carried.bytes < 2 ^ 128 → carried.meta < 2 ^ 64
-    → Reports from [] store store carried carried a a n n (Ok tt)
-reports_none from store carried a n accepts transferred present chunks bytes meta = record {
+    → Reports from [] store store carried carried a a n n x x (Ok tt)
+reports_none from store carried a n x accepts transferred present chunks bytes meta = record {
   added = [];
+  records = [];
   begins = all_nothing a from store [];
-  works = works_none (KeepsReported from [] store []) (EndsNames {T = Unit {0}} from [] [] store store) a n tt
-      (λ h. reported_here from [] store [] h accepts) (λ h. ((grows_here [] from store h, refl), names_here (accepted_in store) h));
+  works = works_none (KeepsReported from [] store []) (EndsNames {T = Unit {0}} from [] [] [] store store) a n tt
+      (λ h. reported_here from [] store [] h accepts) (λ h. ((grows_here [] from store h, (refl, refl)), names_here (accepted_in store) h));
+  accepts = accepts_none from store x;
   counted = counts_none (accepted_in store) carried transferred present chunks bytes meta;
   last = tt;
   held = tt;
@@ -88,34 +93,40 @@ reports_none from store carried a n accepts transferred present chunks bytes met
 }
 
 -- and nothing was added
-pub reports_begin : (from : Origin) (store : Store) (carried : Carried) (a : Option Told) (n : ℕ) → AcceptsMore store → carried.transferred < 2 ^ 64
+pub reports_begin : (from : Origin) (store : Store) (carried : Carried) (a : Option Told) (n : ℕ) (x : Option (List ℕ)) → AcceptsMore store →
+    carried.transferred < 2 ^ 64
     → carried.present < 2 ^ 64 → carried.chunks < 2 ^ 64 → carried.bytes < 2 ^ 128 → carried.meta < 2 ^ 64
-    → (p : Reports from [] store store carried carried a a n n (Ok tt)) × Follows p.added store
+    → (p : Reports from [] store store carried carried a a n n x x (Ok tt)) × Follows p.added store
 unfolding reports_none
-reports_begin from store carried a n accepts transferred present chunks bytes meta =
-    (reports_none from store carried a n accepts transferred present chunks bytes meta, inl refl)
+reports_begin from store carried a n x accepts transferred present chunks bytes meta =
+    (reports_none from store carried a n x accepts transferred present chunks bytes meta, inl refl)
 
-pub reports_nothing : (from : Origin) (names : List (List ℕ)) (store now : Store) (carried after : Carried) (a : Option Told) (n : ℕ) (fault : CarryFault)
-    → AcceptsMore store → target_failed fault ≡ false → IsNoChunk fault → (IsOfSource fault → ⊥)
-    → Reports from names store now carried after a a n n (Err fault)
-reports_nothing from names store now carried after a n fault accepts still unbroken apart = record {
+pub reports_nothing : (from : Origin) (names : List (List ℕ)) (store now : Store) (carried after : Carried) (a : Option Told) (n : ℕ) (x y : Option (List ℕ))
+    (fault : CarryFault) → AcceptsMore store → target_failed fault ≡ false → IsNoChunk fault → (IsOfSource fault → ⊥)
+    → Reports from names store now carried after a a n n x y (Err fault)
+reports_nothing from names store now carried after a n x y fault accepts still unbroken apart = record {
   added = [];
+  records = [];
   begins = all_nothing a from store names;
-  works = works_nothing (KeepsReported from names store []) (EndsNames {T = Unit {0}} from names [] store now) a n fault still
+  works = works_nothing (KeepsReported from names store []) (EndsNames {T = Unit {0}} from names [] [] store now) a n fault still
       (λ h. reported_here from names store [] h accepts);
+  accepts = tt;
   counted = tt;
   last = stops_unbroken a (repo_view store.repo).keys [] fault unbroken;
   held = λ source. absurd (apart source);
   fills = heard_apart a fault (λ refusal. FillsNames from (repo_view store.repo).keys (accepted_in store) [] names refusal []) apart;
 }
 
-pub whole_nothing : (from : Origin) (names : List (List ℕ)) (store now : Store) (a : Option Told) (n : ℕ) (fault : CarryFault)
-    → AcceptsMore store → target_failed fault ≡ false → IsNoChunk fault → (IsOfSource fault → ⊥) → ReportsWhole from names store now a a n n (Err fault)
-whole_nothing from names store now a n fault accepts still unbroken apart = record {
+pub whole_nothing : (from : Origin) (names : List (List ℕ)) (store now : Store) (a : Option Told) (n : ℕ) (x y : Option (List ℕ)) (fault : CarryFault)
+    → AcceptsMore store → target_failed fault ≡ false → IsNoChunk fault → (IsOfSource fault → ⊥)
+    → ReportsWhole from names store now a a n n x y (Err fault)
+whole_nothing from names store now a n x y fault accepts still unbroken apart = record {
   added = [];
+  records = [];
   begins = all_nothing a from store names;
-  works = works_nothing (KeepsReported from names store []) (EndsWhole from names [] store now) a n fault still
+  works = works_nothing (KeepsReported from names store []) (EndsWhole from names [] [] store now) a n fault still
       (λ h. reported_here from names store [] h accepts);
+  accepts = tt;
   last = stops_unbroken a (repo_view store.repo).keys [] fault unbroken;
   held = λ source. absurd (apart source);
   fills = heard_apart a fault (λ refusal. FillsNames from (repo_view store.repo).keys (accepted_in store) [] names refusal []) apart;
@@ -123,57 +134,63 @@ whole_nothing from names store now a n fault accepts still unbroken apart = reco
 
 -- a fault of a body that told nothing, and of one that told
 pub reports_silent : (from : Origin) (name : List ℕ) (added : List Addition) (store now : Store) (flight : Flight) (carried after : Carried)
-    (a b : Option Told) (n m : ℕ) (fault : CarryFault) → TakesAll from name [] added store now flight a b n m (Err fault)
-    → Reports from (name ∷ []) store now carried after a b n m (Err fault)
+    (a b : Option Told) (n m : ℕ) (x y : Option (List ℕ)) (records : List TaggedRecord) (fault : CarryFault)
+    → TakesAll from name [] added records store now flight a b n m (Err fault)
+    → Reports from (name ∷ []) store now carried after a b n m x y (Err fault)
 unfolding border_behind
-reports_silent from name added store now flight carried after a b n m fault p = record {
+reports_silent from name added store now flight carried after a b n m x y records fault p = record {
   added = added;
+  records = [];
   begins = all_one a from store name added p.begins;
   works = works_front (KeepsGrowing [] from (name ∷ []) store added) (λ (_ : Bool). Grows [] from (name ∷ []) added store now)
-      (KeepsReported from (name ∷ []) store added) (EndsNames {T = Unit {0}} from (name ∷ []) added store now) a b n m fault
+      (KeepsReported from (name ∷ []) store added) (EndsNames {T = Unit {0}} from (name ∷ []) [] added store now) a b n m fault
       (λ h g e. reported_growing from (name ∷ []) store added h g e) p.carries;
+  accepts = tt;
   counted = tt;
   last = p.last;
   held = p.held;
   fills = filled_one a from store name fault added p.fills;
 }
 
-pub whole_err : (from : Origin) (names : List (List ℕ)) (store now : Store) (carried after : Carried) (a b : Option Told) (n m : ℕ) (fault : CarryFault)
-    → Reports from names store now carried after a b n m (Err fault) → ReportsWhole from names store now a b n m (Err fault)
-whole_err from names store now carried after a b n m fault p = record {
+pub whole_err : (from : Origin) (names : List (List ℕ)) (store now : Store) (carried after : Carried) (a b : Option Told) (n m : ℕ)
+    (x y : Option (List ℕ)) (fault : CarryFault) → Reports from names store now carried after a b n m x y (Err fault)
+    → ReportsWhole from names store now a b n m x y (Err fault)
+whole_err from names store now carried after a b n m x y fault p = record {
   added = p.added;
+  records = p.records;
   begins = p.begins;
-  works = works_front (KeepsReported from names store p.added) (EndsNames {T = Unit {0}} from names p.added store now)
-      (KeepsReported from names store p.added) (EndsWhole from names p.added store now) a b n m fault (λ h g e. e) p.works;
+  works = works_front (KeepsReported from names store p.added) (EndsNames {T = Unit {0}} from names p.records p.added store now)
+      (KeepsReported from names store p.added) (EndsWhole from names p.records p.added store now) a b n m fault (λ h g e. e) p.works;
+  accepts = tt;
   last = p.last;
   held = p.held;
   fills = p.fills;
 }
 
 -- a name that is told behind the body that carried its archive
-named_works : {T U : Type 0} (from : Origin) (copied : Bool) (name given : List ℕ) (added : List Addition) (store middle : Store)
+named_works : {T U : Type 0} (from : Origin) (copied : Bool) (name given : List ℕ) (records : List TaggedRecord) (added : List Addition) (store middle : Store)
     (a b c : Option Told) (n m k : ℕ) (x : T) (result : Result U CarryFault) → given ≡ name → AcceptsMore middle
-    → TellsNew (accepted_in store) [] name copied → ListsDone a from (repo_view store.repo).keys name added copied
+    → TellsNew (accepted_in store) [] name copied → ListsDone a from (repo_view store.repo).keys name records added copied
     → Carries {T = T} [] from (name ∷ []) added store middle a b n m (Ok x)
     → Works (IsStep (TellOf (name_line (told_of copied) given))) (λ (_ : U). TellsLine (name_line (told_of copied) given)) b c m k result
-    → Works (KeepsReported from (name ∷ []) store added) (EndsNames {T = U} from (name ∷ []) added store middle) a c n k result
-named_works {T} {U} from copied name given added store middle a b c n m k x result is accepts new done p q =
+    → Works (KeepsReported from (name ∷ []) store added) (EndsNames {T = U} from (name ∷ []) records added store middle) a c n k result
+named_works {T} {U} from copied name given records added store middle a b c n m k x result is accepts new done p q =
     let line = name_line (told_of copied) name in
     let keys = (repo_view store.repo).keys in
     let accepted = accepted_in store in
     works_then (KeepsGrowing [] from (name ∷ []) store added)
-    (λ (_ : T) h g. ListedAs from keys name added copied
+    (λ (_ : T) h g. ListedAs from keys name records added copied
     × (KeepsGrowing [] from (name ∷ []) store added h g × Grows [] from (name ∷ []) added store middle h g))
     (IsStep (TellOf line)) (λ (_ : U). TellsLine line) (KeepsReported from (name ∷ []) store added)
-    (EndsNames {T = U} from (name ∷ []) added store middle) a b c n m k x result
+    (EndsNames {T = U} from (name ∷ []) records added store middle) a b c n m k x result
     (λ h g i e d f r. reported_name from copied name added store middle h g i e d f.1.1 accepts new r)
     (λ _ h g i f r. (
-      (grows_told [] from (name ∷ []) added store middle line h g i f.1.1 r, lists_one from keys accepted name added copied new f.0),
+      (grows_told [] from (name ∷ []) added store middle line h g i f.1.1 r, lists_one from keys accepted name records added copied new f.0),
       told_name accepted copied name h g i new f.1.0.0 r,
     ))
-    (works_from (λ _. ListedAs from keys name added copied) (KeepsGrowing [] from (name ∷ []) store added)
+    (works_from (λ _. ListedAs from keys name records added copied) (KeepsGrowing [] from (name ∷ []) store added)
     (λ (_ : T) h g. KeepsGrowing [] from (name ∷ []) store added h g × Grows [] from (name ∷ []) added store middle h g) a b n m x
-    (listed_as a from keys name added copied done)
+    (listed_as a from keys name records added copied done)
     (works_both (KeepsGrowing [] from (name ∷ []) store added) (λ (_ : T). Grows [] from (name ∷ []) added store middle) a b n m (Ok x) p))
     (subst (λ (l : List ℕ). Works (IsStep (TellOf (name_line (told_of copied) l))) (λ (_ : U). TellsLine (name_line (told_of copied) l)) b c m k result)
     is q)
@@ -184,70 +201,80 @@ pub told_unbroken : {T : Type 0} (a : Option Told) (keys : Keys) (added : List A
 told_unbroken {T} a keys added (Ok x) unbroken = tt
 told_unbroken {T} a keys added (Err fault) unbroken = stops_unbroken a keys added fault unbroken
 
-pub reports_name : {T : Type 0} (from : Origin) (copied : Bool) (name given : List ℕ) (added : List Addition) (store middle : Store) (carried after : Carried)
-    (a b c : Option Told) (n m k : ℕ) (x : T) (result : Result (Unit {0}) CarryFault) → given ≡ name → AcceptsMore middle
-    → TellsNew (accepted_in store) [] name copied → ListsDone a from (repo_view store.repo).keys name added copied
+pub reports_name : {T : Type 0} (from : Origin) (copied : Bool) (name given : List ℕ) (records : List TaggedRecord) (added : List Addition) (store middle :
+    Store)
+    (carried after : Carried) (a b c : Option Told) (n m k : ℕ) (y z : Option (List ℕ)) (x : T) (result : Result (Unit {0}) CarryFault) → given ≡ name →
+    AcceptsMore middle
+    → TellsNew (accepted_in store) [] name copied → ListsDone a from (repo_view store.repo).keys name records added copied
     → BeginsDone a from (repo_view store.repo).keys (accepted_in store) name added
+    → OnOk result (AcceptsNames from (name ∷ []) records store middle y z)
     → OnOk result (CountsMore (accepted_in store) (name ∷ []) added carried after) → IfErr result IsNoChunk → IfErr result (λ fault. IsOfSource fault → ⊥)
     → Carries {T = T} [] from (name ∷ []) added store middle a b n m (Ok x)
     → Works (IsStep (TellOf (name_line (told_of copied) given))) (λ (_ : Unit {0}). TellsLine (name_line (told_of copied) given)) b c m k result
-    → Reports from (name ∷ []) store middle carried after a c n k result
-reports_name {T} from copied name given added store middle carried after a b c n m k x result is accepts new done begins counted unbroken apart p q = record {
-  added = added;
-  begins = all_one a from store name added begins;
-  works = named_works {T = T} {U = Unit {0}} from copied name given added store middle a b c n m k x result is accepts new done p q;
-  counted = counted;
-  last = told_unbroken a (repo_view store.repo).keys added result unbroken;
-  held = held_apart {T = Unit {0}} AtBegin from.most store middle added a c result apart;
-  fills = filled_apart {T = Unit {0}} a from store (name ∷ []) added result apart;
-}
+    → Reports from (name ∷ []) store middle carried after a c n k y z result
+reports_name {T} from copied name given records added store middle carried after a b c n m k y z x result is accepts new done begins taken counted unbroken
+    apart p q = record {
+      added = added;
+      records = records;
+      begins = all_one a from store name added begins;
+      works = named_works {T = T} {U = Unit {0}} from copied name given records added store middle a b c n m k x result is accepts new done p q;
+      accepts = taken;
+      counted = counted;
+      last = told_unbroken a (repo_view store.repo).keys added result unbroken;
+      held = held_apart {T = Unit {0}} AtBegin from.most store middle added a c result apart;
+      fills = filled_apart {T = Unit {0}} a from store (name ∷ []) added result apart;
+    }
 
 -- the whole, behind all names
 pub reports_whole : (from : Origin) (carried : Carried) (names : List (List ℕ)) (line : List ℕ) (store middle : Store)
-    (a b c : Option Told) (n m k : ℕ) → line ≡ total_line carried → IsSettled store → AcceptsMore middle
-    → Reports from names store middle nothing_carried carried a b n m (Ok tt)
+    (a b c : Option Told) (n m k : ℕ) (x y : Option (List ℕ)) → line ≡ total_line carried → IsSettled store → AcceptsMore middle
+    → Reports from names store middle nothing_carried carried a b n m x y (Ok tt)
     → Works (IsStep (TellOf line)) (λ (_ : Unit {0}). TellsLine line) b c m k (Ok tt)
-    → ReportsWhole from names store middle a c n k (Ok carried)
-reports_whole from carried names line store middle a b c n m k is settled accepts p q =
+    → ReportsWhole from names store middle a c n k x y (Ok carried)
+reports_whole from carried names line store middle a b c n m k x y is settled accepts p q =
     let total = total_line carried in
     let added = p.added in
     let behind = subst (λ (l : List ℕ). Works (IsStep (TellOf l)) (λ (_ : Unit {0}). TellsLine l) b c m k (Ok tt)) is q in
     let Total : Carried → History → History → Type 0 = λ told h g. (told ≡ carried) × TellsLine total h g in
     record {
       added = added;
+      records = p.records;
       begins = p.begins;
-      works = works_then (KeepsReported from names store added) (EndsNames {T = Unit {0}} from names added store middle) (IsStep (TellOf total)) Total
-          (KeepsReported from names store added) (EndsWhole from names added store middle) a b c n m k tt (Ok carried)
+      works = works_then (KeepsReported from names store added) (EndsNames {T = Unit {0}} from names p.records added store middle) (IsStep (TellOf total)) Total
+          (KeepsReported from names store added) (EndsWhole from names p.records added store middle) a b c n m k tt (Ok carried)
           (λ h g i e d f r. reported_whole from carried names added store middle h g i settled accepts e d f.0.0 f.1 r)
           (λ told h g i f r. (
-            carries_told from names added store middle total h g i f.0 r.1,
+            carries_told from names p.records added store middle total h g i f.0 r.1,
             subst (λ (t : Carried). TellsWhole (accepted_in store) names added t h i) (sym r.0)
                 (told_whole (accepted_in store) names added carried h g i p.counted f.1 r.1),
           )) p.works
           (works_as (IsStep (TellOf total)) (λ (_ : Unit {0}). TellsLine total) (IsStep (TellOf total)) Total b c m k tt carried (λ h g e. e)
           (λ h g e. (refl, e)) behind);
+      accepts = p.accepts;
       last = tt;
       held = tt;
       fills = tt;
     }
 
 pub whole_untold : (from : Origin) (before carried : Carried) (names : List (List ℕ)) (line : List ℕ) (store middle : Store)
-    (a b c : Option Told) (n m k : ℕ) (fault : CarryFault) → line ≡ total_line carried → IsSettled store → AcceptsMore middle
-    → Reports from names store middle before carried a b n m (Ok tt)
+    (a b c : Option Told) (n m k : ℕ) (x y z : Option (List ℕ)) (fault : CarryFault) → line ≡ total_line carried → IsSettled store → AcceptsMore middle
+    → Reports from names store middle before carried a b n m x y (Ok tt)
     → IsNoChunk fault → (IsOfSource fault → ⊥) → Works (IsStep (TellOf line)) (λ (_ : Unit {0}). TellsLine line) b c m k (Err fault)
-    → ReportsWhole from names store middle a c n k (Err fault)
-whole_untold from before carried names line store middle a b c n m k fault is settled accepts p unbroken apart q =
+    → ReportsWhole from names store middle a c n k x z (Err fault)
+whole_untold from before carried names line store middle a b c n m k x y z fault is settled accepts p unbroken apart q =
     let total = total_line carried in
     let added = p.added in
     let behind = subst (λ (l : List ℕ). Works (IsStep (TellOf l)) (λ (_ : Unit {0}). TellsLine l) b c m k (Err fault)) is q in
-    let first = works_then (KeepsReported from names store added) (EndsNames {T = Unit {0}} from names added store middle) (IsStep (TellOf total))
+    let first = works_then (KeepsReported from names store added) (EndsNames {T = Unit {0}} from names p.records added store middle) (IsStep (TellOf total))
     (λ (_ : Unit {0}). TellsLine total) (KeepsReported from names store added) (λ (_ : Unit {0}) (h : History) (g : History). Unit {0}) a b c n m k tt
     (Err fault) (λ h g i e d f r. reported_whole from carried names added store middle h g i settled accepts e d f.0.0 f.1 r) (λ _ h g i f r. tt) p.works
     behind in
     record {
       added = added;
+      records = p.records;
       begins = p.begins;
       works = record { each = first.each; end = tt; ends = first.ends; cause = first.cause };
+      accepts = tt;
       last = stops_unbroken a (repo_view store.repo).keys added fault unbroken;
       held = λ source. absurd (apart source);
       fills = heard_apart a fault (λ refusal. FillsNames from (repo_view store.repo).keys (accepted_in store) [] names refusal added) apart;
@@ -255,11 +282,14 @@ whole_untold from before carried names line store middle a b c n m k fault is se
 
 -- memory is refused for that line
 pub whole_unwritten : (from : Origin) (before carried : Carried) (names : List (List ℕ)) (store middle : Store) (a b : Option Told) (n m : ℕ)
-    → Reports from names store middle before carried a b n m (Ok tt) → ReportsWhole from names store middle a b n m (Err Carry.Memory)
-whole_unwritten from before carried names store middle a b n m p = record {
+    (x y : Option (List ℕ)) → Reports from names store middle before carried a b n m x y (Ok tt)
+    → ReportsWhole from names store middle a b n m x y (Err Carry.Memory)
+whole_unwritten from before carried names store middle a b n m x y p = record {
   added = p.added;
+  records = p.records;
   begins = p.begins;
   works = record { each = p.works.each; end = tt; ends = p.works.ends; cause = p.works.cause };
+  accepts = tt;
   last = stops_unbroken a (repo_view store.repo).keys p.added Carry.Memory tt;
   held = λ source. absurd source;
   fills = heard_apart a Carry.Memory (λ refusal. FillsNames from (repo_view store.repo).keys (accepted_in store) [] names refusal p.added)
@@ -268,11 +298,11 @@ whole_unwritten from before carried names store middle a b n m p = record {
 
 -- what was reported of one source was reported of another that is the same, under a name that is the same
 pub reports_as : (from other : Origin) (some others : List (List ℕ)) (store now : Store) (carried after : Carried) (a b : Option Told) (n m : ℕ)
-    (result : Result (Unit {0}) CarryFault) → other ≡ from → others ≡ some → Reports other others store now carried after a b n m result
-    → Reports from some store now carried after a b n m result
-reports_as from other some others store now carried after a b n m result is names p =
-    subst (λ (f : Origin). Reports f some store now carried after a b n m result) is
-    (subst (λ (l : List (List ℕ)). Reports other l store now carried after a b n m result) names p)
+    (x y : Option (List ℕ)) (result : Result (Unit {0}) CarryFault) → other ≡ from → others ≡ some
+    → Reports other others store now carried after a b n m x y result → Reports from some store now carried after a b n m x y result
+reports_as from other some others store now carried after a b n m x y result is names p =
+    subst (λ (f : Origin). Reports f some store now carried after a b n m x y result) is
+    (subst (λ (l : List (List ℕ)). Reports other l store now carried after a b n m x y result) names p)
 
 -- the numbers of more names behind some
 counted_then : (accepted middle : ManifestText) (some others : List (List ℕ)) (added more : List Addition) (carried between after : Carried)
@@ -283,31 +313,33 @@ counted_then accepted middle some others added more carried between after (Ok x)
 counted_then accepted middle some others added more carried between after (Err fault) extends p q = tt
 
 -- what was added for names, all of it
-names_all : (from : Origin) (names : List (List ℕ)) (added : List Addition) (store now : Store) (a b : Option Told) (n m : ℕ)
-    → Works (KeepsReported from names store added) (EndsNames {T = Unit {0}} from names added store now) a b n m (Ok tt)
+names_all : (from : Origin) (names : List (List ℕ)) (records : List TaggedRecord) (added : List Addition) (store now : Store) (a b : Option Told) (n m : ℕ)
+    → Works (KeepsReported from names store added) (EndsNames {T = Unit {0}} from names records added store now) a b n m (Ok tt)
     → Between a b (HoldsAll AtBegin from.most store added now)
 unfolding border_behind
-names_all from names added store now a b n m p =
-    between_map a b (λ h g. AllDone h g × (CarriesNames from names added store now h g × TellsNames (accepted_in store) names h g))
+names_all from names records added store now a b n m p =
+    between_map a b (λ h g. AllDone h g × (CarriesNames from names records added store now h g × TellsNames (accepted_in store) names h g))
     (HoldsAll AtBegin from.most store added now) (λ h g e. grows_all [] (accepted_in store) from names added store now h g e.1.0.0) p.end
 
 -- and up to the fault of the source for others behind them
-filled_all : (from : Origin) (store middle : Store) (some others : List (List ℕ)) (added begun : List Addition) (a b : Option Told)
+filled_all : (from : Origin) (store middle : Store) (some others : List (List ℕ)) (records : List TaggedRecord) (added begun : List Addition) (a b : Option
+    Told)
     (result : Result (Unit {0}) CarryFault) → Extends (accepted_in store) some (accepted_in middle)
     → (repo_view middle.repo).keys ≡ (repo_view store.repo).keys
-    → Between a b (λ h g. AllDone h g × (CarriesNames from some added store middle h g × TellsNames (accepted_in store) some h g))
+    → Between a b (λ h g. AllDone h g × (CarriesNames from some records added store middle h g × TellsNames (accepted_in store) some h g))
     → IfErr result (λ fault. FillsAll b from middle others fault begun) → IfErr result (λ fault. FillsAll a from store (some ++ others) fault (added ++ begun))
-filled_all from store middle some others added begun a b (Ok x) extends same end fills = tt
-filled_all from store middle some others added begun a b (Err fault) extends same end fills =
-    filled_then from store middle some others added begun a b fault extends same end fills
+filled_all from store middle some others records added begun a b (Ok x) extends same end fills = tt
+filled_all from store middle some others records added begun a b (Err fault) extends same end fills =
+    filled_then from store middle some others records added begun a b fault extends same end fills
 
 -- more names behind some
 pub reports_then : (from : Origin) (some more : List (List ℕ)) (store middle now : Store) (carried between after : Carried) (a b c : Option Told)
-    (n m k : ℕ) (result : Result (Unit {0}) CarryFault) → IsSettled store → AcceptsMore middle → IfSome a (λ t. StoreFits false store t.history)
+    (n m k : ℕ) (x y z : Option (List ℕ)) (result : Result (Unit {0}) CarryFault) → IsSettled store → AcceptsMore middle → IfSome a (λ t. StoreFits false store
+    t.history)
     → Extends (accepted_in store) some (accepted_in middle) → (repo_view middle.repo).keys ≡ (repo_view store.repo).keys
-    → (p : Reports from some store middle carried between a b n m (Ok tt)) → Follows p.added middle
-    → Reports from more middle now between after b c m k result → Reports from (some ++ more) store now carried after a c n k result
-reports_then from some more store middle now carried between after a b c n m k result settled accepts fits extends same p follows q =
+    → (p : Reports from some store middle carried between a b n m x y (Ok tt)) → Follows p.added middle
+    → Reports from more middle now between after b c m k y z result → Reports from (some ++ more) store now carried after a c n k x z result
+reports_then from some more store middle now carried between after a b c n m k x y z result settled accepts fits extends same p follows q =
     let keys = (repo_view store.repo).keys in
     let accepted = accepted_in store in
     let first = accepted_in middle in
@@ -316,61 +348,65 @@ reports_then from some more store middle now carried between after a b c n m k r
     let all = added ++ others in
     record {
       added = all;
-      begins = all_then from store middle some more added others a b extends same p.works.end q.begins;
-      works = works_then (KeepsReported from some store added) (λ (_ : Unit {0}) h g. EndsNames {T = Unit {0}} from some added store middle tt h g)
-          (KeepsReported from more middle others) (EndsNames {T = Unit {0}} from more others middle now) (KeepsReported from (some ++ more) store all)
-          (EndsNames {T = Unit {0}} from (some ++ more) all store now) a b c n m k tt result
+      records = p.records ++ q.records;
+      begins = all_then from store middle some more p.records added others a b extends same p.works.end q.begins;
+      works = works_then (KeepsReported from some store added) (λ (_ : Unit {0}) h g. EndsNames {T = Unit {0}} from some p.records added store middle tt h g)
+          (KeepsReported from more middle others) (EndsNames {T = Unit {0}} from more q.records others middle now) (KeepsReported from (some ++ more) store all)
+          (EndsNames {T = Unit {0}} from (some ++ more) (p.records ++ q.records) all store now) a b c n m k tt result
           (λ h g i e d f r. reported_then from some more added others store middle h g i settled accepts follows e d f.0.0 f.1 r)
           (λ _ h g i e f. (
             (
               grows_then [] from some more added others store middle now h g i e.0.0
                   (grows_follows added from more others middle now g i follows f.0.0),
-              lists_then from keys accepted first some more added others extends e.0.1
-                  (subst (λ (k : Keys). ListsNames from k first [] more others) same f.0.1),
+              lists_then from keys accepted first some more p.records q.records added others extends e.0.1
+                  (subst (λ (k : Keys). ListsNames from k first [] more q.records others) same f.0.1),
             ),
             names_then accepted first some more h g i extends e.1 f.1,
           )) p.works q.works;
+      accepts = accepts_both {T = Unit {0}} from some more p.records q.records store middle now x y z result same p.accepts q.accepts;
       counted = counted_then accepted first some more added others carried between after result extends p.counted q.counted;
       last = stops_then {T = Unit {0}} a b keys (repo_view middle.repo).keys added others result p.works.ends same q.last;
       held = held_then {T = Unit {0}} AtBegin from.most store middle now added others a b c result same
-          (names_all from some added store middle a b n m p.works)
+          (names_all from some p.records added store middle a b n m p.works)
           (held_at {T = Unit {0}} AtBegin (border_behind AtBegin added) from.most middle now others b c result
           (λ h counts fits. follows_allows added counts middle h fits follows) q.held);
-      fills = filled_all from store middle some more added others a b result extends same p.works.end q.fills;
+      fills = filled_all from store middle some more p.records added others a b result extends same p.works.end q.fills;
     }
 
 -- one archive more of those that were chosen
-pub reports_more : (from other : Origin) (names : List (List ℕ)) (place : ℕ) (name d : List ℕ) (given : Option (List ℕ)) (source : ManifestText)
-    (store middle now : Store) (carried between after : Carried) (a b c : Option Told) (n m k : ℕ) (result : Result (Unit {0}) CarryFault) → other ≡ from
+pub reports_more : (from other : Origin) (names : List (List ℕ)) (place : ℕ) (name d : List ℕ)
+    (store middle now : Store) (carried between after : Carried) (a b c : Option Told) (n m k : ℕ) (x y z : Option (List ℕ)) (result : Result (Unit {0})
+    CarryFault) → other ≡ from
     → place < length names → name ≡ get_or names place d → IsSettled store → AcceptsMore middle → IfSome a (λ t. StoreFits false store t.history)
-    → AreNextOf given source (repo_view store.repo).keys (accepted_in store) (take place names) (accepted_in middle)
     → (repo_view middle.repo).keys ≡ (repo_view store.repo).keys
-    → (p : Reports from (take place names) store middle carried between a b n m (Ok tt)) → Follows p.added middle
-    → Reports other (name ∷ []) middle now between after b c m k result
-    → Reports from (take (place + 1) names) store now carried after a c n k result
-reports_more from other names place name d given source store middle now carried between after a b c n m k result is lt named settled accepts fits next same
-    p follows q =
+    → (p : Reports from (take place names) store middle carried between a b n m x y (Ok tt)) → Follows p.added middle
+    → Reports other (name ∷ []) middle now between after b c m k y z result
+    → Reports from (take (place + 1) names) store now carried after a c n k x z result
+reports_more from other names place name d store middle now carried between after a b c n m k x y z result is lt named settled accepts fits same p follows q =
     let some = take place names in
     let more : some ++ name ∷ [] ≡ take (place + 1) names =
     ap (λ (x : List ℕ). some ++ x ∷ []) named ∙ sym (take_more names place d lt) in
-    reports_as from from (take (place + 1) names) (some ++ name ∷ []) store now carried after a c n k result refl more
-    (reports_then from some (name ∷ []) store middle now carried between after a b c n m k result settled accepts fits
-    (extends_next given source (repo_view store.repo).keys (accepted_in store) (accepted_in middle) some next) same p follows
-    (subst (λ (f : Origin). Reports f (name ∷ []) middle now between after b c m k result) is q))
+    reports_as from from (take (place + 1) names) (some ++ name ∷ []) store now carried after a c n k x z result refl more
+    (reports_then from some (name ∷ []) store middle now carried between after a b c n m k x y z result settled accepts fits
+    (extends_next from.time from.repo.manifest (accepted_in store) (accepted_in middle) some (record_ids (repo_view store.repo).keys p.records) p.accepts.0)
+    same p follows
+    (subst (λ (f : Origin). Reports f (name ∷ []) middle now between after b c m k y z result) is q))
 
 -- those that were told before a fault are a front of all
 pub reports_front : (from : Origin) (names : List (List ℕ)) (place : ℕ) (store now : Store) (carried after : Carried) (a b : Option Told) (n m : ℕ)
-    (fault : CarryFault) → Reports from (take place names) store now carried after a b n m (Err fault)
-    → Reports from names store now carried after a b n m (Err fault)
-reports_front from names place store now carried after a b n m fault p =
+    (x y : Option (List ℕ)) (fault : CarryFault) → Reports from (take place names) store now carried after a b n m x y (Err fault)
+    → Reports from names store now carried after a b n m x y (Err fault)
+reports_front from names place store now carried after a b n m x y fault p =
     let some = take place names in
     let rest = drop place names in
-    reports_as from from names (some ++ rest) store now carried after a b n m (Err fault) refl (take-append-drop place names) (record {
+    reports_as from from names (some ++ rest) store now carried after a b n m x y (Err fault) refl (take-append-drop place names) (record {
       added = p.added;
+      records = p.records;
       begins = all_wider a from store some rest p.added p.begins;
-      works = works_front (KeepsReported from some store p.added) (EndsNames {T = Unit {0}} from some p.added store now)
-          (KeepsReported from (some ++ rest) store p.added) (EndsNames {T = Unit {0}} from (some ++ rest) p.added store now) a b n m fault
+      works = works_front (KeepsReported from some store p.added) (EndsNames {T = Unit {0}} from some p.records p.added store now)
+          (KeepsReported from (some ++ rest) store p.added) (EndsNames {T = Unit {0}} from (some ++ rest) p.records p.added store now) a b n m fault
           (λ h g e. reported_wider from some rest store p.added p.added h g (front_all p.added) e) p.works;
+      accepts = tt;
       counted = tt;
       last = p.last;
       held = p.held;
@@ -379,7 +415,7 @@ reports_front from names place store now carried after a b n m fault p =
 
 -- all were told
 pub reports_all : (from : Origin) (names : List (List ℕ)) (place : ℕ) (store now : Store) (carried after : Carried) (a b : Option Told) (n m : ℕ)
-    → length names ≤ place → Reports from (take place names) store now carried after a b n m (Ok tt)
-    → Reports from names store now carried after a b n m (Ok tt)
-reports_all from names place store now carried after a b n m le p =
-    reports_as from from names (take place names) store now carried after a b n m (Ok tt) refl (take_all place names le) p
+    (x y : Option (List ℕ)) → length names ≤ place → Reports from (take place names) store now carried after a b n m x y (Ok tt)
+    → Reports from names store now carried after a b n m x y (Ok tt)
+reports_all from names place store now carried after a b n m x y le p =
+    reports_as from from names (take place names) store now carried after a b n m x y (Ok tt) refl (take_all place names le) p

@@ -21,19 +21,18 @@ use Rattle.ferry_carry.proofs.GrowLemmas.{Follows, growing_by, growing_here, gro
 use Rattle.ferry_carry.proofs.MomentLemmas.{names_here, reported_growing, reported_here, reported_then}
 use Rattle.ferry_carry.proofs.NamesLemmas.{all_nothing, all_then, all_wider}
 use Rattle.ferry_carry.proofs.ThereLemmas.{extends_next}
-use Rattle.ferry_carry.specs.Accepting.{AreNextOf}
 use Rattle.ferry_carry.specs.Carrying.{Origin}
 use Rattle.ferry_piece.specs.Fault.{IsOfWork, target_fault}
 use Rattle.ferry_piece.specs.Gather.{Gathers, KeepsStanding, KeepsStandingAt}
 use Rattle.ferry_carry.specs.Grow.{AcceptsMore, Grows, KeepsGrowing}
 use Rattle.ferry_piece.specs.Puts.{Addition, AtBegin, Within, border_behind}
+use Rattle.ferry_carry.specs.Naming.{record_ids}
 use Rattle.ferry_carry.specs.Refusals.{is_of_telling}
 use Rattle.ferry_carry.specs.Telling.{BeginsAll, CarriesNames, KeepsReported, Reports, StopsBehind, StopsUnnamed, TellsNames}
 use Rattle.ferry_piece.specs.Work.{Works}
 use Rattle.ferry_piece.specs.declared.fault.CarryFault.{CarryFault}
 use Rattle.ferry_piece.specs.declared.fault.CarryFault.TheVariants as Carry
 use Rattle.ferry_carry.specs.declared.options.Carried.{Carried}
-use Rattle.ferry_manifest.specs.Manifest.Text.{ManifestText}
 
 -- ---- refusals
 
@@ -122,13 +121,12 @@ stops_here from names store a accepts = record {
       (λ h. (reported_here from [] store [] h accepts, names_here (accepted_in store) h));
 }
 
-pub stops_behind : (from other : Origin) (names some : List (List ℕ)) (name : List ℕ) (rest : List (List ℕ)) (given : Option (List ℕ))
-    (source : ManifestText) (store middle : Store) (carried between : Carried) (a b c : Option Told) (n m : ℕ) → other ≡ from
+pub stops_behind : (from other : Origin) (names some : List (List ℕ)) (name : List ℕ) (rest : List (List ℕ))
+    (store middle : Store) (carried between : Carried) (a b c : Option Told) (n m : ℕ) (x y : Option (List ℕ)) → other ≡ from
     → names ≡ some ++ name ∷ rest → IsSettled store → AcceptsMore middle → (repo_view middle.repo).keys ≡ (repo_view store.repo).keys
-    → AreNextOf given source (repo_view store.repo).keys (accepted_in store) some (accepted_in middle)
-    → (p : Reports from some store middle carried between a b n m (Ok tt)) → Follows p.added middle → StopsUnnamed other name middle b c
+    → (p : Reports from some store middle carried between a b n m x y (Ok tt)) → Follows p.added middle → StopsUnnamed other name middle b c
     → StopsBehind from names store a c
-stops_behind from other names some name rest given source store middle carried between a b c n m is split settled accepts keys next p follows q =
+stops_behind from other names some name rest store middle carried between a b c n m x y is split settled accepts keys p follows q =
     let accepted = accepted_in store in
     let added = p.added in
     let stopped = subst (λ (o : Origin). StopsUnnamed o name middle b c) is q in
@@ -140,11 +138,12 @@ stops_behind from other names some name rest given source store middle carried b
       added = added ++ others;
       begins = subst (λ (l : List (List ℕ)). BeginsAll a from store l (added ++ others)) (append_assoc some (name ∷ []) rest ∙ sym split)
           (all_wider a from store (some ++ name ∷ []) rest (added ++ others)
-          (all_then from store middle some (name ∷ []) added others a b
-          (extends_next given source (repo_view store.repo).keys accepted (accepted_in middle) some next) keys p.works.end stopped.begins));
+          (all_then from store middle some (name ∷ []) p.records added others a b
+          (extends_next from.time from.repo.manifest accepted (accepted_in middle) some (record_ids (repo_view store.repo).keys p.records) p.accepts.0) keys
+          p.works.end stopped.begins));
       each = between_then a b c
           (λ h g. KeepsReported from some store added h g
-          × (AllDone h g × (CarriesNames from some added store middle h g × TellsNames accepted some h g)))
+          × (AllDone h g × (CarriesNames from some p.records added store middle h g × TellsNames accepted some h g)))
           (KeepsGrowing [] from [] middle others) (λ h g. KeepsReported from some store (added ++ others) h g × TellsNames accepted some h g)
           (λ h g i e f.
           let told = e.1.1.1 in (
@@ -154,7 +153,7 @@ stops_behind from other names some name rest given source store middle carried b
             (told.0, (f.0 ∙ told.1.0, told.1.1)),
           ))
           (between_both a b (KeepsReported from some store added)
-          (λ h g. AllDone h g × (CarriesNames from some added store middle h g × TellsNames accepted some h g)) p.works.each p.works.end)
+          (λ h g. AllDone h g × (CarriesNames from some p.records added store middle h g × TellsNames accepted some h g)) p.works.each p.works.end)
           stopped.each;
     }
 

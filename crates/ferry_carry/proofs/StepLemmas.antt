@@ -212,31 +212,32 @@ StepIs told source copy copy_now store now more a b n m result =
     × IfOk result (StepsOn told source (repo_view store.repo).keys copy more copy_now))
 
 -- The same of an archive of which something was added before.
-abbrev pub CopiedIs : Option Told → RepoState → ArchiveRef → List Addition → Copy → Copy → Store → Store → List Addition → Option Told → Option Told
+abbrev pub CopiedIs : Option (List ℕ) → Option Told → RepoState → ArchiveRef → List Addition → Copy → Copy → Store → Store → List Addition → Option Told →
+    Option Told
     → ℕ → ℕ → Result Bool CarryFault → Type 0
-CopiedIs told source named added copy copy_now store now more a b n m result =
+CopiedIs time told source named added copy copy_now store now more a b n m result =
     AddsOn copy.contents.checkpoint store more now a b n m result
     × ((archive_named named.name source.manifest.archives ≡ Some named
-    → IfSome a (λ _. BeginsOne (origin told source copy.block copy.contents.checkpoint) (repo_view store.repo).keys named.name (added ++ more)))
+    → IfSome a (λ _. BeginsOne (origin told source copy.block copy.contents.checkpoint time) (repo_view store.repo).keys named.name (added ++ more)))
     × (IfErr result (λ fault. archive_named named.name source.manifest.archives ≡ Some named → WhereHeard a fault
-    (λ refusal. FillsOne (origin told source copy.block copy.contents.checkpoint) (repo_view store.repo).keys named.name refusal (added ++ more)))
-    × IfOk result (CopiesOn (origin told source copy.block copy.contents.checkpoint) named b now copy_now added more)))
+    (λ refusal. FillsOne (origin told source copy.block copy.contents.checkpoint time) (repo_view store.repo).keys named.name refusal (added ++ more)))
+    × IfOk result (CopiesOn (origin told source copy.block copy.contents.checkpoint time) named b now copy_now added more)))
 
-module _ (told a b : Option Told) (source : RepoState) (named : ArchiveRef) (store now : Store) (copy copy_now : Copy) (added more : List Addition)
-    (n m : ℕ) (ready : IsReady copy)
-    (so : IsCopiedSoFar (origin told source copy.block copy.contents.checkpoint) named a store copy added) where
+module _ (time : Option (List ℕ)) (told a b : Option Told) (source : RepoState) (named : ArchiveRef) (store now : Store) (copy copy_now : Copy)
+    (added more : List Addition) (n m : ℕ) (ready : IsReady copy)
+    (so : IsCopiedSoFar (origin told source copy.block copy.contents.checkpoint time) named a store copy added) where
   -- where it was refused
   pub copied_refused : (cached : Contents) (result : Result Bool CarryFault) (fault : CarryFault)
       → IfSome told (λ t. FitsRepo (told_files t) source cached) → IsErrAnd result (λ y. y ≡ fault)
-      → StepIs told source copy copy_now store now more a b n m result → CopiedIs told source named added copy copy_now store now more a b n m result
+      → StepIs told source copy copy_now store now more a b n m result → CopiedIs time told source named added copy copy_now store now more a b n m result
   copied_refused cached (Ok further) fault log_fits e p = absurd e
   copied_refused cached (Err other) fault log_fits e p = (
     p.0,
     (
       λ named_is.
-          copied_begun told a source cached copy.block copy.contents.checkpoint named store copy added more ready log_fits named_is p.1.0.0 so,
+          copied_begun told a source cached copy.block copy.contents.checkpoint time named store copy added more ready log_fits named_is p.1.0.0 so,
       (
-        λ named_is. copied_filled told a source copy.block copy.contents.checkpoint named store copy added more other named_is p.1.0.1 so,
+        λ named_is. copied_filled told a source copy.block copy.contents.checkpoint time named store copy added more other named_is p.1.0.1 so,
         tt,
       ),
     ),
@@ -246,16 +247,17 @@ module _ (told a b : Option Told) (source : RepoState) (named : ArchiveRef) (sto
   pub copied_behind : (cached : Contents) (further : Bool) → IfSome told (λ t. FitsRepo (told_files t) source cached)
       → IfSome a (λ d. StoreFits false store d.history) → KeepsRest store now → copy_now.archive ≡ copy.archive → copy_now.block ≡ copy.block
       → copy_now.contents.checkpoint ≡ copy.contents.checkpoint → StepIs told source copy copy_now store now more a b n m (Ok further)
-      → CopiedIs told source named added copy copy_now store now more a b n m (Ok further)
+      → CopiedIs time told source named added copy copy_now store now more a b n m (Ok further)
   copied_behind cached true log_fits fits rest archive block most p = (
     p.0,
     (
       λ named_is.
-          copied_begun told a source cached copy.block copy.contents.checkpoint named store copy added more ready log_fits named_is
+          copied_begun told a source cached copy.block copy.contents.checkpoint time named store copy added more ready log_fits named_is
           (step_begun told source (repo_view store.repo).keys copy more copy_now true (omega (arith, ready.stream_room)) p.1.1) so,
       (
         tt,
-        steps_copied copy.contents.checkpoint told a b source cached named store now copy copy_now added more n m log_fits fits p.0.works rest ready archive
+        steps_copied copy.contents.checkpoint time told a b source cached named store now copy copy_now added more n m log_fits fits p.0.works rest ready
+            archive
             block most p.1.1.0 p.1.1.1 so,
       ),
     ),
@@ -264,14 +266,14 @@ module _ (told a b : Option Told) (source : RepoState) (named : ArchiveRef) (sto
     p.0,
     (
       λ named_is.
-          copied_begun told a source cached copy.block copy.contents.checkpoint named store copy added more ready log_fits named_is
+          copied_begun told a source cached copy.block copy.contents.checkpoint time named store copy added more ready log_fits named_is
           (step_begun told source (repo_view store.repo).keys copy more copy_now false (omega (arith, ready.stream_room)) p.1.1) so,
       (
         tt,
         (
           p.1.1.none,
           λ named_is.
-              steps_ended copy.contents.checkpoint told a b source named store now copy copy_now added more n m named_is fits p.0.works rest archive block
+              steps_ended copy.contents.checkpoint time told a b source named store now copy copy_now added more n m named_is fits p.0.works rest archive block
               p.1.1 so,
         ),
       ),

@@ -4,11 +4,9 @@ use Rattle.std.proofs.Common.{◌↔◌, IsSome}
 use Rattle.std.proofs.lemmas.Slice.Eq.{bytes_eq-Decides}
 use Rattle.std.specs.List.{AllByRecursion}
 use Rattle.std.specs.Str.{bytes_eq}
-use Rattle.ferry_mac.specs.declared.keys.Keys.{Keys}
 use Rattle.ferry_manifest.specs.Manifest.Text.{ManifestText}
 use Rattle.ferry_manifest.specs.declared.manifest.ArchiveRef.{ArchiveRef}
 use Rattle.ferry_next.proofs.PlaceLemmas.{with_named}
-use Rattle.ferry_blob.specs.Blob.{content_id}
 use Rattle.ferry_repo.specs.Archives.{archive_named}
 use Rattle.ferry_repo.specs.Opening.{repo_view}
 use Rattle.ferry_store.specs.Commit.{accepted_in, IsSettled}
@@ -75,31 +73,31 @@ there_behind accepted middle some before name extends = (to, back) where
   back (inr among) = either (among_either some before name among)
 
 -- what a manifest has behind that of the archive of a name
-extends_one : (given : Option (List ℕ)) (source : ManifestText) (keys : Keys) (manifest now : ManifestText) (name : List ℕ)
-    → IsNextOf given source keys manifest name now → Extends manifest (name ∷ []) now
-extends_one given source keys manifest now name (inl same) other = (to, back) where
+extends_one : (given : Option (List ℕ)) (source manifest now : ManifestText) (name : List ℕ) (ids : List (List ℕ))
+    → IsNextOf given source manifest name ids now → Extends manifest (name ∷ []) now
+extends_one given source manifest now name ids (inl same) other = (to, back) where
   to : IsSome (archive_named other now.archives) → IsThere manifest (name ∷ []) other
-  to has = inl (subst (λ (m : ManifestText). IsSome (archive_named other m.archives)) same.1 has)
+  to has = inl (subst (λ (m : ManifestText). IsSome (archive_named other m.archives)) same.1.1 has)
 
   back : IsThere manifest (name ∷ []) other → IsSome (archive_named other now.archives)
-  back (inl has) = subst (λ (m : ManifestText). IsSome (archive_named other m.archives)) (sym same.1) has
+  back (inl has) = subst (λ (m : ManifestText). IsSome (archive_named other m.archives)) (sym same.1.1) has
   back (inr among) =
-      subst (λ (m : ManifestText). IsSome (archive_named other m.archives)) (sym same.1)
+      subst (λ (m : ManifestText). IsSome (archive_named other m.archives)) (sym same.1.1)
       (subst (λ (n : List ℕ). IsSome (archive_named n manifest.archives)) (among_one name other among) same.0)
-extends_one given source keys manifest now name (inr next) other = (λ has. to (bytes_eq named.name other) refl has, back) where
+extends_one given source manifest now name ids (inr next) other = (λ has. to (bytes_eq named.name other) refl has, back) where
   named : ArchiveRef
   named = next.0.named
 
   called : named.name ≡ name
   called = named_so name source.archives named next.0.named_is
 
-  is : archive_named other now.archives ≡ cond (bytes_eq named.name other) (Some (entry_for named (content_id keys next.1.0)))
+  is : archive_named other now.archives ≡ cond (bytes_eq named.name other) (Some (entry_for named next.1.0))
       (archive_named other manifest.archives)
-  is = ap (λ (m : ManifestText). archive_named other m.archives) next.1.1 ∙ with_named other manifest.archives (entry_for named (content_id keys next.1.0))
+  is = ap (λ (m : ManifestText). archive_named other m.archives) next.1.1.1 ∙ with_named other manifest.archives (entry_for named next.1.0)
 
   at : (b : Bool) → bytes_eq named.name other ≡ b
-      → archive_named other now.archives ≡ cond b (Some (entry_for named (content_id keys next.1.0))) (archive_named other manifest.archives)
-  at b e = is ∙ ap (λ (c : Bool). cond c (Some (entry_for named (content_id keys next.1.0))) (archive_named other manifest.archives)) e
+      → archive_named other now.archives ≡ cond b (Some (entry_for named next.1.0)) (archive_named other manifest.archives)
+  at b e = is ∙ ap (λ (c : Bool). cond c (Some (entry_for named next.1.0)) (archive_named other manifest.archives)) e
 
   to : (b : Bool) → bytes_eq named.name other ≡ b → IsSome (archive_named other now.archives) → IsThere manifest (name ∷ []) other
   to true e has = inr (zero, ap Some (sym called ∙ (bytes_eq-Decides named.name other).0 e))
@@ -114,19 +112,20 @@ extends_one given source keys manifest now name (inr next) other = (λ has. to (
   back (inr among) = subst IsSome (sym (at true ((bytes_eq-Decides named.name other).1 (called ∙ among_one name other among)))) refl
 
 -- and behind those of names, one after another
-pub extends_next : (given : Option (List ℕ)) (source : ManifestText) (keys : Keys) (manifest now : ManifestText) (names : List (List ℕ))
-    → AreNextOf given source keys manifest names now → Extends manifest names now
-extends_next given source keys manifest now [] same other = (to, back) where
+pub extends_next : (given : Option (List ℕ)) (source manifest now : ManifestText) (names ids : List (List ℕ))
+    → AreNextOf given source manifest names ids now → Extends manifest names now
+extends_next given source manifest now [] ids same other = (to, back) where
   to : IsSome (archive_named other now.archives) → IsThere manifest [] other
-  to has = inl (subst (λ (m : ManifestText). IsSome (archive_named other m.archives)) same has)
+  to has = inl (subst (λ (m : ManifestText). IsSome (archive_named other m.archives)) same.1 has)
 
   back : IsThere manifest [] other → IsSome (archive_named other now.archives)
-  back (inl has) = subst (λ (m : ManifestText). IsSome (archive_named other m.archives)) (sym same) has
+  back (inl has) = subst (λ (m : ManifestText). IsSome (archive_named other m.archives)) (sym same.1) has
   back (inr among) = absurd (among_none other among)
-extends_next given source keys manifest now (name ∷ names) next other =
-    let one : Extends manifest (name ∷ []) next.0 = extends_one given source keys manifest next.0 name next.1.0 in
-    let behind = there_behind manifest next.0 (name ∷ []) names other one in
-    let rest = extends_next given source keys next.0 now names next.1.1 other in (λ has. behind.0 (rest.0 has), λ there. rest.1 (behind.1 there))
+extends_next given source manifest now (name ∷ names) ids next other =
+    let then = next.1.1.1 in
+    let one : Extends manifest (name ∷ []) then.0 = extends_one given source manifest then.0 name next.0 then.1.0 in
+    let behind = there_behind manifest then.0 (name ∷ []) names other one in
+    let rest = extends_next given source then.0 now names next.1.0 then.1.1 other in (λ has. behind.0 (rest.0 has), λ there. rest.1 (behind.1 there))
 
 pub tells_behind : (accepted middle : ManifestText) (some before : List (List ℕ)) (name : List ℕ) (copied : Bool) → Extends accepted some middle
     → TellsNew middle before name copied → TellsNew accepted (some ++ before) name copied

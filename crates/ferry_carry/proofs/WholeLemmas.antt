@@ -30,13 +30,13 @@ HoldsPiece files log keys piece = HoldsChunk files log keys (content_id keys pie
 
 -- All is there of an archive whose items are these: the pieces of their contents, those of the stream, and the record, whose text is this and
 -- which a manifest names.
-pub record HoldsCopy (files : Files) (log : LogState) (keys : Keys) (block : ℕ) (wholes : List WholeItem) (fields : Tree) (text : List ℕ)
+pub record HoldsCopy (files : Files) (log : LogState) (keys : Keys) (block : ℕ) (wholes : List WholeItem) (fields : Tree) (salt text : List ℕ)
     (archives : List ArchiveRef) (named : ArchiveRef) : Type 0 where
   pub entry : ArchiveRef
   pub entry_is : archive_named named.name archives ≡ Some entry
   pub time : entry.time ≡ named.time
   pub id : entry.id ≡ content_id keys text
-  pub copy : IsCopyOf keys block wholes fields text
+  pub copy : IsCopyOf keys block wholes fields salt text
   pub there : AllByRecursion (HoldsPiece files log keys) (adds_of keys block wholes text)
 
 -- ---- the pieces of a content
@@ -113,9 +113,9 @@ module _ (files : Files) (log : LogState) (keys : Keys) where
       let parts = all_front P (pieces_of block w.content) (contents_of block ws) all in (parts.0, each_content P block ws parts.1)
 
   -- an archive of which all is there is whole
-  pub copied_whole : (block : ℕ) (whole : WholeArchive) (text : List ℕ) (archives : List ArchiveRef) (named : ArchiveRef) → whole.time ≡ named.time
-      → HoldsCopy files log keys block whole.items whole.fields text archives named → IsWhole files log keys archives named.name whole
-  copied_whole block whole text archives named time holds =
+  pub copied_whole : (block : ℕ) (whole : WholeArchive) (salt text : List ℕ) (archives : List ArchiveRef) (named : ArchiveRef) → whole.time ≡ named.time
+      → HoldsCopy files log keys block whole.items whole.fields salt text archives named → IsWhole files log keys archives named.name whole
+  copied_whole block whole salt text archives named time holds =
       let wholes = whole.items in
       let items : List ItemText = map (copied_item keys block) wholes in
       let copy = holds.copy in

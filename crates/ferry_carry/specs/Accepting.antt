@@ -8,7 +8,10 @@ use Rattle.ferry_manifest.specs.Manifest.Writing.{manifest_text}
 use Rattle.ferry_manifest.specs.declared.manifest.ArchiveRef.{ArchiveRef}
 use Rattle.ferry_next.specs.Next.{next_manifest, written_at}
 use Rattle.ferry_repo.specs.Archives.{archive_named}
-use Rattle.ferry_carry.specs.Naming.{entry_for}
+use Rattle.ferry_repo.specs.Opening.{RepoState, repo_view}
+use Rattle.ferry_store.specs.Commit.{accepted_in}
+use Rattle.ferry_store.specs.declared.store.Store.{Store}
+use Rattle.ferry_carry.specs.Naming.{DrawsSalts, TaggedRecord, entry_for}
 use Rattle.ferry_carry.specs.Time.{time_for}
 
 -- a manifest with an archive of a source, whose record has this id, written at the time that is given, or else at the later of both manifests' times
@@ -16,22 +19,37 @@ abbrev pub next_named : Option (List ℕ) → ManifestText → ManifestText → 
 next_named given source manifest named id =
     written_at (next_manifest manifest (entry_for named id) source.item_keys) (time_for given source.timestamp manifest.timestamp)
 
+-- the same of what a store accepted, by the time of the manifest that it committed
+abbrev pub named_next : Option (List ℕ) → RepoState → Store → ArchiveRef → List ℕ → ManifestText
+named_next given source store named id =
+    written_at (next_manifest (accepted_in store) (entry_for named id) source.manifest.item_keys)
+    (time_for given source.manifest.timestamp (repo_view store.repo).manifest.timestamp)
+
+-- What a store accepted has an archive of a source too, by the id of its record, whose salts were drawn.
+pub record NamesNew (given : Option (List ℕ)) (source : RepoState) (store : Store) (named : ArchiveRef) (records : List TaggedRecord) (store_now : Store)
+    (drawn drawn_now : Option (List ℕ)) : Type 0 where
+  pub one : TaggedRecord
+  pub records_are : records ≡ one ∷ []
+  pub accepted : accepted_in store_now ≡ named_next given source store named (content_id (repo_view store.repo).keys one.text)
+  pub drew : DrawsSalts records drawn drawn_now
+
 -- A source has an archive of a name, which a manifest lacks.
 pub record IsNewIn (source manifest : ManifestText) (name : List ℕ) : Type 0 where
   pub named : ArchiveRef
   pub named_is : archive_named name source.archives ≡ Some named
   pub lacks : archive_named name manifest.archives ≡ None
 
--- The manifest behind the archive of a name: as it was where it has the name, and else with that archive, whose record has some text.
-abbrev pub IsNextOf : Option (List ℕ) → ManifestText → Keys → ManifestText → List ℕ → ManifestText → Type 0
-IsNextOf given source keys manifest name manifest_now = (IsSome (archive_named name manifest.archives) × (manifest_now ≡ manifest))
-    ⊎ ((new : IsNewIn source manifest name) × ((text : List ℕ) × (manifest_now ≡ next_named given source manifest new.named (content_id keys text))))
+-- The manifest behind the archive of a name: as it was where it has the name, and else with that archive, whose record has this id.
+abbrev pub IsNextOf : Option (List ℕ) → ManifestText → ManifestText → List ℕ → List (List ℕ) → ManifestText → Type 0
+IsNextOf given source manifest name ids manifest_now = (IsSome (archive_named name manifest.archives) × ((ids ≡ []) × (manifest_now ≡ manifest)))
+    ⊎ ((new : IsNewIn source manifest name)
+    × ((id : List ℕ) × ((ids ≡ id ∷ []) × (manifest_now ≡ next_named given source manifest new.named id))))
 
--- The manifest behind the archives of names, one after another.
-abbrev pub AreNextOf : Option (List ℕ) → ManifestText → Keys → ManifestText → List (List ℕ) → ManifestText → Type 0
-AreNextOf given source keys manifest [] manifest_now = manifest_now ≡ manifest
-AreNextOf given source keys manifest (name ∷ names) manifest_now =
-    (middle : ManifestText) × (IsNextOf given source keys manifest name middle × AreNextOf given source keys middle names manifest_now)
+-- The manifest behind the archives of names, one after another, and the ids of the records of those that are new.
+abbrev pub AreNextOf : Option (List ℕ) → ManifestText → ManifestText → List (List ℕ) → List (List ℕ) → ManifestText → Type 0
+AreNextOf given source manifest [] ids manifest_now = (ids ≡ []) × (manifest_now ≡ manifest)
+AreNextOf given source manifest (name ∷ names) ids manifest_now = (own : List (List ℕ)) × ((others : List (List ℕ)) × ((ids ≡ own ++ others)
+    × ((middle : ManifestText) × (IsNextOf given source manifest name own middle × AreNextOf given source middle names others manifest_now))))
 
 -- With the archive of a name, whose record has some text, and some salt of 64 bytes a manifest is larger than the content of an object may be.
 pub record HasLargeNext (given : Option (List ℕ)) (source : ManifestText) (keys : Keys) (manifest : ManifestText) (name : List ℕ) : Type 0 where
@@ -50,5 +68,6 @@ pub record LimitsNames (given : Option (List ℕ)) (source : ManifestText) (keys
   pub split : names ≡ done ++ name ∷ rest
   pub told : Told done
   pub middle : ManifestText
-  pub behind : AreNextOf given source keys manifest done middle
+  pub ids : List (List ℕ)
+  pub behind : AreNextOf given source manifest done ids middle
   pub large : HasLargeNext given source keys middle name

@@ -23,15 +23,18 @@ use Rattle.ferry_piece.specs.Puts.{Addition, contents_in}
 
 -- ---- a source
 
--- the files of a source, where they are told, its repository, the length of the pieces that contents are cut into, and how many may be pending
+-- the files of a source, where they are told, its repository, the length of the pieces that contents are cut into, how many may be pending, and the time of
+-- each manifest, where it is given
 pub record Origin : Type 0 where
   pub files : Option Files
   pub repo : RepoState
   pub block : ℕ
   pub most : ℕ
+  pub time : Option (List ℕ)
 
-abbrev pub origin : Option Told → RepoState → ℕ → ℕ → Origin
-origin told repo block most = record { files = option_map (λ (t : Told). told_files t) told; repo = repo; block = block; most = most }
+abbrev pub origin : Option Told → RepoState → ℕ → ℕ → Option (List ℕ) → Origin
+origin told repo block most time =
+    record { files = option_map (λ (t : Told). told_files t) told; repo = repo; block = block; most = most; time = time }
 
 -- The archive of a name is whole in files, by the log, the secrets and the manifest of their repository, and says this.
 abbrev pub SaysIn : Files → RepoState → List ℕ → WholeArchive → Type 0
@@ -93,7 +96,8 @@ IsCarried from added base keys entries archives name = IfSome from.files (λ the
 pub record CutsOver (there : Files) (from : Origin) (keys : Keys) (archives : List ArchiveRef) (name : List ℕ) : Type 0 where
   pub over : EntersOver there from keys archives name
   pub open over use *
-  pub copy : IsCopyOf keys from.block whole.items whole.fields text
+  pub salt : List ℕ
+  pub copy : IsCopyOf keys from.block whole.items whole.fields salt text
 
 -- The same of a source that tells its files.
 abbrev pub IsCut : Origin → Keys → List ArchiveRef → List ℕ → Type 0
@@ -118,7 +122,8 @@ pub record CanBeNamed (there : Files) (from : Origin) (added : List Addition) (f
   pub time : whole.time ≡ entry.time
   pub text : List ℕ
   pub id : entry.id ≡ content_id repo.keys text
-  pub copy : IsCopyOf repo.keys from.block whole.items whole.fields text
+  pub salt : List ℕ
+  pub copy : IsCopyOf repo.keys from.block whole.items whole.fields salt text
   pub held : HoldsApart files repo added (adds_of repo.keys from.block whole.items text)
 
 -- The same of a source that tells its files.

@@ -1,12 +1,14 @@
 -- What an archive is in a target: its items with the chunks of their contents as they are cut there, its stream, and its record.
-use Rattle.std.specs.Prelude.{◌≡◌, ◌≤◌, ℕ, List, [], ◌∷◌, ◌++◌, map, Option, Some, None, option_map, Ok}
+use Rattle.std.specs.Prelude.{◌≡◌, ◌≤◌, ℕ, true, List, [], ◌∷◌, ◌++◌, length, map, Option, Some, None, option_map, Ok}
 use Rattle.std.specs.List.{AllByRecursion, concat, flat_map}
 use Rattle.ferry_blob.specs.Blob.{content_id}
 use Rattle.ferry_item.specs.Item.{ItemText}
 use Rattle.ferry_item.specs.Stream.{an_item, front_item}
 use Rattle.ferry_item.specs.Writing.{item_text}
 use Rattle.ferry_mac.specs.declared.keys.Keys.{Keys}
+use Rattle.ferry_carry.specs.Naming.{fixed_params}
 use Rattle.ferry_manifest.specs.Record.Text.{ArchiveText, archive_of}
+use Rattle.ferry_manifest.specs.Record.Writing.{archive_text}
 use Rattle.ferry_msgpack.specs.Tree.{Tree}
 use Rattle.ferry_rechunk.specs.Cut.{cut}
 use Rattle.ferry_repo.specs.Whole.{WholeItem}
@@ -49,11 +51,16 @@ stream_pieces keys block wholes = cut stream_block (copied_stream keys block who
 abbrev pub adds_of : Keys → ℕ → List WholeItem → List ℕ → List (List ℕ)
 adds_of keys block wholes text = contents_of block wholes ++ (stream_pieces keys block wholes ++ text ∷ [])
 
--- A text is that of the record of an archive with these fields, whose stream is that of these items.
-pub record IsCopyOf (keys : Keys) (block : ℕ) (wholes : List WholeItem) (fields : Tree) (text : List ℕ) : Type 0 where
+-- A text is that of the record of an archive with these fields, whose stream is that of these items, and which was cut into pieces of this length. It is
+-- tagged with this salt.
+pub record IsCopyOf (keys : Keys) (block : ℕ) (wholes : List WholeItem) (fields : Tree) (salt text : List ℕ) : Type 0 where
   pub some : 1 ≤ block
+  pub salt_size : length salt ≡ 64
   pub copied : ArchiveText
-  pub reads : archive_of keys text ≡ Ok copied
   pub same : copied.fields ≡ fields
   pub items : copied.items ≡ map (content_id keys) (stream_pieces keys block wholes)
+  pub params : copied.params ≡ Some (fixed_params block)
+  pub tagged : copied.tagged ≡ true
+  pub text_is : text ≡ archive_text keys salt copied
+  pub reads : archive_of keys text ≡ Ok copied
   pub spelled : AllByRecursion (λ (whole : WholeItem). IsRead (copied_item keys block whole)) wholes

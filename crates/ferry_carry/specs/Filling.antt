@@ -18,7 +18,7 @@ use Rattle.ferry_repo.specs.declared.fault.RepoFault.{RepoFault}
 use Rattle.ferry_store.specs.Commit.{accepted_in}
 use Rattle.ferry_store.specs.declared.store.Store.{Store}
 use Rattle.ferry_carry.specs.Carrying.{Origin}
-use Rattle.ferry_carry.specs.Listing.{IsThere, ListsName, TakesItems}
+use Rattle.ferry_carry.specs.Listing.{AddsName, IsThere, TakesItems}
 use Rattle.ferry_piece.specs.Puts.{Addition, AreOf, Content, contents_in}
 use Rattle.ferry_carry.specs.declared.copy.Copy.{Copy}
 use Rattle.ferry_piece.specs.declared.fault.CarryFault.{CarryFault}
@@ -93,7 +93,7 @@ abbrev pub FillsNames : Origin → Keys → ManifestText → List (List ℕ) →
 FillsNames from keys accepted before [] fault begun = ⊥
 FillsNames from keys accepted before (name ∷ names) fault begun = FillsName from keys accepted before name fault begun
     ⊎ ((one : List Addition) × ((rest : List Addition) × ((begun ≡ one ++ rest)
-    × (ListsName from keys accepted before name one × FillsNames from keys accepted (before ++ name ∷ []) names fault rest))))
+    × (AddsName from keys accepted before name one × FillsNames from keys accepted (before ++ name ∷ []) names fault rest))))
 
 -- ---- where the source refused
 

@@ -19,8 +19,9 @@ use Rattle.ferry_carry.specs.Counting.{CountsOf, nothing_carried}
 use Rattle.ferry_piece.specs.Fault.{IsOfWork}
 use Rattle.ferry_carry.specs.Filling.{FillsFlight}
 use Rattle.ferry_piece.specs.Gather.{KeepsStanding, KeepsStandingAt}
-use Rattle.ferry_carry.specs.Grow.{Grows, GrowsBy, IsNamedBy, KeepsGrowing, KeepsGrowingBy, KeepsNames}
+use Rattle.ferry_carry.specs.Grow.{Grows, GrowsBy, IsBehind, IsNamedBy, KeepsGrowing, KeepsGrowingBy, KeepsNames}
 use Rattle.ferry_carry.specs.Listing.{BeginsName, BeginsOne, ListsOne}
+use Rattle.ferry_carry.specs.Naming.{TaggedRecord}
 use Rattle.ferry_carry.specs.Progress.{IsCopiedSoFar}
 use Rattle.ferry_piece.specs.Puts.{Addition, AtBegin, AtEnd, Border, IsCheckpoint, border_behind}
 use Rattle.ferry_piece.specs.Work.{Works}
@@ -39,6 +40,10 @@ pub record AreRight (options : Options) : Type 0 where
   pub most : options.block ≤ 8388608
   pub checkpoint : IsCheckpoint options.checkpoint
 
+-- a source of which archives are copied so
+abbrev pub origin_of : Option Told → RepoState → Options → Origin
+origin_of told source options = origin told source options.block options.checkpoint options.timestamp
+
 -- A flight is that of an archive of the source, and its options are right.
 pub record FlightStands (source : RepoState) (flight : Flight) : Type 0 where
   pub options : AreRight flight.options
@@ -49,7 +54,7 @@ abbrev pub WorkFits : Option Told → RepoState → Option Told → Store → Ar
 WorkFits told source heard store named options added Waiting = added ≡ []
 WorkFits told source heard store named options added (Copying copy) = IsReady copy × (archive_named named.name (accepted_in store).archives ≡ None)
     × IfSome told (λ t. FitsWalk (told_files t) source.log source.keys (walk_view copy.walk))
-    × IsCopiedSoFar (origin told source options.block options.checkpoint) named heard store copy added
+    × IsCopiedSoFar (origin_of told source options) named heard store copy added
 WorkFits told source heard store named options added (Comparing comparison) =
     FitsTold told source heard (repo_view store.repo) (comparison_view comparison) × ((comparison_view comparison).name ≡ named.name)
     × IsSome (archive_named named.name (repo_view store.repo).manifest.archives) × (added ≡ [])
@@ -62,7 +67,7 @@ pub record FlightFits (told : Option Told) (source : RepoState) (heard : Option 
 
 -- the source of a flight
 abbrev pub flown_from : Option Told → RepoState → Flight → Origin
-flown_from told source flight = origin told source flight.options.block flight.options.checkpoint
+flown_from told source flight = origin_of told source flight.options
 
 -- which names were carried by a turn
 abbrev pub carried_by : Turn → List ℕ → List (List ℕ)
@@ -82,10 +87,11 @@ abbrev pub Carries : {T : Type 0} → List Addition → Origin → List (List �
 Carries earlier from chosen added store store_now before now count after result =
     Works (KeepsGrowing earlier from chosen store added) (λ _. Grows earlier from chosen added store store_now) before now count after result
 
--- What was added for an archive once it is done: all of it where it was copied and the target told its files, and nothing where it was there.
-abbrev pub ListsDone : Option Told → Origin → Keys → List ℕ → List Addition → Bool → Type 0
-ListsDone before from keys name added true = IfSome before (λ _. ListsOne from keys name added)
-ListsDone before from keys name added false = added ≡ []
+-- What was added for an archive once it is done, and its record: all of it where it was copied and the target told its files, and nothing where it was there.
+abbrev pub ListsDone : Option Told → Origin → Keys → List ℕ → List TaggedRecord → List Addition → Bool → Type 0
+ListsDone before from keys name records added true =
+    (one : TaggedRecord) × ((records ≡ one ∷ []) × IfSome before (λ _. ListsOne from keys name one added))
+ListsDone before from keys name records added false = (records ≡ []) × (added ≡ [])
 
 -- What was added for an archive, as far as it came, where the target tells its files.
 abbrev pub BeginsDone : Option Told → Origin → Keys → ManifestText → List ℕ → List Addition → Type 0
@@ -93,13 +99,14 @@ BeginsDone before from keys accepted name begun = IfSome before (λ _. BeginsNam
 
 -- What a turn added behind what was added before: pieces of the archive under way, the last of them and its record, or nothing. At the end the flight has
 -- counted them.
-abbrev pub TurnLists : Option Told → RepoState → Option Told → Store → Flight → Option Told → Origin → Keys → List Addition → List Addition → Turn → Type 0
-TurnLists told source heard store flight before from keys added more More =
+abbrev pub TurnLists : Option Told → RepoState → Option Told → Store → Flight → Option Told → Origin → Keys → List Addition → List Addition
+    → List TaggedRecord → Turn → Type 0
+TurnLists told source heard store flight before from keys added more records More =
     (fits : FlightFits told source heard store flight) × (fits.added ≡ added ++ more)
-TurnLists told source heard store flight before from keys added more Named =
-    ListsDone before from keys flight.named.name (added ++ more) true × CountsOf (added ++ more) flight.put
-TurnLists told source heard store flight before from keys added more Present =
-    ListsDone before from keys flight.named.name (added ++ more) false × CountsOf (added ++ more) flight.put
+TurnLists told source heard store flight before from keys added more records Named =
+    ListsDone before from keys flight.named.name records (added ++ more) true × CountsOf (added ++ more) flight.put
+TurnLists told source heard store flight before from keys added more records Present =
+    ListsDone before from keys flight.named.name records (added ++ more) false × CountsOf (added ++ more) flight.put
 
 -- Where a turn takes a further item, or is refused but for a device that failed and want of memory, nothing is named.
 abbrev pub TurnStands : Border → ℕ → Store → List Addition → Option Told → Option Told → Result Turn CarryFault → Type 0
@@ -108,35 +115,36 @@ TurnStands at most store more before now (Ok turn) = Unit {0}
 TurnStands at most store more before now (Err fault) = IsOfWork fault → Between before now (KeepsStandingAt at most store more)
 
 -- What a turn did of the archive of a name and added behind what was added before; the source and the flight are those behind it.
-pub record TakesTurn (told : Option Told) (source : RepoState) (from : Origin) (name : List ℕ) (added more : List Addition) (store store_now : Store)
-    (flight : Flight) (before now : Option Told) (count after : ℕ) (result : Result Turn CarryFault) : Type 0 where
+pub record TakesTurn (told : Option Told) (source : RepoState) (from : Origin) (name : List ℕ) (added more : List Addition) (records : List TaggedRecord)
+    (store store_now : Store) (flight : Flight) (before now : Option Told) (count after : ℕ) (result : Result Turn CarryFault) : Type 0 where
   pub flies : Flies added from name more store store_now before now count after result
   pub begins : BeginsDone before from (repo_view store.repo).keys (accepted_in store) name (added ++ more)
   pub stands : TurnStands (border_behind AtBegin added) from.most store more before now result
   pub last : StopsLast before (repo_view store.repo).keys more result
   pub held : HoldsRefused (border_behind AtBegin added) from.most store more store_now before now result
   pub fills : IfErr result (λ fault. FillsFlight before from (repo_view store.repo).keys (accepted_in store) name fault (added ++ more))
-  pub lists : IfOk result (TurnLists told source now store_now flight before from (repo_view store.repo).keys added more)
+  pub lists : IfOk result (TurnLists told source now store_now flight before from (repo_view store.repo).keys added more records)
 
 -- What a flight did up to its end: it answers whether the archive was copied.
-pub record TakesAll (from : Origin) (name : List ℕ) (added more : List Addition) (store store_now : Store) (flight : Flight) (before now : Option Told)
-    (count after : ℕ) (result : Result Bool CarryFault) : Type 0 where
+pub record TakesAll (from : Origin) (name : List ℕ) (added more : List Addition) (records : List TaggedRecord) (store store_now : Store) (flight : Flight)
+    (before now : Option Told) (count after : ℕ) (result : Result Bool CarryFault) : Type 0 where
   pub carries : Carries added from (name ∷ []) more store store_now before now count after result
   pub begins : BeginsDone before from (repo_view store.repo).keys (accepted_in store) name (added ++ more)
   pub stands : IfErr result (λ fault. IsOfWork fault → Between before now (KeepsGrowing added from [] store more))
   pub last : StopsLast before (repo_view store.repo).keys more result
   pub held : HoldsRefused (border_behind AtBegin added) from.most store more store_now before now result
   pub fills : IfErr result (λ fault. FillsFlight before from (repo_view store.repo).keys (accepted_in store) name fault (added ++ more))
-  pub lists : IfOk result (λ copied. ListsDone before from (repo_view store.repo).keys name (added ++ more) copied × CountsOf (added ++ more) flight.put)
+  pub lists : IfOk result (λ copied. ListsDone before from (repo_view store.repo).keys name records (added ++ more) copied
+      × CountsOf (added ++ more) flight.put)
 
 -- What the end of an archive did, all of whose items were copied, and what it added behind what was added before.
-pub record EndsCopy (from : Origin) (name : List ℕ) (added more : List Addition) (store store_now : Store) (before now : Option Told) (count after : ℕ)
-    (result : Result Carried CarryFault) : Type 0 where
+pub record EndsCopy (from : Origin) (name : List ℕ) (added more : List Addition) (records : List TaggedRecord) (store store_now : Store)
+    (before now : Option Told) (count after : ℕ) (result : Result Carried CarryFault) : Type 0 where
   pub carries : Carries added from (name ∷ []) more store store_now before now count after result
   pub begins : IfSome before (λ _. BeginsOne from (repo_view store.repo).keys name (added ++ more))
   pub stands : IfErr result (λ fault. IsOfWork fault → Between before now (KeepsStanding from.most store more))
   pub last : StopsLast before (repo_view store.repo).keys more result
-  pub lists : IfOk result (λ put. ListsDone before from (repo_view store.repo).keys name (added ++ more) true × CountsOf (added ++ more) put)
+  pub lists : IfOk result (λ put. ListsDone before from (repo_view store.repo).keys name records (added ++ more) true × CountsOf (added ++ more) put)
 
 -- The archive of a name is whole in the source and in the target, and says the same in both, where they tell their files.
 abbrev pub IsSame : Origin → Option Told → RepoState → List ℕ → Type 0
@@ -149,10 +157,17 @@ pub record AcceptsOne (accepted : ManifestText) (store : Store) (entry : Archive
   pub only : IsNamedBy accepted (entry.name ∷ []) (accepted_in store)
   pub there : archive_named entry.name (accepted_in store).archives ≡ Some entry
 
--- What a body did that commits the archive of this entry, all of which is there in the target, behind its record.
-abbrev pub NamesArchive : ManifestText → ArchiveRef → Store → Store → Option Told → Option Told → ℕ → ℕ → Result (Unit {0}) CarryFault → Type 0
-NamesArchive accepted entry store store_now before now count after result = (from : Origin) (earlier : List Addition)
+-- A source is this one, whose manifest has this entry, and the time of each manifest is this.
+pub record IsFlown (from : Origin) (source : RepoState) (given : Option (List ℕ)) (named : ArchiveRef) : Type 0 where
+  pub repo : from.repo ≡ source
+  pub time : from.time ≡ given
+  pub named_is : archive_named named.name source.manifest.archives ≡ Some named
+
+-- What a body did that commits the archive of this entry with this manifest, all of which is there in the target, behind its record.
+abbrev pub NamesArchive : ManifestText → ArchiveRef → ManifestText → Store → Store → Option Told → Option Told → ℕ → ℕ → Result (Unit {0}) CarryFault → Type 0
+NamesArchive accepted entry manifest store store_now before now count after result = (from : Origin) (earlier : List Addition)
     → border_behind AtBegin earlier ≡ AtEnd → IfSome before (λ t. IsReadyToName from earlier (told_files t) (repo_view store.repo) entry)
+    → IsBehind from accepted (repo_view store.repo).manifest (entry.name ∷ []) manifest
     → Works (KeepsGrowingBy earlier accepted from (entry.name ∷ []) store []) (λ _. GrowsBy earlier accepted from (entry.name ∷ []) [] store store_now)
     before now count after result
 

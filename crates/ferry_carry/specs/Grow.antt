@@ -17,6 +17,7 @@ use Rattle.ferry_store.specs.Standing.{HoldsManifest, committed_of, entries_of, 
 use Rattle.ferry_store.specs.State.{IsSound, Written}
 use Rattle.ferry_store.specs.Store.{StoreFits}
 use Rattle.ferry_store.specs.declared.store.Store.{Store}
+use Rattle.ferry_carry.specs.Accepting.{AreNextOf}
 use Rattle.ferry_carry.specs.Carrying.{AreCut, IsCarried, Origin}
 use Rattle.ferry_piece.specs.Gather.{BringsOpening, IsAmong}
 use Rattle.ferry_piece.specs.Puts.{Addition, AddsAll, AtBegin, GoesOn, border_behind}
@@ -41,6 +42,11 @@ abbrev pub IsNamedBy : ManifestText → List (List ℕ) → ManifestText → Typ
 IsNamedBy accepted done manifest = (name : List ℕ) (entry : ArchiveRef) → archive_named name manifest.archives ≡ Some entry
     → (archive_named name accepted.archives ≡ Some entry) ⊎ IsAmong done name
 
+-- Where all that was accepted is committed, this is the manifest behind the archives of these names.
+abbrev pub IsBehind : Origin → ManifestText → ManifestText → List (List ℕ) → ManifestText → Type 0
+IsBehind from accepted committed done manifest =
+    accepted ≡ committed → (ids : List (List ℕ)) × AreNextOf from.time from.repo.manifest accepted done ids manifest
+
 -- Committed are entries that keep each chunk and bring only such as open, and a manifest that keeps each archive, with the settings as they were. Of
 -- the chosen names those of a front were carried, those that were not accepted are cut so, and beside what was accepted no other is named. The entries are
 -- those that were, or go on from what was written, with the first of these added, behind others that were added earlier.
@@ -58,6 +64,7 @@ pub record StandsOn (earlier : List Addition) (from : Origin) (chosen : List (Li
   pub done : List (List ℕ)
   pub rest : List (List ℕ)
   pub front : chosen ≡ done ++ rest
+  pub next : IsBehind from accepted repo.manifest done manifest
   pub carried : AllByRecursion (IsCarried from (earlier ++ within) (entries_of written) repo.keys entries manifest.archives) done
   pub cut : AreCut accepted from repo.keys manifest.archives done
   pub only : IsNamedBy accepted done manifest
@@ -85,6 +92,8 @@ pub record Grown (earlier : List Addition) (accepted : ManifestText) (from : Ori
   pub committed : GoesOn (border_behind AtBegin earlier) (repo_view store.repo).keys from.most added fits.written (committed_of fits_now.written)
   pub config : fits_now.written.config ≡ fits.written.config
   pub most : KeepsMost store store_now
+  pub next : IsBehind from accepted (repo_view store.repo).manifest chosen (repo_view store_now.repo).manifest
+  pub settled : accepted ≡ (repo_view store.repo).manifest → accepted_in store_now ≡ (repo_view store_now.repo).manifest
   pub carried : AllByRecursion (IsCarried from (earlier ++ added) (entries_of fits.written) (repo_view store_now.repo).keys
       (committed_of fits_now.written) (repo_view store_now.repo).manifest.archives) chosen
   pub cut : AreCut accepted from (repo_view store_now.repo).keys (repo_view store_now.repo).manifest.archives chosen

@@ -19,6 +19,7 @@ use Rattle.ferry_repo.specs.Whole.{ContentsCome, HoldsItem, WholeArchive, WholeI
 use Rattle.ferry_repo.specs.declared.fault.RepoFault.{RepoFault}
 use Rattle.ferry_carry.specs.Carrying.{Origin, SaysIn}
 use Rattle.ferry_carry.specs.Copied.{IsCopyOf, copied_item, pieces_of, stream_block}
+use Rattle.ferry_carry.specs.Naming.{TaggedRecord}
 use Rattle.ferry_piece.specs.Gather.{IsAmong}
 use Rattle.ferry_piece.specs.Piece.{AreFullOf}
 use Rattle.ferry_piece.specs.Puts.{Addition, AreOf, ArePieces, Content, Record, Stream, addition, contents_in}
@@ -58,29 +59,33 @@ pub record ListsContents (there : Files) (from : Origin) (keys : Keys) (name : L
   pub last_is : ArePieces Stream (cut stream_block piece) last
   pub added_is : added ≡ listed ++ last
 
--- All that is added of the archive of a name.
-pub record ListsArchive (there : Files) (from : Origin) (keys : Keys) (name : List ℕ) (added : List Addition) : Type 0 where
+-- All that is added of the archive of a name, whose record is this.
+pub record ListsArchive (there : Files) (from : Origin) (keys : Keys) (name : List ℕ) (one : TaggedRecord) (added : List Addition) : Type 0 where
   pub contents : List Addition
   pub lists : ListsContents there from keys name contents
-  pub text : List ℕ
-  pub copy : IsCopyOf keys from.block lists.whole.items lists.whole.fields text
+  pub copy : IsCopyOf keys from.block lists.whole.items lists.whole.fields one.salt one.text
   pub put : Bool
-  pub added_is : added ≡ contents ++ addition Record text put ∷ []
+  pub added_is : added ≡ contents ++ addition Record one.text put ∷ []
 
 -- The same of a source that tells its files.
-abbrev pub ListsOne : Origin → Keys → List ℕ → List Addition → Type 0
-ListsOne from keys name added = IfSome from.files (λ there. ListsArchive there from keys name added)
+abbrev pub ListsOne : Origin → Keys → List ℕ → TaggedRecord → List Addition → Type 0
+ListsOne from keys name one added = IfSome from.files (λ there. ListsArchive there from keys name one added)
 
--- All that is added for a name behind others: nothing where its archive is there, and else all that is added of it.
-abbrev pub ListsName : Origin → Keys → ManifestText → List (List ℕ) → List ℕ → List Addition → Type 0
-ListsName from keys accepted before name added =
-    (IsThere accepted before name × (added ≡ [])) ⊎ ((IsThere accepted before name → ⊥) × ListsOne from keys name added)
+-- All that is added for a name behind others, and its record: nothing where its archive is there, and else all that is added of it.
+abbrev pub ListsName : Origin → Keys → ManifestText → List (List ℕ) → List ℕ → List TaggedRecord → List Addition → Type 0
+ListsName from keys accepted before name records added = (IsThere accepted before name × ((records ≡ []) × (added ≡ [])))
+    ⊎ ((IsThere accepted before name → ⊥) × ((one : TaggedRecord) × ((records ≡ one ∷ []) × ListsOne from keys name one added)))
 
--- All that is added for these names behind others.
-abbrev pub ListsNames : Origin → Keys → ManifestText → List (List ℕ) → List (List ℕ) → List Addition → Type 0
-ListsNames from keys accepted before [] added = added ≡ []
-ListsNames from keys accepted before (name ∷ names) added = (one : List Addition) × ((rest : List Addition) × ((added ≡ one ++ rest)
-    × (ListsName from keys accepted before name one × ListsNames from keys accepted (before ++ name ∷ []) names rest)))
+-- All that is added for these names behind others, and their records.
+abbrev pub ListsNames : Origin → Keys → ManifestText → List (List ℕ) → List (List ℕ) → List TaggedRecord → List Addition → Type 0
+ListsNames from keys accepted before [] records added = (records ≡ []) × (added ≡ [])
+ListsNames from keys accepted before (name ∷ names) records added = (own : List TaggedRecord) × ((others : List TaggedRecord) × ((records ≡ own ++ others)
+    × ((one : List Addition) × ((rest : List Addition) × ((added ≡ one ++ rest)
+    × (ListsName from keys accepted before name own one × ListsNames from keys accepted (before ++ name ∷ []) names others rest))))))
+
+-- All that is added for a name behind others.
+abbrev pub AddsName : Origin → Keys → ManifestText → List (List ℕ) → List ℕ → List Addition → Type 0
+AddsName from keys accepted before name added = (records : List TaggedRecord) × ListsName from keys accepted before name records added
 
 -- ---- as far as it came
 
@@ -145,7 +150,8 @@ pub record BeginsArchive (there : Files) (from : Origin) (keys : Keys) (name : L
 -- What is added of an archive, as far as it came: nothing, a part, all but its record, or all. The source may not tell its files.
 abbrev pub BeginsOne : Origin → Keys → List ℕ → List Addition → Type 0
 BeginsOne from keys name begun = (begun ≡ []) ⊎ IfSome from.files (λ there.
-    BeginsArchive there from keys name begun ⊎ (ListsContents there from keys name begun ⊎ ListsArchive there from keys name begun))
+    BeginsArchive there from keys name begun ⊎ (ListsContents there from keys name begun
+    ⊎ ((one : TaggedRecord) × ListsArchive there from keys name one begun)))
 
 -- What is added for a name behind others, as far as it came: nothing where its archive is there.
 abbrev pub BeginsName : Origin → Keys → ManifestText → List (List ℕ) → List ℕ → List Addition → Type 0
@@ -157,4 +163,4 @@ abbrev pub BeginsNames : Origin → Keys → ManifestText → List (List ℕ) �
 BeginsNames from keys accepted before [] begun = begun ≡ []
 BeginsNames from keys accepted before (name ∷ names) begun = BeginsName from keys accepted before name begun
     ⊎ ((one : List Addition) × ((rest : List Addition) × ((begun ≡ one ++ rest)
-    × (ListsName from keys accepted before name one × BeginsNames from keys accepted (before ++ name ∷ []) names rest))))
+    × (AddsName from keys accepted before name one × BeginsNames from keys accepted (before ++ name ∷ []) names rest))))

@@ -1,9 +1,11 @@
 -- The record and the entry that an archive has in a target.
-use Rattle.std.specs.Prelude.{◌≡◌, ◌⊎◌, ℕ, Bool, true, List, [], ◌∷◌, codes, map, pos, Some, Ok}
+use Rattle.std.specs.Prelude.{◌≡◌, ◌⊎◌, ℕ, Bool, true, List, [], ◌∷◌, ◌++◌, codes, length, map, pos, Option, Some, option_map, Ok}
+use Rattle.std.specs.List.{AllByRecursion}
 use Rattle.ferry_blob.specs.Blob.{content_id}
 use Rattle.ferry_item.specs.declared.item.ChunkRef.{ChunkRef}
 use Rattle.ferry_mac.specs.declared.keys.Keys.{Keys}
 use Rattle.ferry_manifest.specs.Record.Text.{ArchiveText, archive_of, as_tagged}
+use Rattle.ferry_manifest.specs.Record.Writing.{archive_text}
 use Rattle.ferry_manifest.specs.declared.manifest.ArchiveRef.{ArchiveRef}
 use Rattle.ferry_msgpack.specs.Tree.{Tree, array, item, no_items, number, raw}
 use Rattle.ferry_piece.specs.Puts.{Addition, Record, addition}
@@ -21,9 +23,44 @@ copied_archive archive block ids =
 abbrev pub entry_for : ArchiveRef → List ℕ → ArchiveRef
 entry_for named id = record { name = named.name; id = id; time = named.time }
 
--- A record was added: a text that is read as it, with its tag.
-pub record AddsRecord (keys : Keys) (archive : ArchiveText) (more : List Addition) : Type 0 where
+-- ---- what is drawn
+
+-- This salt of 64 bytes was drawn from a source of random bytes.
+abbrev pub Draws : List ℕ → Option (List ℕ) → Option (List ℕ) → Type 0
+Draws salt before now = (length salt ≡ 64) × (now ≡ option_map (λ (bytes : List ℕ). bytes ++ salt) before)
+
+-- the record of an archive that comes into a target: its text, the salt of its tag, and that of the tag of the manifest which names it
+pub record TaggedRecord : Type 0 where
   pub text : List ℕ
+  pub salt : List ℕ
+  pub manifest_salt : List ℕ
+
+-- the ids of records
+abbrev pub record_ids : Keys → List TaggedRecord → List (List ℕ)
+record_ids keys records = map (λ (one : TaggedRecord). content_id keys one.text) records
+
+-- Both salts of a record have 64 bytes.
+abbrev pub HasSalts : TaggedRecord → Type 0
+HasSalts one = (length one.salt ≡ 64) × (length one.manifest_salt ≡ 64)
+
+-- the salts of records, in the order in which they are drawn
+abbrev pub salts_of : List TaggedRecord → List ℕ
+salts_of [] = []
+salts_of (one ∷ rest) = one.salt ++ (one.manifest_salt ++ salts_of rest)
+
+-- The salts of these records, of 64 bytes each, were drawn from a source of random bytes, and nothing else.
+pub record DrawsSalts (records : List TaggedRecord) (before now : Option (List ℕ)) : Type 0 where
+  pub sizes : AllByRecursion HasSalts records
+  pub drawn : now ≡ option_map (λ (bytes : List ℕ). bytes ++ salts_of records) before
+
+-- ---- what is added
+
+-- A record was added, tagged with this salt.
+pub record AddsRecord (keys : Keys) (archive : ArchiveText) (more : List Addition) : Type 0 where
+  pub salt : List ℕ
+  pub salt_size : length salt ≡ 64
+  pub text : List ℕ
+  pub text_is : text ≡ archive_text keys salt archive
   pub put : Bool
   pub more_is : more ≡ addition Record text put ∷ []
   pub reads : archive_of keys text ≡ Ok (as_tagged archive)
@@ -32,9 +69,10 @@ pub record AddsRecord (keys : Keys) (archive : ArchiveText) (more : List Additio
 abbrev pub BeginsRecord : Keys → ArchiveText → List Addition → Type 0
 BeginsRecord keys archive more = (more ≡ []) ⊎ AddsRecord keys archive more
 
--- A record was added, and this is its id.
-pub record AddsUnder (keys : Keys) (archive : ArchiveText) (more : List Addition) (id : List ℕ) : Type 0 where
+-- A record was added whose salt was drawn, and this is its id.
+pub record AddsUnder (keys : Keys) (archive : ArchiveText) (more : List Addition) (before now : Option (List ℕ)) (id : List ℕ) : Type 0 where
   pub adds : AddsRecord keys archive more
+  pub drew : Draws adds.salt before now
   pub id_is : id ≡ content_id keys adds.text
 
 -- the record of an archive whose stream is in these pieces

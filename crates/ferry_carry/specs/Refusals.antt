@@ -13,7 +13,6 @@ use Rattle.ferry_manifest.specs.Manifest.Writing.{manifest_text}
 use Rattle.ferry_manifest.specs.Record.Text.{ArchiveText}
 use Rattle.ferry_manifest.specs.Record.Writing.{archive_text}
 use Rattle.ferry_manifest.specs.declared.manifest.ArchiveRef.{ArchiveRef}
-use Rattle.ferry_next.specs.Next.{next_manifest, written_at}
 use Rattle.ferry_repo.specs.Archives.{HoldsRecord, IsNoRecord, RefusesContent, RefusesRecord, archive_named}
 use Rattle.ferry_repo.specs.Fault.{IsOfFiles}
 use Rattle.ferry_repo.specs.Opening.{RepoState, repo_view}
@@ -25,13 +24,13 @@ use Rattle.ferry_store.specs.Store.{StoreFits}
 use Rattle.ferry_store.specs.declared.fault.StoreRefusal.TheVariants.{TooLarge, Write}
 use Rattle.ferry_store.specs.declared.store.Store.{Store}
 use Rattle.ferry_write.specs.declared.fault.WriteFault.TheVariants as Writes
+use Rattle.ferry_carry.specs.Accepting.{named_next}
 use Rattle.ferry_carry.specs.Carrying.{Origin, SaysIn}
 use Rattle.ferry_carry.specs.Chosen.{IsMissingName}
 use Rattle.ferry_carry.specs.Copied.{stream_pieces}
 use Rattle.ferry_carry.specs.Grow.{KeepsMost}
-use Rattle.ferry_carry.specs.Naming.{copied_archive, entry_for}
+use Rattle.ferry_carry.specs.Naming.{copied_archive}
 use Rattle.ferry_carry.specs.Telling.{TellsNames}
-use Rattle.ferry_carry.specs.Time.{time_for}
 use Rattle.ferry_piece.specs.declared.fault.CarryFault.{CarryFault}
 use Rattle.ferry_piece.specs.declared.fault.CarryFault.TheVariants.{Source, Target, Taken, NotFound, Pieces, Memory, Record}
 use Rattle.ferry_piece.specs.Stops.{is_target, StopsTarget}
@@ -153,12 +152,6 @@ RefusesEnd from heard keys name Record = WhereTold from heard (λ there. HasLarg
 RefusesEnd from heard keys name fault = is_target fault ≡ true
 
 -- ---- the manifest of a target
-
--- the manifest with an archive of the source, whose record has this id, written at the time that is given, or else at the later of both manifests' times
-abbrev pub named_next : Option (List ℕ) → RepoState → Store → ArchiveRef → List ℕ → ManifestText
-named_next given source store named id =
-    written_at (next_manifest (accepted_in store) (entry_for named id) source.manifest.item_keys)
-    (time_for given source.manifest.timestamp (repo_view store.repo).manifest.timestamp)
 
 -- Why a manifest isn't committed: where it is too large, with some salt of 64 bytes it is larger than the content of an object may be.
 abbrev pub LimitsManifest : Keys → ManifestText → CarryFault → Type 0

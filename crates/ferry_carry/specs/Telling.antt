@@ -12,11 +12,13 @@ use Rattle.ferry_store.specs.State.{IsSound, Written}
 use Rattle.ferry_store.specs.Store.{StoreFits}
 use Rattle.ferry_store.specs.declared.store.Store.{Store}
 use Rattle.ferry_piece.specs.Adding.{HoldsRefused, StopsLast}
+use Rattle.ferry_carry.specs.Accepting.{AreNextOf}
 use Rattle.ferry_carry.specs.Carrying.{Origin}
 use Rattle.ferry_carry.specs.Counting.{CountsMore, IsTotalOf, TellsNew}
 use Rattle.ferry_carry.specs.Filling.{FillsAll}
 use Rattle.ferry_carry.specs.Grow.{Grows, KeepsGrowing, StandsOn}
 use Rattle.ferry_carry.specs.Listing.{BeginsNames, ListsNames}
+use Rattle.ferry_carry.specs.Naming.{DrawsSalts, TaggedRecord, record_ids}
 use Rattle.ferry_piece.specs.Puts.{Addition, AtBegin}
 use Rattle.ferry_carry.specs.Lines.{name_line, told_of, total_line}
 use Rattle.ferry_piece.specs.Work.{Works}
@@ -83,10 +85,16 @@ abbrev pub TellsWhole : ManifestText → List (List ℕ) → List Addition → C
 TellsWhole accepted names added carried before now = IsTotalOf accepted names added carried
     × ((lines : List (List ℕ)) × ((lines_of now.acts ≡ lines_of before.acts ++ (lines ++ total_line carried ∷ [])) × AreLines accepted [] lines names))
 
--- These names were carried, and what was added is all that is added for them.
-abbrev pub CarriesNames : Origin → List (List ℕ) → List Addition → Store → Store → History → History → Type 0
-CarriesNames from chosen added store store_now before now = Grows [] from chosen added store store_now before now
-    × ListsNames from (repo_view store.repo).keys (accepted_in store) [] chosen added
+-- These names were carried, and what was added is all that is added for them, with their records.
+abbrev pub CarriesNames : Origin → List (List ℕ) → List TaggedRecord → List Addition → Store → Store → History → History → Type 0
+CarriesNames from chosen records added store store_now before now = Grows [] from chosen added store store_now before now
+    × ListsNames from (repo_view store.repo).keys (accepted_in store) [] chosen records added
+
+-- The manifest that is accepted is the one behind the archives of these names, by the ids of their records, whose salts were drawn.
+abbrev pub AcceptsNames : Origin → List (List ℕ) → List TaggedRecord → Store → Store → Option (List ℕ) → Option (List ℕ) → Type 0
+AcceptsNames from chosen records store store_now drawn drawn_now =
+    AreNextOf from.time from.repo.manifest (accepted_in store) chosen (record_ids (repo_view store.repo).keys records) (accepted_in store_now)
+    × DrawsSalts records drawn drawn_now
 
 -- What was added for these names, as far as it came, where the target tells its files.
 abbrev pub BeginsAll : Option Told → Origin → Store → List (List ℕ) → List Addition → Type 0
@@ -94,11 +102,13 @@ BeginsAll before from store chosen begun = IfSome before (λ _. BeginsNames from
 
 -- What was done of the archives of names, one after another, each of which was told behind it, and counted.
 pub record Reports (from : Origin) (chosen : List (List ℕ)) (store store_now : Store) (carried carried_now : Carried) (before now : Option Told)
-    (count after : ℕ) (result : Result (Unit {0}) CarryFault) : Type 0 where
+    (count after : ℕ) (drawn drawn_now : Option (List ℕ)) (result : Result (Unit {0}) CarryFault) : Type 0 where
   pub added : List Addition
+  pub records : List TaggedRecord
   pub begins : BeginsAll before from store chosen added
   pub works : Works (KeepsReported from chosen store added)
-      (λ _ h g. CarriesNames from chosen added store store_now h g × TellsNames (accepted_in store) chosen h g) before now count after result
+      (λ _ h g. CarriesNames from chosen records added store store_now h g × TellsNames (accepted_in store) chosen h g) before now count after result
+  pub accepts : OnOk result (AcceptsNames from chosen records store store_now drawn drawn_now)
   pub counted : OnOk result (CountsMore (accepted_in store) chosen added carried carried_now)
   pub last : StopsLast before (repo_view store.repo).keys added result
   pub held : HoldsRefused AtBegin from.most store added store_now before now result
@@ -106,12 +116,14 @@ pub record Reports (from : Origin) (chosen : List (List ℕ)) (store store_now :
 
 -- The same from the begin on, and behind them the whole was told.
 pub record ReportsWhole (from : Origin) (chosen : List (List ℕ)) (store store_now : Store) (before now : Option Told) (count after : ℕ)
-    (result : Result Carried CarryFault) : Type 0 where
+    (drawn drawn_now : Option (List ℕ)) (result : Result Carried CarryFault) : Type 0 where
   pub added : List Addition
+  pub records : List TaggedRecord
   pub begins : BeginsAll before from store chosen added
   pub works : Works (KeepsReported from chosen store added)
-      (λ carried h g. CarriesNames from chosen added store store_now h g × TellsWhole (accepted_in store) chosen added carried h g)
+      (λ carried h g. CarriesNames from chosen records added store store_now h g × TellsWhole (accepted_in store) chosen added carried h g)
       before now count after result
+  pub accepts : OnOk result (AcceptsNames from chosen records store store_now drawn drawn_now)
   pub last : StopsLast before (repo_view store.repo).keys added result
   pub held : HoldsRefused AtBegin from.most store added store_now before now result
   pub fills : IfErr result (λ fault. FillsAll before from store chosen fault added)

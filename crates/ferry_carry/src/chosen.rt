@@ -1,17 +1,17 @@
 //! The chosen archives, one after another.
 ghost use Rattle.std.specs.Prelude.{◌≡◌, ◌≤◌, ◌⊎◌, ℕ, List, [], ◌∷◌, None, Some, Err, true, false, slice_get, IfErr, IfOk, IfSome, IsSome, OnOk};
-ghost use Rattle.ferry_carry.specs.Accepting.{AreNextOf, HasLargeNext, IsNextOf, LimitsNames};
+ghost use Rattle.ferry_carry.specs.Accepting.{HasLargeNext, LimitsNames};
 ghost use Rattle.ferry_carry.specs.Chosen.{IsMissingName, TellsLine};
 ghost use Rattle.ferry_piece.specs.Fault.{IsOfWork, random_failed, shelf_failed};
-ghost use Rattle.ferry_carry.specs.Carrying.{origin};
 ghost use Rattle.ferry_carry.specs.Counting.{TellsNew};
-ghost use Rattle.ferry_carry.specs.Flight.{AreRight, FlightFits, TakesAll, flown_from};
+ghost use Rattle.ferry_carry.specs.Flight.{AreRight, FlightFits, TakesAll, flown_from, origin_of};
 ghost use Rattle.ferry_carry.specs.Grow.{KeepsMost};
 ghost use Rattle.ferry_carry.specs.Lines.{name_line, told_of};
+ghost use Rattle.ferry_carry.specs.Naming.{TaggedRecord};
 ghost use Rattle.ferry_piece.specs.Puts.{Addition};
 ghost use Rattle.ferry_carry.specs.Refusals.{RefusesName, RefusesNames, RefusesOne, is_of_telling};
 ghost use Rattle.ferry_piece.specs.Stops.{StopsTarget, is_target};
-ghost use Rattle.ferry_carry.specs.Telling.{Reports, ReportsWhole, StopsBehind, StopsUnnamed, TellsNames};
+ghost use Rattle.ferry_carry.specs.Telling.{AcceptsNames, Reports, ReportsWhole, StopsBehind, StopsUnnamed, TellsNames};
 ghost use Rattle.ferry_piece.specs.Work.{Works};
 ghost use Rattle.ferry_disk.specs.Act.{TellOf};
 ghost use Rattle.ferry_disk.specs.Device.{HasCause, KeepsTold, told_files};
@@ -70,10 +70,10 @@ pub fn carry<S: Shelf, D: Depot, E: Entropy>(
     requires fits { IfSome (D.told depot.old) (λ t. StoreFits false store.old t.history) }
     requires packable { IsPackable (accepted_in store.old) }
     requires settled { IsSettled store.old }
-    ensures works { ReportsWhole (origin (S.told shelf.old) (repo_view source.old) options.now.block options.now.checkpoint) names.now store.old store.new
-        (D.told depot.old) (D.told depot.new) (D.faults depot.old) (D.faults depot.new) result }
+    ensures works { ReportsWhole (origin_of (S.told shelf.old) (repo_view source.old) options.now) names.now store.old store.new
+        (D.told depot.old) (D.told depot.new) (D.faults depot.old) (D.faults depot.new) (E.drawn entropy.old) (E.drawn entropy.new) result }
     ensures settled { OnOk result (IsSettled store.new) }
-    ensures refused { IfErr result (RefusesNames (origin (S.told shelf.old) (repo_view source.old) options.now.block options.now.checkpoint)
+    ensures refused { IfErr result (RefusesNames (origin_of (S.told shelf.old) (repo_view source.old) options.now)
         (D.told depot.old) store.old (D.told depot.new) store.new names.now) }
     // Where a name is missing nothing is done.
     ensures nothing { (missing : List ℕ) → result ≡ Err (CarryFault.NotFound missing) → (source.new ≡ source.old) × (shelf.new ≡ shelf.old)
@@ -88,7 +88,7 @@ pub fn carry<S: Shelf, D: Depot, E: Entropy>(
     ensures ended { OnOk result (store.old.pending ≡ 0 → store.new.pending ≡ 0) }
     // Where it is refused, but for a device that failed and want of memory, the archives came that were told, and no other.
     ensures stands { IfErr result (λ fault. IsOfWork fault
-        → StopsBehind (origin (S.told shelf.old) (repo_view source.old) options.now.block options.now.checkpoint) names.now store.old
+        → StopsBehind (origin_of (S.told shelf.old) (repo_view source.old) options.now) names.now store.old
         (D.told depot.old) (D.told depot.new)) }
     ensures most { OnOk result (KeepsMost store.old store.new) }
     ensures fits { OnOk result (IfSome (D.told depot.new) (λ t. StoreFits false store.new t.history)) }
@@ -142,18 +142,17 @@ fn carry_all<S: Shelf, D: Depot, E: Entropy>(
     ensures pending { OnOk result (store.new.pending ≤ options.now.checkpoint) }
     ensures packable { OnOk result (IsPackable (accepted_in store.new)) }
     ensures unspent { OnOk result (IsUnspent store.new) }
-    ensures works { Reports (origin (S.told shelf.old) (repo_view source.old) options.now.block options.now.checkpoint) names.now store.old store.new
-        carried.old carried.new (D.told depot.old) (D.told depot.new) (D.faults depot.old) (D.faults depot.new) result }
-    ensures refused { IfErr result (RefusesOne (origin (S.told shelf.old) (repo_view source.old) options.now.block options.now.checkpoint)
+    ensures works { Reports (origin_of (S.told shelf.old) (repo_view source.old) options.now) names.now store.old store.new
+        carried.old carried.new (D.told depot.old) (D.told depot.new) (D.faults depot.old) (D.faults depot.new) (E.drawn entropy.old) (E.drawn entropy.new)
+        result }
+    ensures refused { IfErr result (RefusesOne (origin_of (S.told shelf.old) (repo_view source.old) options.now)
         (D.told depot.old) store.old (D.told depot.new) store.new names.now) }
-    ensures next { OnOk result (AreNextOf options.now.timestamp (repo_view source.old).manifest (repo_view store.old.repo).keys
-        (accepted_in store.old) names.now (accepted_in store.new)) }
     ensures limit { IfErr result (λ fault. fault ≡ CarryFault.Target StoreRefusal.TooLarge
         → IfSome (D.told depot.old) (λ b. IfSome (D.told depot.new) (λ t. LimitsNames options.now.timestamp (repo_view source.old).manifest
         (repo_view store.old.repo).keys (accepted_in store.old) names.now (λ done. TellsNames (accepted_in store.old) done b.history t.history)))) }
     ensures ended { OnOk result (store.old.pending ≡ 0 → store.new.pending ≡ 0) }
     ensures stands { IfErr result (λ fault. IsOfWork fault
-        → StopsBehind (origin (S.told shelf.old) (repo_view source.old) options.now.block options.now.checkpoint) names.now store.old
+        → StopsBehind (origin_of (S.told shelf.old) (repo_view source.old) options.now) names.now store.old
         (D.told depot.old) (D.told depot.new)) }
     ensures most { OnOk result (KeepsMost store.old store.new) }
     ensures fits { OnOk result (IfSome (D.told depot.new) (λ t. StoreFits false store.new t.history)) }
@@ -197,18 +196,17 @@ fn carry_one<S: Shelf, D: Depot, E: Entropy>(
     ensures pending { OnOk result (store.new.pending ≡ 0) }
     ensures packable { OnOk result (IsPackable (accepted_in store.new)) }
     ensures unspent { OnOk result (IsUnspent store.new) }
-    ensures works { Reports (origin (S.told shelf.old) (repo_view source.old) options.now.block options.now.checkpoint) (name.now ∷ []) store.old store.new
-        carried.old carried.new (D.told depot.old) (D.told depot.new) (D.faults depot.old) (D.faults depot.new) result }
-    ensures refused { IfErr result (RefusesName (origin (S.told shelf.old) (repo_view source.old) options.now.block options.now.checkpoint)
+    ensures works { Reports (origin_of (S.told shelf.old) (repo_view source.old) options.now) (name.now ∷ []) store.old store.new
+        carried.old carried.new (D.told depot.old) (D.told depot.new) (D.faults depot.old) (D.faults depot.new) (E.drawn entropy.old) (E.drawn entropy.new)
+        result }
+    ensures refused { IfErr result (RefusesName (origin_of (S.told shelf.old) (repo_view source.old) options.now)
         (D.told depot.old) store.old (D.told depot.new) store.new name.now) }
     // What refuses it, but for a line that isn't told and want of memory, does so before it is told.
     ensures untold { IfErr result (λ fault. is_of_telling fault ≡ false → Between (D.told depot.old) (D.told depot.new) TellsNothing) }
-    ensures next { OnOk result (IsNextOf options.now.timestamp (repo_view source.old).manifest (repo_view store.old.repo).keys (accepted_in store.old)
-        name.now (accepted_in store.new)) }
     ensures limit { IfErr result (λ fault. fault ≡ CarryFault.Target StoreRefusal.TooLarge → IfSome (D.told depot.new) (λ _.
         HasLargeNext options.now.timestamp (repo_view source.old).manifest (repo_view store.old.repo).keys (accepted_in store.old) name.now)) }
     ensures stands { IfErr result (λ fault. IsOfWork fault
-        → StopsUnnamed (origin (S.told shelf.old) (repo_view source.old) options.now.block options.now.checkpoint) name.now store.old
+        → StopsUnnamed (origin_of (S.told shelf.old) (repo_view source.old) options.now) name.now store.old
         (D.told depot.old) (D.told depot.new)) }
     ensures most { OnOk result (KeepsMost store.old store.new) }
     ensures fits { OnOk result (IfSome (D.told depot.new) (λ t. StoreFits false store.new t.history)) }
@@ -260,12 +258,11 @@ fn carry_flight<S: Shelf, D: Depot, E: Entropy>(
     ensures packable { OnOk result (IsPackable (accepted_in store.new)) }
     ensures unspent { OnOk result (IsUnspent store.new) }
     ensures works { Reports (flown_from (S.told shelf.old) (repo_view source.old) flight.old) (flight.old.named.name ∷ []) store.old store.new
-        carried.old carried.new (D.told depot.old) (D.told depot.new) (D.faults depot.old) (D.faults depot.new) result }
+        carried.old carried.new (D.told depot.old) (D.told depot.new) (D.faults depot.old) (D.faults depot.new) (E.drawn entropy.old) (E.drawn entropy.new)
+        result }
     ensures refused { IfErr result (RefusesName (flown_from (S.told shelf.old) (repo_view source.old) flight.old) (D.told depot.old) store.old
         (D.told depot.new) store.new flight.old.named.name) }
     ensures untold { IfErr result (λ fault. is_of_telling fault ≡ false → Between (D.told depot.old) (D.told depot.new) TellsNothing) }
-    ensures next { OnOk result (IsNextOf flight.old.options.timestamp (repo_view source.old).manifest (repo_view store.old.repo).keys (accepted_in store.old)
-        flight.old.named.name (accepted_in store.new)) }
     ensures limit { IfErr result (λ fault. fault ≡ CarryFault.Target StoreRefusal.TooLarge → IfSome (D.told depot.new) (λ _.
         HasLargeNext flight.old.options.timestamp (repo_view source.old).manifest (repo_view store.old.repo).keys (accepted_in store.old)
         flight.old.named.name)) }
@@ -307,13 +304,13 @@ fn fly<S: Shelf, D: Depot, E: Entropy>(
     ensures packable { OnOk result (IsPackable (accepted_in store.new)) }
     ensures unspent { OnOk result (IsUnspent store.new) }
     ensures works { (fits : FlightFits (S.told shelf.old) (repo_view source.old) (D.told depot.old) store.old flight.old) → (more : List Addition)
-        × TakesAll (flown_from (S.told shelf.old) (repo_view source.old) flight.old) flight.old.named.name fits.added more store.old store.new flight.new
-        (D.told depot.old) (D.told depot.new) (D.faults depot.old) (D.faults depot.new) result }
+        × ((records : List TaggedRecord) × (TakesAll (flown_from (S.told shelf.old) (repo_view source.old) flight.old) flight.old.named.name fits.added more
+        records store.old store.new flight.new (D.told depot.old) (D.told depot.new) (D.faults depot.old) (D.faults depot.new) result
+        × OnOk result (AcceptsNames (flown_from (S.told shelf.old) (repo_view source.old) flight.old) (flight.old.named.name ∷ []) records store.old store.new
+        (E.drawn entropy.old) (E.drawn entropy.new)))) }
     ensures word { IfOk result (λ copied. TellsNew (accepted_in store.old) [] flight.old.named.name copied) }
     ensures refused { IfErr result (RefusesName (flown_from (S.told shelf.old) (repo_view source.old) flight.old) (D.told depot.old) store.old
         (D.told depot.new) store.new flight.old.named.name) }
-    ensures next { OnOk result (IsNextOf flight.old.options.timestamp (repo_view source.old).manifest (repo_view store.old.repo).keys (accepted_in store.old)
-        flight.old.named.name (accepted_in store.new)) }
     ensures limit { IfErr result (λ fault. fault ≡ CarryFault.Target StoreRefusal.TooLarge → IfSome (D.told depot.new) (λ _.
         HasLargeNext flight.old.options.timestamp (repo_view source.old).manifest (repo_view store.old.repo).keys (accepted_in store.old)
         flight.old.named.name)) }

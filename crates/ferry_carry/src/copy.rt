@@ -1,5 +1,5 @@
 //! An archive that the target lacks.
-ghost use Rattle.std.specs.Prelude.{◌≡◌, ◌≤◌, ◌<◌, ◌^◌, ◌-◌, ◌++◌, [], List, Some, None, Ok, true, false, length, min, IfErr, IfOk, IfSome, OnOk};
+ghost use Rattle.std.specs.Prelude.{◌≡◌, ◌≤◌, ◌<◌, ◌^◌, ◌-◌, ◌++◌, [], List, Some, None, Ok, true, false, length, min, IfErr, IfOk, IfSome, OnOk, Option, ℕ};
 ghost use Rattle.ferry_disk.specs.Device.{HasCause, KeepsTold, told_files};
 ghost use Rattle.ferry_disk.specs.Files.{Files};
 ghost use Rattle.ferry_piece.specs.Adding.{AddsOn};
@@ -127,23 +127,24 @@ impl Copy {
             × (IfErr result (λ fault. BeginsMore (S.told shelf.old) (repo_view source.old) (repo_view store.old.repo).keys self.old more
             × FillsStep (S.told shelf.old) (repo_view source.old) self.old fault more)
             × IfOk result (StepsOn (S.told shelf.old) (repo_view source.old) (repo_view store.old.repo).keys self.old more self.new))) }
-        ensures copied { (named : ArchiveRef) (added : List Addition)
-            → IsCopiedSoFar (origin (S.told shelf.old) (repo_view source.old) self.old.block self.old.contents.checkpoint) named
+        ensures copied { (time : Option (List ℕ)) (named : ArchiveRef) (added : List Addition)
+            → IsCopiedSoFar (origin (S.told shelf.old) (repo_view source.old) self.old.block self.old.contents.checkpoint time) named
             (D.told depot.old) store.old self.old added
             → (more : List Addition) × (AddsOn self.old.contents.checkpoint store.old more store.new
             (D.told depot.old) (D.told depot.new) (D.faults depot.old) (D.faults depot.new) result
             × ((archive_named named.name (repo_view source.old).manifest.archives ≡ Some named → IfSome (D.told depot.old) (λ _.
-            BeginsOne (origin (S.told shelf.old) (repo_view source.old) self.old.block self.old.contents.checkpoint) (repo_view store.old.repo).keys
+            BeginsOne (origin (S.told shelf.old) (repo_view source.old) self.old.block self.old.contents.checkpoint time) (repo_view store.old.repo).keys
             named.name (added ++ more)))
             × (IfErr result (λ fault. archive_named named.name (repo_view source.old).manifest.archives ≡ Some named → WhereHeard (D.told depot.old) fault
-            (λ refusal. FillsOne (origin (S.told shelf.old) (repo_view source.old) self.old.block self.old.contents.checkpoint)
+            (λ refusal. FillsOne (origin (S.told shelf.old) (repo_view source.old) self.old.block self.old.contents.checkpoint time)
             (repo_view store.old.repo).keys named.name refusal (added ++ more)))
-            × IfOk result (CopiesOn (origin (S.told shelf.old) (repo_view source.old) self.old.block self.old.contents.checkpoint) named
+            × IfOk result (CopiesOn (origin (S.told shelf.old) (repo_view source.old) self.old.block self.old.contents.checkpoint time) named
             (D.told depot.new) store.new self.new added more)))) }
-        ensures refused { (named : ArchiveRef) (added : List Addition) → archive_named named.name (repo_view source.old).manifest.archives ≡ Some named
-            → IsCopiedSoFar (origin (S.told shelf.old) (repo_view source.old) self.old.block self.old.contents.checkpoint) named
+        ensures refused { (time : Option (List ℕ)) (named : ArchiveRef) (added : List Addition) → archive_named named.name (repo_view
+            source.old).manifest.archives ≡ Some named
+            → IsCopiedSoFar (origin (S.told shelf.old) (repo_view source.old) self.old.block self.old.contents.checkpoint time) named
             (D.told depot.old) store.old self.old added
-            → IfErr result (RefusesStep (origin (S.told shelf.old) (repo_view source.old) self.old.block self.old.contents.checkpoint)
+            → IfErr result (RefusesStep (origin (S.told shelf.old) (repo_view source.old) self.old.block self.old.contents.checkpoint time)
             (D.told depot.old) named.name) }
         ensures archive { OnOk result (self.new.archive ≡ self.old.archive) }
         ensures checkpoint { OnOk result (self.new.contents.checkpoint ≡ self.old.contents.checkpoint) }

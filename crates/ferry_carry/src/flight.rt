@@ -1,17 +1,18 @@
 //! One archive, item by item.
 ghost use Rattle.std.specs.Prelude.{◌≡◌, ◌≢◌, ◌≤◌, ◌⊎◌, ℕ, List, Option, None, Ok, [], true, false, IfErr, IfOk, IfSome, IsSome, OnOk};
-ghost use Rattle.ferry_blob.specs.Blob.{content_id};
 ghost use Rattle.ferry_piece.specs.Adding.{AddsOn, IsNoChunk};
 ghost use Rattle.ferry_piece.specs.Fault.{random_failed, shelf_failed};
+ghost use Rattle.ferry_carry.specs.Accepting.{NamesNew};
 ghost use Rattle.ferry_carry.specs.Counting.{nothing_carried};
 ghost use Rattle.ferry_carry.specs.Flight.{AreRight, FlightFits, FlightStands, IsCommitted, IsSame, TakesTurn, flown_from};
 ghost use Rattle.ferry_carry.specs.Carrying.{origin};
 ghost use Rattle.ferry_carry.specs.Copying.{IsReady};
 ghost use Rattle.ferry_piece.specs.Gather.{GathersAt, KeepsRest, KeepsStandingAt};
 ghost use Rattle.ferry_carry.specs.Grow.{AcceptsMore, KeepsMost};
+ghost use Rattle.ferry_carry.specs.Naming.{TaggedRecord};
 ghost use Rattle.ferry_carry.specs.Progress.{IsCopiedSoFar};
 ghost use Rattle.ferry_piece.specs.Puts.{Addition, AtBegin};
-ghost use Rattle.ferry_carry.specs.Refusals.{DiffersThere, IsLimited, RefusesComparing, RefusesName, named_next};
+ghost use Rattle.ferry_carry.specs.Refusals.{DiffersThere, IsLimited, RefusesComparing, RefusesName};
 ghost use Rattle.ferry_piece.specs.Stops.{StopsPieces, is_target};
 ghost use Rattle.ferry_piece.specs.Work.{Works};
 ghost use Rattle.ferry_compare.specs.Compare.{Differ, FitsTold, comparison_view};
@@ -139,8 +140,11 @@ impl Flight {
         requires committed { IsCommitted store.old self.old.named.name }
         requires flight { FlightFits (S.told shelf.old) (repo_view source.old) (D.told depot.old) store.old self.old }
         ensures works { (fits : FlightFits (S.told shelf.old) (repo_view source.old) (D.told depot.old) store.old self.old) → (more : List Addition)
-            × TakesTurn (S.told shelf.new) (repo_view source.new) (flown_from (S.told shelf.old) (repo_view source.old) self.old) self.old.named.name
-            fits.added more store.old store.new self.new (D.told depot.old) (D.told depot.new) (D.faults depot.old) (D.faults depot.new) result }
+            × ((records : List TaggedRecord)
+            × (TakesTurn (S.told shelf.new) (repo_view source.new) (flown_from (S.told shelf.old) (repo_view source.old) self.old) self.old.named.name
+            fits.added more records store.old store.new self.new (D.told depot.old) (D.told depot.new) (D.faults depot.old) (D.faults depot.new) result
+            × IfOk result (λ turn. turn ≡ Turn.Named → NamesNew self.old.options.timestamp (repo_view source.old) store.old self.old.named records store.new
+            (E.drawn entropy.old) (E.drawn entropy.new)))) }
         ensures refused { IfErr result (RefusesName (flown_from (S.told shelf.old) (repo_view source.old) self.old) (D.told depot.old) store.old
             (D.told depot.new) store.new self.old.named.name) }
         ensures limit { IfErr result (IsLimited (D.told depot.new) self.old.options.timestamp (repo_view source.old) store.old self.old.named) }
@@ -162,8 +166,7 @@ impl Flight {
         ensures more { result ≡ Ok Turn.More → accepted_in store.new ≡ accepted_in store.old }
         ensures new { result ≡ Ok Turn.Named → archive_named self.old.named.name (accepted_in store.old).archives ≡ None }
         ensures there { result ≡ Ok Turn.Present → IsSome (archive_named self.old.named.name (accepted_in store.old).archives) }
-        ensures next { result ≡ Ok Turn.Named → (text : List ℕ) × (accepted_in store.new ≡ named_next self.old.options.timestamp
-            (repo_view source.old) store.old self.old.named (content_id (repo_view store.old.repo).keys text)) }
+        ensures undrawn { IfOk result (λ turn. turn ≢ Turn.Named → E.drawn entropy.new ≡ E.drawn entropy.old) }
         ensures still { result ≡ Ok Turn.Present → accepted_in store.new ≡ accepted_in store.old }
         ensures name { self.new.named ≡ self.old.named }
         ensures options { self.new.options ≡ self.old.options }
@@ -193,9 +196,11 @@ impl Flight {
         requires committed { IsCommitted store.old self.old.named.name }
         requires flight { FlightStands (repo_view source.old) self.old }
         requires uncounted { self.old.put ≡ nothing_carried }
-        ensures works { (more : List Addition)
-            × TakesTurn (S.told shelf.new) (repo_view source.new) (flown_from (S.told shelf.old) (repo_view source.old) self.old) self.old.named.name
-            [] more store.old store.new self.new (D.told depot.old) (D.told depot.new) (D.faults depot.old) (D.faults depot.new) result }
+        ensures works { (more : List Addition) × ((records : List TaggedRecord)
+            × (TakesTurn (S.told shelf.new) (repo_view source.new) (flown_from (S.told shelf.old) (repo_view source.old) self.old) self.old.named.name
+            [] more records store.old store.new self.new (D.told depot.old) (D.told depot.new) (D.faults depot.old) (D.faults depot.new) result
+            × IfOk result (λ turn. turn ≡ Turn.Named → NamesNew self.old.options.timestamp (repo_view source.old) store.old self.old.named records store.new
+            (E.drawn entropy.old) (E.drawn entropy.new)))) }
         ensures refused { IfErr result (RefusesName (flown_from (S.told shelf.old) (repo_view source.old) self.old) (D.told depot.old) store.old
             (D.told depot.new) store.new self.old.named.name) }
         ensures limit { IfErr result (IsLimited (D.told depot.new) self.old.options.timestamp (repo_view source.old) store.old self.old.named) }
@@ -216,8 +221,7 @@ impl Flight {
         ensures more { result ≡ Ok Turn.More → accepted_in store.new ≡ accepted_in store.old }
         ensures new { result ≡ Ok Turn.Named → archive_named self.old.named.name (accepted_in store.old).archives ≡ None }
         ensures there { result ≡ Ok Turn.Present → IsSome (archive_named self.old.named.name (accepted_in store.old).archives) }
-        ensures next { result ≡ Ok Turn.Named → (text : List ℕ) × (accepted_in store.new ≡ named_next self.old.options.timestamp
-            (repo_view source.old) store.old self.old.named (content_id (repo_view store.old.repo).keys text)) }
+        ensures undrawn { IfOk result (λ turn. turn ≢ Turn.Named → E.drawn entropy.new ≡ E.drawn entropy.old) }
         ensures still { result ≡ Ok Turn.Present → accepted_in store.new ≡ accepted_in store.old }
         ensures name { self.new.named ≡ self.old.named }
         ensures options { self.new.options ≡ self.old.options }
@@ -258,9 +262,11 @@ impl Flight {
             × IsCopiedSoFar (flown_from (S.told shelf.old) (repo_view source.old) self.old) self.old.named (D.told depot.old) store.old copy added }
         ensures works { (added : List Addition)
             → IsCopiedSoFar (flown_from (S.told shelf.old) (repo_view source.old) self.old) self.old.named (D.told depot.old) store.old copy added
-            → (more : List Addition)
-            × TakesTurn (S.told shelf.new) (repo_view source.new) (flown_from (S.told shelf.old) (repo_view source.old) self.old) self.old.named.name
-            added more store.old store.new self.new (D.told depot.old) (D.told depot.new) (D.faults depot.old) (D.faults depot.new) result }
+            → (more : List Addition) × ((records : List TaggedRecord)
+            × (TakesTurn (S.told shelf.new) (repo_view source.new) (flown_from (S.told shelf.old) (repo_view source.old) self.old) self.old.named.name
+            added more records store.old store.new self.new (D.told depot.old) (D.told depot.new) (D.faults depot.old) (D.faults depot.new) result
+            × IfOk result (λ turn. turn ≡ Turn.Named → NamesNew self.old.options.timestamp (repo_view source.old) store.old self.old.named records store.new
+            (E.drawn entropy.old) (E.drawn entropy.new)))) }
         ensures refused { IfErr result (RefusesName (flown_from (S.told shelf.old) (repo_view source.old) self.old) (D.told depot.old) store.old
             (D.told depot.new) store.new self.old.named.name) }
         ensures limit { IfErr result (IsLimited (D.told depot.new) self.old.options.timestamp (repo_view source.old) store.old self.old.named) }
@@ -281,8 +287,7 @@ impl Flight {
         ensures more { result ≡ Ok Turn.More → accepted_in store.new ≡ accepted_in store.old }
         ensures new { result ≡ Ok Turn.Named → archive_named self.old.named.name (accepted_in store.old).archives ≡ None }
         ensures there { result ≡ Ok Turn.Present → IsSome (archive_named self.old.named.name (accepted_in store.old).archives) }
-        ensures next { result ≡ Ok Turn.Named → (text : List ℕ) × (accepted_in store.new ≡ named_next self.old.options.timestamp
-            (repo_view source.old) store.old self.old.named (content_id (repo_view store.old.repo).keys text)) }
+        ensures undrawn { IfOk result (λ turn. turn ≢ Turn.Named → E.drawn entropy.new ≡ E.drawn entropy.old) }
         ensures still { result ≡ Ok Turn.Present → accepted_in store.new ≡ accepted_in store.old }
         ensures name { self.new.named ≡ self.old.named }
         ensures options { self.new.options ≡ self.old.options }
@@ -337,7 +342,7 @@ impl Flight {
         requires there { IsSome (archive_named self.old.named.name (repo_view store.old.repo).manifest.archives) }
         ensures works { (more : List Addition)
             × TakesTurn (S.told shelf.new) (repo_view source.new) (flown_from (S.told shelf.old) (repo_view source.old) self.old) self.old.named.name
-            [] more store.old store.new self.new (D.told depot.old) (D.told depot.new) (D.faults depot.old) (D.faults depot.new) result }
+            [] more [] store.old store.new self.new (D.told depot.old) (D.told depot.new) (D.faults depot.old) (D.faults depot.new) result }
         ensures refused { IfErr result (RefusesName (flown_from (S.told shelf.old) (repo_view source.old) self.old) (D.told depot.old) store.old
             (D.told depot.new) store.new self.old.named.name) }
         ensures limit { IfErr result (IsLimited (D.told depot.new) self.old.options.timestamp (repo_view source.old) store.old self.old.named) }
@@ -358,8 +363,7 @@ impl Flight {
         ensures more { result ≡ Ok Turn.More → accepted_in store.new ≡ accepted_in store.old }
         ensures new { result ≡ Ok Turn.Named → archive_named self.old.named.name (accepted_in store.old).archives ≡ None }
         ensures there { result ≡ Ok Turn.Present → IsSome (archive_named self.old.named.name (accepted_in store.old).archives) }
-        ensures next { result ≡ Ok Turn.Named → (text : List ℕ) × (accepted_in store.new ≡ named_next self.old.options.timestamp
-            (repo_view source.old) store.old self.old.named (content_id (repo_view store.old.repo).keys text)) }
+        ensures unnamed { result ≢ Ok Turn.Named }
         ensures still { result ≡ Ok Turn.Present → accepted_in store.new ≡ accepted_in store.old }
         ensures name { self.new.named ≡ self.old.named }
         ensures options { self.new.options ≡ self.old.options }
@@ -426,11 +430,13 @@ fn compare_item<S: Shelf, D: Depot>(
     ensures comparison { result ≡ Ok Compared.More → FitsTold (S.told shelf.new) (repo_view source.new) (D.told depot.new) (repo_view store.new.repo)
         (comparison_view comparison.new) }
     ensures name { (comparison_view comparison.new).name ≡ (comparison_view comparison.old).name }
-    ensures equal { result ≡ Ok Compared.Equal → (block most : ℕ) → IsSame (origin (S.told shelf.old) (repo_view source.old) block most) (D.told depot.new)
+    ensures equal { result ≡ Ok Compared.Equal → (block most : ℕ) (time : Option (List ℕ))
+        → IsSame (origin (S.told shelf.old) (repo_view source.old) block most time) (D.told depot.new)
         (repo_view store.new.repo) (comparison_view comparison.old).name }
     ensures differs { result ≡ Ok Compared.Differs → Differ (S.told shelf.old) (repo_view source.old) (D.told depot.old) (repo_view store.old.repo)
         (comparison_view comparison.old).name }
-    ensures differs_now { result ≡ Ok Compared.Differs → (block most : ℕ) → DiffersThere (origin (S.told shelf.old) (repo_view source.old) block most)
+    ensures differs_now { result ≡ Ok Compared.Differs → (block most : ℕ) (time : Option (List ℕ))
+        → DiffersThere (origin (S.told shelf.old) (repo_view source.old) block most time)
         (D.told depot.new) (repo_view store.new.repo) (comparison_view comparison.old).name }
     ensures refused { IfErr result (RefusesComparing (S.told shelf.old) (repo_view source.old) (comparison_view comparison.old).name) }
     ensures fits { IfSome (D.told depot.new) (λ t. StoreFits false store.new t.history) }

@@ -6,14 +6,15 @@ ghost use Rattle.ferry_piece.specs.Adding.{AddsOn, IsNoChunk};
 ghost use Rattle.ferry_carry.specs.Copying.{IsReady};
 ghost use Rattle.ferry_piece.specs.Fault.{IsOfWork, random_failed, shelf_failed, target_failed};
 ghost use Rattle.ferry_piece.specs.Gather.{KeepsRest, KeepsStanding, chunks_of};
+ghost use Rattle.ferry_carry.specs.Accepting.{NamesNew, named_next};
 ghost use Rattle.ferry_carry.specs.Carrying.{Origin};
-ghost use Rattle.ferry_carry.specs.Flight.{AcceptsOne, EndsCopy, NamesArchive};
+ghost use Rattle.ferry_carry.specs.Flight.{AcceptsOne, EndsCopy, IsFlown, NamesArchive};
 ghost use Rattle.ferry_carry.specs.Grow.{AcceptsMore, KeepsMost};
 ghost use Rattle.ferry_carry.specs.Progress.{IsAllCopied};
 ghost use Rattle.ferry_piece.specs.Piece.{CountsOn};
 ghost use Rattle.ferry_piece.specs.Puts.{Addition, ArePieces, IsCheckpoint, Record, Stream, addition};
-ghost use Rattle.ferry_carry.specs.Naming.{AddsUnder, BeginsRecord, copied_archive, copied_in, entry_for, fixed_params};
-ghost use Rattle.ferry_carry.specs.Refusals.{IsLimited, LimitsManifest, RefusesEnd, RefusesRecordText, named_next};
+ghost use Rattle.ferry_carry.specs.Naming.{AddsUnder, BeginsRecord, Draws, TaggedRecord, copied_archive, copied_in, entry_for, fixed_params};
+ghost use Rattle.ferry_carry.specs.Refusals.{IsLimited, LimitsManifest, RefusesEnd, RefusesRecordText};
 ghost use Rattle.ferry_piece.specs.Stops.{StopsPieces, StopsTarget, is_target};
 ghost use Rattle.ferry_msgpack.specs.View.{value_view};
 ghost use Rattle.ferry_disk.specs.Device.{HasCause, Told};
@@ -23,7 +24,7 @@ ghost use Rattle.ferry_manifest.specs.Manifest.Text.{ManifestText};
 ghost use Rattle.ferry_manifest.specs.Manifest.Writing.{IsPackable};
 ghost use Rattle.ferry_manifest.specs.declared.manifest.ArchiveRef.{ArchiveRef};
 ghost use Rattle.ferry_manifest.specs.Record.Text.{archive_of, archive_view, as_tagged};
-ghost use Rattle.ferry_manifest.specs.Record.Writing.{IsPackableArchive};
+ghost use Rattle.ferry_manifest.specs.Record.Writing.{IsPackableArchive, archive_text};
 ghost use Rattle.ferry_next.specs.Next.{next_manifest, written_at};
 ghost use Rattle.ferry_rechunk.specs.Cut.{cut};
 ghost use Rattle.ferry_repo.specs.Archives.{archive_named};
@@ -95,6 +96,7 @@ fn record_text(
     salt: &[u8; 64],
 ) -> Result<Vec<u8>, CarryFault>
     requires packable { IsPackableArchive (archive_view archive.now) }
+    ensures text { IfOk result (λ text. text.items ≡ archive_text keys.now salt.now (archive_view archive.now)) }
     ensures reads { IfOk result (λ text. archive_of keys.now text.items ≡ Ok (as_tagged (archive_view archive.now))) }
     ensures small { IfOk result (λ text. length text.items ≤ content_limit) }
     ensures refused { IfErr result (RefusesRecordText keys.now (archive_view archive.now)) }
@@ -120,6 +122,8 @@ fn tagged_record<E: Entropy>(
     archive: &Archive,
 ) -> Result<Vec<u8>, CarryFault>
     requires packable { IsPackableArchive (archive_view archive.now) }
+    ensures text { IfOk result (λ text. (salt : List ℕ) × (Draws salt (E.drawn entropy.old) (E.drawn entropy.new)
+        × (text.items ≡ archive_text keys.now salt (archive_view archive.now)))) }
     ensures reads { IfOk result (λ text. archive_of keys.now text.items ≡ Ok (as_tagged (archive_view archive.now))) }
     ensures small { IfOk result (λ text. length text.items ≤ content_limit) }
     ensures refused { IfErr result (RefusesRecordText keys.now (archive_view archive.now)) }
@@ -180,7 +184,8 @@ fn put_record<D: Depot, E: Entropy>(
         → AddsOn most store.old more store.new
         (D.told depot.old) (D.told depot.new) (D.faults depot.old) (D.faults depot.new) result)
         × (BeginsRecord (repo_view store.old.repo).keys (archive_view archive.now) more
-        × IfOk result (AddsUnder (repo_view store.old.repo).keys (archive_view archive.now) more))) }
+        × IfOk result (AddsUnder (repo_view store.old.repo).keys (archive_view archive.now) more
+        (E.drawn entropy.old) (E.drawn entropy.new)))) }
     ensures rest { OnOk result (KeepsRest store.old store.new) }
     ensures fits { OnOk result (IfSome (D.told depot.new) (λ t. StoreFits false store.new t.history)) }
     ensures stops { IfErr result (StopsPieces (D.told depot.new) (repo_view store.old.repo).keys) }
@@ -210,7 +215,8 @@ fn put_copied<D: Depot, E: Entropy>(
         → AddsOn most store.old more store.new
         (D.told depot.old) (D.told depot.new) (D.faults depot.old) (D.faults depot.new) result)
         × (BeginsRecord (repo_view store.old.repo).keys (copied_in (archive_view archive.old) block pieces.now) more
-        × IfOk result (AddsUnder (repo_view store.old.repo).keys (copied_in (archive_view archive.old) block pieces.now) more))) }
+        × IfOk result (AddsUnder (repo_view store.old.repo).keys (copied_in (archive_view archive.old) block pieces.now) more
+        (E.drawn entropy.old) (E.drawn entropy.new)))) }
     ensures rest { OnOk result (KeepsRest store.old store.new) }
     ensures fits { OnOk result (IfSome (D.told depot.new) (λ t. StoreFits false store.new t.history)) }
     ensures stops { IfErr result (StopsPieces (D.told depot.new) (repo_view store.old.repo).keys) }
@@ -248,7 +254,8 @@ fn end_stream<D: Depot, E: Entropy>(
         × (BeginsRecord (repo_view store.old.repo).keys (copied_in (archive_view archive.old) block (stream.old.chunks.items
         ++ chunks_of (repo_view store.old.repo).keys (cut stream.old.cutter.block stream.old.cutter.piece))) more
         × (IfOk result (AddsUnder (repo_view store.old.repo).keys (copied_in (archive_view archive.old) block (stream.old.chunks.items
-        ++ chunks_of (repo_view store.old.repo).keys (cut stream.old.cutter.block stream.old.cutter.piece))) more)
+        ++ chunks_of (repo_view store.old.repo).keys (cut stream.old.cutter.block stream.old.cutter.piece))) more
+        (E.drawn entropy.old) (E.drawn entropy.new))
         × OnOk result (CountsOn Stream stream.old last stream.new)))))) }
     ensures rest { OnOk result (KeepsRest store.old store.new) }
     ensures fits { OnOk result (IfSome (D.told depot.new) (λ t. StoreFits false store.new t.history)) }
@@ -280,8 +287,9 @@ fn name_record<D: Depot, E: Entropy>(
     requires packable { IsPackable (accepted_in store.old) }
     requires accepts { AcceptsMore store.old }
     requires unnamed { archive_named named.now.name (accepted_in store.old).archives ≡ None }
-    ensures works { NamesArchive (accepted_in store.old) (entry_for named.now id) store.old store.new
-        (D.told depot.old) (D.told depot.new) (D.faults depot.old) (D.faults depot.new) result }
+    ensures works { NamesArchive (accepted_in store.old) (entry_for named.now id) (named_next timestamp.now (repo_view source.now) store.old named.now id)
+        store.old store.new (D.told depot.old) (D.told depot.new) (D.faults depot.old) (D.faults depot.new) result }
+    ensures salt { OnOk result ((salt : List ℕ) × Draws salt (E.drawn entropy.old) (E.drawn entropy.new)) }
     // Where it is refused, but for a device that failed and want of memory, nothing is named.
     ensures stands { IfErr result (λ fault. IsOfWork fault
         → (most : ℕ) → Between (D.told depot.old) (D.told depot.new) (KeepsStanding most store.old [])) }
@@ -330,11 +338,11 @@ pub(crate) fn end_copy<D: Depot, E: Entropy>(
     requires accepts { AcceptsMore store.old }
     requires unnamed { archive_named named.now.name (accepted_in store.old).archives ≡ None }
     ensures works { (from : Origin) (added : List Addition) → IsAllCopied from named.now (D.told depot.old) store.old copy.old added
-        → (more : List Addition) × EndsCopy from named.now.name added more store.old store.new
-        (D.told depot.old) (D.told depot.new) (D.faults depot.old) (D.faults depot.new) result }
+        → IsFlown from (repo_view source.now) timestamp.now named.now
+        → (more : List Addition) × ((records : List TaggedRecord) × (EndsCopy from named.now.name added more records store.old store.new
+        (D.told depot.old) (D.told depot.new) (D.faults depot.old) (D.faults depot.new) result
+        × OnOk result (NamesNew timestamp.now (repo_view source.now) store.old named.now records store.new (E.drawn entropy.old) (E.drawn entropy.new)))) }
     ensures most { OnOk result (KeepsMost store.old store.new) }
-    ensures named { OnOk result ((text : List ℕ) × (accepted_in store.new
-        ≡ named_next timestamp.now (repo_view source.now) store.old named.now (content_id (repo_view store.old.repo).keys text))) }
     ensures accepted { OnOk result (accepted_in store.new ≡ (repo_view store.new.repo).manifest) }
     ensures pending { OnOk result (store.new.pending ≡ 0) }
     ensures packable { OnOk result (IsPackable (accepted_in store.new)) }
@@ -375,8 +383,10 @@ fn commit_named<D: Depot, E: Entropy>(
     requires packable { IsPackable (accepted_in store.old) }
     requires accepts { AcceptsMore store.old }
     requires unnamed { archive_named entry.name (accepted_in store.old).archives ≡ None }
-    ensures works { NamesArchive (accepted_in store.old) entry store.old store.new
-        (D.told depot.old) (D.told depot.new) (D.faults depot.old) (D.faults depot.new) result }
+    ensures works { NamesArchive (accepted_in store.old) entry
+        (written_at (next_manifest (accepted_in store.old) entry (repo_view source.now).manifest.item_keys) timestamp.now)
+        store.old store.new (D.told depot.old) (D.told depot.new) (D.faults depot.old) (D.faults depot.new) result }
+    ensures salt { OnOk result ((salt : List ℕ) × Draws salt (E.drawn entropy.old) (E.drawn entropy.new)) }
     // Where it is refused, but for a device that failed and want of memory, nothing is named.
     ensures stands { IfErr result (λ fault. IsOfWork fault
         → (most : ℕ) → Between (D.told depot.old) (D.told depot.new) (KeepsStanding most store.old [])) }
@@ -412,8 +422,10 @@ fn commit<D: Depot, E: Entropy>(
     requires fits { IfSome (D.told depot.old) (λ t. StoreFits false store.old t.history) }
     requires packable { IsPackable (accepted_in store.old) }
     requires accepts { AcceptsMore store.old }
-    ensures works { (accepted : ManifestText) (entry : ArchiveRef) → AcceptsOne accepted store.old entry → NamesArchive accepted entry store.old store.new
+    ensures works { (accepted : ManifestText) (entry : ArchiveRef) → AcceptsOne accepted store.old entry
+        → NamesArchive accepted entry (written_at (accepted_in store.old) timestamp.now) store.old store.new
         (D.told depot.old) (D.told depot.new) (D.faults depot.old) (D.faults depot.new) result }
+    ensures salt { OnOk result ((salt : List ℕ) × Draws salt (E.drawn entropy.old) (E.drawn entropy.new)) }
     // Where it is refused, but for a device that failed and want of memory, nothing is named.
     ensures stands { IfErr result (λ fault. IsOfWork fault
         → (most : ℕ) → Between (D.told depot.old) (D.told depot.new) (KeepsStanding most store.old [])) }

@@ -1,34 +1,32 @@
 -- Lemmas on specs/Steps.antt: an archive whose items are checked is whole, or is refused for the fault that was met.
-use Rattle.std.proofs.Common.{◌≡◌, ◌≢◌, ◌⊎◌, inl, inr, ℕ, ◌+◌, ◌<◌, Bool, true, false, if◌then◌else◌, List, []}
-use Rattle.std.proofs.Common.{◌∷◌, ◌++◌, length, take, get_or, zero, suc, arith}
-use Rattle.std.proofs.Common.{Option, Some, None, MatchOption, IfSome, IsSome, unwrap_or, refl, sym, ◌∙◌, ap, subst}
+use Rattle.std.proofs.Common.{◌≡◌, ◌≢◌, ◌⊎◌, inl, inr, ℕ, ◌<◌, Bool, true, false, if◌then◌else◌, List, []}
+use Rattle.std.proofs.Common.{◌∷◌, ◌++◌, length, get_or, zero, suc, arith}
+use Rattle.std.proofs.Common.{Option, Some, None, MatchOption, IsSome, unwrap_or, refl, sym, ◌∙◌, subst}
 use Rattle.std.specs.Str.{bytes_eq}
 use Rattle.std.proofs.lemmas.Slice.Eq.{bytes_eq-Decides}
 use Rattle.ferry_base.specs.Limits.{zero_id}
 use Rattle.ferry_disk.specs.Files.{Files}
 use Rattle.ferry_item.specs.Item.{ItemText}
 use Rattle.ferry_item.specs.declared.item.ChunkRef.{ChunkRef}
-use Rattle.ferry_log.specs.State.{LogState, place_in}
+use Rattle.ferry_log.specs.State.{place_in}
 use Rattle.ferry_log.specs.declared.place.Place.{Place}
-use Rattle.ferry_mac.specs.declared.keys.Keys.{Keys}
 use Rattle.ferry_manifest.specs.Record.Text.{ArchiveText}
 use Rattle.ferry_manifest.specs.declared.manifest.ArchiveRef.{ArchiveRef}
-use Rattle.ferry_repo.specs.Archives.{archive_named, HoldsRecord, RefusesNamed, HoldsNamed, HoldsContent, RefusesContent}
+use Rattle.ferry_repo.specs.Archives.{archive_named, HoldsRecord, RefusesNamed, HoldsContent, RefusesContent}
 use Rattle.ferry_repo.specs.Fault.{IsOfFiles}
-use Rattle.ferry_repo.specs.Objects.{HoldsChunk, IsMissing}
+use Rattle.ferry_repo.specs.Objects.{IsMissing}
 use Rattle.ferry_repo.specs.Opening.{RepoState}
 use Rattle.ferry_repo.specs.Walk.{begin_walk, IsToCome, Comes}
-use Rattle.ferry_repo.specs.Whole.{ContentsCome, HoldsJoined, RefusesJoined, WholeItem, HoldsItem, WholesCome, Reading, ReadsArchive, each_item, RefusesWhole}
+use Rattle.ferry_repo.specs.Whole.{ContentsCome, HoldsJoined, RefusesJoined, WholeItem, WholesCome, Reading, ReadsArchive, each_item, RefusesWhole}
 use Rattle.ferry_repo.specs.declared.fault.RepoFault.{RepoFault}
 use Rattle.ferry_repo.specs.declared.fault.RepoFault.TheVariants as Fault
 use Rattle.ferry_repo.proofs.ComesLemmas.{whole_comes}
 use Rattle.ferry_repo.proofs.ContentLemmas.{contents_then}
 use Rattle.ferry_repo.proofs.WholeLemmas.{wholes_then, reads_whole}
 use Rattle.ferry_item.specs.Stream.{joined}
-use Rattle.ferry_check.specs.Report.{ArchiveRead, IsRead}
-use Rattle.ferry_check.specs.Steps.{Known, KnowsSizes, HasLength, IsRight, IsWrong, AreRight, RefusesUse, RefusesUses}
-use Rattle.ferry_check.specs.Steps.{ItemsRight, chunks_of, StreamEnds, ItemEnds, Checked}
-use Rattle.ferry_check.specs.Verify.{IsChunk, IsNamed, ReadsWhole}
+use Rattle.ferry_check.specs.Steps.{Known, KnowsSizes, HasLength, IsRight, AreRight, RefusesUse, RefusesUses}
+use Rattle.ferry_check.specs.Steps.{ItemsRight, StreamEnds, ItemEnds, Checked}
+use Rattle.ferry_check.specs.Verify.{IsChunk}
 use Rattle.ferry_check.specs.declared.chunks.Chunk.{Chunk}
 
 -- ---- one chunk

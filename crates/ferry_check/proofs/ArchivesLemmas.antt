@@ -1,6 +1,6 @@
 -- Lemmas on specs/Steps.antt: the archives that are checked so far, one more, and one that isn't whole.
-use Rattle.std.proofs.Common.{◌≡◌, ◌⊎◌, inl, inr, ℕ, ◌+◌, ◌<◌, Bool, true, false, not, cond, List, [], ◌∷◌, ◌++◌, length, filter, take, drop, get_or}
-use Rattle.std.proofs.Common.{Option, Some, None, IfSome, option_map, refl, sym, ◌∙◌, ap, subst, arith}
+use Rattle.std.proofs.Common.{◌≡◌, ◌⊎◌, ℕ, ◌+◌, ◌<◌, Bool, true, false, not, cond, List, [], ◌∷◌, ◌++◌, length, take, drop, get_or}
+use Rattle.std.proofs.Common.{Option, Some, None, IfSome, option_map, refl, sym, ◌∙◌, ap, subst}
 use Rattle.std.specs.List.{AllByRecursion, flat_map}
 use Rattle.std.proofs.lemmas.List.{append_assoc, append-nil, take_more, length-append}
 use Rattle.ferry_disk.specs.Device.{Told, told_files, heard}
@@ -12,16 +12,16 @@ use Rattle.ferry_manifest.specs.declared.manifest.ArchiveRef.{ArchiveRef}
 use Rattle.ferry_repo.specs.Archives.{archive_named, HoldsNamed, RefusesNamed}
 use Rattle.ferry_repo.specs.Fault.{IsOfFiles}
 use Rattle.ferry_repo.specs.Opening.{RepoState}
-use Rattle.ferry_repo.specs.Walk.{begin_walk, WalkState, IsToCome, FitsWalk}
+use Rattle.ferry_repo.specs.Walk.{begin_walk, WalkState, IsToCome}
 use Rattle.ferry_repo.specs.Whole.{RefusesWhole}
 use Rattle.ferry_repo.specs.declared.fault.RepoFault.{RepoFault}
-use Rattle.ferry_check.specs.Report.{ArchiveRead, IsRead, AreRead, ids_of, ids_used, untagged}
+use Rattle.ferry_check.specs.Report.{ArchiveRead, AreRead, ids_of, ids_used, untagged}
 use Rattle.ferry_check.specs.Steps.{Known, KnowsSizes, Marks, ItemsRight, StreamEnds, ItemEnds}
 use Rattle.ferry_check.specs.Steps.{Checked, ChecksItems, ChecksArchive, ChecksArchives, one_untagged}
 use Rattle.ferry_check.specs.Verify.{ReadsWhole, BadArchive}
 use Rattle.ferry_check.proofs.ArchiveLemmas.{checked_whole, checked_refused, named_refused}
 use Rattle.ferry_check.proofs.ItemLemmas.{told_both}
-use Rattle.ferry_check.proofs.MarkLemmas.{marks_none, marks_then, sizes_kept, all_then, all_more, parted}
+use Rattle.ferry_check.proofs.MarkLemmas.{marks_none, marks_then, sizes_kept, all_more, parted}
 
 -- ---- one archive
 

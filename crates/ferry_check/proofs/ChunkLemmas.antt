@@ -1,6 +1,7 @@
 -- Lemmas on specs/Report.antt and specs/Steps.antt: the ids of the live chunks as they are listed, and the chunks as they are opened.
-use Rattle.std.proofs.Common.{◌≡◌, ◌≢◌, ◌⊎◌, ◌↔◌, inl, inr, ℕ, ◌+◌, ◌<◌, Bool, true, false, cond, ◌||◌, not, List, [], ◌∷◌, ◌++◌, length, filter, take, drop}
-use Rattle.std.proofs.Common.{get_or, Option, Some, None, MatchOption, IfSome, IsSome, refl, sym, ◌∙◌, ap, subst}
+use Rattle.std.proofs.Common.{◌≡◌, ◌≢◌, ◌⊎◌, ◌↔◌, inl, inr, ℕ, ◌+◌, ◌<◌, List, [], ◌∷◌, ◌++◌}
+use Rattle.std.proofs.Common.{Bool, true, false, cond, ◌||◌, not, length, take, drop}
+use Rattle.std.proofs.Common.{get_or, get_or-drop, Option, Some, None, MatchOption, IfSome, IsSome, refl, sym, ◌∙◌, ap, subst, arith}
 use Rattle.std.specs.Cmp.{tied_itself}
 use Rattle.std.specs.Cmp.Lexicographic.{nat_list_cmp_total}
 use Rattle.std.specs.FinMap.{slice_cmp-IsAntisymmetric, nat_cmp-IsAntisymmetric}
@@ -9,25 +10,26 @@ use Rattle.std.specs.List.Sorted.{IsStrictlySortedBy}
 use Rattle.std.specs.Ordering.{is_lt, eq_by_cmp, ordering_reverse}
 use Rattle.std.specs.declared.cmp.Ordering.{Ordering}
 use Rattle.std.specs.declared.cmp.Ordering.TheVariants.{Less, Equal, Greater}
-use Rattle.std.proofs.lemmas.List.{append_assoc, take_more}
+use Rattle.std.proofs.lemmas.List.{get_or_default, length-drop, take_more}
 use Rattle.std.proofs.lemmas.List.Folds.{list_any-append}
 use Rattle.ferry_base.specs.Limits.{zero_id}
 use Rattle.ferry_disk.specs.Device.{Told, told_files, heard}
 use Rattle.ferry_disk.specs.Files.{Files}
 use Rattle.ferry_disk.proofs.DeviceLemmas.{told_any, told_then, told_with}
 use Rattle.ferry_log.specs.Live.{key_cmp}
-use Rattle.ferry_log.specs.State.{LogState, place_in, IsAbove, IsLeastAbove}
+use Rattle.ferry_log.specs.State.{LogState, IsAbove, IsLeastAbove}
 use Rattle.ferry_log.specs.declared.place.Place.{Place}
+use Rattle.ferry_repo.specs.Lengths.{HasLength as HasOpened, HaveLengths, RefusesOne}
 use Rattle.ferry_repo.specs.Objects.{HoldsChunk, RefusesChunk}
 use Rattle.ferry_repo.specs.Opening.{RepoState}
 use Rattle.ferry_repo.specs.declared.fault.RepoFault.{RepoFault}
 use Rattle.ferry_check.specs.Report.{is_among, AreChunks}
-use Rattle.ferry_check.specs.Steps.{Known, KnowsOpened, HasLength, HasMarks, RefusesFirst}
+use Rattle.ferry_check.specs.Steps.{Known, Keeps, KnowsOpened, HasLength, OpensSoFar, RefusesFirst, fresh}
 use Rattle.ferry_check.specs.Verify.{IsChunk, Opens}
 use Rattle.ferry_check.specs.declared.chunks.Chunk.{Chunk}
 use Rattle.std.specs.Str.{bytes_eq}
 use Rattle.ferry_check.proofs.ArchiveLemmas.{zero_or}
-use Rattle.ferry_check.proofs.MarkLemmas.{same_key, key_itself, either_way, all_then, all_more, parted}
+use Rattle.ferry_check.proofs.MarkLemmas.{same_key, key_itself, all_then, all_more, all_on, parted}
 
 -- ---- the order of ids
 
@@ -235,11 +237,6 @@ module _ (files : Files) (repo : RepoState) where
       (λ q. opened_at (take place ids) (get_or ids place d) q chunk content (old q) (new q) holds size (h q) (eq_by_cmp key_cmp (get_or ids place d) q) refl
       (now q))
 
--- what a shelf tells of the chunks that are opened so far
-pub record OpensSoFar (told : Option Told) (repo : RepoState) (front : List (List ℕ)) (known : Known) : Type 0 where
-  pub knows : IfSome told (λ t. KnowsOpened (told_files t) repo front known × AllByRecursion (λ i. Opens (told_files t) repo i) front)
-  pub unused : HasMarks [] known
-
 pub opens_none : (told : Option Told) (repo : RepoState) (known : Known) → ((q : List ℕ) → known q ≡ None) → OpensSoFar told repo [] known
 opens_none told repo known none = record {
   knows = told_any told (λ f. KnowsOpened f repo [] known × AllByRecursion (λ i. Opens f repo i) [])
@@ -252,40 +249,57 @@ unused_at : (old new : Option Chunk) (chunk : Chunk) (b : Bool) → chunk.used �
 unused_at old new chunk true none is h = subst (λ o. IfSome o (λ c. c.used ≡ false)) (sym is) none
 unused_at old new chunk false none is h = subst (λ o. IfSome o (λ c. c.used ≡ false)) (sym is) h
 
--- one chunk more is opened
-pub opens_more : (told later : Option Told) (repo after_repo : RepoState) (ids : List (List ℕ)) (place : ℕ) (d : List ℕ) (chunk : Chunk)
-    (content : List ℕ) (old new : Known) → heard later ≡ heard told → after_repo ≡ repo → place < length ids → OpensSoFar told repo (take place ids) old
-    → IfSome later (λ t. HoldsChunk (told_files t) after_repo.log after_repo.keys (get_or ids place d) content) → chunk.size ≡ length content
-    → chunk.used ≡ false → ((q : List ℕ) → new q ≡ cond (eq_by_cmp key_cmp (get_or ids place d) q) (Some chunk) (old q))
+-- one chunk more is opened, whose content has this length
+pub opens_length : (told : Option Told) (repo : RepoState) (ids : List (List ℕ)) (place : ℕ) (d : List ℕ) (size : ℕ) (old new : Known)
+    → place < length ids → OpensSoFar told repo (take place ids) old
+    → IfSome told (λ t. HasOpened (told_files t) repo.log repo.keys (get_or ids place d) size)
+    → Keeps (get_or ids place d) size old new
     → OpensSoFar told repo (take (place + 1) ids) new
-opens_more told later repo after_repo ids place d chunk content old new same same_repo lt opens holds size none now = record {
-  knows = told_with told later (λ f. KnowsOpened f repo (take place ids) old × AllByRecursion (λ i. Opens f repo i) (take place ids))
-      (λ f. HoldsChunk f after_repo.log after_repo.keys (get_or ids place d) content)
-      (λ f. KnowsOpened f repo (take (place + 1) ids) new × AllByRecursion (λ i. Opens f repo i) (take (place + 1) ids)) same
-      (λ f so h.
-      let here = subst (λ (r : RepoState). HoldsChunk f r.log r.keys (get_or ids place d) content) same_repo h in (
-        opened_more f repo ids place d chunk content old new lt here size so.0 now,
-        all_more (λ i. Opens f repo i) ids place d lt so.1 (content, here),
+opens_length told repo ids place d size old new lt opens has now = record {
+  knows = told_with told told (λ f. KnowsOpened f repo (take place ids) old × AllByRecursion (λ i. Opens f repo i) (take place ids))
+      (λ f. HasOpened f repo.log repo.keys (get_or ids place d) size)
+      (λ f. KnowsOpened f repo (take (place + 1) ids) new × AllByRecursion (λ i. Opens f repo i) (take (place + 1) ids)) refl
+      (λ f so h. (
+        opened_more f repo ids place d (fresh size) h.content old new lt h.holds h.size_is so.0 now,
+        all_more (λ i. Opens f repo i) ids place d lt so.1 (h.content, h.holds),
       ))
-      opens.knows holds;
-  unused = λ q. unused_at (old q) (new q) chunk (eq_by_cmp key_cmp (get_or ids place d) q) none (now q) (opens.unused q);
+      opens.knows has;
+  unused = λ q. unused_at (old q) (new q) (fresh size) (eq_by_cmp key_cmp (get_or ids place d) q) refl (now q) (opens.unused q);
 }
 
--- a chunk is refused
-pub opens_refused : (told later : Option Told) (repo after_repo : RepoState) (ids : List (List ℕ)) (place : ℕ) (d : List ℕ) (known : Known)
-    (fault : RepoFault) → heard later ≡ heard told → after_repo ≡ repo → place < length ids → OpensSoFar told repo (take place ids) known
-    → IfSome later (λ t. RefusesChunk (told_files t) after_repo.log after_repo.keys (get_or ids place d) fault)
+-- the length in a place is that of the content of the chunk in that place behind the first
+pub length_there : (told : Option Told) (repo : RepoState) (ids : List (List ℕ)) (from place : ℕ) (d : List ℕ) (sizes : List ℕ) (e : ℕ)
+    → from + place < length ids → place < length sizes
+    → IfSome told (λ t. HaveLengths (told_files t) repo.log repo.keys (drop from ids) sizes)
+    → IfSome told (λ t. HasOpened (told_files t) repo.log repo.keys (get_or ids (from + place) d) (get_or sizes place e))
+length_there told repo ids from place d sizes e within low lengths =
+    let id = get_or-drop from ids place zero_id ∙ get_or_default ids (from + place) zero_id d within in
+    let size = get_or_default sizes place 0 e low in
+    told_then told (λ f. HaveLengths f repo.log repo.keys (drop from ids) sizes)
+    (λ f. HasOpened f repo.log repo.keys (get_or ids (from + place) d) (get_or sizes place e))
+    (λ f have.
+    subst (λ (i : List ℕ). HasOpened f repo.log repo.keys i (get_or sizes place e)) id
+    (subst (λ (n : ℕ). HasOpened f repo.log repo.keys (get_or (drop from ids) place zero_id) n) size (have place low)))
+    lengths
+
+-- a chunk behind those that are opened so far is refused
+pub opens_refused : (told later : Option Told) (repo : RepoState) (ids : List (List ℕ)) (place : ℕ) (known : Known)
+    (fault : RepoFault) → heard later ≡ heard told → OpensSoFar told repo (take place ids) known
+    → IfSome later (λ t. RefusesOne (told_files t) repo.log repo.keys (drop place ids) fault)
     → IfSome told (λ t. RefusesFirst (told_files t) repo ids fault)
-opens_refused told later repo after_repo ids place d known fault same same_repo lt opens refused =
+opens_refused told later repo ids place known fault same opens refused =
     told_with told later (λ f. KnowsOpened f repo (take place ids) known × AllByRecursion (λ i. Opens f repo i) (take place ids))
-    (λ f. RefusesChunk f after_repo.log after_repo.keys (get_or ids place d) fault) (λ f. RefusesFirst f repo ids fault) same
-    (λ f so r. record {
-      before = take place ids;
-      id = get_or ids place d;
-      behind = drop (place + 1) ids;
-      ids_are = parted ids place d lt;
-      opened = so.1;
-      refused = subst (λ (s : RepoState). RefusesChunk f s.log s.keys (get_or ids place d) fault) same_repo r;
+    (λ f. RefusesOne f repo.log repo.keys (drop place ids) fault) (λ f. RefusesFirst f repo ids fault) same
+    (λ f so r.
+    let at = place + r.place in
+    let lt : at < length ids = omega (arith, r.low, length-drop place ids) in
+    record {
+      before = take at ids;
+      id = get_or ids at zero_id;
+      behind = drop (at + 1) ids;
+      ids_are = parted ids at zero_id lt;
+      opened = all_on (λ i. Opens f repo i) ids place r.place zero_id (omega (arith, lt)) so.1 r.before;
+      refused = subst (λ (i : List ℕ). RefusesChunk f repo.log repo.keys i fault) (get_or-drop place ids r.place zero_id) r.refused;
     })
     opens.knows refused
 

@@ -1,5 +1,5 @@
 -- Lemmas on specs/Verify.antt: a repository that fits files verifies, or has a first fault.
-use Rattle.std.proofs.Common.{◌≡◌, ◌⊎◌, inl, inr, ℕ, Bool, true, false, cond, ◌&&◌, ◌||◌, not, T, List, [], ◌∷◌}
+use Rattle.std.proofs.Common.{◌≡◌, ◌⊎◌, inl, inr, ℕ, Bool, true, false, cond, ◌&&◌, ◌||◌, T, List, [], ◌∷◌}
 use Rattle.std.proofs.Common.{◌++◌, map, Option, Some, None, IsSome, is_some, refl, sym}
 use Rattle.std.proofs.Common.{◌∙◌, ap, subst}
 use Rattle.std.specs.Cmp.{eq_by_cmp_equiv}
@@ -30,7 +30,6 @@ use Rattle.ferry_repo.proofs.WholeLemmas.{some_whole}
 use Rattle.ferry_check.specs.Report.{AreChunks, is_among}
 use Rattle.ferry_check.specs.Steps.{RefusesFirst}
 use Rattle.ferry_check.specs.Verify.{IsChunk, Opens, AllOpen, ReadsWhole, Verifies, BadArchive, FirstBad}
-use Rattle.ferry_check.proofs.ArchiveLemmas.{zero_or}
 use Rattle.ferry_check.proofs.ChunkLemmas.{all_at}
 use Rattle.ferry_check.proofs.MarkLemmas.{same_key, key_itself}
 use Rattle.ferry_check.proofs.ReportLemmas.{first_chunk, names_whole}

@@ -1,13 +1,12 @@
 -- Lemmas on specs/Steps.antt: a walk whose items are checked so far, one item more, and its end.
 use Rattle.std.proofs.Common.{◌≡◌, ◌⊎◌, inl, inr, ℕ, List, [], ◌∷◌, ◌++◌, Option, Some, None, IfSome, refl, sym, ◌∙◌, ap, subst}
-use Rattle.std.specs.List.{AllByRecursion, flat_map}
+use Rattle.std.specs.List.{flat_map}
 use Rattle.std.proofs.lemmas.List.{append_assoc, append-nil}
 use Rattle.ferry_disk.specs.Device.{Told, told_files, heard}
 use Rattle.ferry_disk.specs.Files.{Files}
 use Rattle.ferry_disk.proofs.DeviceLemmas.{told_then, told_with}
 use Rattle.ferry_item.specs.Item.{ItemText}
 use Rattle.ferry_item.specs.declared.item.ChunkRef.{ChunkRef}
-use Rattle.ferry_repo.specs.Fault.{IsOfFiles}
 use Rattle.ferry_log.specs.State.{FitsFiles}
 use Rattle.ferry_repo.specs.Cached.{Contents}
 use Rattle.ferry_repo.specs.Opening.{RepoState, FitsRepo}

@@ -19,7 +19,7 @@ use Rattle.ferry_repo.specs.declared.fault.RepoFault.{RepoFault}
 use Rattle.ferry_repo.proofs.LawLemmas.{chunk_apart, one_chunk_fault}
 use Rattle.ferry_repo.proofs.WholeLemmas.{whole_apart, one_whole_fault}
 use Rattle.ferry_repo.specs.declared.secret.Secret.{Secret}
-use Rattle.ferry_check.specs.Verify.{IsChunk, Opens, AllOpen, ReadsWhole, Verifies, FilesVerify, BadChunk, BadArchive, FirstBad}
+use Rattle.ferry_check.specs.Verify.{Opens, ReadsWhole, Verifies, FilesVerify, BadChunk, BadArchive, FirstBad}
 use Rattle.ferry_check.proofs.ArchiveLemmas.{zero_or}
 use Rattle.ferry_check.proofs.ChunkLemmas.{turned}
 

@@ -1,6 +1,6 @@
 -- Lemmas on specs/Steps.antt: chunks that are marked, and contents that are right.
-use Rattle.std.proofs.Common.{◌≡◌, ◌≢◌, ◌⊎◌, inl, inr, ℕ, ◌+◌, ◌<◌, Bool, true, false, cond, ◌||◌, List, [], ◌∷◌, ◌++◌, length, take, drop, get_or}
-use Rattle.std.proofs.Common.{Option, Some, None, MatchOption, IfSome, option_map, refl, sym, ◌∙◌, ap, subst}
+use Rattle.std.proofs.Common.{◌≡◌, ◌⊎◌, inl, inr, ℕ, zero, suc, ◌+◌, ◌<◌, ◌≤◌, Bool, true, false, cond, ◌||◌, List, [], ◌∷◌, ◌++◌, length, take}
+use Rattle.std.proofs.Common.{drop, get_or, get_or-drop, Option, Some, None, MatchOption, IfSome, option_map, refl, sym, ◌∙◌, ap, subst, arith}
 use Rattle.std.specs.Cmp.{tied_itself}
 use Rattle.std.specs.Cmp.Lexicographic.{nat_list_cmp_total}
 use Rattle.std.specs.FinMap.{slice_cmp-IsAntisymmetric, nat_cmp-IsAntisymmetric}
@@ -187,6 +187,18 @@ pub all_more : {X : Type 0} (P : X → Type 0) (xs : List X) (place : ℕ) (d : 
     → P (get_or xs place d) → AllByRecursion P (take (place + 1) xs)
 all_more P xs place d lt h g =
     subst (AllByRecursion P) (sym (take_more xs place d lt)) (all_then P (take place xs) (get_or xs place d ∷ []) h (g, tt))
+
+-- what holds of the first, and of so many more
+pub all_on : {X : Type 0} (P : X → Type 0) (xs : List X) (place n : ℕ) (d : X) → place + n ≤ length xs → AllByRecursion P (take place xs)
+    → ((k : ℕ) → k < n → P (get_or (drop place xs) k d)) → AllByRecursion P (take (place + n) xs)
+all_on {X} P xs place zero d within front later =
+    let same : place + 0 ≡ place = omega arith in
+    subst (λ (m : ℕ). AllByRecursion P (take m xs)) (sym same) front
+all_on {X} P xs place (suc n) d within front later =
+    let more : place + n + 1 ≡ place + suc n = omega arith in
+    subst (λ (m : ℕ). AllByRecursion P (take m xs)) more
+    (all_more P xs (place + n) d (omega (arith, within)) (all_on P xs place n d (omega (arith, within)) front (λ k low. later k (omega (arith, low))))
+    (subst P (get_or-drop place xs n d) (later n (omega arith))))
 
 -- a list, at one of its places
 pub parted : {X : Type 0} (xs : List X) (place : ℕ) (d : X) → place < length xs → xs ≡ take place xs ++ (get_or xs place d ∷ drop (place + 1) xs)

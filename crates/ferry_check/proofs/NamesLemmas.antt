@@ -1,5 +1,5 @@
 -- Lemmas on specs/Verify.antt: where the names of a manifest increase, the archives in front of one are those with lesser names.
-use Rattle.std.proofs.Common.{◌≡◌, ℕ, Bool, true, false, cond, List, [], ◌∷◌, ◌++◌, Some, IsSome, refl, sym, subst}
+use Rattle.std.proofs.Common.{◌≡◌, ℕ, Bool, true, false, cond, List, [], ◌∷◌, ◌++◌, Some, IsSome, refl, subst}
 use Rattle.std.specs.Cmp.Lexicographic.{nat_list_cmp_total}
 use Rattle.std.specs.List.{AllByRecursion}
 use Rattle.std.specs.Str.{bytes_eq}
@@ -7,7 +7,7 @@ use Rattle.std.specs.declared.cmp.Ordering.TheVariants.{Less}
 use Rattle.std.proofs.lemmas.Slice.Eq.{bytes_eq-Decides}
 use Rattle.ferry_disk.specs.Files.{Files}
 use Rattle.ferry_log.specs.Live.{key_cmp}
-use Rattle.ferry_manifest.specs.Manifest.Writing.{IsBelowNames, AreIncreasing, archive_names}
+use Rattle.ferry_manifest.specs.Manifest.Writing.{AreIncreasing, archive_names}
 use Rattle.ferry_manifest.specs.declared.manifest.ArchiveRef.{ArchiveRef}
 use Rattle.ferry_repo.specs.Archives.{archive_named}
 use Rattle.ferry_repo.specs.Opening.{RepoState}

@@ -1,5 +1,5 @@
 -- Lemmas on specs/Report.antt: what a check has found makes its report.
-use Rattle.std.proofs.Common.{◌≡◌, ◌⊎◌, inl, inr, ℕ, Bool, true, false, cond, not, ◌||◌, List, [], ◌∷◌}
+use Rattle.std.proofs.Common.{◌≡◌, inl, inr, ℕ, Bool, true, false, cond, not, List, [], ◌∷◌}
 use Rattle.std.proofs.Common.{◌++◌, length, filter, Option, Some, None, MatchOption, IfSome}
 use Rattle.std.proofs.Common.{Result, Ok, Err, IfOk, IsSome, refl, sym, ◌∙◌, ap, subst}
 use Rattle.std.specs.List.{AllByRecursion, flat_map}
@@ -13,21 +13,18 @@ use Rattle.ferry_disk.specs.Device.{Told, told_files, heard}
 use Rattle.ferry_disk.specs.Files.{Files}
 use Rattle.ferry_disk.proofs.DeviceLemmas.{told_same, told_then, told_with}
 use Rattle.ferry_log.specs.Live.{key_cmp}
-use Rattle.ferry_log.specs.State.{LogState}
 use Rattle.ferry_manifest.specs.declared.manifest.ArchiveRef.{ArchiveRef}
 use Rattle.ferry_repo.specs.Archives.{archive_named}
 use Rattle.ferry_repo.specs.Fault.{IsOfFiles}
 use Rattle.ferry_repo.specs.Opening.{RepoState}
 use Rattle.ferry_repo.specs.declared.fault.RepoFault.{RepoFault}
-use Rattle.ferry_check.specs.Report.{ArchiveRead, AreRead, is_among, ids_used, AreChunks, orphans, untagged, Counts, IsGood, IsBad, IsReport}
-use Rattle.ferry_check.specs.Steps.{Known, KnowsOpened, KnowsSizes, HasLength, HasMarks, RefusesFirst, is_used, unused, ChecksArchives, CountsRest, Marks}
-use Rattle.ferry_check.specs.Verify.{IsChunk, Opens, AllOpen, IsNamed, ReadsWhole, Verifies, BadChunk, BadArchive, FirstBad}
+use Rattle.ferry_check.specs.Report.{ArchiveRead, AreRead, is_among, ids_used, AreChunks, orphans, IsGood, IsBad, IsReport}
+use Rattle.ferry_check.specs.Steps.{Known, KnowsOpened, KnowsSizes, HasLength, HasMarks, RefusesFirst, is_used, unused, ChecksArchives, CountsRest}
+use Rattle.ferry_check.specs.Verify.{IsChunk, Opens, AllOpen, ReadsWhole, BadChunk, BadArchive, FirstBad}
 use Rattle.ferry_check.specs.declared.chunks.Chunk.{Chunk}
 use Rattle.ferry_check.specs.declared.report.Report.{Report}
 use Rattle.ferry_check.specs.declared.report.Tally.{Tally}
-use Rattle.ferry_check.proofs.ArchivesLemmas.{told_sizes}
-use Rattle.ferry_check.proofs.ChunkLemmas.{OpensSoFar, not_itself, not_both, all_at, or_true, among_behind, true_or}
-use Rattle.ferry_check.proofs.ItemLemmas.{told_both}
+use Rattle.ferry_check.proofs.ChunkLemmas.{not_itself, not_both, all_at, or_true, among_behind, true_or}
 use Rattle.ferry_check.proofs.MarkLemmas.{same_key, key_itself, has_marks, sizes_kept}
 
 -- ---- all chunks are opened

@@ -1,5 +1,5 @@
 -- Steps of the bodies that check a repository: what is known of its chunks, and which are marked as used.
-use Rattle.std.specs.Prelude.{◌≡◌, ◌≢◌, ◌⊎◌, ℕ, Bool, true, false, cond, ◌||◌, List, [], ◌∷◌, ◌++◌, length, filter, not}
+use Rattle.std.specs.Prelude.{◌≡◌, ◌≢◌, ℕ, Bool, true, false, cond, ◌||◌, List, [], ◌∷◌, ◌++◌, length, filter, not}
 use Rattle.std.specs.Prelude.{Option, Some, None, MatchOption, IfSome, option_map, unwrap_or}
 use Rattle.std.specs.List.{AllByRecursion, flat_map}
 use Rattle.std.specs.Ordering.{eq_by_cmp}
@@ -14,7 +14,7 @@ use Rattle.ferry_repo.specs.Opening.{RepoState}
 use Rattle.ferry_repo.specs.Walk.{WalkState, IsToCome, LeadsOn, FitsWalk}
 use Rattle.ferry_repo.specs.declared.fault.RepoFault.{RepoFault}
 use Rattle.ferry_repo.specs.declared.fault.RepoFault.TheVariants.{Missing, Size}
-use Rattle.ferry_check.specs.Report.{ArchiveRead, IsRead, AreRead, is_among, ids_in, ids_of, ids_used, orphans, untagged}
+use Rattle.ferry_check.specs.Report.{ArchiveRead, IsRead, AreRead, is_among, ids_of, ids_used, orphans, untagged}
 use Rattle.ferry_check.specs.Verify.{IsChunk, Opens, ReadsWhole, Verifies}
 use Rattle.ferry_check.specs.declared.chunks.Chunk.{Chunk}
 use Rattle.ferry_check.specs.declared.report.Tally.{Tally}
@@ -62,6 +62,11 @@ pub record RefusesFirst (files : Files) (repo : RepoState) (ids : List (List ℕ
 -- Of what is known the chunks of these ids are marked, and no others.
 abbrev pub HasMarks : List (List ℕ) → Known → Type 0
 HasMarks used known = (id : List ℕ) → IfSome (known id) (λ chunk. chunk.used ≡ is_among id used)
+
+-- what a shelf tells of the chunks that are opened so far, none of which is marked
+pub record OpensSoFar (told : Option Told) (repo : RepoState) (front : List (List ℕ)) (known : Known) : Type 0 where
+  pub knows : IfSome told (λ t. KnowsOpened (told_files t) repo front known × AllByRecursion (λ i. Opens (told_files t) repo i) front)
+  pub unused : HasMarks [] known
 
 -- whether a chunk is known and marked
 abbrev pub is_used : Option Chunk → Bool

@@ -101,7 +101,7 @@ fn check_archive<S: Shelf>(
     mark(&id, chunks);
     mark_all(archive.items.as_slice(), chunks);
     let tagged = archive.tagged;
-    let walk = repo.walk(&id, &archive);
+    let walk = repo.walk_stream(&id, &archive);
     drop(archive);
     let mut walk = walk?;
     let checked = check_items(repo, shelf, &mut walk, chunks);

@@ -1,13 +1,14 @@
 //! The live chunks of a repository.
-ghost use Rattle.std.specs.Prelude.{◌≡◌, ◌≢◌, ◌∷◌, ◌++◌, [], IfOk, IfErr, IfSome, OnOk};
+ghost use Rattle.std.specs.Prelude.{◌≡◌, ◌≢◌, ◌≤◌, ◌+◌, ◌∷◌, ◌++◌, [], take, drop, length, Option, IfOk, IfErr, IfSome, OnOk};
 ghost use Rattle.std.specs.BTreeMap.{get};
 ghost use Rattle.ferry_base.specs.Limits.{zero_id};
-ghost use Rattle.ferry_disk.specs.Device.{KeepsTold, HasCause, told_files};
+ghost use Rattle.ferry_disk.specs.Device.{KeepsTold, HasCause, Told, told_files};
 ghost use Rattle.ferry_log.specs.Live.{key_cmp};
 ghost use Rattle.ferry_repo.specs.Fault.{repo_failed, IsOfFiles};
-ghost use Rattle.ferry_repo.specs.Opening.{repo_view, cached_in, FitsRepo};
+ghost use Rattle.ferry_repo.specs.Lengths.{HaveLengths};
+ghost use Rattle.ferry_repo.specs.Opening.{RepoState, repo_view, cached_in, FitsRepo};
 ghost use Rattle.ferry_check.specs.Report.{AreChunks};
-ghost use Rattle.ferry_check.specs.Steps.{KnowsOpened, Keeps, HasMarks, RefusesFirst};
+ghost use Rattle.ferry_check.specs.Steps.{KnowsOpened, Keeps, HasMarks, OpensSoFar, RefusesFirst};
 
 use ferry_base::{Id, ZERO_ID};
 use ferry_disk::Shelf;
@@ -59,7 +60,7 @@ fn push_chunk(id: Id, ids: &mut Vec<Id>) -> Result<(), RepoFault>
     }
 }
 
-/// Opens chunks, one after another, and keeps the length of each one's content.
+/// Opens chunks, as many side by side as the repository does at once, and keeps the length of each one's content.
 pub(crate) fn open_chunks<S: Shelf>(
     alloc: Global,
     repo: &mut Repo,
@@ -78,12 +79,33 @@ pub(crate) fn open_chunks<S: Shelf>(
     ensures cause { HasCause repo_failed (S.faults shelf.old) (S.faults shelf.new) result }
 {
     let mut chunks = BTreeMap::new(alloc);
-    for place in 0..ids.len() {
-        let id = ids[place];
-        let content = repo.chunk(shelf, &id)?;
-        keep(id, content.len() as u64, &mut chunks)?;
+    let mut place = 0usize;
+    while place < ids.len() {
+        let sizes = repo.lengths(shelf, &ids[place..])?;
+        let count = sizes.len();
+        keep_all(ids, place, sizes.as_slice(), &mut chunks)?;
+        place += count;
     }
     Ok(chunks)
+}
+
+/// Keeps the lengths of the contents of chunks whose ids stand in `ids` from a place on.
+fn keep_all(
+    ids: &[Id],
+    from: usize,
+    sizes: &[u64],
+    chunks: &mut BTreeMap<Id, Chunk>,
+) -> Result<(), RepoFault>
+    requires within { from + length sizes.now ≤ length ids.now }
+    ensures opens { OnOk result ((told : Option Told) (repo : RepoState) → OpensSoFar told repo (take from ids.now) (get key_cmp chunks.old)
+        → IfSome told (λ t. HaveLengths (told_files t) repo.log repo.keys (drop from ids.now) sizes.now)
+        → OpensSoFar told repo (take (from + length sizes.now) ids.now) (get key_cmp chunks.new)) }
+    ensures memory { IfErr result (λ fault. fault ≡ RepoFault.Memory) }
+{
+    for place in 0..sizes.len() {
+        keep(ids[from + place], sizes[place], chunks)?;
+    }
+    Ok(())
 }
 
 /// Keeps the length of the content of a chunk, which no archive uses yet.

@@ -9,6 +9,7 @@ ghost use Rattle.ferry_compare.specs.Compare.{comparison_view, FitsTold, AreEqua
 ghost use Rattle.ferry_compare.specs.Fault.{source_failed, target_failed, IsTargetFault, RefusesTarget};
 ghost use Rattle.ferry_compare.specs.Steps.{EndsBeside, GoesOn, RefusesSource, RefusesItem, TakesItem, WalksBeside, kept_where};
 
+use crate::ahead::step_ahead;
 use crate::beginning::{keep_side, open_side, open_target, walk_of};
 use crate::contents::{read_content, same_item};
 use crate::fault::CompareFault;
@@ -94,7 +95,8 @@ impl Comparison {
     /// Takes one more item of the source with its content, and compares that of the target beside it; or meets the end of the source's archive.
     ///
     /// Once a difference was met, the target is read no more, and the source on to its end, so that a fault of the source comes before a
-    /// difference. Contents are compared piece by piece: at most one chunk of either side is in memory.
+    /// difference. Contents are compared piece by piece: at most one chunk of either side is in memory besides those that the repositories
+    /// keep. Both read contents ahead.
     ///
     /// Source: BorgBackup 1.2, Internals, "Data structures and file formats", Archives.
     #[tactic(auto, using(crate::proofs::FaultLemmas::conversions))]
@@ -130,7 +132,7 @@ impl Comparison {
         ensures cause { HasCause source_failed (S.faults shelf.old) (S.faults shelf.new) result }
         ensures target_cause { HasCause target_failed (T.faults other.old) (T.faults other.new) result }
     {
-        match self.walk.step(source, shelf)? {
+        match step_ahead(&mut self.walk, source, shelf)? {
             Some(item) => {
                 take(
                     self.alloc,

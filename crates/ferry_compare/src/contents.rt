@@ -103,7 +103,7 @@ fn same_content<S: Shelf, T: Shelf>(
 }
 
 /// Whether the contents of the chunks of two items, joined, are the same. Those of the source are read to their end; of either at most one
-/// is in memory.
+/// is in memory besides those that the repositories keep.
 #[tactic(auto, using(crate::proofs::FaultLemmas::conversions))]
 fn same_chunks<S: Shelf, T: Shelf>(
     alloc: Global,
@@ -132,7 +132,7 @@ fn same_chunks<S: Shelf, T: Shelf>(
     let mut cursor = Cursor::new(alloc);
     let mut same = true;
     for place in 0..chunks.len() {
-        let content = source.content(shelf, &chunks[place])?;
+        let content = source.content_ahead(shelf, &chunks[place], &chunks[place..])?;
         same = passes(same, &mut cursor, target, other, others, &content)?;
     }
     ends(same, &cursor, target, other, others)
@@ -235,7 +235,7 @@ fn read_chunks<S: Shelf>(
     ensures cause { HasCause source_failed (S.faults shelf.old) (S.faults shelf.new) result }
 {
     for place in 0..chunks.len() {
-        let _content = source.content(shelf, &chunks[place])?;
+        let _content = source.content_ahead(shelf, &chunks[place], &chunks[place..])?;
     }
     Ok(())
 }

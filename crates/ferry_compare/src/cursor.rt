@@ -141,7 +141,7 @@ impl Cursor {
         ensures same { KeepsTold target_failed (T.told other.old) (T.told other.new) result }
         ensures cause { HasCause target_failed (T.faults other.old) (T.faults other.new) result }
     {
-        match target_content(target, other, &others[self.next])? {
+        match target_content(target, other, &others[self.next], &others[self.next..])? {
             Some(piece) => {
                 self.next += 1;
                 self.piece = piece;
@@ -173,7 +173,7 @@ impl Cursor {
             return Ok(false);
         }
         for place in self.next..others.len() {
-            if !is_empty(target, other, &others[place])? {
+            if !is_empty(target, other, &others[place], &others[place..])? {
                 return Ok(false);
             }
         }
@@ -200,11 +200,12 @@ fn common(bytes: &[u8], piece: &[u8]) -> Option<usize>
     }
 }
 
-/// The content of a chunk of an item of the target, and none where the target's files refuse it.
+/// The content of a chunk of an item of the target, which is the first of `later`, and none where the target's files refuse it.
 fn target_content<T: Shelf>(
     target: &mut Repo,
     other: &mut T,
     chunk: &ChunkRef,
+    later: &[ChunkRef],
 ) -> Result<Option<Vec<u8>>, CompareFault>
     requires fits { IfSome (T.told other.old) (λ t. FitsRepo (told_files t) (repo_view target.old) (cached_in target.old)) }
     ensures content { IfOk result (λ found. IfSome found (λ content. IfSome (T.told other.old) (λ t.
@@ -217,7 +218,7 @@ fn target_content<T: Shelf>(
     ensures same { KeepsTold target_failed (T.told other.old) (T.told other.new) result }
     ensures cause { HasCause target_failed (T.faults other.old) (T.faults other.new) result }
 {
-    match target.content(other, chunk) {
+    match target.content_ahead(other, chunk, later) {
         Ok(content) => Ok(Some(content)),
         Err(fault) => match of_target(fault) {
             Some(fault) => Err(fault),
@@ -226,11 +227,12 @@ fn target_content<T: Shelf>(
     }
 }
 
-/// Whether a chunk of an item of the target has a content of no bytes.
+/// Whether a chunk of an item of the target, which is the first of `later`, has a content of no bytes.
 fn is_empty<T: Shelf>(
     target: &mut Repo,
     other: &mut T,
     chunk: &ChunkRef,
+    later: &[ChunkRef],
 ) -> Result<bool, CompareFault>
     requires fits { IfSome (T.told other.old) (λ t. FitsRepo (told_files t) (repo_view target.old) (cached_in target.old)) }
     ensures empty { IfOk result (λ empty. IfSome (T.told other.old) (λ t. HoldsWhere empty
@@ -242,7 +244,7 @@ fn is_empty<T: Shelf>(
     ensures same { KeepsTold target_failed (T.told other.old) (T.told other.new) result }
     ensures cause { HasCause target_failed (T.faults other.old) (T.faults other.new) result }
 {
-    match target_content(target, other, chunk)? {
+    match target_content(target, other, chunk, later)? {
         Some(content) => Ok(content.len() == 0),
         None => Ok(false),
     }

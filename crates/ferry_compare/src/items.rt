@@ -7,6 +7,7 @@ ghost use Rattle.ferry_repo.specs.Walk.{walk_view};
 ghost use Rattle.ferry_compare.specs.Fault.{source_failed, target_failed, IsTargetFault};
 ghost use Rattle.ferry_compare.specs.Steps.{EndsBeside, FindsAt, FindsBeside, HoldsWhere, WalksBeside};
 
+use crate::ahead::step_ahead;
 use crate::fault::{CompareFault, of_target};
 use ferry_disk::Shelf;
 use ferry_item::Item;
@@ -53,7 +54,7 @@ fn next_item<T: Shelf>(
     ensures same { KeepsTold target_failed (T.told other.old) (T.told other.new) result }
     ensures cause { HasCause target_failed (T.faults other.old) (T.faults other.new) result }
 {
-    match walk.step(target, other) {
+    match step_ahead(walk, target, other) {
         Ok(found) => Ok(found),
         Err(fault) => match of_target(fault) {
             Some(fault) => Err(fault),

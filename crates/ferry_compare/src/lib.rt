@@ -6,6 +6,7 @@
 //! formats").
 #![tactic(auto)]
 
+mod ahead;
 mod beginning;
 mod comparison;
 mod contents;

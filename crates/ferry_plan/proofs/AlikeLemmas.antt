@@ -1,11 +1,12 @@
 -- A transfer beside a plan of the same names: what it adds are the pieces that the plan lists, in the same order, with records between them.
-use Rattle.std.proofs.Common.{◌≡◌, inl, inr, ◌<◌, ◌+◌, ℕ, Bool, true, List, [], ◌∷◌, ◌++◌, length, take, drop}
+use Rattle.std.proofs.Common.{◌≡◌, inl, inr, ◌<◌, ◌+◌, ℕ, Bool, true, List, [], ◌∷◌, ◌++◌, length, take, drop, Option}
 use Rattle.std.proofs.Common.{refl, sym, ◌∙◌, ap, subst, arith, append_assoc, drop_at, length-append, take_at}
 use Rattle.std.proofs.lemmas.List.{append-nil}
 use Rattle.std.proofs.lemmas.List.Elements.{All-head, All-tail}
 use Rattle.std.specs.List.{concat}
 use Rattle.ferry_carry.specs.Copied.{copied_item, pieces_of, stream_block}
 use Rattle.ferry_carry.specs.Listing.{FillsOn, ListsArchive, ListsContents, ListsItems, ListsName, ListsNames}
+use Rattle.ferry_carry.specs.Naming.{TaggedRecord}
 use Rattle.ferry_disk.specs.Files.{Files}
 use Rattle.ferry_item.specs.Writing.{item_text}
 use Rattle.ferry_mac.specs.declared.keys.Keys.{Keys}
@@ -117,10 +118,10 @@ items_alike keys block piece other (whole ∷ wholes) listed others now then sam
       rest.1,
     )
 
-contents_alike : (there : Files) (source : RepoState) (block most : ℕ) (keys : Keys) (name : List ℕ) (pieces added : List Addition)
-    → ListsContents there (source_of there source block) keys name pieces → ListsContents there (transfer_from there source block most) keys name added
+contents_alike : (there : Files) (source : RepoState) (block most : ℕ) (time : Option (List ℕ)) (keys : Keys) (name : List ℕ) (pieces added : List Addition)
+    → ListsContents there (source_of there source block) keys name pieces → ListsContents there (transfer_from there source block most time) keys name added
     → Alike pieces added
-contents_alike there source block most keys name pieces added p q =
+contents_alike there source block most time keys name pieces added p q =
     let same : p.whole ≡ q.whole =
     one_whole there source.log source.keys source.manifest.archives name p.whole q.whole p.source q.source in
     let lists = subst (λ (w : WholeArchive). ListsItems keys block [] w.items p.listed p.piece) same p.lists in
@@ -130,33 +131,37 @@ contents_alike there source block most keys name pieces added p q =
     subst (λ (l : List Addition). Alike l added) (sym p.added_is)
     (subst (Alike (p.listed ++ p.last)) (sym q.added_is) (alike_append p.listed q.listed p.last q.last items.0 last))
 
-archive_alike : (there : Files) (source : RepoState) (block most : ℕ) (keys : Keys) (name : List ℕ) (pieces added : List Addition)
-    → ListsContents there (source_of there source block) keys name pieces → ListsArchive there (transfer_from there source block most) keys name added
+archive_alike : (there : Files) (source : RepoState) (block most : ℕ) (time : Option (List ℕ)) (keys : Keys) (name : List ℕ) (one : TaggedRecord)
+    (pieces added : List Addition) → ListsContents there (source_of there source block) keys name pieces
+    → ListsArchive there (transfer_from there source block most time) keys name one added
     → Alike pieces added
-archive_alike there source block most keys name pieces added p q =
+archive_alike there source block most time keys name one pieces added p q =
     subst (Alike pieces) (sym q.added_is)
-    (alike_then pieces q.contents q.text q.put (contents_alike there source block most keys name pieces q.contents p q.lists))
+    (alike_then pieces q.contents one.text q.put (contents_alike there source block most time keys name pieces q.contents p q.lists))
 
 -- ---- names
 
-name_alike : (there : Files) (source : RepoState) (block most : ℕ) (keys : Keys) (accepted : ManifestText) (before : List (List ℕ)) (name : List ℕ)
-    (pieces added : List Addition) → PlansName there source block keys accepted before name pieces
-    → ListsName (transfer_from there source block most) keys accepted before name added → Alike pieces added
-name_alike there source block most keys accepted before name pieces added (inl p) (inl q) =
-    subst (λ (l : List Addition). Alike l added) (sym p.1) (subst (Alike []) (sym q.1) alike_none)
-name_alike there source block most keys accepted before name pieces added (inl p) (inr q) = absurd (q.0 p.0)
-name_alike there source block most keys accepted before name pieces added (inr p) (inl q) = absurd (p.0 q.0)
-name_alike there source block most keys accepted before name pieces added (inr p) (inr q) =
-    archive_alike there source block most keys name pieces added p.1.0 q.1
+name_alike : (there : Files) (source : RepoState) (block most : ℕ) (time : Option (List ℕ)) (keys : Keys) (accepted : ManifestText) (before : List (List ℕ))
+    (name : List ℕ)
+    (records : List TaggedRecord) (pieces added : List Addition) → PlansName there source block keys accepted before name pieces
+    → ListsName (transfer_from there source block most time) keys accepted before name records added → Alike pieces added
+name_alike there source block most time keys accepted before name records pieces added (inl p) (inl q) =
+    subst (λ (l : List Addition). Alike l added) (sym p.1) (subst (Alike []) (sym q.1.1) alike_none)
+name_alike there source block most time keys accepted before name records pieces added (inl p) (inr q) = absurd (q.0 p.0)
+name_alike there source block most time keys accepted before name records pieces added (inr p) (inl q) = absurd (p.0 q.0)
+name_alike there source block most time keys accepted before name records pieces added (inr p) (inr q) =
+    archive_alike there source block most time keys name q.1.0 pieces added p.1.0 q.1.1.1
 
 -- what is planned for names, and what is added for them
-pub names_alike : (there : Files) (source : RepoState) (block most : ℕ) (keys : Keys) (accepted : ManifestText) (before names : List (List ℕ))
-    (pieces added : List Addition) → PlansNames there source block keys accepted before names pieces
-    → ListsNames (transfer_from there source block most) keys accepted before names added → Alike pieces added
-names_alike there source block most keys accepted before [] pieces added p q =
-    subst (λ (l : List Addition). Alike l added) (sym p) (subst (Alike []) (sym q) alike_none)
-names_alike there source block most keys accepted before (name ∷ names) pieces added p q =
-    let one = name_alike there source block most keys accepted before name p.0 q.0 p.1.1.1.0 q.1.1.1.0 in
-    let rest = names_alike there source block most keys accepted (before ++ name ∷ []) names p.1.0 q.1.0 p.1.1.1.1 q.1.1.1.1 in
+pub names_alike : (there : Files) (source : RepoState) (block most : ℕ) (time : Option (List ℕ)) (keys : Keys) (accepted : ManifestText) (before names : List
+    (List ℕ))
+    (records : List TaggedRecord) (pieces added : List Addition) → PlansNames there source block keys accepted before names pieces
+    → ListsNames (transfer_from there source block most time) keys accepted before names records added → Alike pieces added
+names_alike there source block most time keys accepted before [] records pieces added p q =
+    subst (λ (l : List Addition). Alike l added) (sym p) (subst (Alike []) (sym q.1) alike_none)
+names_alike there source block most time keys accepted before (name ∷ names) records pieces added p q =
+    let all = q.1.1.1 in
+    let one = name_alike there source block most time keys accepted before name q.0 p.0 all.0 p.1.1.1.0 all.1.1.1.0 in
+    let rest = names_alike there source block most time keys accepted (before ++ name ∷ []) names q.1.0 p.1.0 all.1.0 p.1.1.1.1 all.1.1.1.1 in
     subst (λ (l : List Addition). Alike l added) (sym p.1.1.0)
-    (subst (Alike (p.0 ++ p.1.0)) (sym q.1.1.0) (alike_append p.0 q.0 p.1.0 q.1.0 one rest))
+    (subst (Alike (p.0 ++ p.1.0)) (sym all.1.1.0) (alike_append p.0 all.0 p.1.0 all.1.0 one rest))

@@ -5,6 +5,7 @@ use Rattle.std.specs.List.{AllByRecursion}
 use Rattle.ferry_base.specs.Limits.{zero_id}
 use Rattle.ferry_carry.specs.Counting.{CountsOf}
 use Rattle.ferry_store.specs.Commit.{IsSettled}
+use Rattle.ferry_carry.specs.Naming.{TaggedRecord}
 use Rattle.ferry_carry.specs.Listing.{ListsNames}
 use Rattle.ferry_carry.specs.Telling.{ReportsWhole}
 use Rattle.ferry_carry.specs.declared.options.Carried.{Carried}
@@ -53,14 +54,16 @@ missing_live files log entries fits holds id apart =
 -- ---- numbers
 
 pub numbers_same : (there : Files) (source : RepoState) (block : ℕ) (files : Files) (target : RepoState) (names : List (List ℕ)) (planned : Planned)
-    (at : Border) (most : ℕ) (entries after : List LogEntry) (added : List Addition) (carried : Carried) → Plans there source block files target names planned
+    (at : Border) (most : ℕ) (time : Option (List ℕ)) (entries after : List LogEntry) (records : List TaggedRecord) (added : List Addition) (carried : Carried)
+    → Plans there source block files target names planned
     → ((id : List ℕ) → id ≢ zero_id → IsMissing target.log id ↔ (live_in id entries ≡ None))
-    → ListsNames (transfer_from there source block most) target.keys target.manifest [] names added → AddsAll at target.keys most entries added after
+    → ListsNames (transfer_from there source block most time) target.keys target.manifest [] names records added → AddsAll at target.keys most entries added
+    after
     → CountsOf added carried → HaveOtherIds target.keys added → PutsPlanned planned carried
-numbers_same there source block files target names planned at most entries after added carried plans live lists adds counts others =
+numbers_same there source block files target names planned at most time entries after records added carried plans live lists adds counts others =
     let keys = target.keys in
     let log = target.log in
-    let alike = names_alike there source block most keys target.manifest [] names plans.added added plans.all.lists lists in
+    let alike = names_alike there source block most time keys target.manifest [] names records plans.added added plans.all.lists lists in
     let put : (kind : Kind) → is_piece kind ≡ true → PutsAlike keys log (IsOfRecord keys added) kind plans.added added =
     puts_alike keys log (IsOfRecord keys added) at most entries [] plans.added added after alike adds (all_sorted keys log added others) plans.fresh
     (stands_first keys log (IsOfRecord keys added) entries live) in
@@ -74,26 +77,31 @@ numbers_same there source block files target names planned at most entries after
 
 -- a transfer that was done, by a store that has committed what it accepted
 pub numbers_carried : (there : Files) (source : RepoState) (block : ℕ) (files : Files) (names : List (List ℕ)) (planned : Planned) (most : ℕ)
-    (store store_now : Store) (before : Told) (now : Option Told) (count after : ℕ) (carried : Carried) → IsSettled store → StoreFits false store before.history
+    (time : Option (List ℕ)) (store store_now : Store) (before : Told) (now : Option Told) (count after : ℕ) (drawn drawn_now : Option (List ℕ))
+    (carried : Carried) → IsSettled store → StoreFits false store before.history
     → Plans there source block files (repo_view store.repo) names planned
-    → (did : ReportsWhole (transfer_from there source block most) names store store_now (Some before) now count after (Ok carried))
+    → (did : ReportsWhole (transfer_from there source block most time) names store store_now (Some before) now count after drawn drawn_now (Ok carried))
     → HaveOtherIds (repo_view store.repo).keys did.added → PutsPlanned planned carried
-numbers_carried there source block files names planned most store store_now before now count after carried settled fits plans did others =
+numbers_carried there source block files names planned most time store store_now before now count after drawn drawn_now carried settled fits plans did others =
     let target = repo_view store.repo in
     let done = did.works.end.2.1 in
     let grown = done.0.0 false fits in
-    let lists = subst (λ (m : ManifestText). ListsNames (transfer_from there source block most) target.keys m [] names did.added) settled done.0.1 in
-    numbers_same there source block files target names planned _ most (entries_of fits.written) (entries_of grown.fits_now.written) did.added carried plans
+    let lists = subst (λ (m : ManifestText). ListsNames (transfer_from there source block most time) target.keys m [] names did.records did.added) settled
+    done.0.1 in
+    numbers_same there source block files target names planned _ most time (entries_of fits.written) (entries_of grown.fits_now.written) did.records did.added
+    carried plans
     (missing_live (files_now before.history) target.log (entries_of fits.written) fits.repo.log fits.holds) lists grown.puts done.1.0.put others
 
 -- what was added behind the entries that files show
 pub numbers_shown : (there : Files) (source : RepoState) (block : ℕ) (files : Files) (secret : Secret) (target : RepoState) (names : List (List ℕ))
-    (planned : Planned) (at : Border) (most : ℕ) (entries after : List LogEntry) (added : List Addition) (carried : Carried) → OpensFilesTo files secret target
+    (planned : Planned) (at : Border) (most : ℕ) (time : Option (List ℕ)) (entries after : List LogEntry) (records : List TaggedRecord) (added : List Addition)
+    (carried : Carried) → OpensFilesTo files secret target
     → Shows files (Some entries) → Plans there source block files target names planned
-    → ListsNames (transfer_from there source block most) target.keys target.manifest [] names added → AddsAll at target.keys most entries added after
+    → ListsNames (transfer_from there source block most time) target.keys target.manifest [] names records added → AddsAll at target.keys most entries added
+    after
     → CountsOf added carried → HaveOtherIds target.keys added → PutsPlanned planned carried
-numbers_shown there source block files secret target names planned at most entries after added carried opens shows plans lists adds counts others =
-    numbers_same there source block files target names planned at most entries after added carried plans
+numbers_shown there source block files secret target names planned at most time entries after records added carried opens shows plans lists adds counts others =
+    numbers_same there source block files target names planned at most time entries after records added carried plans
     (missing_live files target.log entries (opens_fits files secret target opens).log
     (λ id blob apart. state_live files target.log entries opens.opens.unlocks.reads shows id blob)) lists adds counts others
 

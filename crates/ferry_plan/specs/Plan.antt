@@ -29,7 +29,7 @@ WhereBoth told other P = IfSome told (λ s. IfSome other (λ t. P (told_files s)
 
 -- a source that has these files, and whose contents are cut into pieces of this length
 abbrev pub source_of : Files → RepoState → ℕ → Origin
-source_of there source block = record { files = Some there; repo = source; block = block; most = 1 }
+source_of there source block = record { files = Some there; repo = source; block = block; most = 1; time = None }
 
 -- ---- what is listed
 

@@ -1,5 +1,5 @@
 -- A transfer beside a plan: whether one of its pieces is a record, and whether it put what was planned.
-use Rattle.std.specs.Prelude.{◌≡◌, ◌≢◌, ℕ, List, Some, filter}
+use Rattle.std.specs.Prelude.{◌≡◌, ◌≢◌, ℕ, List, Option, Some, filter}
 use Rattle.ferry_blob.specs.Blob.{content_id}
 use Rattle.ferry_carry.specs.Carrying.{Origin}
 use Rattle.ferry_carry.specs.declared.options.Carried.{Carried}
@@ -10,9 +10,9 @@ use Rattle.ferry_piece.specs.Puts.{Addition, Record, contents_in, is_piece, same
 use Rattle.ferry_plan.specs.declared.planning.Planned.{Planned}
 use Rattle.ferry_repo.specs.Opening.{RepoState}
 
--- the same source for a transfer, of which so many pieces may be pending
-abbrev pub transfer_from : Files → RepoState → ℕ → ℕ → Origin
-transfer_from there source block most = record { files = Some there; repo = source; block = block; most = most }
+-- the same source for a transfer, of which so many pieces may be pending, and whose manifests have this time, where it is given
+abbrev pub transfer_from : Files → RepoState → ℕ → ℕ → Option (List ℕ) → Origin
+transfer_from there source block most time = record { files = Some there; repo = source; block = block; most = most; time = time }
 
 -- those of these that are pieces of contents and of item streams
 abbrev pub pieces_in : List Addition → List Addition

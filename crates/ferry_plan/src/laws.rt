@@ -4,6 +4,7 @@ ghost use Rattle.std.specs.List.{AllByRecursion};
 ghost use Rattle.ferry_carry.specs.Counting.{CountsOf};
 ghost use Rattle.ferry_store.specs.Commit.{IsSettled};
 ghost use Rattle.ferry_carry.specs.Listing.{ListsNames};
+ghost use Rattle.ferry_carry.specs.Naming.{TaggedRecord};
 ghost use Rattle.ferry_carry.specs.Telling.{ReportsWhole};
 ghost use Rattle.ferry_carry.specs.declared.options.Carried.{Carried as TheCarried};
 ghost use Rattle.ferry_disk.specs.Device.{Told, told_files};
@@ -28,15 +29,17 @@ ghost use Rattle.ferry_store.specs.declared.store.Store.{Store as TheStore};
 pub fn plan_laws()
     // By what `carry` says of a store that had committed what it accepted.
     ensures numbers { (there : Files) (source : RepoState) (block : ℕ) (files : Files) (names : List (List ℕ)) (planned : ThePlanned) (most : ℕ)
-        (store store_now : TheStore) (before : Told) (now : Option Told) (count after : ℕ) (carried : TheCarried)
+        (time : Option (List ℕ)) (store store_now : TheStore) (before : Told) (now : Option Told) (count after : ℕ) (drawn drawn_now : Option (List ℕ))
+        (carried : TheCarried)
         → IsSettled store → StoreFits false store before.history → Plans there source block files (repo_view store.repo) names planned
-        → (did : ReportsWhole (transfer_from there source block most) names store store_now (Some before) now count after (Ok carried))
+        → (did : ReportsWhole (transfer_from there source block most time) names store store_now (Some before) now count after drawn drawn_now (Ok carried))
         → HaveOtherIds (repo_view store.repo).keys did.added → PutsPlanned planned carried }
     // By the entries that the target's files showed, behind which that was added.
     ensures shown { (there : Files) (source : RepoState) (block : ℕ) (files : Files) (secret : Secret) (target : RepoState) (names : List (List ℕ))
-        (planned : ThePlanned) (at : Border) (most : ℕ) (entries after : List LogEntry) (added : List Addition) (carried : TheCarried)
+        (planned : ThePlanned) (at : Border) (most : ℕ) (time : Option (List ℕ)) (entries after : List LogEntry) (records : List TaggedRecord)
+        (added : List Addition) (carried : TheCarried)
         → OpensFilesTo files secret target → Shows files (Some entries) → Plans there source block files target names planned
-        → ListsNames (transfer_from there source block most) target.keys target.manifest [] names added
+        → ListsNames (transfer_from there source block most time) target.keys target.manifest [] names records added
         → AddsAll at target.keys most entries added after → CountsOf added carried → HaveOtherIds target.keys added → PutsPlanned planned carried }
     // Where no contents collide it is enough that no piece is a record.
     ensures apart { (keys : Keys) (scope : List (List ℕ)) (added : List Addition) → NoCollision keys scope

@@ -3,6 +3,7 @@ ghost use Rattle.std.specs.Prelude.{◌≡◌, None};
 ghost use Rattle.ferry_disk.specs.Device.{HasCause};
 ghost use Rattle.ferry_tree.specs.Nodes.{tree_failed};
 
+use crate::progress::Progress;
 use crate::stable::{FOLDER_MODE, make_file, make_folder};
 use ferry_disk::StoreFault;
 use ferry_layout::write_all;
@@ -12,6 +13,7 @@ use std::fs;
 use std::fs::{DirBuilder, OpenFile};
 use std::io::Error;
 use std::os::unix::fs::{DirBuilderExt, symlink};
+use std::rc::Rc;
 use std::rt::Runtime;
 
 /// A folder in which files, folders and links are made, which their owner alone may read. It tells nothing of them, and counts its faults.
@@ -21,12 +23,19 @@ use std::rt::Runtime;
 #[derive(Drop)]
 pub struct FolderTree<R: Runtime> {
     maker: Maker<R>,
+    progress: Rc<Progress<R>>,
     faults: u64,
 }
 
 impl<R: Runtime> FolderTree<R> {
-    /// The folder at this path; nothing is looked at yet. The word `-` and an empty path name no folder, and each call fails then.
-    pub fn new(rt: R, alloc: Global, place: &str) -> Result<FolderTree<R>, AllocError> {
+    /// The folder at this path; nothing is looked at yet. The word `-` and an empty path name no folder, and each call fails then. The bytes of contents, those
+    /// of holes too, count into `progress` as written.
+    pub fn new(
+        rt: R,
+        alloc: Global,
+        place: &str,
+        progress: Rc<Progress<R>>,
+    ) -> Result<FolderTree<R>, AllocError> {
         let place = place_of(alloc, place)?;
         let maker = Maker {
             rt,
@@ -34,7 +43,11 @@ impl<R: Runtime> FolderTree<R> {
             place,
             current: None,
         };
-        Ok(FolderTree { maker, faults: 0 })
+        Ok(FolderTree {
+            maker,
+            progress,
+            faults: 0,
+        })
     }
 }
 
@@ -224,11 +237,17 @@ impl<R: Runtime> Tree for FolderTree<R> {
 
     fn write(&mut self, bytes: &[u8]) -> Result<(), TreeFault> {
         let outcome = self.maker.append(bytes);
+        if outcome.is_ok() {
+            self.progress.add_written(bytes.len());
+        }
         count_tree(&mut self.faults, outcome)
     }
 
     fn hole(&mut self, zeros: u64) -> Result<(), TreeFault> {
         let outcome = self.maker.extend(zeros);
+        if outcome.is_ok() {
+            self.progress.add_written(zeros as usize);
+        }
         count_tree(&mut self.faults, outcome)
     }
 }

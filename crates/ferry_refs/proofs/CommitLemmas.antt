@@ -1,5 +1,5 @@
 -- Lemmas on specs/DeleteSteps.antt: chunks that were dropped are deleted with the name of their archive.
-use Rattle.std.proofs.Common.{◌≡◌, ◌<◌, inl, inr, ℕ, Bool, false, List, length, Option, Some, None, Result, Ok, Err, IfSome, IfErr, OnOk}
+use Rattle.std.proofs.Common.{◌≡◌, ◌<◌, inl, inr, ℕ, Bool, true, false, List, length, Option, Some, None, Result, Ok, Err, IfSome, IfErr, OnOk}
 use Rattle.std.proofs.Common.{refl, sym, ◌∙◌, ap, subst}
 use Rattle.ferry_base.specs.Limits.{content_limit, zero_id}
 use Rattle.ferry_blob.specs.Blob.{blocks}
@@ -125,7 +125,7 @@ module _ (store now last : Store) (name time : List ℕ) (ids : List (List ℕ))
       → DeletesWith name time ids store last h i
   deletes_then h g i view some commits going counts fits =
       let first = some counts fits in
-      let second = commits counts ids first.0 in
+      let second = commits true counts ids first.0 in
       record {
         ids = ids;
         going = going;

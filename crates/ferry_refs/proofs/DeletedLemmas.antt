@@ -3,6 +3,7 @@ use Rattle.std.proofs.Common.{◌≡◌, ◌≢◌, ◌↔◌, inl, inr, ℕ, Bo
 use Rattle.std.proofs.Common.{Some, None, refl, sym, ◌∙◌, ap, subst, arith}
 use Rattle.std.specs.Cmp.Lexicographic.{nat_list_cmp_total}
 use Rattle.std.specs.List.{AllByRecursion}
+use Rattle.std.specs.List.Sorted.{IsStrictlySortedBy}
 use Rattle.std.specs.Ordering.{eq_by_cmp}
 use Rattle.std.specs.Str.{bytes_eq}
 use Rattle.std.proofs.lemmas.List.{append_assoc}
@@ -41,14 +42,19 @@ same_truth true b there back = sym (there refl)
 same_truth false true there back = back refl
 same_truth false false there back = refl
 
-pub one_going : (files : Files) (repo : RepoState) (name : List ℕ) (ids others : List (List ℕ)) → AreGoing files repo name ids
-    → AreGoing files repo name others → ids ≡ others
-one_going files repo name ids others a b =
-    btree_set_from_contains nat_list_cmp_total (record { keys = ids }) (record { keys = others }) a.sorted b.sorted
+-- one list has, in byte order, the ids of which something holds
+pub one_list : (P : List ℕ → Type 0) (ids others : List (List ℕ)) → IsStrictlySortedBy key_cmp ids → IsStrictlySortedBy key_cmp others
+    → ((id : List ℕ) → (is_among id ids ≡ true) ↔ P id) → ((id : List ℕ) → (is_among id others ≡ true) ↔ P id) → ids ≡ others
+one_list P ids others sorted other_sorted each other_each =
+    btree_set_from_contains nat_list_cmp_total (record { keys = ids }) (record { keys = others }) sorted other_sorted
     (λ id. turned_among id ids
-    ∙ (same_truth (is_among id ids) (is_among id others) (λ e. (b.each id).1 ((a.each id).0 e)) (λ e. (a.each id).1 ((b.each id).0 e))
+    ∙ (same_truth (is_among id ids) (is_among id others) (λ e. (other_each id).1 ((each id).0 e)) (λ e. (each id).1 ((other_each id).0 e))
     ∙ sym (turned_among id others)))
     exact_bytes
+
+pub one_going : (files : Files) (repo : RepoState) (name : List ℕ) (ids others : List (List ℕ)) → AreGoing files repo name ids
+    → AreGoing files repo name others → ids ≡ others
+one_going files repo name ids others a b = one_list (Goes files repo name) ids others a.sorted b.sorted a.each b.each
 
 -- ---- what is live behind DELETEs
 
@@ -62,7 +68,7 @@ not_first id x ids e = by (eq_by_cmp key_cmp x id) refl e where
   )
 
 -- an id that isn't deleted is what it was
-live_left : (id : List ℕ) (entries : List LogEntry) (ids : List (List ℕ)) → is_among id ids ≡ false
+pub live_left : (id : List ℕ) (entries : List LogEntry) (ids : List (List ℕ)) → is_among id ids ≡ false
     → live_in id (entries ++ map DeleteEntry ids) ≡ live_in id entries
 live_left id entries [] e = live_nil id entries
 live_left id entries (x ∷ ids) e =
@@ -70,7 +76,7 @@ live_left id entries (x ∷ ids) e =
     ap (live_in id) (sym (append_assoc entries (DeleteEntry x ∷ []) (map DeleteEntry ids)))
     ∙ (live_left id (entries ++ DeleteEntry x ∷ []) ids both.1 ∙ live_spared x id entries (λ same. both.0 (sym same)))
 
-live_gone : (id : List ℕ) (entries : List LogEntry) (ids : List (List ℕ)) → is_among id ids ≡ true → live_in id (entries ++ map DeleteEntry ids) ≡ None
+pub live_gone : (id : List ℕ) (entries : List LogEntry) (ids : List (List ℕ)) → is_among id ids ≡ true → live_in id (entries ++ map DeleteEntry ids) ≡ None
 live_gone id entries [] e = absurd (let no : ⊥ = cc in no)
 live_gone id entries (x ∷ ids) e =
     let next = entries ++ DeleteEntry x ∷ [] in
@@ -104,7 +110,7 @@ module _ (start : Files) (repo : RepoState) (name other : List ℕ) (whole : Who
       let rest = without_name repo name in
       let unused = goes.falls.unused in
       let named = named_still ∙ is.named_is in
-      let among = reads_among start rest other id is.named rest.manifest.archives unused.reads named unused.are_read in
+      let among = reads_among ids_used start rest other id is.named rest.manifest.archives unused.reads named unused.are_read in
       let same : among.read ≡ read = one_read start rest other among.read read among.is
       (record { named = is.named; named_is = named; id = refl; record_is = is.record_is; stream = is.stream }) in
       let count : occurrences id (ids_used among.read) ≡ occurrences id (ids_used read) = ap (λ (r : ArchiveRead). occurrences id (ids_used r)) same in
@@ -141,11 +147,11 @@ chunk_left start image before log keys ids leaves id content off holds = record 
 
 module _ (secret : Secret) (start image : Files) (repo : RepoState) (name time : List ℕ) (committed : List LogEntry)
     (opens : OpensFilesTo start secret repo) (shown : Shows start (Some committed)) where
-  live_start : (id blob : List ℕ) → HasBlob start repo.log id blob ↔ (live_in id committed ≡ Some blob)
+  pub live_start : (id blob : List ℕ) → HasBlob start repo.log id blob ↔ (live_in id committed ≡ Some blob)
   live_start id blob = state_live start repo.log committed opens.opens.unlocks.reads shown id blob
 
   -- what has a whole archive at the start has it in the repository that opens there
-  whole_start : (other : List ℕ) (whole : WholeArchive) → HasWhole start secret other whole
+  pub whole_start : (other : List ℕ) (whole : WholeArchive) → HasWhole start secret other whole
       → IsWhole start repo.log repo.keys repo.manifest.archives other whole
   whole_start other whole has =
       subst (λ (r : RepoState). IsWhole start r.log r.keys r.manifest.archives other whole) (one_repo start secret has.repo repo has.opens opens) has.is

@@ -52,7 +52,7 @@ drops_none store h counts fits = (
     repo = fits.repo;
     below = fits.below;
     holds = λ id blob apart. (λ live. ((fits.holds id blob apart).1 live, refl), λ has. (fits.holds id blob apart).0 has.0);
-    manifest = fits.manifest;
+    manifest = λ held. fits.manifest;
     chunks = fits.chunks;
   },
   ap (λ (pending : List LogEntry). record fits.written { pending = pending }) (sym (append-nil fits.written.pending)),
@@ -72,7 +72,7 @@ drops_push : (store middle now : Store) (ids : List (List ℕ)) (id : List ℕ) 
     → DropsAll store (ids ++ id ∷ []) now h i
 drops_push store middle now ids id h g i some more counts fits =
     let first = some counts fits in
-    let second = more counts ids first.0 in (
+    let second = more true counts ids first.0 in (
       second.0,
       second.1
           ∙ (ap (λ (w : Written). with_entry w (DeleteEntry id)) first.1
@@ -120,7 +120,7 @@ pub dropped_writing : (store middle : Store) (ids : List (List ℕ)) (a b : Opti
     → DidDrop {T = Unit {0}} store ids middle a b n m (Ok tt) → IfSome b (λ t. IsWriting middle t.history)
 dropped_writing store middle ids a b n m fits p =
     known_end (IsWriting middle) (λ h g. StoreFits false store h × (AllDone h g × DropsAll store ids middle h g)) a b p.ends
-    (λ h g e. without_writing false ids middle g (e.1.1 false e.0).0)
+    (λ h g e. without_writing true false ids middle g (e.1.1 false e.0).0)
     (known_then (StoreFits false store) (λ h g. AllDone h g × DropsAll store ids middle h g) a b fits p.end)
 
 -- where one wasn't dropped

@@ -241,12 +241,12 @@ both_and true b e f = f
 both_and false b e f = absurd (let no : ⊥ = cc in no)
 
 -- What the test of an id says.
-record IsKept (log : LogState) (all own : Tally) (id : List ℕ) : Type 0 where
-  some : 0 < own id
-  alone : own id ≡ all id
-  chunk : IsChunk log id
+pub record IsKept (log : LogState) (all own : Tally) (id : List ℕ) : Type 0 where
+  pub some : 0 < own id
+  pub alone : own id ≡ all id
+  pub chunk : IsChunk log id
 
-is_kept : (log : LogState) (all own : Tally) (id : List ℕ) → goes_by log all own id ≡ true → IsKept log all own id
+pub is_kept : (log : LogState) (all own : Tally) (id : List ℕ) → goes_by log all own id ≡ true → IsKept log all own id
 is_kept log all own id e =
     let first = and_both (ltb 0 (own id)) (eqb (own id) (all id) && (not (bytes_eq id zero_id) && is_some (place_in log id))) e in
     let second = and_both (eqb (own id) (all id)) (not (bytes_eq id zero_id) && is_some (place_in log id)) first.1 in
@@ -269,7 +269,7 @@ not_zero id chunk = by (bytes_eq id zero_id) refl where
   by true e = absurd (chunk ((bytes_eq-Decides id zero_id).0 e))
   by false e = refl
 
-kept_is : (log : LogState) (all own : Tally) (id : List ℕ) → IsKept log all own id → goes_by log all own id ≡ true
+pub kept_is : (log : LogState) (all own : Tally) (id : List ℕ) → IsKept log all own id → goes_by log all own id ≡ true
 kept_is log all own id kept =
     both_and (ltb 0 (own id)) (eqb (own id) (all id) && (not (bytes_eq id zero_id) && is_some (place_in log id))) (lt-ltb 0 (own id) kept.some)
     (both_and (eqb (own id) (all id)) (not (bytes_eq id zero_id) && is_some (place_in log id)) (eq-eqb (own id) (all id) kept.alone)
@@ -287,7 +287,7 @@ passes_by test id x kept ids true is rest e = elim (or_true (eq_by_cmp key_cmp x
 ]
 passes_by test id x kept ids false is rest e = let both = rest e in (true_or (eq_by_cmp key_cmp x id) (is_among id ids) (inr both.0), both.1)
 
-among_passes : (test : List ℕ → Bool) (id : List ℕ) (ids : List (List ℕ)) → is_among id (filter test ids) ≡ true
+pub among_passes : (test : List ℕ → Bool) (id : List ℕ) (ids : List (List ℕ)) → is_among id (filter test ids) ≡ true
     → (is_among id ids ≡ true) × (test id ≡ true)
 among_passes test id [] e = absurd (let no : ⊥ = cc in no)
 among_passes test id (x ∷ ids) e = passes_by test id x (filter test ids) ids (test x) refl (among_passes test id ids) e
@@ -301,7 +301,7 @@ kept_by test id x kept false is passes (inl here) =
     absurd (let l : ⊥ = cc in l)
 kept_by test id x kept false is passes (inr later) = later
 
-passes_among : (test : List ℕ → Bool) (id : List ℕ) (ids : List (List ℕ)) → test id ≡ true → is_among id ids ≡ true
+pub passes_among : (test : List ℕ → Bool) (id : List ℕ) (ids : List (List ℕ)) → test id ≡ true → is_among id ids ≡ true
     → is_among id (filter test ids) ≡ true
 passes_among test id [] passes e = absurd (let no : ⊥ = cc in no)
 passes_among test id (x ∷ ids) passes e =
@@ -328,7 +328,7 @@ turned_among id (x ∷ ids) =
     ap (λ (b : Bool). b || list_any (eq_by_cmp key_cmp id) ids) (same_tests id x ∙ (bytes_eq_turned x id ∙ sym (same_tests x id)))
     ∙ ap (λ (b : Bool). eq_by_cmp key_cmp x id || b) (turned_among id ids)
 
-counted_among : (own : Counts) (id : List ℕ) → 0 < count_in own id → is_among id (keys own.counts) ≡ true
+pub counted_among : (own : Counts) (id : List ℕ) → 0 < count_in own id → is_among id (keys own.counts) ≡ true
 counted_among own id some =
     sym (turned_among id (keys own.counts)) ∙ (sym (is_some-lookup (is_at (key_cmp id)) own.counts.entries) ∙ there (get key_cmp own.counts id) some)
   where

@@ -97,7 +97,7 @@ module _ (files : Files) (repo : RepoState) where
 
   -- ---- several archives
 
-  one_reads : (archives : List ArchiveRef) (rs ss : List ArchiveRead) → AreRead files repo archives rs → AreRead files repo archives ss → rs ≡ ss
+  pub one_reads : (archives : List ArchiveRef) (rs ss : List ArchiveRead) → AreRead files repo archives rs → AreRead files repo archives ss → rs ≡ ss
   one_reads [] [] [] h g = refl
   one_reads [] [] (s ∷ ss) h g = absurd g
   one_reads [] (r ∷ rs) ss h g = absurd h

@@ -10,3 +10,15 @@ pub mod CommitLemmas
 pub mod ReadLemmas
 pub mod DeleteLemmas
 pub mod SameLemmas
+pub mod OldLemmas
+pub mod RenewLemmas
+pub mod AddLemmas
+pub mod FreeLemmas
+pub mod TagLemmas
+pub mod TaggingLemmas
+pub mod TagCauseLemmas
+pub mod RenamedLemmas
+pub mod SparedLemmas
+pub mod TaggedLemmas
+pub mod NeedlessLemmas
+pub mod TagSameLemmas

@@ -37,7 +37,7 @@ known_with store repo id same (inr (inl put)) = inr (inl (subst (λ (r : RepoSta
 known_with store repo id same (inr (inr has)) = inr (inr has)
 
 -- it fits with what was written
-fits_with : (counts : Bool) (store : Store) (repo : Repo) (h : History) → repo_view repo ≡ repo_view store.repo
+pub fits_with : (counts : Bool) (store : Store) (repo : Repo) (h : History) → repo_view repo ≡ repo_view store.repo
     → FitsRepo (files_now h) (repo_view repo) (cached_in repo) → (fits : StoreFits counts store h)
     → (fits_now : StoreFits counts (with_repo store repo) h) × (fits_now.written ≡ fits.written)
 fits_with counts store repo h same repo_fits fits = (

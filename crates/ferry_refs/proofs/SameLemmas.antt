@@ -45,7 +45,7 @@ module _ (files other : Files) (repo : RepoState) (lie : LieIn files other repo)
   chunks_same (id ∷ ids) [] hold = absurd hold
   chunks_same (id ∷ ids) (content ∷ contents) hold = (chunk_same id content hold.0, chunks_same ids contents hold.1)
 
-  record_same : (id : List ℕ) (archive : ArchiveText) → HoldsRecord files repo.log repo.keys id archive → HoldsRecord other repo.log repo.keys id archive
+  pub record_same : (id : List ℕ) (archive : ArchiveText) → HoldsRecord files repo.log repo.keys id archive → HoldsRecord other repo.log repo.keys id archive
   record_same id archive held = record { content = held.content; chunk = chunk_same id held.content held.chunk; record_is = held.record_is }
 
   stream_same : (ids : List (List ℕ)) (items : List ItemText) → IsStream files repo.log repo.keys ids items → IsStream other repo.log repo.keys ids items

@@ -26,7 +26,7 @@ use Rattle.ferry_refs.proofs.CountLemmas.{occurrences-append, same_tests}
 -- ---- ids that are used
 
 -- what holds of each of joined ids holds of each of both lists
-all_parted : (P : List ℕ → Type 0) (xs ys : List (List ℕ)) → AllByRecursion P (xs ++ ys) → AllByRecursion P xs × AllByRecursion P ys
+pub all_parted : (P : List ℕ → Type 0) (xs ys : List (List ℕ)) → AllByRecursion P (xs ++ ys) → AllByRecursion P xs × AllByRecursion P ys
 all_parted P [] ys all = (tt, all)
 all_parted P (x ∷ xs) ys all = let rest = all_parted P xs ys all.1 in ((all.0, rest.0), rest.1)
 
@@ -53,37 +53,39 @@ among_occurs id (x ∷ ids) e = occurs_by id x ids (elim (or_true (eq_by_cmp key
 
 -- ---- one of several archives
 
--- The archive of a name reads, and the id stands among what it uses no more often than among all.
-pub record ReadsAmong (files : Files) (repo : RepoState) (name id : List ℕ) (reads : List ArchiveRead) : Type 0 where
+-- The archive of a name reads, and the id stands among what it uses, in whatever sense, no more often than among all.
+pub record ReadsAmong (uses : ArchiveRead → List (List ℕ)) (files : Files) (repo : RepoState) (name id : List ℕ) (reads : List ArchiveRead) : Type 0 where
   pub read : ArchiveRead
   pub is : IsRead files repo name read
-  pub fewer : occurrences id (ids_used read) ≤ occurrences id (flat_map ids_used reads)
+  pub fewer : occurrences id (uses read) ≤ occurrences id (flat_map uses reads)
 
-among_by : (files : Files) (repo : RepoState) (name id : List ℕ) (a named : ArchiveRef) (archives : List ArchiveRef) (r : ArchiveRead)
+among_by : (uses : ArchiveRead → List (List ℕ)) (files : Files) (repo : RepoState) (name id : List ℕ) (a named : ArchiveRef)
+    (archives : List ArchiveRef) (r : ArchiveRead)
     (reads : List ArchiveRead) (b : Bool) → bytes_eq a.name name ≡ b → cond b (Some a) (archive_named name archives) ≡ Some named
-    → IsRead files repo a.name r → (archive_named name archives ≡ Some named → ReadsAmong files repo name id reads)
-    → ReadsAmong files repo name id (r ∷ reads)
-among_by files repo name id a named archives r reads true e is read later = record {
+    → IsRead files repo a.name r → (archive_named name archives ≡ Some named → ReadsAmong uses files repo name id reads)
+    → ReadsAmong uses files repo name id (r ∷ reads)
+among_by uses files repo name id a named archives r reads true e is read later = record {
   read = r;
   is = subst (λ (n : List ℕ). IsRead files repo n r) ((bytes_eq-Decides a.name name).0 e) read;
-  fewer = omega (arith, occurrences-append id (ids_used r) (flat_map ids_used reads));
+  fewer = omega (arith, occurrences-append id (uses r) (flat_map uses reads));
 }
-among_by files repo name id a named archives r reads false e is read later =
+among_by uses files repo name id a named archives r reads false e is read later =
     let rest = later is in
     record {
       read = rest.read;
       is = rest.is;
-      fewer = omega (arith, rest.fewer, occurrences-append id (ids_used r) (flat_map ids_used reads));
+      fewer = omega (arith, rest.fewer, occurrences-append id (uses r) (flat_map uses reads));
     }
 
-pub reads_among : (files : Files) (repo : RepoState) (name id : List ℕ) (named : ArchiveRef) (archives : List ArchiveRef) (reads : List ArchiveRead)
-    → archive_named name archives ≡ Some named → AreRead files repo archives reads → ReadsAmong files repo name id reads
+pub reads_among : (uses : ArchiveRead → List (List ℕ)) (files : Files) (repo : RepoState) (name id : List ℕ)
+    (named : ArchiveRef) (archives : List ArchiveRef) (reads : List ArchiveRead)
+    → archive_named name archives ≡ Some named → AreRead files repo archives reads → ReadsAmong uses files repo name id reads
 unfolding archive_named
-reads_among files repo name id named [] reads is are = absurd (let no : ⊥ = cc in no)
-reads_among files repo name id named (a ∷ archives) [] is are = absurd are
-reads_among files repo name id named (a ∷ archives) (r ∷ reads) is are =
-    among_by files repo name id a named archives r reads (bytes_eq a.name name) refl is are.0
-    (λ e. reads_among files repo name id named archives reads e are.1)
+reads_among uses files repo name id named [] reads is are = absurd (let no : ⊥ = cc in no)
+reads_among uses files repo name id named (a ∷ archives) [] is are = absurd are
+reads_among uses files repo name id named (a ∷ archives) (r ∷ reads) is are =
+    among_by uses files repo name id a named archives r reads (bytes_eq a.name name) refl is are.0
+    (λ e. reads_among uses files repo name id named archives reads e are.1)
 
 -- ---- an archive that stays whole
 
@@ -94,7 +96,7 @@ read_of files log keys archives name whole is = record { id = is.named.id; archi
 
 module _ (files : Files) (log : LogState) (keys : Keys) (others : Files) (after : LogState) (P : List ℕ → Type 0)
     (keeps : (id content : List ℕ) → P id → HoldsChunk files log keys id content → HoldsChunk others after keys id content) where
-  chunks_left : (ids contents : List (List ℕ)) → AllByRecursion P ids → HoldChunks files log keys ids contents → HoldChunks others after keys ids contents
+  pub chunks_left : (ids contents : List (List ℕ)) → AllByRecursion P ids → HoldChunks files log keys ids contents → HoldChunks others after keys ids contents
   chunks_left [] [] all hold = tt
   chunks_left [] (c ∷ cs) all hold = absurd hold
   chunks_left (i ∷ is) [] all hold = absurd hold
@@ -115,7 +117,7 @@ module _ (files : Files) (log : LogState) (keys : Keys) (others : Files) (after 
   joined_left (Some chunks) None all holds = absurd holds
   joined_left (Some chunks) (Some content) all holds = (holds.0, contents_left chunks holds.0 all holds.1, holds.2)
 
-  wholes_left : (items : List ItemText) (wholes : List WholeItem) → AllByRecursion P (flat_map ids_of items)
+  pub wholes_left : (items : List ItemText) (wholes : List WholeItem) → AllByRecursion P (flat_map ids_of items)
       → WholesCome files log keys items None wholes None → WholesCome others after keys items None wholes None
   wholes_left [] [] all come = refl
   wholes_left [] (w ∷ ws) all come = absurd come

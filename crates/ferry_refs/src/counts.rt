@@ -83,7 +83,7 @@ impl Counts {
 }
 
 /// How many archives the manifest has.
-fn archive_count(repo: &Repo) -> usize
+pub(crate) fn archive_count(repo: &Repo) -> usize
     ensures count { result ≡ length (repo_view repo.now).manifest.archives }
 {
     repo.manifest().archives.as_slice().len()

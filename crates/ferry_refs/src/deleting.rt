@@ -93,7 +93,11 @@ fn read_going<D: Depot>(
 }
 
 /// The time that is given, or else that of the manifest of a store, none at all where it has none.
-fn time_for(alloc: Global, store: &Store, given: Option<&[u8]>) -> Result<Vec<u8>, AllocError>
+pub(crate) fn time_for(
+    alloc: Global,
+    store: &Store,
+    given: Option<&[u8]>,
+) -> Result<Vec<u8>, AllocError>
     ensures time { IfOk result (λ time. time.items ≡ time_of (option_copied given.entry) (repo_view store.now.repo).manifest) }
 {
     if let Some(time) = given {

@@ -50,7 +50,11 @@ pub(crate) fn delete_with<D: Depot, E: Entropy>(
 }
 
 /// Drops chunks, one after another.
-fn drop_chunks<D: Depot>(store: &mut Store, depot: &mut D, ids: &[Id]) -> Result<(), StoreRefusal>
+pub(crate) fn drop_chunks<D: Depot>(
+    store: &mut Store,
+    depot: &mut D,
+    ids: &[Id],
+) -> Result<(), StoreRefusal>
     requires unspent { IsUnspent store.old }
     requires fits { IfSome (D.told depot.old) (λ t. StoreFits false store.old t.history) }
     requires chunks { AllByRecursion (IsChunk (repo_view store.old.repo).log) ids.now }

@@ -72,7 +72,12 @@ fn count_one<S: Shelf>(
 }
 
 /// The ids of live chunks that one archive uses as often as all archives do, in byte order.
-fn ids_alone(alloc: Global, log: &Log, all: &Counts, own: &Counts) -> Result<Vec<Id>, RepoFault>
+pub(crate) fn ids_alone(
+    alloc: Global,
+    log: &Log,
+    all: &Counts,
+    own: &Counts,
+) -> Result<Vec<Id>, RepoFault>
     ensures ids { IfOk result (λ ids. ids.items ≡ filter (goes_by log.now (count_in all.now) (count_in own.now)) (keys own.now.counts)) }
     ensures ordered { IsOrdered key_cmp own.now.counts }
     ensures memory { IfErr result (λ fault. fault ≡ RepoFault.Memory) }

@@ -1,5 +1,5 @@
 //! Laws of references, each the contract of a function with nothing to do.
-ghost use Rattle.std.specs.Prelude.{◌≡◌, ◌⊎◌, ℕ, Bool, true, List, Some};
+ghost use Rattle.std.specs.Prelude.{◌≡◌, ◌⊎◌, ℕ, Bool, true, List, Some, length};
 ghost use Rattle.ferry_disk.specs.Files.{Files};
 ghost use Rattle.ferry_log.specs.State.{FitsFiles};
 ghost use Rattle.ferry_repo.specs.Fault.{IsOfFiles};
@@ -8,6 +8,8 @@ ghost use Rattle.ferry_repo.specs.declared.fault.RepoFault.{RepoFault};
 ghost use Rattle.ferry_repo.specs.declared.secret.Secret.{Secret};
 ghost use Rattle.ferry_refs.specs.Deleting.{AreGoing, KeepsOthers, ShowsDeleted, ShowsEither};
 ghost use Rattle.ferry_refs.specs.Refs.{Refs, RefusesRefs};
+ghost use Rattle.ferry_refs.specs.Tagging.{AreFreed, AreOld, KeepsArchives, OldRecord, ShowsRenewed, ShowsTagged};
+ghost use Rattle.ferry_check.specs.Report.{ArchiveRead, AreRead, untagged};
 ghost use Rattle.ferry_segment.specs.Entry.{LogEntry};
 ghost use Rattle.ferry_stops.specs.Entries.{Shows};
 ghost use Rattle.ferry_store.specs.State.{found};
@@ -38,4 +40,20 @@ pub fn delete_laws()
     // One list has the ids of all chunks that go.
     ensures ids { (files : Files) (repo : RepoState) (name : List ℕ) (ids others : List (List ℕ)) → AreGoing files repo name ids
         → AreGoing files repo name others → ids ≡ others }
+{}
+
+/// What is left where records have got their tags, or a stop came before they had: each archive, as it was.
+pub fn tag_laws()
+    ensures kept { (secret : Secret) (start image : Files) (repo : RepoState) (time : List ℕ) (committed : List LogEntry)
+        → OpensFilesTo start secret repo → Shows start (Some committed)
+        → ShowsRenewed start repo time (found (Some committed) start) image → (tagged : Bool) × KeepsArchives secret start repo tagged image }
+    // Behind the tagging no record is without a tag.
+    ensures tagged { (secret : Secret) (start image : Files) (repo : RepoState) (time : List ℕ) (committed : List LogEntry)
+        → OpensFilesTo start secret repo → Shows start (Some committed)
+        → ShowsTagged start repo time (found (Some committed) start) image → KeepsArchives secret start repo true image }
+    // The archives without a tag are as many as a check of the repository counts.
+    ensures count { (files : Files) (repo : RepoState) (olds : List OldRecord) (reads : List ArchiveRead) → AreOld files repo repo.manifest.archives olds
+        → AreRead files repo repo.manifest.archives reads → length olds ≡ length (untagged reads) }
+    // One list has the ids of all records that nothing uses any more.
+    ensures ids { (files : Files) (repo : RepoState) (ids others : List (List ℕ)) → AreFreed files repo ids → AreFreed files repo others → ids ≡ others }
 {}

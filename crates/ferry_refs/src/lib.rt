@@ -11,7 +11,11 @@ mod deleting;
 mod dropping;
 mod going;
 mod laws;
+mod renewing;
+mod tagging;
+mod untagged;
 
 pub use counts::Counts;
 pub use deleting::delete;
-pub use laws::{delete_laws, refs_laws};
+pub use laws::{delete_laws, refs_laws, tag_laws};
+pub use tagging::tag_archives;

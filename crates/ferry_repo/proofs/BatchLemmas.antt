@@ -1,5 +1,5 @@
 -- Lemmas on specs/Batch.antt: a batch that grows by one blob, and what is kept of one that was opened.
-use Rattle.std.proofs.Common.{◌≡◌, ◌≢◌, ℕ, ◌<◌, ◌≤◌, List, [], ◌∷◌, ◌++◌, length, take, drop, get_or, Result, Ok, Err, IsOk, is_ok, IfSome, Vec, Global}
+use Rattle.std.proofs.Common.{◌≡◌, ◌≢◌, ℕ, ◌+◌, ◌<◌, ◌≤◌, List, [], ◌∷◌, ◌++◌, length, take, drop, get_or, Result, Ok, Err, IsOk, is_ok, IfSome, Vec, Global}
 use Rattle.std.proofs.Common.{Option, Some, Bool, true, false, refl, sym, ap, ◌∙◌, arith, below_more, length-append, append_assoc}
 use Rattle.std.proofs.Math.ListN.{get_or-append}
 use Rattle.std.proofs.lemmas.List.{get_or_at, get_or_push}
@@ -13,7 +13,7 @@ use Rattle.ferry_blob.proofs.BatchLemmas.{bytes_at-read, answer_at-read}
 use Rattle.ferry_blob.proofs.CallerLemmas.{length-left}
 use Rattle.ferry_disk.specs.Device.{Told, told_files, heard}
 use Rattle.ferry_disk.specs.Files.{Files, segment_bytes}
-use Rattle.ferry_disk.proofs.DeviceLemmas.{told_same, told_with}
+use Rattle.ferry_disk.proofs.DeviceLemmas.{told_same, told_then, told_with}
 use Rattle.ferry_log.specs.State.{LogState, FitsFiles, place_in}
 use Rattle.ferry_log.specs.declared.place.Place.{Place}
 use Rattle.ferry_mac.specs.declared.keys.Keys.{Keys}
@@ -57,6 +57,26 @@ more_blobs files log ids more blobs after id blob batch ids_are blobs_are below 
     (λ j h. rw (get_or-append ids (id ∷ []) zero_id j (omega (arith, batch.each, h)), bytes_at-before blobs (blob ∷ []) j blob h) (below j h))
     (rw (get_or_push ids id zero_id (length blobs) batch.each, bytes_at-here blobs blob []) here)
     k (omega (arith, low, length-append blobs (blob ∷ []))))
+
+pub batch_more : (ids more : List (List ℕ)) (blobs after : List (Vec ℕ Global)) (id : List ℕ) (blob : Vec ℕ Global) → IsBatch ids blobs
+    → more ≡ ids ++ id ∷ [] → after ≡ blobs ++ blob ∷ [] → length blobs < 64 → IsBatch more after
+batch_more ids more blobs after id blob batch ids_are blobs_are low = record {
+  each = rw (ids_are, blobs_are) (omega (arith, length-append ids (id ∷ []), length-append blobs (blob ∷ []), batch.each));
+  few = rw blobs_are (omega (arith, length-append blobs (blob ∷ []), low));
+}
+
+pub put_count : (blobs after : List (Vec ℕ Global)) (blob : Vec ℕ Global) (n : ℕ) → after ≡ blobs ++ blob ∷ [] → length blobs ≡ n → length after ≡ n + 1
+put_count blobs after blob n are count = rw are (omega (arith, length-append blobs (blob ∷ []), count))
+
+-- the same of the files that a device tells
+pub front_more : (told later : Option Told) (log : LogState) (ids more : List (List ℕ)) (blobs after : List (Vec ℕ Global)) (id : List ℕ)
+    (blob : Vec ℕ Global) → IsBatch ids blobs → heard later ≡ heard told → more ≡ ids ++ id ∷ [] → after ≡ blobs ++ blob ∷ []
+    → IfSome told (λ t. HasBlobs (told_files t) log ids blobs) → IfSome told (λ t. HasChunkBlob (told_files t) log id blob.items)
+    → IfSome later (λ t. HasBlobs (told_files t) log more after)
+front_more told later log ids more blobs after id blob batch same ids_are blobs_are has here =
+    told_same told later (λ f. HasBlobs f log more after) same
+    (told_with told told (λ f. HasBlobs f log ids blobs) (λ f. HasChunkBlob f log id blob.items) (λ f. HasBlobs f log more after) refl
+    (λ f below at. more_blobs f log ids more blobs after id blob batch ids_are blobs_are below at) has here)
 
 -- the same of the files that a device tells, where the blob was read at the place of the id
 pub read_more : (told : Option Told) (log : LogState) (ids more : List (List ℕ)) (blobs after : List (Vec ℕ Global)) (id : List ℕ) (blob : Vec ℕ Global)
@@ -106,25 +126,25 @@ opened_holds files log keys id before after (Ok done) h ok here =
     record { chunk = here.chunk; object = record { blob = before; has = here.has; opens = h.opened } }
 opened_holds files log keys id before after (Err fault) h ok here = absurd (let bad : ⊥ = cc in bad)
 
--- Each of the four places is opened.
+-- Each blob is opened in its place.
 abbrev pub AreOpened : Keys → List (List ℕ) → List (Vec ℕ Global) → List (Result (Unit {0}) BlobFault) → List (Vec ℕ Global) → Type 0
 AreOpened keys ids before answers after =
-    (k : ℕ) → k < 4 → IsOpened keys (id_at ids k) (bytes_at before k) (answer_at answers k) (bytes_at after k)
+    (k : ℕ) → k < length before → IsOpened keys (id_at ids k) (bytes_at before k) (answer_at answers k) (bytes_at after k)
 
 -- each place of a batch whose answer is `Ok` has room for each field
 pub heads : (keys : Keys) (ids : List (List ℕ)) (before after : List (Vec ℕ Global)) (answers : List (Result (Unit {0}) BlobFault))
-    → AreOpened keys ids before answers after → length after ≤ 4
+    → AreOpened keys ids before answers after → length after ≡ length before
     → (k : ℕ) → k < length after → IsOk (answer_at answers k) → 43 ≤ length (bytes_at after k)
-heads keys ids before after answers opened few k low ok =
-    opened_head keys (id_at ids k) (bytes_at before k) (bytes_at after k) (answer_at answers k) (opened k (omega arith)) ok
+heads keys ids before after answers opened size k low ok =
+    opened_head keys (id_at ids k) (bytes_at before k) (bytes_at after k) (answer_at answers k) (opened k (omega (arith, low, size))) ok
 
 -- what stands in such a place is the content of the chunk of its id
 pub contents_hold : (files : Files) (log : LogState) (keys : Keys) (ids : List (List ℕ)) (before after : List (Vec ℕ Global))
-    (answers : List (Result (Unit {0}) BlobFault)) → AreOpened keys ids before answers after → length before ≤ 4 → length after ≡ length before
+    (answers : List (Result (Unit {0}) BlobFault)) → AreOpened keys ids before answers after → length after ≡ length before
     → HasBlobs files log ids before
     → (k : ℕ) → k < length after → IsOk (answer_at answers k) → HoldsChunk files log keys (id_at ids k) (drop 43 (bytes_at after k))
-contents_hold files log keys ids before after answers opened few size has k low ok =
-    opened_holds files log keys (id_at ids k) (bytes_at before k) (bytes_at after k) (answer_at answers k) (opened k (omega (arith, low, size, few))) ok
+contents_hold files log keys ids before after answers opened size has k low ok =
+    opened_holds files log keys (id_at ids k) (bytes_at before k) (bytes_at after k) (answer_at answers k) (opened k (omega (arith, low, size))) ok
     (has k (omega (arith, low, size)))
 
 -- ---- what fits
@@ -140,3 +160,12 @@ ahead_fits told later repo ids blobs before after same holds fits has =
     told_same told later (λ f. FitsRepo f repo after) same
     (told_with told told (λ f. FitsRepo f repo before) (λ f. HasBlobs f repo.log ids blobs) (λ f. FitsRepo f repo after) refl
     (λ f fit here. record { log = fit.log; cached = holds f repo.log here fit.cached }) fits has)
+
+-- it fits where some of what was kept is let go
+pub room_fits : (told : Option Told) (repo : RepoState) (before after : Contents)
+    → ((files : Files) (log : LogState) (keys : Keys) → AllByRecursion (λ c. HoldsChunk files log keys c.0 c.1) before
+    → AllByRecursion (λ c. HoldsChunk files log keys c.0 c.1) after)
+    → IfSome told (λ t. FitsRepo (told_files t) repo before) → IfSome told (λ t. FitsRepo (told_files t) repo after)
+room_fits told repo before after holds fits =
+    told_then told (λ f. FitsRepo f repo before) (λ f. FitsRepo f repo after)
+    (λ f fit. record { log = fit.log; cached = holds f repo.log repo.keys fit.cached }) fits

@@ -12,3 +12,4 @@ pub mod ContentLemmas
 pub mod WholeLemmas
 pub mod KeptLemmas
 pub mod LearnLemmas
+pub mod LengthsLemmas

@@ -1,5 +1,6 @@
 -- Lemmas on specs/Opening.antt: what the parts of a repository say of the whole.
-use Rattle.std.proofs.Common.{◌≡◌, ◌≢◌, ℕ, ◌==◌, Bool, true, false, List, length, Result, Ok, Err, IfErr, refl, ap, subst, ◌∙◌}
+use Rattle.std.proofs.Common.{◌≡◌, ◌≢◌, ℕ, ◌==◌, Bool, true, false, List, length, Option, Some, None, Result, Ok, Err, IfErr, refl, ap, subst, ◌∙◌, arith}
+use Rattle.std.proofs.Common.{inl, inr}
 use Rattle.std.specs.Prelude.{if◌then◌else◌}
 use Rattle.std.specs.Str.{bytes_eq}
 use Rattle.ferry_base.specs.Limits.{zero_id}
@@ -28,6 +29,10 @@ use Rattle.ferry_repo.specs.declared.fault.RepoFault.{RepoFault}
 use Rattle.ferry_repo.specs.declared.secret.Secret.{Secret}
 use Rattle.ferry_repo.specs.declared.fault.RepoFault.TheVariants as Fault
 use Rattle.ferry_repo.specs.Objects.{HoldsObject, RefusesObject}
+use Rattle.ferry_fields.specs.Others.{has_among}
+use Rattle.ferry_manifest.specs.Manifest.Text.{ManifestText}
+use Rattle.ferry_manifest.specs.Manifest.Writing.{IsPackable}
+use Rattle.ferry_repo.specs.Opening.{IsOfManifest, LacksRoot, OpensBare, RefusesBare, RepoState, RootOrNone, no_manifest}
 use Rattle.ferry_repo.specs.Opening.{UnlocksTo, UnlocksFiles, RefusesKey, IsRefusal, IsNoManifest, RefusesRepo, OpenedText}
 use Rattle.ferry_repo.specs.Opening.{key_text, mode_of, opened_by, opened_key, opened_text, opened_where, text_by, text_in}
 use Rattle.ferry_repo.specs.Opening.{text_of, unlocked, unlocked_where, unlocked_with}
@@ -172,6 +177,70 @@ manifest_refused files secret log config keys content (Fault.Size id) unlocks ho
 manifest_refused files secret log config keys content (Fault.KeyFile fault) unlocks holds refused = absurd refused
 manifest_refused files secret log config keys content (Fault.Other a b) unlocks holds refused = absurd refused
 manifest_refused files secret log config keys content Fault.NoKey unlocks holds refused = absurd refused
+
+-- ---- without its manifest
+
+pub no_packable : IsPackable no_manifest
+unfolding has_among
+no_packable = record {
+  archives = tt;
+  item_keys = tt;
+  config = refl;
+  config_writable = record { depth_fits = omega arith; fits = (omega arith, tt, tt) };
+  config_depth = omega arith;
+  more = refl;
+  more_writable = record { depth_fits = omega arith; fits = (omega arith, tt, tt) };
+  apart = refl;
+}
+
+log_apart : (fault : LogFault) → IsOfManifest (log_fault fault) → ⊥
+log_apart Log.NoCommit is = is
+log_apart (Log.Damaged segment at) is = is
+log_apart Log.Device is = is
+log_apart Log.Memory is = is
+
+key_apart : (bytes : List ℕ) (secret : Secret) (fault : RepoFault) → RefusesKey bytes secret fault → IsOfManifest fault → ⊥
+key_apart bytes secret Fault.NoCommit refused is = is
+key_apart bytes secret (Fault.Damaged segment at) refused is = is
+key_apart bytes secret (Fault.Config fault) refused is = is
+key_apart bytes secret (Fault.Key fault) refused is = is
+key_apart bytes secret (Fault.Missing id) refused is = unlocked_kind bytes secret _ (refused tt)
+key_apart bytes secret (Fault.Blob id fault) refused is = unlocked_kind bytes secret _ (refused tt)
+key_apart bytes secret (Fault.Manifest fault) refused is = unlocked_kind bytes secret _ (refused tt)
+key_apart bytes secret (Fault.Archive id fault) refused is = is
+key_apart bytes secret (Fault.Item id fault) refused is = is
+key_apart bytes secret (Fault.Size id) refused is = is
+key_apart bytes secret (Fault.KeyFile fault) refused is = is
+key_apart bytes secret (Fault.Other a b) refused is = is
+key_apart bytes secret Fault.NoKey refused is = is
+key_apart bytes secret Fault.Device refused is = is
+key_apart bytes secret Fault.Memory refused is = is
+
+pub log_bare : (files : Files) (secret : Secret) (fault : LogFault) → IsRefused files fault → RefusesBare files secret (log_fault fault)
+log_bare files secret fault refused = (log_refused files secret fault refused, log_apart fault)
+
+pub key_bare : (files : Files) (secret : Secret) (log : LogState) (fault : RepoFault) → IsStateOf files log
+    → RefusesKey (contents_at files Name.Config) secret fault → RefusesBare files secret fault
+key_bare files secret log fault is refused =
+    (key_refused files secret log fault is refused, key_apart (contents_at files Name.Config) secret fault refused)
+
+pub root_refused : (files : Files) (secret : Secret) (log : LogState) (config : Config) (keys : Keys) (fault : RepoFault)
+    → UnlocksFiles files secret log config keys → LacksRoot files log keys fault → RefusesRepo files secret fault
+root_refused files secret log config keys fault unlocks (inl object) = object_refused files secret log config keys fault unlocks object
+root_refused files secret log config keys fault unlocks (inr content) =
+    manifest_refused files secret log config keys content.0 fault unlocks content.1.0 content.1.1
+
+pub root_opens : (files : Files) (secret : Secret) (log : LogState) (config : Config) (keys : Keys) (manifest : ManifestText) (fault : Option RepoFault)
+    → UnlocksFiles files secret log config keys → RootOrNone files log keys manifest fault
+    → OpensBare files secret (record { log = log; config = config; keys = keys; manifest = manifest }) fault
+root_opens files secret log config keys manifest None unlocks root = record {
+  opens = record { unlocks = unlocks; content = root.content; object = root.object; manifest_is = root.manifest_is };
+}
+root_opens files secret log config keys manifest (Some fault) unlocks root = record {
+  unlocks = unlocks;
+  manifest = root.0;
+  refused = root_refused files secret log config keys fault unlocks root.1;
+}
 
 -- ---- keys
 

@@ -7,10 +7,10 @@ use Rattle.ferry_disk.specs.Files.{Files}
 use Rattle.ferry_log.specs.State.{LogState}
 use Rattle.ferry_repo.specs.Objects.{HasBlob}
 
--- There is an id for each blob, and there are four at most.
+-- There is an id for each blob, and there are 64 at most.
 pub record IsBatch (ids : List (List ℕ)) (blobs : List (Vec ℕ Global)) : Type 0 where
   pub each : length ids ≡ length blobs
-  pub few : length blobs ≤ 4
+  pub few : length blobs ≤ 64
 
 -- The chunk of this id is live with this blob. The manifest, which stands under the zero id, is none.
 pub record HasChunkBlob (files : Files) (log : LogState) (id blob : List ℕ) : Type 0 where

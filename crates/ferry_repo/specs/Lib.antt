@@ -7,3 +7,4 @@ pub mod Opening
 pub mod Archives
 pub mod Walk
 pub mod Whole
+pub mod Lengths

@@ -1,6 +1,6 @@
 -- How a repository opens under a secret: its log reads, its `config` reads, its key opens, and the object under the zero id is
 -- a manifest, in this order (BorgBackup 1.2, Internals, "Data structures and file formats").
-use Rattle.std.specs.Prelude.{◌≡◌, ℕ, ◌==◌, if◌then◌else◌, List, length, Result, Ok, Err}
+use Rattle.std.specs.Prelude.{◌≡◌, ◌⊎◌, ℕ, ◌==◌, if◌then◌else◌, List, [], length, Option, Some, None, Result, Ok, Err}
 use Rattle.std.specs.List.{AllByRecursion}
 use Rattle.std.specs.Str.{bytes_eq}
 use Rattle.ferry_base.specs.Limits.{zero_id}
@@ -22,6 +22,7 @@ use Rattle.ferry_log.specs.Log.{IsUncommitted, IsDamaged}
 use Rattle.ferry_log.specs.State.{LogState, IsStateOf, FitsFiles}
 use Rattle.ferry_mac.specs.declared.keys.Keys.{Keys}
 use Rattle.ferry_manifest.specs.Manifest.Text.{ManifestText, manifest_of, manifest_view}
+use Rattle.ferry_msgpack.specs.Tree.{table, no_pairs}
 use Rattle.ferry_repo.specs.Cached.{Contents}
 use Rattle.ferry_repo.specs.Fault.{IsOfFiles}
 use Rattle.ferry_repo.specs.Objects.{HoldsObject, RefusesObject, HoldsChunk}
@@ -199,6 +200,50 @@ RefusesRepo files secret (Fault.Other file config) = ReadsLog files × RefusesKe
 RefusesRepo files secret Fault.NoKey = ReadsLog files × RefusesKey (contents_at files Name.Config) secret Fault.NoKey
 RefusesRepo files secret Fault.Device = Unit {0}
 RefusesRepo files secret Fault.Memory = Unit {0}
+
+-- ---- opened without its manifest
+
+-- the manifest of a repository whose own isn't read: of no archives and no further names, and not dated
+abbrev pub no_manifest : ManifestText
+no_manifest = record { timestamp = None; config = table no_pairs; item_keys = []; archives = []; more = table no_pairs }
+
+-- A fault of the object under the zero id, or of the manifest in it.
+abbrev pub IsOfManifest : RepoFault → Type 0
+IsOfManifest (Fault.Missing id) = Unit {0}
+IsOfManifest (Fault.Blob id fault) = Unit {0}
+IsOfManifest (Fault.Manifest fault) = Unit {0}
+IsOfManifest fault = ⊥
+
+-- All of a repository but its manifest opens, and that is refused so.
+pub record OpensWithout (files : Files) (secret : Secret) (repo : RepoState) (fault : RepoFault) : Type 0 where
+  pub unlocks : UnlocksFiles files secret repo.log repo.config repo.keys
+  pub manifest : repo.manifest ≡ no_manifest
+  pub refused : RefusesRepo files secret fault
+
+-- The repository opens where there is no fault, and else all but its manifest does.
+abbrev pub OpensBare : Files → Secret → RepoState → Option RepoFault → Type 0
+OpensBare files secret repo None = OpensFilesTo files secret repo
+OpensBare files secret repo (Some fault) = OpensWithout files secret repo fault
+
+-- What a refusal says of files that don't even open without their manifest.
+abbrev pub RefusesBare : Files → Secret → RepoFault → Type 0
+RefusesBare files secret fault = RefusesRepo files secret fault × (IsOfManifest fault → ⊥)
+
+-- The object under the zero id is this manifest.
+pub record HoldsRoot (files : Files) (log : LogState) (keys : Keys) (manifest : ManifestText) : Type 0 where
+  pub content : List ℕ
+  pub object : HoldsObject files log keys zero_id content
+  pub manifest_is : manifest_of keys content ≡ Ok manifest
+
+-- It isn't live or doesn't open, or what it holds is no manifest.
+abbrev pub LacksRoot : Files → LogState → Keys → RepoFault → Type 0
+LacksRoot files log keys fault = RefusesObject files log keys zero_id fault
+    ⊎ ((content : List ℕ) × (HoldsObject files log keys zero_id content × IsNoManifest keys content fault))
+
+-- The manifest under the zero id, where there is no fault; else no manifest, since it is refused so.
+abbrev pub RootOrNone : Files → LogState → Keys → ManifestText → Option RepoFault → Type 0
+RootOrNone files log keys manifest None = HoldsRoot files log keys manifest
+RootOrNone files log keys manifest (Some fault) = (manifest ≡ no_manifest) × LacksRoot files log keys fault
 
 -- ---- what fits
 

@@ -1,7 +1,7 @@
 //! The contents of several chunks, opened side by side.
 ghost use Rattle.std.specs.Prelude.{◌≡◌, ◌≤◌, ◌<◌, ℕ, ◌++◌, ◌∷◌, [], drop, length, IfOk, IfErr, IfSome, IsOk, OnOk};
 ghost use Rattle.std.specs.List.{AllByRecursion};
-ghost use Rattle.ferry_blob.specs.Batch.{answer_at, bytes_at, id_at};
+ghost use Rattle.ferry_blob.specs.Batch.{IsOpened, answer_at, bytes_at, id_at};
 ghost use Rattle.ferry_disk.specs.Device.{KeepsTold, HasCause, told_files};
 ghost use Rattle.ferry_disk.specs.Files.{Files};
 ghost use Rattle.ferry_log.specs.State.{FitsFiles, LogState};
@@ -14,35 +14,41 @@ use crate::cache::Cache;
 use crate::fault::RepoFault;
 use crate::object::{blob_at, without_head};
 use ferry_base::{Id, ZERO_ID};
-use ferry_blob::{BlobFault, open_blobs};
+use ferry_blob::{BlobFault, open_many};
 use ferry_disk::Shelf;
 use ferry_log::Log;
 use ferry_mac::Keys;
 use std::alloc::{AllocError, Global};
 
-/// How many blobs are opened side by side at most.
-pub(crate) const LANES: usize = 4;
+/// How many contents are read ahead at most. Of the sixteen that are kept the others are left to what is used between, as the chunks of
+/// a stream.
+pub(crate) const AHEAD: usize = 12;
 
-/// Some blobs, with the ids of their contents in the same order.
+/// How many bytes of blobs are read ahead at most, but for the first blob.
+const ROOM: u64 = 25_165_824;
+
+/// Some blobs, with the ids of their contents in the same order, and how many bytes more may be read.
 #[derive(Drop)]
 pub(crate) struct Batch {
-    ids: Vec<Id>,
-    blobs: Vec<Vec<u8>>,
+    pub(crate) ids: Vec<Id>,
+    pub(crate) blobs: Vec<Vec<u8>>,
+    pub(crate) room: u64,
 }
 
 impl Batch {
-    /// No blobs.
-    pub(crate) fn new(alloc: Global) -> Batch
+    /// No blobs, and room for this many bytes.
+    pub(crate) fn new(alloc: Global, room: u64) -> Batch
         ensures batch { IsBatch result.ids.items result.blobs.items }
         ensures none { length result.blobs.items ≡ 0 }
     {
         Batch {
             ids: Vec::new(alloc),
             blobs: Vec::new(alloc),
+            room,
         }
     }
 
-    /// Reads the blobs of chunks that the cache lacks, four at most. What isn't at its place is passed over.
+    /// Reads the blobs of chunks that the cache lacks, in their order, as many as there is room for. What isn't at its place is passed over.
     #[tactic(auto, using(crate::proofs::FaultLemmas::conversions))]
     pub(crate) fn read<S: Shelf>(
         alloc: Global,
@@ -59,14 +65,14 @@ impl Batch {
         ensures same { KeepsTold repo_failed (S.told shelf.old) (S.told shelf.new) result }
         ensures cause { HasCause repo_failed (S.faults shelf.old) (S.faults shelf.new) result }
     {
-        let mut batch = Batch::new(alloc);
+        let mut batch = Batch::new(alloc, ROOM);
         for place in 0..ids.len() {
             batch.add(alloc, shelf, log, cache, &ids[place])?;
         }
         Ok(batch)
     }
 
-    /// Reads the blob of a chunk, where there is room, and the cache lacks it.
+    /// Reads the blob of a chunk, where there is room, and it is neither in the cache nor in the batch.
     #[tactic(auto, using(crate::proofs::FaultLemmas::conversions))]
     fn add<S: Shelf>(
         &mut self,
@@ -86,12 +92,15 @@ impl Batch {
         ensures same { KeepsTold repo_failed (S.told shelf.old) (S.told shelf.new) result }
         ensures cause { HasCause repo_failed (S.faults shelf.old) (S.faults shelf.new) result }
     {
-        if self.ids.len() >= LANES || *id == ZERO_ID || cache.get(id).is_some() {
+        if self.ids.len() >= AHEAD || *id == ZERO_ID || cache.get(id).is_some() {
             return Ok(());
         }
         let Some(place) = log.find(id) else {
             return Ok(());
         };
+        if !self.takes(id, place.size) {
+            return Ok(());
+        }
         match blob_at(alloc, shelf, place) {
             Ok(blob) => Ok(self.put(id, blob)?),
             Err(RepoFault::Device) => Err(RepoFault::Device),
@@ -100,11 +109,18 @@ impl Batch {
         }
     }
 
+    /// Whether a blob of this size has room and its id isn't there. The first one has room whatever its size.
+    fn takes(&self, id: &Id, size: u32) -> bool {
+        let ids = self.ids.as_slice();
+        ids.is_empty() || u64::from(size) <= self.room && !ids.contains(id)
+    }
+
     /// Puts a blob behind the others.
-    fn put(&mut self, id: &Id, blob: Vec<u8>) -> Result<(), AllocError>
+    pub(crate) fn put(&mut self, id: &Id, blob: Vec<u8>) -> Result<(), AllocError>
         ensures ids { OnOk result (self.new.ids.items ≡ self.old.ids.items ++ id.now ∷ []) }
         ensures blobs { OnOk result (self.new.blobs.items ≡ self.old.blobs.items ++ blob ∷ []) }
     {
+        self.room = self.room.saturating_sub(blob.len() as u64);
         self.ids.push(*id)?;
         self.blobs.push(blob)?;
         Ok(())
@@ -117,16 +133,36 @@ impl Batch {
             → AllByRecursion (λ c. HoldsChunk files log keys.now c.0 c.1) cache.old
             → AllByRecursion (λ c. HoldsChunk files log keys.now c.0 c.1) cache.new }
     {
-        let Batch { ids, mut blobs } = self;
-        let answers = open_blobs(keys, ids.as_slice(), blobs.as_mut_slice());
+        let Batch {
+            ids,
+            mut blobs,
+            room: _,
+        } = self;
+        let answers = open_each(keys, ids.as_slice(), blobs.as_mut_slice());
         keep_opened(ids.as_slice(), &answers, blobs, cache)
     }
+}
+
+/// Opens the blobs in place, each under its id. A place behind the last blob is answered as an empty blob is.
+pub(crate) fn open_each(
+    keys: &Keys,
+    ids: &[Id],
+    blobs: &mut [Vec<u8>],
+) -> [Result<(), BlobFault>; 64]
+    requires ids { length ids.now ≡ length blobs.old }
+    requires places { length blobs.old ≤ 64 }
+    ensures opened { (k : ℕ) → k < length blobs.old
+        → IsOpened keys.now (id_at ids.now k) (bytes_at blobs.old k) (answer_at result k) (bytes_at blobs.new k) }
+{
+    let mut answers = [Err(BlobFault::Short); 64];
+    open_many(keys, ids, blobs, &mut answers[..ids.len()]);
+    answers
 }
 
 /// Keeps the content of each blob that was opened.
 fn keep_opened(
     ids: &[Id],
-    answers: &[Result<(), BlobFault>; 4],
+    answers: &[Result<(), BlobFault>; 64],
     blobs: Vec<Vec<u8>>,
     cache: &mut Cache,
 ) -> Result<(), AllocError>

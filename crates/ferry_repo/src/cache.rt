@@ -1,10 +1,16 @@
 //! The contents that a repository keeps.
 ghost use Rattle.std.specs.Prelude.{◌≡◌, [], None, IfOk, IfSome, OnOk, OnErr, option_copied};
+ghost use Rattle.std.specs.List.{AllByRecursion};
+ghost use Rattle.ferry_disk.specs.Files.{Files};
+ghost use Rattle.ferry_log.specs.State.{LogState};
+ghost use Rattle.ferry_mac.specs.declared.keys.Keys.{Keys};
 ghost use Rattle.ferry_repo.specs.Cached.{content_in, used};
+ghost use Rattle.ferry_repo.specs.Objects.{HoldsChunk};
 
 use ferry_base::{Bytes, Id};
 use lru::LruCache;
 use std::alloc::{AllocError, Global};
+use std::cmp::min;
 use std::marker::Model;
 use std::num::NonZeroUsize;
 
@@ -72,5 +78,16 @@ impl Cache {
         let _count = self.entries.len();
         self.entries.put(*id, Bytes::new(content))?;
         Ok(())
+    }
+
+    /// Lets those go that were used longest ago, so that this many more have room beside the others.
+    pub(crate) fn make_room(&mut self, count: usize)
+        ensures holds { (files : Files) (log : LogState) (keys : Keys)
+            → AllByRecursion (λ c. HoldsChunk files log keys c.0 c.1) self.old
+            → AllByRecursion (λ c. HoldsChunk files log keys c.0 c.1) self.new }
+    {
+        let staying = LIMIT - min(count, LIMIT - 1);
+        self.entries.resize(NonZeroUsize::new(staying).unwrap());
+        self.entries.resize(NonZeroUsize::new(LIMIT).unwrap());
     }
 }

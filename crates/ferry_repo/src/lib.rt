@@ -10,6 +10,7 @@ mod batch;
 mod cache;
 mod fault;
 mod laws;
+mod lengths;
 mod object;
 mod opening;
 mod reason;

@@ -1,24 +1,29 @@
 //! The parts of a repository as they are opened, one after another.
-ghost use Rattle.std.specs.Prelude.{◌≡◌, IfOk, IfErr, IfSome, Ok, false};
+ghost use Rattle.std.specs.Prelude.{◌≡◌, ◌↔◌, IfOk, IfErr, IfSome, IsTrue, Ok, false};
 ghost use Rattle.ferry_disk.specs.Files.{contents_at};
 ghost use Rattle.ferry_disk.specs.Device.{KeepsTold, HasCause, told_files};
 ghost use Rattle.ferry_disk.specs.declared.name.Name.TheVariants as FileName;
 ghost use Rattle.ferry_keyblob.specs.Opening.{key_view};
+ghost use Rattle.ferry_log.specs.State.{FitsFiles};
 ghost use Rattle.ferry_manifest.specs.Manifest.Writing.{IsPackable};
 ghost use Rattle.ferry_manifest.specs.Manifest.Text.{manifest_of, manifest_view};
 ghost use Rattle.ferry_repo.specs.Fault.{repo_failed};
+ghost use Rattle.ferry_repo.specs.Opening.{HoldsRoot, IsOfManifest, LacksRoot, RootOrNone, no_manifest};
 ghost use Rattle.ferry_repo.specs.Opening.{UnlocksTo, OpensKeyTo, RefusesKey, IsRefusal, IsNoManifest, key_text, mode_of, opened_key, opened_text, text_in};
 
 use crate::fault::RepoFault;
+use crate::object::object;
 use crate::secret::Secret;
-use ferry_base::Id;
+use ferry_base::{Id, ZERO_ID};
 use ferry_blob::Mode;
 use ferry_config::{Config, read_config};
 use ferry_disk::{Name, Shelf, read_whole};
 use ferry_keyblob::{KeyText, open_envelope, read_envelope};
 use ferry_keyfile::{KeyFile, read_key_file};
+use ferry_log::Log;
 use ferry_mac::Keys;
-use ferry_manifest::{Manifest, read_manifest};
+use ferry_manifest::{ArchiveRefs, Manifest, Names, read_manifest};
+use ferry_msgpack::Value;
 use std::alloc::Global;
 
 /// What the file `config` of a repository says, and its key, opened with a secret.
@@ -133,13 +138,85 @@ fn open_text(alloc: Global, text: &[u8], passphrase: &[u8]) -> Result<(u32, KeyT
 }
 
 /// The manifest that a content is.
-pub(crate) fn manifest(alloc: Global, keys: &Keys, content: &[u8]) -> Result<Manifest, RepoFault>
+fn manifest(alloc: Global, keys: &Keys, content: &[u8]) -> Result<Manifest, RepoFault>
     ensures manifest { IfOk result (λ manifest. manifest_of keys.now content.now ≡ Ok (manifest_view manifest)) }
     ensures packable { IfOk result (λ manifest. IsPackable (manifest_view manifest)) }
     ensures refused { IfErr result (IsNoManifest keys.now content.now) }
     ensures still { IfErr result (λ fault. repo_failed fault ≡ false) }
 {
     Ok(read_manifest(alloc, keys, content)?)
+}
+
+/// A manifest without archives and further names, which isn't dated.
+fn no_manifest(alloc: Global) -> Manifest
+    ensures manifest { manifest_view result ≡ no_manifest }
+{
+    Manifest {
+        timestamp: None,
+        config: Value::Table(Vec::new(alloc)),
+        item_keys: Names::new(Vec::new(alloc)),
+        archives: ArchiveRefs::new(Vec::new(alloc)),
+        more: Value::Table(Vec::new(alloc)),
+    }
+}
+
+/// Whether a fault is one of the object under the zero id, or of the manifest in it.
+fn is_of_manifest(fault: &RepoFault) -> bool
+    ensures { IsTrue result ↔ IsOfManifest fault.now }
+{
+    match fault {
+        RepoFault::Missing(_) | RepoFault::Blob(_, _) | RepoFault::Manifest(_) => true,
+        _ => false,
+    }
+}
+
+/// The manifest under the zero id.
+#[tactic(auto, using(crate::proofs::FaultLemmas::conversions))]
+fn root<S: Shelf>(
+    alloc: Global,
+    shelf: &mut S,
+    log: &Log,
+    keys: &Keys,
+) -> Result<Manifest, RepoFault>
+    requires fits { IfSome (S.told shelf.old) (λ t. FitsFiles (told_files t) log.now) }
+    ensures manifest { IfOk result (λ manifest. IfSome (S.told shelf.old)
+        (λ t. HoldsRoot (told_files t) log.now keys.now (manifest_view manifest))) }
+    ensures packable { IfOk result (λ manifest. IsPackable (manifest_view manifest)) }
+    ensures refused { IfErr result (λ fault. IfSome (S.told shelf.old) (λ t. LacksRoot (told_files t) log.now keys.now fault)) }
+    ensures same { KeepsTold repo_failed (S.told shelf.old) (S.told shelf.new) result }
+    ensures cause { HasCause repo_failed (S.faults shelf.old) (S.faults shelf.new) result }
+{
+    let content = object(alloc, shelf, log, keys, &ZERO_ID)?;
+    manifest(alloc, keys, &content)
+}
+
+/// The manifest under the zero id; or none, and the fault for which there is none.
+pub(crate) fn root_or_none<S: Shelf>(
+    alloc: Global,
+    shelf: &mut S,
+    log: &Log,
+    keys: &Keys,
+) -> Result<(Manifest, Option<RepoFault>), RepoFault>
+    requires fits { IfSome (S.told shelf.old) (λ t. FitsFiles (told_files t) log.now) }
+    ensures root { IfOk result (λ both. IfSome (S.told shelf.old)
+        (λ t. RootOrNone (told_files t) log.now keys.now (manifest_view both.0) both.1)) }
+    ensures of_manifest { IfOk result (λ both. IfSome both.1 IsOfManifest) }
+    ensures packable { IfOk result (λ both. IsPackable (manifest_view both.0)) }
+    ensures refused { IfErr result (λ fault. IfSome (S.told shelf.old) (λ t. LacksRoot (told_files t) log.now keys.now fault)) }
+    ensures other { IfErr result (λ fault. IsOfManifest fault → ⊥) }
+    ensures same { KeepsTold repo_failed (S.told shelf.old) (S.told shelf.new) result }
+    ensures cause { HasCause repo_failed (S.faults shelf.old) (S.faults shelf.new) result }
+{
+    match root(alloc, shelf, log, keys) {
+        Ok(manifest) => Ok((manifest, None)),
+        Err(fault) => {
+            if is_of_manifest(&fault) {
+                Ok((no_manifest(alloc), Some(fault)))
+            } else {
+                Err(fault)
+            }
+        }
+    }
 }
 
 /// The config and the secrets of what was unlocked.

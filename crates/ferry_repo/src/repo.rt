@@ -1,5 +1,5 @@
 //! An opened repository.
-ghost use Rattle.std.specs.Prelude.{◌≡◌, ◌⊎◌, [], IfOk, IfErr, IfSome, OnOk, OnErr, MatchResult, option_map, is_some, Ok, false};
+ghost use Rattle.std.specs.Prelude.{◌≡◌, ◌⊎◌, ◌<◌, ◌≤◌, [], length, IfOk, IfErr, IfSome, OnOk, OnErr, MatchResult, option_map, is_some, Ok, false};
 ghost use Rattle.ferry_disk.specs.Files.{Files};
 ghost use Rattle.ferry_disk.specs.Device.{KeepsTold, HasCause, told_files};
 ghost use Rattle.ferry_log.specs.State.{with_learnt};
@@ -9,15 +9,16 @@ ghost use Rattle.ferry_manifest.specs.Record.Text.{archive_of, archive_view};
 ghost use Rattle.ferry_repo.specs.Archives.{archive_named, IsNoRecord, HoldsNamed, RefusesNamed, HoldsContent, RefusesContent};
 ghost use Rattle.ferry_repo.specs.Cached.{IsCached, content_in, used};
 ghost use Rattle.ferry_repo.specs.Fault.{repo_failed, IsOfFiles};
+ghost use Rattle.ferry_repo.specs.Lengths.{HaveLengths, RefusesOne};
 ghost use Rattle.ferry_repo.specs.Objects.{IsMissing, HoldsChunk, RefusesChunk};
-ghost use Rattle.ferry_repo.specs.Opening.{repo_view, cached_in, mode_of, OpensFilesTo, RefusesRepo, FitsRepo};
+ghost use Rattle.ferry_repo.specs.Opening.{repo_view, cached_in, mode_of, IsOfManifest, OpensBare, OpensFilesTo, RefusesBare, RefusesRepo, FitsRepo};
 ghost use Rattle.ferry_repo.specs.Walk.{walk_view, begin_walk, FitsWalk};
 
-use crate::batch::Batch;
+use crate::batch::{AHEAD, Batch};
 use crate::cache::Cache;
 use crate::fault::{RepoFault, of_archive};
 use crate::object::object;
-use crate::opening::{manifest, mode_of, settings, unlock};
+use crate::opening::{mode_of, root_or_none, settings, unlock};
 use crate::secret::Secret;
 use crate::walk::Walk;
 use ferry_base::{Id, ZERO_ID};
@@ -29,6 +30,7 @@ use ferry_log::{Log, Place, open_log};
 use ferry_mac::Keys;
 use ferry_manifest::{Archive, ArchiveRef, Ids, Manifest, read_archive};
 use std::alloc::{AllocError, Global};
+use std::cmp::min;
 
 /// A repository opened for reading: it owns what it read of its log, its settings, its keys and its manifest, and the contents that it
 /// answered or read ahead last, sixteen at most. It is used with the shelf on which it was opened.
@@ -51,7 +53,6 @@ impl Repo {
     /// `Memory` may come at any point.
     ///
     /// Source: BorgBackup 1.2, Internals, "Data structures and file formats".
-    #[tactic(auto, using(crate::proofs::FaultLemmas::conversions))]
     pub fn open<S: Shelf>(alloc: Global, shelf: &mut S, secret: &Secret) -> Result<Repo, RepoFault>
         ensures repository { IfOk result (λ repo. IfSome (S.told shelf.old) (λ t.
             OpensFilesTo (told_files t) secret.now (repo_view repo))) }
@@ -62,21 +63,52 @@ impl Repo {
         ensures same { KeepsTold repo_failed (S.told shelf.old) (S.told shelf.new) result }
         ensures cause { HasCause repo_failed (S.faults shelf.old) (S.faults shelf.new) result }
     {
+        let (repo, fault) = Repo::open_bare(alloc, shelf, secret)?;
+        match fault {
+            None => Ok(repo),
+            Some(fault) => Err(fault),
+        }
+    }
+
+    /// Opens a repository with a secret, also where its manifest doesn't open: then the manifest has no archives and no names, and isn't
+    /// dated, and the second part is the fault, of the object under the zero id or of the manifest in it.
+    ///
+    /// A fault that is answered alone is the first in the order log, `config`, key file where `config` has no key, and key; `Device` and
+    /// `Memory` may come at any point.
+    ///
+    /// Source: BorgBackup 1.2, Internals, "Data structures and file formats".
+    #[tactic(auto, using(crate::proofs::FaultLemmas::conversions))]
+    pub fn open_bare<S: Shelf>(
+        alloc: Global,
+        shelf: &mut S,
+        secret: &Secret,
+    ) -> Result<(Repo, Option<RepoFault>), RepoFault>
+        ensures repository { IfOk result (λ both. IfSome (S.told shelf.old) (λ t.
+            OpensBare (told_files t) secret.now (repo_view both.0) both.1)) }
+        ensures packable { IfOk result (λ both. IsPackable (repo_view both.0).manifest) }
+        ensures cached { IfOk result (λ both. cached_in both.0 ≡ []) }
+        ensures of_manifest { IfOk result (λ both. IfSome both.1 IsOfManifest) }
+        ensures refused { IfErr result (λ fault. IfSome (S.told shelf.old) (λ t.
+            RefusesBare (told_files t) secret.now fault)) }
+        ensures same { KeepsTold repo_failed (S.told shelf.old) (S.told shelf.new) result }
+        ensures cause { HasCause repo_failed (S.faults shelf.old) (S.faults shelf.new) result }
+    {
         let log = open_log(alloc, shelf)?;
         let unlocked = unlock(alloc, shelf, secret)?;
-        let keys = &unlocked.key.keys;
-        let content = object(alloc, shelf, &log, keys, &ZERO_ID)?;
-        let manifest = manifest(alloc, keys, &content)?;
+        let (manifest, fault) = root_or_none(alloc, shelf, &log, &unlocked.key.keys)?;
         let cache = Cache::new(alloc)?;
         let (config, keys) = settings(unlocked);
-        Ok(Repo {
-            alloc,
-            log,
-            config,
-            keys,
-            manifest,
-            cache,
-        })
+        Ok((
+            Repo {
+                alloc,
+                log,
+                config,
+                keys,
+                manifest,
+                cache,
+            },
+            fault,
+        ))
     }
 
     /// The manifest.
@@ -168,6 +200,50 @@ impl Repo {
         Ok(content)
     }
 
+    /// The content of an item's chunk, which is the first of `later`, as `content` answers it. Where it isn't kept, those that follow are
+    /// read with it, opened side by side and kept, as many as twelve contents and 24 MiB hold.
+    #[tactic(auto, using(crate::proofs::FaultLemmas::conversions))]
+    pub fn content_ahead<S: Shelf>(
+        &mut self,
+        shelf: &mut S,
+        chunk: &ChunkRef,
+        later: &[ChunkRef],
+    ) -> Result<Vec<u8>, RepoFault>
+        requires fits { IfSome (S.told shelf.old) (λ t. FitsRepo (told_files t) (repo_view self.old) (cached_in self.old)) }
+        ensures content { IfOk result (λ content. IfSome (S.told shelf.old) (λ t.
+            HoldsContent (told_files t) (repo_view self.old).log (repo_view self.old).keys chunk.now content.items)) }
+        ensures refused { IfErr result (λ fault. IfSome (S.told shelf.old) (λ t.
+            RefusesContent (told_files t) (repo_view self.old).log (repo_view self.old).keys chunk.now fault)) }
+        ensures fits { IfSome (S.told shelf.new) (λ t. FitsRepo (told_files t) (repo_view self.new) (cached_in self.new)) }
+        ensures kept { repo_view self.new ≡ repo_view self.old }
+        ensures same { KeepsTold repo_failed (S.told shelf.old) (S.told shelf.new) result }
+        ensures cause { HasCause repo_failed (S.faults shelf.old) (S.faults shelf.new) result }
+    {
+        self.read_contents(shelf, later)?;
+        self.content(shelf, chunk)
+    }
+
+    /// The lengths in bytes of the contents of the chunks at the front of `ids`, which are opened side by side: of one chunk at least,
+    /// and of as many as 64 and 16 MiB hold. None of the contents is kept.
+    ///
+    /// A refusal other than `Device` and `Memory` is that of the first chunk that is refused.
+    pub fn lengths<S: Shelf>(&self, shelf: &mut S, ids: &[Id]) -> Result<Vec<u64>, RepoFault>
+        requires fits { IfSome (S.told shelf.old) (λ t. FitsRepo (told_files t) (repo_view self.now) (cached_in self.now)) }
+        requires some { 0 < length ids.now }
+        ensures some { IfOk result (λ sizes. 0 < length sizes.items) }
+        ensures few { IfOk result (λ sizes. length sizes.items ≤ length ids.now) }
+        ensures lengths { IfOk result (λ sizes. IfSome (S.told shelf.old) (λ t.
+            HaveLengths (told_files t) (repo_view self.now).log (repo_view self.now).keys ids.now sizes.items)) }
+        ensures refused { IfErr result (λ fault. IsOfFiles fault → IfSome (S.told shelf.old) (λ t.
+            RefusesOne (told_files t) (repo_view self.now).log (repo_view self.now).keys ids.now fault)) }
+        ensures fits { IfSome (S.told shelf.new) (λ t. FitsRepo (told_files t) (repo_view self.now) (cached_in self.now)) }
+        ensures same { KeepsTold repo_failed (S.told shelf.old) (S.told shelf.new) result }
+        ensures cause { HasCause repo_failed (S.faults shelf.old) (S.faults shelf.new) result }
+    {
+        let batch = Batch::read_front(self.alloc, shelf, &self.log, ids)?;
+        batch.lengths(self.alloc, &self.keys)
+    }
+
     /// The id of the record of the archive of a name, and none where the manifest has no such name.
     pub fn record_id(&self, name: &[u8]) -> Option<Id>
         ensures id { result ≡ option_map (λ a. a.id) (archive_named name.now (repo_view self.now).manifest.archives) }
@@ -210,7 +286,18 @@ impl Repo {
         ensures memory { IfErr result (λ fault. fault ≡ RepoFault.Memory) }
     {
         let ids = Vec::from_slice(self.alloc, archive.items.as_slice())?;
-        Ok(Walk::new(self.alloc, *id, Ids::new(ids)))
+        Ok(Walk::new(self.alloc, *id, Ids::new(ids), false))
+    }
+
+    /// The same walk for one who reads no contents between the steps: the chunks of the stream are read ahead, opened side by side and
+    /// kept, as many as twelve and 24 MiB hold.
+    pub fn walk_stream(&self, id: &Id, archive: &Archive) -> Result<Walk, RepoFault>
+        ensures walk { IfOk result (λ walk. walk_view walk ≡ begin_walk id.now archive.now.items) }
+        ensures fits { IfOk result (λ walk. (files : Files) → FitsWalk files (repo_view self.now).log (repo_view self.now).keys (walk_view walk)) }
+        ensures memory { IfErr result (λ fault. fault ≡ RepoFault.Memory) }
+    {
+        let ids = Vec::from_slice(self.alloc, archive.items.as_slice())?;
+        Ok(Walk::new(self.alloc, *id, Ids::new(ids), true))
     }
 
     /// Learns the place of a chunk that isn't live, whose blob was put: from then on the chunk is live, and is read there. A refused call
@@ -244,14 +331,72 @@ impl Repo {
         self.cache.get(id).is_some()
     }
 
-    /// Reads the contents of chunks that aren't kept, four at most, opens them side by side, and keeps them. One that can't be read is
-    /// left to the call that asks for it.
+    /// Reads the contents of the first of these chunks, which are looked at where the first one isn't kept. One content alone is left to
+    /// the call that asks for it.
+    #[tactic(auto, using(crate::proofs::FaultLemmas::conversions))]
+    pub(crate) fn read_contents<S: Shelf>(
+        &mut self,
+        shelf: &mut S,
+        chunks: &[ChunkRef],
+    ) -> Result<(), RepoFault>
+        requires fits { IfSome (S.told shelf.old) (λ t. FitsRepo (told_files t) (repo_view self.old) (cached_in self.old)) }
+        ensures refused { IfErr result (λ fault. IsOfFiles fault → ⊥) }
+        ensures fits { IfSome (S.told shelf.new) (λ t. FitsRepo (told_files t) (repo_view self.new) (cached_in self.new)) }
+        ensures kept { repo_view self.new ≡ repo_view self.old }
+        ensures same { KeepsTold repo_failed (S.told shelf.old) (S.told shelf.new) result }
+        ensures cause { HasCause repo_failed (S.faults shelf.old) (S.faults shelf.new) result }
+    {
+        let ids = self.ids_ahead(chunks)?;
+        self.read_ahead(shelf, ids.as_slice())
+    }
+
+    /// The ids of the first of these chunks, where the first one isn't kept: those whose contents aren't kept.
+    fn ids_ahead(&self, chunks: &[ChunkRef]) -> Result<Vec<Id>, AllocError> {
+        let mut ids = Vec::new(self.alloc);
+        for chunk in chunks.iter().take(AHEAD) {
+            if !self.keeps(&chunk.id) {
+                ids.push(chunk.id)?;
+            } else if ids.is_empty() {
+                return Ok(ids);
+            }
+        }
+        Ok(ids)
+    }
+
+    /// Reads the contents of chunks that aren't kept, as many as are read ahead at most, opens them side by side, and keeps them. One that
+    /// can't be read is left to the call that asks for it, as is one alone.
     #[tactic(auto, using(crate::proofs::FaultLemmas::conversions))]
     pub(crate) fn read_ahead<S: Shelf>(
         &mut self,
         shelf: &mut S,
         ids: &[Id],
     ) -> Result<(), RepoFault>
+        requires fits { IfSome (S.told shelf.old) (λ t. FitsRepo (told_files t) (repo_view self.old) (cached_in self.old)) }
+        ensures refused { IfErr result (λ fault. IsOfFiles fault → ⊥) }
+        ensures fits { IfSome (S.told shelf.new) (λ t. FitsRepo (told_files t) (repo_view self.new) (cached_in self.new)) }
+        ensures kept { repo_view self.new ≡ repo_view self.old }
+        ensures same { KeepsTold repo_failed (S.told shelf.old) (S.told shelf.new) result }
+        ensures cause { HasCause repo_failed (S.faults shelf.old) (S.faults shelf.new) result }
+    {
+        if ids.len() < 2 {
+            return Ok(());
+        }
+        self.make_room(shelf, min(ids.len(), AHEAD));
+        self.read_batch(shelf, ids)
+    }
+
+    /// Lets contents go that were used longest ago, before those are read that would push them out.
+    fn make_room<S: Shelf>(&mut self, shelf: &S, count: usize)
+        requires fits { IfSome (S.told shelf.now) (λ t. FitsRepo (told_files t) (repo_view self.old) (cached_in self.old)) }
+        ensures fits { IfSome (S.told shelf.now) (λ t. FitsRepo (told_files t) (repo_view self.new) (cached_in self.new)) }
+        ensures kept { repo_view self.new ≡ repo_view self.old }
+    {
+        self.cache.make_room(count);
+    }
+
+    /// Reads the contents of chunks that aren't kept, opens them side by side, and keeps them.
+    #[tactic(auto, using(crate::proofs::FaultLemmas::conversions))]
+    fn read_batch<S: Shelf>(&mut self, shelf: &mut S, ids: &[Id]) -> Result<(), RepoFault>
         requires fits { IfSome (S.told shelf.old) (λ t. FitsRepo (told_files t) (repo_view self.old) (cached_in self.old)) }
         ensures refused { IfErr result (λ fault. IsOfFiles fault → ⊥) }
         ensures fits { IfSome (S.told shelf.new) (λ t. FitsRepo (told_files t) (repo_view self.new) (cached_in self.new)) }

@@ -5,10 +5,12 @@ ghost use Rattle.ferry_item.specs.Item.{item_view};
 ghost use Rattle.ferry_item.specs.Stream.{front_item, nothing_yet};
 ghost use Rattle.ferry_item.specs.Writing.{IsPackable};
 ghost use Rattle.ferry_repo.specs.Fault.{repo_failed, IsOfFiles};
-ghost use Rattle.ferry_repo.specs.Objects.{RefusesChunk};
+ghost use Rattle.ferry_repo.specs.Archives.{HoldsContent, RefusesContent};
+ghost use Rattle.ferry_repo.specs.Objects.{HoldsChunk, RefusesChunk};
 ghost use Rattle.ferry_repo.specs.Opening.{repo_view, cached_in, FitsRepo};
 ghost use Rattle.ferry_repo.specs.Walk.{walk_view, begin_walk, IsToCome, LeadsOn, FitsWalk, ReadsOn, Ends};
 
+use crate::batch::AHEAD;
 use crate::fault::{RepoFault, of_item};
 use crate::repo::Repo;
 use ferry_base::Id;
@@ -19,14 +21,8 @@ use std::alloc::{AllocError, Global};
 use std::cmp::min;
 use std::mem;
 
-/// How many chunks that come are looked at for those that are opened side by side.
-const AHEAD: usize = 8;
-
 /// The size in bytes from which a content takes longer to be opened than some items to be read.
-const LARGE: u64 = 32_768;
-
-/// How many contents are faster opened side by side than one after another.
-const FEWEST: usize = 3;
+const LARGE: u64 = 2_048;
 
 /// A walk over the items of an archive. It owns the ids of the chunks of the archive's stream and what it read ahead of them. It is
 /// used with the repository that made it and its shelf.
@@ -38,6 +34,7 @@ pub struct Walk {
     read: usize,
     reader: ItemReader,
     ending: Ending,
+    ahead: bool,
 }
 
 /// Whether the end of the stream was met, and how. The reader is spent there, so the walk keeps what it said.
@@ -52,8 +49,8 @@ pub(crate) enum Ending {
 }
 
 impl Walk {
-    /// A walk from the front of the stream of these chunks, for the record of this id.
-    pub(crate) fn new(alloc: Global, id: Id, ids: Ids) -> Walk
+    /// A walk from the front of the stream of these chunks, for the record of this id. Where `ahead` holds, the chunks are read ahead.
+    pub(crate) fn new(alloc: Global, id: Id, ids: Ids, ahead: bool) -> Walk
         ensures walk { walk_view result ≡ begin_walk id ids }
     {
         Walk {
@@ -63,6 +60,7 @@ impl Walk {
             read: 0,
             reader: ItemReader::new(alloc),
             ending: Ending::Open,
+            ahead,
         }
     }
 
@@ -125,9 +123,8 @@ impl Walk {
     }
 
     /// Brings the contents of chunks that are wanted next among those that the repository keeps, where the first of `chunks` isn't
-    /// there: of `chunks`, the rest of an item, and then of the items that stand whole in what was read. Four at most are read, and
-    /// opened side by side; none where too few are of like size for that to be faster. Only time depends on it: the call that asks for
-    /// a content says what is wrong with it.
+    /// there: of `chunks`, the rest of an item, and then of the items that stand whole in what was read. As many are read as twelve contents
+    /// and 24 MiB hold, and opened side by side. Only time depends on it: the call that asks for a content says what is wrong with it.
     #[tactic(auto, using(crate::proofs::FaultLemmas::conversions))]
     pub fn read_ahead<S: Shelf>(
         &self,
@@ -145,35 +142,81 @@ impl Walk {
         if chunks.is_empty() || repo.keeps(&chunks[0].id) {
             return Ok(());
         }
-        let ids = self.ids_ahead(repo, chunks)?;
-        if ids.len() < FEWEST {
-            return Ok(());
-        }
-        repo.read_ahead(shelf, ids.as_slice())
+        let wanted = self.chunks_ahead(chunks)?;
+        repo.read_contents(shelf, wanted.as_slice())
+    }
+
+    /// The content of an item's chunk, which is the first of `later`, as the repository answers it. Where it isn't kept, those that follow
+    /// are read with it by `read_ahead`.
+    #[tactic(auto, using(crate::proofs::FaultLemmas::conversions))]
+    pub fn content<S: Shelf>(
+        &self,
+        repo: &mut Repo,
+        shelf: &mut S,
+        chunk: &ChunkRef,
+        later: &[ChunkRef],
+    ) -> Result<Vec<u8>, RepoFault>
+        requires fits { IfSome (S.told shelf.old) (λ t. FitsRepo (told_files t) (repo_view repo.old) (cached_in repo.old)) }
+        ensures content { IfOk result (λ content. IfSome (S.told shelf.old) (λ t.
+            HoldsContent (told_files t) (repo_view repo.old).log (repo_view repo.old).keys chunk.now content.items)) }
+        ensures refused { IfErr result (λ fault. IfSome (S.told shelf.old) (λ t.
+            RefusesContent (told_files t) (repo_view repo.old).log (repo_view repo.old).keys chunk.now fault)) }
+        ensures fits { IfSome (S.told shelf.new) (λ t. FitsRepo (told_files t) (repo_view repo.new) (cached_in repo.new)) }
+        ensures kept { repo_view repo.new ≡ repo_view repo.old }
+        ensures same { KeepsTold repo_failed (S.told shelf.old) (S.told shelf.new) result }
+        ensures cause { HasCause repo_failed (S.faults shelf.old) (S.faults shelf.new) result }
+    {
+        self.read_ahead(repo, shelf, later)?;
+        repo.content(shelf, chunk)
     }
 }
 
 impl Walk {
-    /// The ids of chunks that are wanted next and aren't kept, of like size: opening side by side takes as long as the longest one. Where the
-    /// first is small, the items that follow aren't read for it.
-    fn ids_ahead(&self, repo: &Repo, chunks: &[ChunkRef]) -> Result<Vec<Id>, AllocError> {
-        let mut ids = Vec::new(self.alloc);
-        let Some(first) = chunks.first() else {
-            return Ok(ids);
-        };
-        let size = first.size;
+    /// Chunks that are wanted next, of `chunks` and then of the items that follow. Where the first is small, the items aren't read for it.
+    fn chunks_ahead(&self, chunks: &[ChunkRef]) -> Result<Vec<ChunkRef>, AllocError> {
         let mut wanted = Vec::new(self.alloc);
+        let Some(first) = chunks.first() else {
+            return Ok(wanted);
+        };
         wanted.extend_from_slice(&chunks[..min(chunks.len(), AHEAD)])?;
-        if size >= LARGE {
+        if first.size >= LARGE {
             self.reader.chunks_ahead(AHEAD, &mut wanted)?;
         }
-        wanted.sort_by_key(|chunk| chunk.size.abs_diff(size))?;
-        for chunk in wanted.iter() {
-            if are_alike(chunk.size, size) && !repo.keeps(&chunk.id) {
-                ids.push(chunk.id)?;
-            }
+        Ok(wanted)
+    }
+
+    /// The content of the next chunk of the stream, which has this id. Where the stream is read ahead, those of the chunks that follow are
+    /// read with it.
+    #[tactic(auto, using(crate::proofs::FaultLemmas::conversions))]
+    fn next_content<S: Shelf>(
+        &self,
+        repo: &mut Repo,
+        shelf: &mut S,
+        id: &Id,
+    ) -> Result<Vec<u8>, RepoFault>
+        requires fits { IfSome (S.told shelf.old) (λ t. FitsRepo (told_files t) (repo_view repo.old) (cached_in repo.old)) }
+        ensures content { IfOk result (λ content. IfSome (S.told shelf.old) (λ t.
+            HoldsChunk (told_files t) (repo_view repo.old).log (repo_view repo.old).keys id.now content.items)) }
+        ensures refused { IfErr result (λ fault. IfSome (S.told shelf.old) (λ t.
+            RefusesChunk (told_files t) (repo_view repo.old).log (repo_view repo.old).keys id.now fault)) }
+        ensures fits { IfSome (S.told shelf.new) (λ t. FitsRepo (told_files t) (repo_view repo.new) (cached_in repo.new)) }
+        ensures kept { repo_view repo.new ≡ repo_view repo.old }
+        ensures same { KeepsTold repo_failed (S.told shelf.old) (S.told shelf.new) result }
+        ensures cause { HasCause repo_failed (S.faults shelf.old) (S.faults shelf.new) result }
+    {
+        let later = self.ids_ahead(repo, id);
+        repo.read_ahead(shelf, later)?;
+        repo.chunk(shelf, id)
+    }
+
+    /// The ids of the next chunks of the stream, where it is read ahead and the first isn't kept.
+    fn ids_ahead(&self, repo: &Repo, id: &Id) -> &[Id] {
+        let ids = self.ids.as_slice();
+        if !self.ahead || self.read >= ids.len() || repo.keeps(id) {
+            return &[];
         }
-        Ok(ids)
+        let end = min(ids.len(), self.read.saturating_add(AHEAD));
+        &ids[self.read..end]
     }
 
     /// Opens the next chunk of the stream, and feeds the reader with its content.
@@ -195,7 +238,7 @@ impl Walk {
         ensures cause { HasCause repo_failed (S.faults shelf.old) (S.faults shelf.new) result }
     {
         let id = self.ids.as_slice()[self.read];
-        let content = repo.chunk(shelf, &id)?;
+        let content = self.next_content(repo, shelf, &id)?;
         match self.reader.feed(&content) {
             Ok(()) => {}
             Err(_) => return Err(RepoFault::Memory),
@@ -216,9 +259,4 @@ impl Walk {
             Err(_) => Ending::Cut,
         };
     }
-}
-
-/// Whether each of two sizes is at most twice the other.
-fn are_alike(a: u64, b: u64) -> bool {
-    a / 2 <= b && b / 2 <= a
 }

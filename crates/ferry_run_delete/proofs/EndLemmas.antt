@@ -56,7 +56,7 @@ goes_then asked store now count h g i opens there untold fits untold_then delete
     subst (λ (w : Written). ShowsStanding w (files_now i)) written (standing_now false now d.fits.written i d.fits.under_way) in
     let manifest : CommitsManifest next (with_deleted (found (Some o.committed) (files_now h)) d.ids d.blob).committed =
     subst (λ (w : Written). CommitsManifest next w.committed) written
-    (subst (λ (r : RepoState). CommitsManifest r d.fits.written.committed) d.repo_is d.fits.manifest) in
+    (subst (λ (r : RepoState). CommitsManifest r d.fits.written.committed) d.repo_is (d.fits.manifest refl)) in
     let shown : ShowsDeleted (files_now h) repo asked.name time (found (Some o.committed) (files_now h)) (files_now i) =
     record { ids = d.ids; going = going; blob = d.blob; shows = shows; manifest = manifest } in
     record {

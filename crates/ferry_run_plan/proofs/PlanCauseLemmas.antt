@@ -26,7 +26,7 @@ use Rattle.ferry_run_plan.proofs.PlanLemmas.{files_same, refuses_same, request_s
 use Rattle.ferry_run_plan.specs.Planning.{CanBePlanned, IsPlan, IsPlanRefused, IsPlannedUnless, RefusesChosen, RefusesPlanning, plan_line, planned_for}
 use Rattle.ferry_run_transfer.specs.Rerun.{IsAbsentOrEqual}
 use Rattle.ferry_run_transfer.specs.Transfer.{Request, chosen_of}
-use Rattle.ferry_run_transfer.specs.TransferCauses.{IsFirstMissing}
+use Rattle.ferry_run_transfer.specs.TransferCauses.{IsFirstMissing, IsFound}
 
 -- ---- a later call
 
@@ -57,7 +57,7 @@ module _ (request : Request) (s s_now t : Told) (same : told_files s_now ≡ tol
   status_before (Statuses.SourceRefused (Refusals.Repo fault)) r = (r.0, source_before fault r.1)
   status_before (Statuses.SourceRefused (Refusals.Nonce fault)) r = r
   status_before (Statuses.SourceRefused Refusals.Committed) r = r
-  status_before (Statuses.TargetRefused (Refusals.Repo fault)) r = r
+  status_before (Statuses.TargetRefused (Refusals.Repo fault)) r = (r.0, (subst (λ (f : Files). IsFound request f) same r.1.0, r.1.1))
   status_before (Statuses.TargetRefused (Refusals.Nonce fault)) r = r
   status_before (Statuses.TargetRefused Refusals.Committed) r = r
   status_before (Statuses.Taken name) r = chosen_before (Faults.Taken name) r
@@ -189,7 +189,7 @@ module _ (request : Request) (s t : Told) (can : CanBePlanned request (told_file
   completes (Statuses.SourceRefused (Refusals.Repo fault)) r = source_apart fault r.0 r.1
   completes (Statuses.SourceRefused (Refusals.Nonce fault)) r = r
   completes (Statuses.SourceRefused Refusals.Committed) r = r
-  completes (Statuses.TargetRefused (Refusals.Repo fault)) r = repo_apart files request.secrets.target can.repo fault can.opens r.0 r.1
+  completes (Statuses.TargetRefused (Refusals.Repo fault)) r = repo_apart files request.secrets.target can.repo fault can.opens r.0 r.1.1
   completes (Statuses.TargetRefused (Refusals.Nonce fault)) r = r
   completes (Statuses.TargetRefused Refusals.Committed) r = r
   completes (Statuses.Taken name) r = chosen_apart (Faults.Taken name) tt r

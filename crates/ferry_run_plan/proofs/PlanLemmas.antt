@@ -1,5 +1,5 @@
 -- Lemmas on specs/Planning.antt: which statuses a plan has, and what they say of the files that were told.
-use Rattle.std.proofs.Common.{◌≡◌, ◌⊎◌, inl, inr, ℕ, false, List, Option, Some, None, IfSome, refl, sym, ap, subst, slice_get}
+use Rattle.std.proofs.Common.{◌≡◌, ◌⊎◌, inl, inr, ℕ, false, List, Option, Some, None, IfSome, IsSome, refl, sym, ap, subst, slice_get}
 use Rattle.ferry_carry.specs.Chosen.{IsMissingName}
 use Rattle.ferry_carry.specs.Refusals.{HasLongItem}
 use Rattle.ferry_disk.specs.Act.{files_now}
@@ -29,7 +29,9 @@ use Rattle.ferry_status.specs.declared.status.Status.{Status}
 use Rattle.ferry_status.specs.declared.status.Status.TheVariants as Statuses
 use Rattle.ferry_run_plan.specs.Planning.{IsPlan, IsPlanRefused, PlansTransfer, RefusesChosen, RefusesPlanning}
 use Rattle.ferry_run_plan.specs.Planning.{plan_line, plan_status, planned_for}
+use Rattle.ferry_run_transfer.proofs.RefusedLemmas.{names_found}
 use Rattle.ferry_run_transfer.specs.Transfer.{Request, chosen_of}
+use Rattle.ferry_run_transfer.specs.TransferCauses.{IsFound}
 
 -- ---- which statuses faults have
 
@@ -207,11 +209,20 @@ chosen_refused secrets block names source target (Some s) (Some t) (Some u) chos
     (refuses_same s s t u source block target refl (files_same t u same) (chosen_of names source.manifest) fault
     (subst (λ (all : List (List ℕ)). RefusesPlan (Some s) source block (Some u) target all fault) is r))
 
-pub unopened_target : (request : Request) (source target : Option Told) (fault : RepoFault)
+-- each name was found in the source that opened
+pub plan_found : (secrets : Secrets) (block : ℕ) (names : List (List ℕ)) (source : RepoState) (told : Option Told) (chosen : List (List ℕ))
+    → IfSome told (λ t. OpensFilesTo (told_files t) secrets.source source) → chosen ≡ chosen_of names source.manifest
+    → ((place : ℕ) (name : List ℕ) → slice_get chosen place ≡ Some name → IsSome (archive_named name source.manifest.archives))
+    → IfSome told (λ s. IsFound (planned_for secrets block names told) (told_files s))
+plan_found secrets block names source None chosen opens is found = tt
+plan_found secrets block names source (Some t) chosen opens is found =
+    names_found secrets (record { block = block; checkpoint = 1; timestamp = None }) names source (Some t) chosen opens is found
+
+pub unopened_target : (request : Request) (source target : Option Told) (fault : RepoFault) → IfSome source (λ s. IsFound request (told_files s))
     → IfSome target (λ t. RefusesRepo (told_files t) request.secrets.target fault) → IsPlanRefused request source target (target_status fault)
-unopened_target request None target fault r = tt
-unopened_target request (Some s) None fault r = tt
-unopened_target request (Some s) (Some t) fault r = by_target (RefusesPlanning request s t) fault (λ files. (files, r)) tt tt
+unopened_target request None target fault found r = tt
+unopened_target request (Some s) None fault found r = tt
+unopened_target request (Some s) (Some t) fault found r = by_target (RefusesPlanning request s t) fault (λ files. (files, (found, r))) tt tt
 
 pub unopened_source : (request : Request) (source target : Option Told) (fault : RepoFault)
     → IfSome source (λ s. RefusesRepo (told_files s) request.secrets.source fault) → IsPlanRefused request source target (repo_status fault)

@@ -20,7 +20,7 @@ use Rattle.ferry_status.specs.declared.status.Status.{Status}
 use Rattle.ferry_status.specs.declared.status.Status.TheVariants as Statuses
 use Rattle.ferry_run_transfer.specs.Rerun.{IsAbsentOrEqual, LacksName}
 use Rattle.ferry_run_transfer.specs.Transfer.{Request, asked, chosen_of}
-use Rattle.ferry_run_transfer.specs.TransferCauses.{IsFirstMissing}
+use Rattle.ferry_run_transfer.specs.TransferCauses.{IsFirstMissing, IsFound}
 
 -- the line of a plan: the pieces of contents that would be put, their bytes, and the pieces of item streams
 abbrev pub plan_line : Planned → List ℕ
@@ -45,13 +45,14 @@ abbrev pub RefusesChosen : Request → Told → Told → PlanFault → Type 0
 RefusesChosen request source target fault = OpensBoth request (told_files source) (told_files target)
     (λ repo state names. RefusesPlan (Some source) repo request.block (Some target) state names fault)
 
--- What a status says of the files that both devices tell, where no plan is made: one of the repositories doesn't open; a chosen archive isn't whole in the
--- source, is another one in the target, or isn't there in the source; or an item of one that the target lacks is too long.
+-- What a status says of the files that both devices tell, where no plan is made: the source doesn't open, or has each chosen name while the target doesn't
+-- open; a chosen archive isn't whole in the source, is another one in the target, or isn't there in the source; or an item of one that the target lacks is too
+-- long.
 abbrev pub RefusesPlanning : Request → Told → Told → Status → Type 0
 RefusesPlanning request source target (Statuses.SourceRefused (Repo fault)) = IsOfFiles fault
     × (RefusesRepo (told_files source) request.secrets.source fault ⊎ RefusesChosen request source target (Faults.Source fault))
 RefusesPlanning request source target (Statuses.TargetRefused (Repo fault)) =
-    IsOfFiles fault × RefusesRepo (told_files target) request.secrets.target fault
+    IsOfFiles fault × (IsFound request (told_files source) × RefusesRepo (told_files target) request.secrets.target fault)
 RefusesPlanning request source target (Statuses.Taken name) = RefusesChosen request source target (Faults.Taken name)
 RefusesPlanning request source target (Statuses.NotFound name) = IsFirstMissing request (told_files source) name
 RefusesPlanning request source target (Statuses.Limit Limits.Item) = RefusesChosen request source target Faults.Pieces

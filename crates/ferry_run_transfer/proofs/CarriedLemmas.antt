@@ -4,9 +4,12 @@ use Rattle.std.proofs.Common.{refl, sym, ◌∙◌, ap, subst, IfSome}
 use Rattle.std.specs.List.{AllByRecursion}
 use Rattle.ferry_piece.proofs.AmongLemmas.{each_to}
 use Rattle.ferry_carry.specs.Listing.{BeginsNames, ListsNames}
-use Rattle.ferry_carry.specs.Carrying.{AreCut, CarriesOver, IsApart, IsCarried, origin}
+use Rattle.ferry_carry.specs.Naming.{TaggedRecord, record_ids}
+use Rattle.ferry_carry.specs.Carrying.{AreCut, CarriesOver, IsApart, IsCarried}
+use Rattle.ferry_carry.specs.Accepting.{AreNextOf}
+use Rattle.ferry_carry.specs.Flight.{origin_of}
 use Rattle.ferry_piece.specs.Gather.{BringsOpening, HoldsWithin, NoCollision}
-use Rattle.ferry_carry.specs.Grow.{IsNamedBy, KeepsChunks, StandsOn}
+use Rattle.ferry_carry.specs.Grow.{IsBehind, IsNamedBy, KeepsChunks, StandsOn}
 use Rattle.ferry_piece.specs.Puts.{Addition, Border, GoesOn}
 use Rattle.ferry_carry.specs.Telling.{IsReport}
 use Rattle.ferry_carry.specs.declared.options.Options.{Options}
@@ -23,7 +26,7 @@ use Rattle.ferry_stops.specs.Entries.{Shows}
 use Rattle.ferry_store.proofs.StandingLemmas.{opened_unlocks, opens_live, state_live}
 use Rattle.ferry_store.specs.Standing.{UnlocksSettings, committed_of, entries_of, live_in, with_manifest}
 use Rattle.ferry_store.specs.State.{Written}
-use Rattle.ferry_run_transfer.specs.Transfer.{AreCutThere, Arrives, IsBegun, IsChosen, IsChosenFront}
+use Rattle.ferry_run_transfer.specs.Transfer.{AreCutThere, Arrives, IsBegun, IsBehindNames, IsChosen, IsChosenFront}
 use Rattle.ferry_run_transfer.specs.Transfer.{KeepsArchives, ListsChosen, NoneCollide, Request, asked, chosen_of}
 use Rattle.ferry_run_transfer.specs.Transfer.{from_source}
 use Rattle.ferry_status.specs.declared.status.Secrets.{Secrets}
@@ -97,25 +100,44 @@ module _ (secrets : Secrets) (options : Options) (names : List (List ℕ)) (sour
   all_of None done opens all = tt
   all_of (Some t) done opens all = (source, (opens, all))
 
-  pub all_listed : (told : Option Told) (chosen : List (List ℕ)) (accepted : ManifestText) (repo : RepoState) (added : List Addition) → SourceOpens told
-      → chosen ≡ chosen_of names source.manifest → accepted ≡ repo.manifest
-      → ListsNames (origin told source options.block options.checkpoint) repo.keys accepted [] chosen added
-      → IfSome (asked secrets options names told).source (ListsChosen (asked secrets options names told) repo added)
-  all_listed None chosen accepted repo added opens chosen_is accepted_is lists = tt
-  all_listed (Some t) chosen accepted repo added opens chosen_is accepted_is lists =
-      let from = origin (Some t) source options.block options.checkpoint in (
+  pub all_listed : (told : Option Told) (chosen : List (List ℕ)) (accepted manifest : ManifestText) (repo : RepoState) (records : List TaggedRecord)
+      (added : List Addition) → SourceOpens told → chosen ≡ chosen_of names source.manifest → accepted ≡ repo.manifest
+      → ListsNames (origin_of told source options) repo.keys accepted [] chosen records added
+      → AreNextOf options.timestamp source.manifest accepted chosen (record_ids repo.keys records) manifest
+      → IfSome (asked secrets options names told).source (ListsChosen (asked secrets options names told) repo manifest records added)
+  all_listed None chosen accepted manifest repo records added opens chosen_is accepted_is lists next = tt
+  all_listed (Some t) chosen accepted manifest repo records added opens chosen_is accepted_is lists next =
+      let from = origin_of (Some t) source options in
+      let ids = record_ids repo.keys records in (
         source,
         (
           opens,
-          subst (λ (all : List (List ℕ)). ListsNames from repo.keys repo.manifest [] all added) chosen_is
-              (subst (λ (m : ManifestText). ListsNames from repo.keys m [] chosen added) accepted_is lists),
+          (
+            subst (λ (all : List (List ℕ)). ListsNames from repo.keys repo.manifest [] all records added) chosen_is
+                (subst (λ (m : ManifestText). ListsNames from repo.keys m [] chosen records added) accepted_is lists),
+            subst (λ (all : List (List ℕ)). AreNextOf options.timestamp source.manifest repo.manifest all ids manifest) chosen_is
+                (subst (λ (m : ManifestText). AreNextOf options.timestamp source.manifest m chosen ids manifest) accepted_is next),
+          ),
         ),
+      )
+
+  -- the manifest behind the names that came
+  behind_of : (told : Option Told) (accepted before manifest : ManifestText) (done : List (List ℕ)) → SourceOpens told → accepted ≡ before
+      → IsBehind (origin_of told source options) accepted before done manifest
+      → IfSome (asked secrets options names told).source (IsBehindNames (asked secrets options names told) before done manifest)
+  behind_of None accepted before manifest done opens same behind = tt
+  behind_of (Some t) accepted before manifest done opens same behind = λ repo other.
+      let next = behind same in (
+        next.0,
+        subst (λ (r : RepoState). AreNextOf options.timestamp r.manifest before done next.0 manifest)
+            (one_repo (told_files t) secrets.source source repo opens other)
+            (subst (λ (m : ManifestText). AreNextOf options.timestamp source.manifest m done next.0 manifest) same next.1),
       )
 
   -- what is added for the names that were chosen, as far as it came
   begun_of : (told : Option Told) (chosen : List (List ℕ)) (accepted : ManifestText) (start : Files) (repo : RepoState) (within : List Addition)
       → SourceOpens told → chosen ≡ chosen_of names source.manifest → accepted ≡ repo.manifest → OpensFilesTo start secrets.target repo
-      → BeginsNames (origin told source options.block options.checkpoint) repo.keys accepted [] chosen within
+      → BeginsNames (origin_of told source options) repo.keys accepted [] chosen within
       → IsBegun (asked secrets options names told) start within
   begun_of None chosen accepted start repo within source_opens chosen_is accepted_is opens begins before other = tt
   begun_of (Some t) chosen accepted start repo within source_opens chosen_is accepted_is opens begins before other = λ next next_opens.
@@ -131,19 +153,19 @@ module _ (secrets : Secrets) (options : Options) (names : List (List ℕ)) (sour
   all_arrived : (told : Option Told) (start image : Files) (next : RepoState) (within : List Addition) (base entries : List LogEntry) (log : LogState)
       (done : List (List ℕ)) → SourceOpens told → OpensFilesTo image secrets.target (record next { log = log }) → HasAll image log entries
       → StaysApart (asked secrets options names told) start within next base
-      → AllByRecursion (IsCarried (origin told source options.block options.checkpoint) within base next.keys entries next.manifest.archives) done
+      → AllByRecursion (IsCarried (origin_of told source options) within base next.keys entries next.manifest.archives) done
       → IfSome (asked secrets options names told).source
       (λ files. AllByRecursion (Arrives (asked secrets options names told) files start image within (record next { log = log })) done)
   all_arrived None start image next within base entries log done source_opens opens blobs apart carried = tt
   all_arrived (Some t) start image next within base entries log done source_opens opens blobs apart carried =
-      each_to (IsCarried (origin (Some t) source options.block options.checkpoint) within base next.keys entries next.manifest.archives)
+      each_to (IsCarried (origin_of (Some t) source options) within base next.keys entries next.manifest.archives)
       (Arrives (asked secrets options names (Some t)) (told_files t) start image within (record next { log = log })) done
       (λ name c.
       arrives (asked secrets options names (Some t)) (told_files t) start image source next within base entries log name source_opens opens blobs apart c)
       carried
 
   all_cut : (told : Option Told) (accepted before : ManifestText) (next : RepoState) (log : LogState) (done : List (List ℕ)) → SourceOpens told
-      → accepted ≡ before → AreCut accepted (origin told source options.block options.checkpoint) next.keys next.manifest.archives done
+      → accepted ≡ before → AreCut accepted (origin_of told source options) next.keys next.manifest.archives done
       → IfSome (asked secrets options names told).source (AreCutThere (asked secrets options names told) before (record next { log = log }) done)
   all_cut None accepted before next log done source_opens same cut = tt
   all_cut (Some t) accepted before next log done source_opens same cut = λ name among none.
@@ -155,6 +177,7 @@ module _ (secrets : Secrets) (options : Options) (names : List (List ℕ)) (sour
         entry_is = c.entry_is;
         text = c.text;
         id = c.id;
+        salt = c.salt;
         copy = c.copy;
       }
 
@@ -163,10 +186,11 @@ module _ (secrets : Secrets) (options : Options) (names : List (List ℕ)) (sour
       (written : Written) (committed : List LogEntry) → SourceOpens told → chosen ≡ chosen_of names source.manifest → accepted ≡ repo.manifest
       → OpensFilesTo start secrets.target repo → Shows start (Some committed) → committed_of written ≡ committed → entries_of written ≡ committed
       → written.config ≡ start.config → (lines : List (List ℕ))
-      → BeginsNames (origin told source options.block options.checkpoint) repo.keys accepted [] chosen within
-      → (stands : StandsOn [] (origin told source options.block options.checkpoint) chosen within accepted repo written image)
+      → BeginsNames (origin_of told source options) repo.keys accepted [] chosen within
+      → (stands : StandsOn [] (origin_of told source options) chosen within accepted repo written image)
       → IsReport accepted lines stands.done
-      → (keeps : KeepsArchives (asked secrets options names told) start repo.manifest lines image) × (keeps.done ≡ stands.done)
+      → (keeps : KeepsArchives (asked secrets options names told) start repo.manifest lines image)
+      × ((keeps.done ≡ stands.done) × ((keeps.begun ≡ within) × (keeps.repo.manifest ≡ stands.manifest)))
   stands_keeps told chosen within accepted start image repo written committed source_opens chosen_is accepted_is opens shown same all config lines begins
       stands report =
       let secret = secrets.target in
@@ -189,6 +213,7 @@ module _ (secrets : Secrets) (options : Options) (names : List (List ℕ)) (sour
           adds = adds_on asks start image repo within written committed stands.entries opens shown stands.shown same all
               (subst (λ (b : Border). GoesOn b repo.keys options.checkpoint within written stands.entries) at_begin stands.puts);
           begins = begun_of told chosen accepted start repo within source_opens chosen_is accepted_is opens begins;
+          next = behind_of told accepted repo.manifest stands.manifest stands.done source_opens accepted_is stands.next;
           arrived = all_arrived told start image next within (entries_of written) stands.entries live.log stands.done source_opens live.opens live.blobs
               (subst (StaysApart asks start within repo) (sym all) (apart_shown asks start repo committed within opens shown)) stands.carried;
           cut = all_cut told accepted repo.manifest next live.log stands.done source_opens accepted_is stands.cut;
@@ -197,5 +222,5 @@ module _ (secrets : Secrets) (options : Options) (names : List (List ℕ)) (sour
               (subst (λ (c : List LogEntry). BringsOpening repo.keys c stands.entries) all stands.opening) (λ id blob has. (live.blobs id blob).0 has);
           told = subst (λ (m : ManifestText). IsReport m lines stands.done) accepted_is report;
         },
-        refl,
+        (refl, (refl, refl)),
       )

@@ -8,7 +8,8 @@ use Rattle.ferry_blob.specs.declared.fault.BlobFault.{BlobFault}
 use Rattle.ferry_carry.proofs.WholeLemmas.{whole_kept}
 use Rattle.ferry_carry.specs.Accepting.{AreNextOf, LimitsNames}
 use Rattle.ferry_piece.specs.Adding.{IsOfLast}
-use Rattle.ferry_carry.specs.Carrying.{SaysIn, origin}
+use Rattle.ferry_carry.specs.Carrying.{SaysIn}
+use Rattle.ferry_carry.specs.Flight.{origin_of}
 use Rattle.ferry_carry.specs.Chosen.{IsMissingName}
 use Rattle.ferry_carry.specs.Listing.{BeginsNames}
 use Rattle.ferry_piece.specs.Puts.{Addition}
@@ -161,7 +162,7 @@ module _ (secrets : Secrets) (options : Options) (names : List (List ℕ)) (sour
   Keeps = KeepsArchives asks (told_files a) (repo_view store.repo).manifest (lines_of d.history.acts) (told_files d)
 
   abbrev Refused : CarryFault → Type 0
-  Refused fault = RefusesBehind (origin (Some t) source options.block options.checkpoint) (Some b) store (Some d) now chosen fault
+  Refused fault = RefusesBehind (origin_of (Some t) source options) (Some b) store (Some d) now chosen fault
 
   split_chosen : (done : List (List ℕ)) (name : List ℕ) (rest : List (List ℕ)) → chosen ≡ done ++ name ∷ rest
       → chosen_of names source.manifest ≡ done ++ name ∷ rest
@@ -210,7 +211,8 @@ module _ (secrets : Secrets) (options : Options) (names : List (List ℕ)) (sour
       split = split_chosen limited.done limited.name limited.rest limited.split;
       told = all_lines limited.done limited.told;
       middle = limited.middle;
-      behind = subst (λ (m : ManifestText). AreNextOf options.timestamp source.manifest (repo_view store.repo).keys m limited.done limited.middle) accepts
+      ids = limited.ids;
+      behind = subst (λ (m : ManifestText). AreNextOf options.timestamp source.manifest m limited.done limited.ids limited.middle) accepts
           limited.behind;
       large = limited.large;
     };
@@ -218,13 +220,13 @@ module _ (secrets : Secrets) (options : Options) (names : List (List ℕ)) (sour
 
   -- what was added for the chosen names, as far as it came
   abbrev Begins : List Addition → Type 0
-  Begins added = BeginsNames (origin (Some t) source options.block options.checkpoint) (repo_view store.repo).keys (accepted_in store) [] chosen added
+  Begins added = BeginsNames (origin_of (Some t) source options) (repo_view store.repo).keys (accepted_in store) [] chosen added
 
   -- the last of it has this id
   last_added : (added : List Addition) → Begins added → (id : List ℕ) (fault : BlobFault)
       → IsOfLast (repo_view store.repo).keys added (Carry.Target (Store.Repo (Repos.Blob id fault))) → IsOfAdded asks (told_files t) (told_files a) id
   last_added added begins id fault last =
-      let from = origin (Some t) source options.block options.checkpoint in
+      let from = origin_of (Some t) source options in
       let keys = (repo_view store.repo).keys in
       record {
         repo = source;
@@ -259,7 +261,7 @@ module _ (secrets : Secrets) (options : Options) (names : List (List ℕ)) (sour
       → IsTaken asks (told_files t) (told_files a) (lines_of d.history.acts) (told_files d) name
   taken_there name keeps one is =
       let refused =
-      subst (λ (n : List ℕ). RefusesName (origin (Some t) source options.block options.checkpoint) (Some b) store (Some d) now n (Carry.Taken name)) is
+      subst (λ (n : List ℕ). RefusesName (origin_of (Some t) source options) (Some b) store (Some d) now n (Carry.Taken name)) is
       one.refused in
       let differs = refused.1.0 in
       let at = refused.1.1 in
@@ -288,7 +290,7 @@ module _ (secrets : Secrets) (options : Options) (names : List (List ℕ)) (sour
 
   refused_told : Keeps → (added : List Addition) → Begins added → (fault : CarryFault) → IsOfLast (repo_view store.repo).keys added fault
       → (fault ≡ Carry.Target Store.TooLarge → Limited)
-      → RefusesNames (origin (Some t) source options.block options.checkpoint) (Some b) store (Some d) now chosen fault
+      → RefusesNames (origin_of (Some t) source options) (Some b) store (Some d) now chosen fault
       → RefusesTransfer asks (told_files t) (told_files a) (lines_of d.history.acts) (told_files d) fault
   refused_told keeps added begins (Carry.Source fault) last limit (inl refused) = λ of_files.
       inr (of_chosen (Carry.Source fault) (λ repo target name. RefusesWhole (told_files t) repo.log repo.keys repo.manifest.archives name fault) refused
@@ -330,9 +332,9 @@ pub names_refused : (secrets : Secrets) (options : Options) (names : List (List 
     → Between a b TellsNothing → Between a d (TransferEach (asked secrets options names told)) → (fault : CarryFault)
     → (fault ≡ Carry.Target Store.TooLarge → IfSome b (λ x. IfSome d (λ y. LimitsNames options.timestamp source.manifest (repo_view store.repo).keys
     (accepted_in store) chosen (λ done. TellsNames (accepted_in store) done x.history y.history))))
-    → (added : List Addition) × (BeginsAll b (origin told source options.block options.checkpoint) store chosen added
+    → (added : List Addition) × (BeginsAll b (origin_of told source options) store chosen added
     × IfSome b (λ _. IsOfLast (repo_view store.repo).keys added fault))
-    → RefusesNames (origin told source options.block options.checkpoint) b store d now chosen fault → RefusesAsked (asked secrets options names told) a d fault
+    → RefusesNames (origin_of told source options) b store d now chosen fault → RefusesAsked (asked secrets options names told) a d fault
 names_refused secrets options names source None a b d chosen store now from is opens accepts untold each fault limit last refused = tt
 names_refused secrets options names source (Some t) None b d chosen store now from is opens accepts untold each fault limit last refused = tt
 names_refused secrets options names source (Some t) (Some a) b None chosen store now from is opens accepts untold each fault limit last refused = tt

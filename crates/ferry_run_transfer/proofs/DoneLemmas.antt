@@ -208,7 +208,7 @@ module _ (request : Request) (source start image : Files) (lines : List (List �
       → NoneCollide request start keeps.begun → request.source ≡ Some source → (fault : CarryFault)
       → RefusesTransfer request source start lines image fault → IsDoneUnless request source start lines image (carry_status fault)
   refused_ends keeps apart told (Carry.Source fault) refused = source_ends fault refused
-  refused_ends keeps apart told (Carry.Target refusal) (inl refused) = begun_ends refusal refused
+  refused_ends keeps apart told (Carry.Target refusal) (inl refused) = begun_ends refusal refused.1
   refused_ends keeps apart told (Carry.Target refusal) (inr stops) = stopped_ends refusal stops.0
   refused_ends keeps apart told (Carry.Taken name) taken =
       absurd (equal_there name taken keeps.repo keeps.opens (chosen_left told keeps apart))
@@ -271,6 +271,7 @@ transfers_nothing request all =
       completes = ends_done request told told Statuses.Memory (inr refused);
       refused = inr refused;
       ended = λ e. absurd (let no : ⊥ = cc in no);
+      untouched = if_some request.source _ (λ source told none. (refl, refl));
       left = between_map told told (TransferEach request) (TransferLeaves request) (left_of request) (each_told request told);
       only_told = λ e. absurd (let no : ⊥ = cc in no);
       each = each_told request told;

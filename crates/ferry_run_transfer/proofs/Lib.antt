@@ -10,3 +10,4 @@ pub mod RerunLemmas
 pub mod DoneLemmas
 pub mod ReadyLemmas
 pub mod VerifyLemmas
+pub mod SaltLemmas

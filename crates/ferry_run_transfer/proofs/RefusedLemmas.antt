@@ -1,6 +1,6 @@
 -- Lemmas on specs/TransferCauses.antt: why a transfer isn't done that didn't come to open its target.
 use Rattle.std.proofs.Common.{◌≡◌, ◌⊎◌, inl, inr, ℕ, List, [], Option, Some, None}
-use Rattle.std.proofs.Common.{refl, sym, subst, slice_get, IfSome}
+use Rattle.std.proofs.Common.{refl, sym, subst, slice_get, IfSome, IsSome, ap, ◌∙◌}
 use Rattle.ferry_carry.specs.Chosen.{IsMissingName}
 use Rattle.ferry_piece.specs.Fault.{source_fault, target_fault}
 use Rattle.ferry_piece.specs.declared.fault.CarryFault.{CarryFault}
@@ -8,6 +8,7 @@ use Rattle.ferry_piece.specs.declared.fault.CarryFault.TheVariants as Carry
 use Rattle.ferry_carry.specs.declared.options.Options.{Options}
 use Rattle.ferry_disk.specs.Device.{Told, told_files}
 use Rattle.ferry_disk.specs.Files.{Files}
+use Rattle.ferry_repo.specs.Archives.{archive_named}
 use Rattle.ferry_repo.specs.Opening.{OpensFilesTo, RefusesRepo, RepoState}
 use Rattle.ferry_repo.specs.declared.fault.RepoFault.{RepoFault}
 use Rattle.ferry_repo.specs.declared.fault.RepoFault.TheVariants as Repos
@@ -16,7 +17,7 @@ use Rattle.ferry_store.specs.Store.{RefusesOpen}
 use Rattle.ferry_store.specs.declared.fault.StoreRefusal.{StoreRefusal}
 use Rattle.ferry_store.specs.declared.fault.StoreRefusal.TheVariants as Store
 use Rattle.ferry_run_transfer.specs.Transfer.{Request, asked, chosen_of}
-use Rattle.ferry_run_transfer.specs.TransferCauses.{RefusesAsked, RefusesTransfer, WhereRead}
+use Rattle.ferry_run_transfer.specs.TransferCauses.{IsFound, RefusesAsked, RefusesTransfer, WhereRead}
 use Rattle.ferry_status.specs.declared.status.Secrets.{Secrets}
 
 -- where files are read
@@ -41,21 +42,25 @@ pub memory_refused : (request : Request) (before now : Option Told) → RefusesA
 memory_refused request before now = asked_refused request before now Carry.Memory (λ files b t e is k begun. tt)
 
 -- where the target wasn't opened
-opened_not : (request : Request) (before now : Option Told) (refusal : StoreRefusal)
+opened_not : (request : Request) (before now : Option Told) (refusal : StoreRefusal) → IfSome request.source (IsFound request)
     → IfSome before (λ t. RefusesOpen request.secrets.target (told_files t) refusal) → RefusesAsked request before now (Carry.Target refusal)
-opened_not request before now refusal refused =
+opened_not request before now refusal found refused =
     asked_refused request before now (Carry.Target refusal)
-    (λ files b t e is k begun. inl (subst (λ (o : Option Told). IfSome o (λ x. RefusesOpen request.secrets.target (told_files x) refusal)) is refused))
+    (λ files b t e is k begun. inl (
+      subst (λ (o : Option Files). IfSome o (IsFound request)) e found,
+      subst (λ (o : Option Told). IfSome o (λ x. RefusesOpen
+          request.secrets.target (told_files x) refusal)) is refused,
+    ))
 
-pub unopened_refused : (request : Request) (before now : Option Told) (refusal : StoreRefusal)
+pub unopened_refused : (request : Request) (before now : Option Told) (refusal : StoreRefusal) → IfSome request.source (IsFound request)
     → IfSome before (λ t. RefusesOpen request.secrets.target (told_files t) refusal) → RefusesAsked request before now (target_fault refusal)
-unopened_refused request before now (Store.Repo fault) refused = opened_not request before now (Store.Repo fault) refused
-unopened_refused request before now (Store.Write fault) refused = opened_not request before now (Store.Write fault) refused
-unopened_refused request before now (Store.Nonce fault) refused = opened_not request before now (Store.Nonce fault) refused
-unopened_refused request before now Store.Committed refused = opened_not request before now Store.Committed refused
-unopened_refused request before now Store.TooLarge refused = opened_not request before now Store.TooLarge refused
-unopened_refused request before now Store.Entropy refused = opened_not request before now Store.Entropy refused
-unopened_refused request before now Store.Memory refused = memory_refused request before now
+unopened_refused request before now (Store.Repo fault) found refused = opened_not request before now (Store.Repo fault) found refused
+unopened_refused request before now (Store.Write fault) found refused = opened_not request before now (Store.Write fault) found refused
+unopened_refused request before now (Store.Nonce fault) found refused = opened_not request before now (Store.Nonce fault) found refused
+unopened_refused request before now Store.Committed found refused = opened_not request before now Store.Committed found refused
+unopened_refused request before now Store.TooLarge found refused = opened_not request before now Store.TooLarge found refused
+unopened_refused request before now Store.Entropy found refused = opened_not request before now Store.Entropy found refused
+unopened_refused request before now Store.Memory found refused = memory_refused request before now
 
 -- where the source wasn't opened
 source_or : (P : CarryFault → Type 0) (fault : RepoFault) → P Carry.Memory → P (Carry.Source fault) → P (source_fault fault)
@@ -110,3 +115,32 @@ missing_refused secrets options names source (Some t) a b chosen source_opens ch
       missing = subst (λ (l : List (List ℕ)). IsMissingName source.manifest l missing.0) chosen_is missing.1.1.0;
       name_is = subst (λ (l : List (List ℕ)). slice_get l missing.0 ≡ Some missing.1.0) chosen_is missing.1.1.1.0;
     }))
+
+-- ---- where each name is found
+
+-- each name was found in the source that opened
+pub names_found : (secrets : Secrets) (options : Options) (names : List (List ℕ)) (source : RepoState) (told : Option Told) (chosen : List (List ℕ))
+    → IfSome told (λ t. OpensFilesTo (told_files t) secrets.source source) → chosen ≡ chosen_of names source.manifest
+    → ((place : ℕ) (name : List ℕ) → slice_get chosen place ≡ Some name → IsSome (archive_named name source.manifest.archives))
+    → IfSome (asked secrets options names told).source (IsFound (asked secrets options names told))
+names_found secrets options names source None chosen opens chosen_is found = tt
+names_found secrets options names source (Some t) chosen opens chosen_is found = record {
+  repo = source;
+  opens = opens;
+  found = λ place name is. found place name (ap (λ (l : List (List ℕ)). slice_get l place) chosen_is ∙ is);
+}
+
+-- and then nothing is said of where it isn't
+pub found_apart : (request : Request) (X : Type 0) → IfSome request.source (IsFound request)
+    → IfSome request.source (λ files. (IsFound request files → ⊥) → X)
+found_apart request X found = by request.source found where
+  by : (o : Option Files) → IfSome o (IsFound request) → IfSome o (λ files. (IsFound request files → ⊥) → X)
+  by None is = tt
+  by (Some files) is = λ none. absurd (none is)
+
+-- nothing was used
+pub unused : (request : Request) (X : Type 0) → X → IfSome request.source (λ files. (IsFound request files → ⊥) → X)
+unused request X x = by request.source where
+  by : (o : Option Files) → IfSome o (λ files. (IsFound request files → ⊥) → X)
+  by None = tt
+  by (Some files) = λ none. x

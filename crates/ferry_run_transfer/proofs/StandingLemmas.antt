@@ -31,7 +31,7 @@ use Rattle.ferry_store.specs.Standing.{OpensLive, UnlocksSettings, committed_of,
 use Rattle.ferry_store.specs.State.{ShowsStanding, Written, found}
 use Rattle.ferry_store.specs.Store.{StoreFits}
 use Rattle.ferry_store.specs.declared.store.Store.{Store}
-use Rattle.ferry_run_transfer.specs.Transfer.{AddsAllBehind, AddsBehind, AreCutThere, Arrives, BeginsChosen, BringsWhatOpens, IsChosenFront}
+use Rattle.ferry_run_transfer.specs.Transfer.{AddsAllBehind, AddsBehind, AreCutThere, Arrives, BeginsChosen, BringsWhatOpens, IsBehindNames, IsChosenFront}
 use Rattle.ferry_run_transfer.specs.Transfer.{KeepsArchives, Request, chosen_of}
 use Rattle.ferry_run_transfer.specs.Transfer.{from_source}
 
@@ -177,6 +177,10 @@ none_cut request before repo None = tt
 none_cut request before repo (Some files) = λ name among none.
     let got : slice_get [] among.0 ≡ Some name = among.1 in absurd (let no : ⊥ = cc in no)
 
+none_behind : (request : Request) (manifest : ManifestText) (source : Option Files) → IfSome source (IsBehindNames request manifest [] manifest)
+none_behind request manifest None = tt
+none_behind request manifest (Some files) = λ repo opens. ([], (refl, refl))
+
 pub shown_keeps : (request : Request) (start image : Files) (repo : RepoState) (committed : List LogEntry)
     → OpensFilesTo start request.secrets.target repo → Shows start (Some committed) → ShowsStanding (found (Some committed) start) image
     → KeepsArchives request start repo.manifest [] image
@@ -197,6 +201,7 @@ shown_keeps request start image repo committed opens shown standing =
       adds = adds_shown request start image repo committed committed [] opens shown standing.0
           (first_none AtBegin repo.keys request.checkpoint committed []);
       begins = λ before other. none_begun request before request.source;
+      next = none_behind request repo.manifest request.source;
       arrived = none_arrived request start image [] (record repo { log = live.log }) request.source;
       cut = none_cut request repo.manifest (record repo { log = live.log }) request.source;
       only = λ name entry is. inl is;

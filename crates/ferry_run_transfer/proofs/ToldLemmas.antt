@@ -3,7 +3,8 @@ use Rattle.std.proofs.Common.{◌≡◌, ℕ, suc, ◌+◌, Bool, true, false, L
 use Rattle.std.proofs.Common.{ap, subst, append_assoc, IfSome}
 use Rattle.std.proofs.lemmas.List.{append-nil, length-append, nil_from_length}
 use Rattle.ferry_piece.proofs.WorkLemmas.{between_known}
-use Rattle.ferry_carry.specs.Carrying.{Origin, origin}
+use Rattle.ferry_carry.specs.Carrying.{Origin}
+use Rattle.ferry_carry.specs.Flight.{origin_of}
 use Rattle.ferry_piece.specs.Fault.{IsOfWork}
 use Rattle.ferry_carry.specs.Grow.{StandsOn}
 use Rattle.ferry_carry.specs.Listing.{BeginsNames}
@@ -166,7 +167,7 @@ module _ (secrets : Secrets) (options : Options) (names : List (List ℕ)) (sour
   request = asked secrets options names told
 
   abbrev from : Origin
-  from = origin told source options.block options.checkpoint
+  from = origin_of told source options
 
   -- the archives are kept, and these lines tell those that came
   abbrev Leaves : History → History → ManifestText → List (List ℕ) → Type 0
@@ -189,6 +190,7 @@ module _ (secrets : Secrets) (options : Options) (names : List (List ℕ)) (sour
     done = stands.done;
     rest = stands.rest ++ more;
     front = split ∙ (ap (λ (l : List (List ℕ)). l ++ more) stands.front ∙ append_assoc stands.done stands.rest more);
+    next = stands.next;
     carried = stands.carried;
     cut = stands.cut;
     only = stands.only;
@@ -217,7 +219,7 @@ module _ (secrets : Secrets) (options : Options) (names : List (List ℕ)) (sour
       (wider done rest within accepted state o.fits.written (files_now i) split shows.0) shows.1 in
       subst (λ (r : RepoState). Leaves h i r.manifest (lines_of i.acts)) (one_repo (files_now h) secrets.target state repo opens opens_to)
       (subst (Leaves h i state.manifest) (sym lines_are)
-      (kept.0, subst (AreLines state.manifest [] last.lines) (sym kept.1) (subst (λ (m : ManifestText). AreLines m [] last.lines shows.0.done) settled are)))
+      (kept.0, subst (AreLines state.manifest [] last.lines) (sym kept.1.0) (subst (λ (m : ManifestText). AreLines m [] last.lines shows.0.done) settled are)))
 
   -- the copying was refused, but for a failed device and want of memory
   pub stopped_told : (store : Store) (a b d : Option Told) (n m : ℕ) → IsSettled store

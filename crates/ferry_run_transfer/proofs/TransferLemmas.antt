@@ -8,10 +8,13 @@ use Rattle.ferry_carry.proofs.MomentLemmas.{untold_moments}
 use Rattle.ferry_piece.proofs.WorkLemmas.{between_known, works_both, works_ok, works_then}
 use Rattle.ferry_carry.specs.Listing.{BeginsNames}
 use Rattle.ferry_carry.specs.declared.options.Carried.{Carried}
-use Rattle.ferry_carry.specs.Carrying.{AreCut, IsCarried, Origin, origin}
+use Rattle.ferry_carry.specs.Carrying.{AreCut, IsCarried, Origin}
+use Rattle.ferry_carry.specs.Accepting.{AreNextOf}
+use Rattle.ferry_carry.specs.Flight.{origin_of}
+use Rattle.ferry_carry.specs.Naming.{TaggedRecord, record_ids}
 use Rattle.ferry_carry.specs.Grow.{Grown, IsNamedBy, KeepsChunks, StandsOn}
 use Rattle.ferry_piece.specs.Puts.{Addition, AddsAll, AtBegin, Border, GoesOn, border_behind}
-use Rattle.ferry_carry.specs.Telling.{BeginsAll, CarriesNames, IsReport, IsReported, KeepsReported, ReportsWhole, ShowsReport, TellsWhole}
+use Rattle.ferry_carry.specs.Telling.{AcceptsNames, BeginsAll, CarriesNames, IsReport, IsReported, KeepsReported, ReportsWhole, ShowsReport, TellsWhole}
 use Rattle.ferry_carry.specs.Lines.{total_line}
 use Rattle.ferry_piece.specs.Work.{Works}
 use Rattle.ferry_piece.specs.declared.fault.CarryFault.{CarryFault}
@@ -40,12 +43,11 @@ use Rattle.ferry_store.specs.Standing.{committed_of, entries_of, live_in, with_m
 use Rattle.ferry_store.specs.State.{Did, ShowsStanding, Written, found}
 use Rattle.ferry_store.specs.Store.{OpenEach, OpenFits, OpensFound, StoreFits}
 use Rattle.ferry_store.specs.declared.store.Store.{Store}
-use Rattle.ferry_run_transfer.specs.Transfer.{KeepsArchives, Request, TransferEach, TransferEnds, TransferShows, asked, chosen_of}
+use Rattle.ferry_run_transfer.specs.Transfer.{AddsAllBehind, KeepsArchives, ListsChosen, Request, TransferEach, TransferEnds, TransferShows, asked, chosen_of}
 use Rattle.ferry_status.specs.declared.status.Secrets.{Secrets}
 use Rattle.ferry_write.proofs.LawLemmas.{fits_now}
 use Rattle.ferry_write.specs.Room.{behind}
 use Rattle.ferry_write.specs.Script.{AllDone}
-use Rattle.ferry_store.specs.declared.fault.StoreRefusal.TheVariants as Store
 use Rattle.ferry_status.proofs.LeftLemmas.{now_left}
 use Rattle.ferry_run_transfer.specs.Transfer.{TransferLeaves}
 use Rattle.ferry_run_transfer.proofs.StandingLemmas.{all_shown, at_begin, none_pending, shown_keeps}
@@ -87,7 +89,7 @@ grown_stands : (from : Origin) (chosen : List (List ℕ)) (added : List Addition
     (fits : StoreFits false store h) → accepted_in now ≡ (repo_view now.repo).manifest
     → (grown : Grown [] accepted from chosen added false store now h g fits)
     → (stands : StandsOn [] from chosen added accepted (repo_view store.repo) fits.written (files_now g)) × ((stands.done ≡ chosen)
-    × (committed_of grown.fits_now.written ≡ stands.entries))
+    × ((committed_of grown.fits_now.written ≡ stands.entries) × (stands.manifest ≡ (repo_view now.repo).manifest)))
 grown_stands from chosen added accepted store now h g fits settled grown =
     let fits_then = grown.fits_now in
     let after = fits_then.written in
@@ -114,6 +116,7 @@ grown_stands from chosen added accepted store now h g fits settled grown =
         done = chosen;
         rest = [];
         front = sym (append-nil chosen);
+        next = grown.next;
         carried = subst (λ (c : List LogEntry). AllByRecursion
             (IsCarried from added (entries_of fits.written) (repo_view store.repo).keys c manifest.archives) chosen) entries_are
             (subst (λ k. AllByRecursion (IsCarried from added (entries_of fits.written) k (committed_of after) manifest.archives) chosen)
@@ -121,7 +124,7 @@ grown_stands from chosen added accepted store now h g fits settled grown =
         cut = subst (λ k. AreCut accepted from k manifest.archives chosen) grown.most.keys grown.cut;
         only = subst (λ (m : ManifestText). IsNamedBy accepted chosen m) settled grown.only;
       },
-      (refl, entries_are),
+      (refl, (entries_are, refl)),
     )
 
 -- ---- the whole command
@@ -133,7 +136,7 @@ module _ (secrets : Secrets) (options : Options) (names : List (List ℕ)) (sour
   request = asked secrets options names told
 
   abbrev from : Origin
-  from = origin told source options.block options.checkpoint
+  from = origin_of told source options
 
   -- What is added for the names that were chosen begins with these.
   abbrev pub IsBegin : Store → List Addition → Type 0
@@ -144,7 +147,8 @@ module _ (secrets : Secrets) (options : Options) (names : List (List ℕ)) (sour
       → OpensFilesTo (files_now h) secrets.target (repo_view store.repo) → IsBegin store within
       → (o : OpensFound false store h g) → (stands : StandsOn [] from chosen within (accepted_in store) (repo_view store.repo) o.fits.written image)
       → IsReport (accepted_in store) lines stands.done
-      → (keeps : KeepsArchives request (files_now h) (repo_view store.repo).manifest lines image) × (keeps.done ≡ stands.done)
+      → (keeps : KeepsArchives request (files_now h) (repo_view store.repo).manifest lines image)
+      × ((keeps.done ≡ stands.done) × ((keeps.begun ≡ within) × (keeps.repo.manifest ≡ stands.manifest)))
   stands_opened store within h g lines image settled opens begins o stands report =
       stands_keeps secrets options names source told chosen within (accepted_in store) (files_now h) image (repo_view store.repo) o.fits.written o.committed
       source_opens chosen_is settled opens o.shown (ap committed_of o.found_is) (ap entries_of o.found_is ∙ append-nil o.committed)
@@ -196,16 +200,18 @@ module _ (secrets : Secrets) (options : Options) (names : List (List ℕ)) (sour
     ),
   )
 
-  ends_then : (store now : Store) (added : List Addition) (carried : Carried) (h g i : History) → IsSettled store → IsSettled now → now.pending ≡ 0
+  ends_then : (store now : Store) (records : List TaggedRecord) (added : List Addition) (carried : Carried) (x y : Option (List ℕ)) (h g i : History) →
+      IsSettled store → IsSettled now → now.pending ≡ 0
       → OpensFilesTo (files_now h) secrets.target (repo_view store.repo) → TellsNothing h g → OpenFits store h g → IsBegin store added
-      → CarriesNames from chosen added store now g i → TellsWhole (accepted_in store) chosen added carried g i → TransferEnds request h i
-  ends_then store now added carried h g i settled settled_now none opens untold fits begins carries told_then begun =
+      → AcceptsNames from chosen records store now x y → CarriesNames from chosen records added store now g i
+      → TellsWhole (accepted_in store) chosen added carried g i → TransferEnds request x y h i
+  ends_then store now records added carried x y h g i settled settled_now none opens untold fits begins accepts carries told_then begun =
       let o = fits false begun (λ c. absurd (let no : ⊥ = cc in no)) in
       let grown = carries.0 false o.fits in
       let stands = grown_stands from chosen added (accepted_in store) store now g i o.fits settled_now grown in
       let keys = (repo_view store.repo).keys in
       let written : entries_of o.fits.written ≡ o.committed = ap entries_of o.found_is ∙ append-nil o.committed in
-      let entries : entries_of grown.fits_now.written ≡ stands.0.entries = none_pending now i grown.fits_now none ∙ stands.1.1 in
+      let entries : entries_of grown.fits_now.written ≡ stands.0.entries = none_pending now i grown.fits_now none ∙ stands.1.1.0 in
       let whole : TellsWhole (accepted_in store) chosen added carried h i = (
         told_then.0,
         (
@@ -219,22 +225,32 @@ module _ (secrets : Secrets) (options : Options) (names : List (List ℕ)) (sour
       let report = subst (λ (l : List (List ℕ)). IsReport (accepted_in store) (lines_of i.acts) l) (sym stands.1.0)
       (whole_report (accepted_in store) chosen added carried h i (untold_yet h begun) whole) in
       let kept = stands_opened store added h g (lines_of i.acts) (files_now i) settled opens begins o stands.0 report in
+      let manifest = (repo_view now.repo).manifest in
+      let start = files_now h in
+      let adds = all_shown request start (files_now i) (repo_view store.repo) o.committed stands.0.entries added opens o.shown stands.0.shown
+      (subst (AddsAll AtBegin keys options.checkpoint o.committed added) entries
+      (subst (λ (front : List LogEntry). AddsAll AtBegin keys options.checkpoint front added (entries_of grown.fits_now.written)) written
+      (subst (λ (b : Border). AddsAll b keys options.checkpoint (entries_of o.fits.written) added (entries_of grown.fits_now.written)) at_begin
+      grown.puts))) in
+      let lists = all_listed secrets options names source told chosen (accepted_in store) manifest (repo_view store.repo) records added source_opens
+      chosen_is settled carries.1
+      (subst (AreNextOf options.timestamp source.manifest (accepted_in store) chosen (record_ids keys records)) settled_now accepts.0) in
+      let told_all = subst (λ (m : ManifestText). TellsWhole m kept.0.done added carried h i) settled
+      (subst (λ (l : List (List ℕ)). TellsWhole (accepted_in store) l added carried h i) (sym (kept.1.0 ∙ stands.1.0)) whole) in
+      let begun = sym kept.1.1.0 in
+      let manifest_is : manifest ≡ kept.0.repo.manifest = sym (kept.1.1.1 ∙ stands.1.1.1) in
       record {
         repo = repo_view store.repo;
         opens = opens;
         keeps = kept.0;
-        all = all_of secrets options names source told kept.0.done source_opens (kept.1 ∙ (stands.1.0 ∙ chosen_is));
-        added = added;
+        all = all_of secrets options names source told kept.0.done source_opens (kept.1.0 ∙ (stands.1.0 ∙ chosen_is));
         carried = carried;
-        told_all = subst (λ (m : ManifestText). TellsWhole m kept.0.done added carried h i) settled
-            (subst (λ (l : List (List ℕ)). TellsWhole (accepted_in store) l added carried h i) (sym (kept.1 ∙ stands.1.0)) whole);
-        adds = all_shown request (files_now h) (files_now i) (repo_view store.repo) o.committed stands.0.entries added opens o.shown stands.0.shown
-            (subst (AddsAll AtBegin keys options.checkpoint o.committed added) entries
-            (subst (λ (front : List LogEntry). AddsAll AtBegin keys options.checkpoint front added (entries_of grown.fits_now.written)) written
-            (subst (λ (b : Border). AddsAll b keys options.checkpoint (entries_of o.fits.written) added (entries_of grown.fits_now.written)) at_begin
-            grown.puts)));
-        lists = all_listed secrets options names source told chosen (accepted_in store) (repo_view store.repo) added source_opens chosen_is settled
-            carries.1;
+        told_all = subst (λ (l : List Addition). TellsWhole (repo_view store.repo).manifest kept.0.done l carried h i) begun told_all;
+        adds = subst (AddsAllBehind request start (files_now i)) begun adds;
+        records = records;
+        drew = accepts.1;
+        lists = subst (λ (m : ManifestText). IfSome request.source (ListsChosen request (repo_view store.repo) m records kept.0.begun)) manifest_is
+            (subst (λ (l : List Addition). IfSome request.source (ListsChosen request (repo_view store.repo) manifest records l)) begun lists);
       }
 
   -- the store that was opened, over the files that opened to its repository
@@ -262,15 +278,16 @@ module _ (secrets : Secrets) (options : Options) (names : List (List ℕ)) (sour
   begun_each store within a b begins each = between_known (λ _. IsBegin store within) (KeepsReported from chosen store within) a b begins each
 
   -- the archives of the chosen names were copied
-  pub copied_all : {U : Type 0} (store now : Store) (a b c : Option Told) (n m k : ℕ) (x : Carried) (y : U) → IsSettled store → IsSettled now
+  pub copied_all : {U : Type 0} (store now : Store) (a b c : Option Told) (n m k : ℕ) (x : Carried) (y : U) (drawn drawn_now : Option (List ℕ)) → IsSettled
+      store → IsSettled now
       → now.pending ≡ 0 → IfSome a (λ t. OpensFilesTo (files_now t.history) secrets.target (repo_view store.repo)) → Between a b TellsNothing
-      → Did OpenEach OpenFits a b n m (Ok store) → ReportsWhole from chosen store now b c m k (Ok x)
-      → Works (TransferEach request) (λ (_ : U). TransferEnds request) a c n k (Ok y)
-  copied_all {U} store now a b c n m k x y settled settled_now none opens untold opened carried =
+      → Did OpenEach OpenFits a b n m (Ok store) → ReportsWhole from chosen store now b c m k drawn drawn_now (Ok x)
+      → Works (TransferEach request) (λ (_ : U). TransferEnds request drawn drawn_now) a c n k (Ok y)
+  copied_all {U} store now a b c n m k x y drawn drawn_now settled settled_now none opens untold opened carried =
       let added = carried.added in
       let Each : History → History → Type 0 = λ h g. IsBegin store added × KeepsReported from chosen store added h g in
       let Ends : Carried → History → History → Type 0 =
-      λ total h g. CarriesNames from chosen added store now h g × TellsWhole (accepted_in store) chosen added total h g in
+      λ total h g. CarriesNames from chosen carried.records added store now h g × TellsWhole (accepted_in store) chosen added total h g in
       let begun : Works Each (λ total h g. Each h g × Ends total h g) b c m k (Ok x) =
       works_both Each Ends b c m k (Ok x)
       (record {
@@ -280,19 +297,21 @@ module _ (secrets : Secrets) (options : Options) (names : List (List ℕ)) (sour
         cause = carried.works.cause;
       }) in
       let all = works_then OpensUntold OpensToUntold Each (λ total h g. Each h g × Ends total h g) (TransferEach request)
-      (λ (_ : Carried). TransferEnds request) a b c n m k store (Ok x)
+      (λ (_ : Carried). TransferEnds request drawn drawn_now) a b c n m k store (Ok x)
       (λ h g i each done fits reported. transfer_then store added h g i settled fits.1.0 each.0 each.1 done fits.1.1 reported.0 reported.1)
       (λ total h g i fits end.
-      ends_then store now added total h g i settled settled_now none fits.1.0 fits.0.0 fits.1.1 end.0.0 end.1.0 end.1.1)
+      ends_then store now carried.records added total drawn drawn_now h g i settled settled_now none fits.1.0 fits.0.0 fits.1.1 end.0.0 carried.accepts
+      end.1.0 end.1.1)
       (opened_works store a b n m opens untold opened) begun in
       record { each = all.each; end = all.end; ends = all.ends; cause = all.cause }
 
   -- they were not
-  pub copied_some : {U : Type 0} (store now : Store) (a b c : Option Told) (n m k : ℕ) (fault : CarryFault) → IsSettled store
+  pub copied_some : {U : Type 0} (store now : Store) (a b c : Option Told) (n m k : ℕ) (drawn drawn_now : Option (List ℕ)) (fault : CarryFault) → IsSettled
+      store
       → IfSome a (λ t. OpensFilesTo (files_now t.history) secrets.target (repo_view store.repo)) → Between a b TellsNothing
-      → Did OpenEach OpenFits a b n m (Ok store) → ReportsWhole from chosen store now b c m k (Err fault)
-      → Works (TransferEach request) (λ (_ : U). TransferEnds request) a c n k (Err fault)
-  copied_some {U} store now a b c n m k fault settled opens untold opened carried =
+      → Did OpenEach OpenFits a b n m (Ok store) → ReportsWhole from chosen store now b c m k drawn drawn_now (Err fault)
+      → Works (TransferEach request) (λ (_ : U). TransferEnds request drawn drawn_now) a c n k (Err fault)
+  copied_some {U} store now a b c n m k drawn drawn_now fault settled opens untold opened carried =
       let added = carried.added in
       let Each : History → History → Type 0 = λ h g. IsBegin store added × KeepsReported from chosen store added h g in
       let Ends : Carried → History → History → Type 0 = λ _ h g. Unit {0} in

@@ -42,24 +42,25 @@ each_unopened request h g untold each = (
   each.1,
 )
 
-pub unopened : {T : Type 0} (request : Request) (Q : Store → History → History → Type 0) (a b : Option Told) (n m : ℕ) (refusal : StoreRefusal)
+pub unopened : {T : Type 0} (request : Request) (x y : Option (List ℕ)) (Q : Store → History → History → Type 0) (a b : Option Told) (n m : ℕ) (refusal :
+    StoreRefusal)
     → Between a b TellsNothing → Did OpenEach Q a b n m (Err refusal)
-    → Works (TransferEach request) (λ (_ : T). TransferEnds request) a b n m (Err (target_fault refusal))
-unopened {T} request Q a b n m refusal untold opened =
-    works_err OpenEach Q (TransferEach request) (λ (_ : T). TransferEnds request) a b n m refusal
+    → Works (TransferEach request) (λ (_ : T). TransferEnds request x y) a b n m (Err (target_fault refusal))
+unopened {T} request x y Q a b n m refusal untold opened =
+    works_err OpenEach Q (TransferEach request) (λ (_ : T). TransferEnds request x y) a b n m refusal
     (λ h g none each. each_unopened request h g none each) untold opened
 
 -- where the target wasn't touched
 pub each_untouched : (request : Request) (h : History) → TransferEach request h h
 each_untouched request h = each_unopened request h h refl (each_here h)
 
-pub untouched : {T : Type 0} (request : Request) (a : Option Told) (n : ℕ) (fault : CarryFault) → depot_failed fault ≡ false
-    → Works (TransferEach request) (λ (_ : T). TransferEnds request) a a n n (Err fault)
-untouched {T} request a n fault still =
-    works_nothing (TransferEach request) (λ (_ : T). TransferEnds request) a n fault still (each_untouched request)
+pub untouched : {T : Type 0} (request : Request) (x y : Option (List ℕ)) (a : Option Told) (n : ℕ) (fault : CarryFault) → depot_failed fault ≡ false
+    → Works (TransferEach request) (λ (_ : T). TransferEnds request x y) a a n n (Err fault)
+untouched {T} request x y a n fault still =
+    works_nothing (TransferEach request) (λ (_ : T). TransferEnds request x y) a n fault still (each_untouched request)
 
 -- what is known at the end
-pub transfer_ended : {T : Type 0} (request : Request) (a b : Option Told) (n m : ℕ) (x : T)
-    → Works (TransferEach request) (λ (_ : T). TransferEnds request) a b n m (Ok x) → Between a b (TransferEnds request)
-transfer_ended {T} request a b n m x works =
-    between_map a b (λ h g. AllDone h g × TransferEnds request h g) (TransferEnds request) (λ h g e. e.1) works.end
+pub transfer_ended : {T : Type 0} (request : Request) (x y : Option (List ℕ)) (a b : Option Told) (n m : ℕ) (value : T)
+    → Works (TransferEach request) (λ (_ : T). TransferEnds request x y) a b n m (Ok value) → Between a b (TransferEnds request x y)
+transfer_ended {T} request x y a b n m value works =
+    between_map a b (λ h g. AllDone h g × TransferEnds request x y h g) (TransferEnds request x y) (λ h g e. e.1) works.end

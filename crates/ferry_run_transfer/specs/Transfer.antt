@@ -3,11 +3,13 @@ use Rattle.std.specs.Prelude.{◌≡◌, ◌≢◌, ◌⊎◌, ℕ, List, [], �
 use Rattle.std.specs.List.{AllByRecursion}
 use Rattle.ferry_base.specs.Limits.{zero_id}
 use Rattle.ferry_blob.specs.Blob.{OpensTo, content_id}
+use Rattle.ferry_carry.specs.Accepting.{AreNextOf}
 use Rattle.ferry_carry.specs.Carrying.{IsRecordText, Origin}
 use Rattle.ferry_carry.specs.Copied.{IsCopyOf}
 use Rattle.ferry_piece.specs.Gather.{HoldsWithin, IsAmong, NoCollision}
 use Rattle.ferry_carry.specs.Grow.{IsNamedBy, KeepsNames}
 use Rattle.ferry_carry.specs.Listing.{BeginsNames, ListsNames}
+use Rattle.ferry_carry.specs.Naming.{DrawsSalts, TaggedRecord, record_ids}
 use Rattle.ferry_piece.specs.Puts.{Addition, AddsAll, AddsFirst, Within, contents_in}
 use Rattle.ferry_carry.specs.Telling.{AreLines, IsReport, TellsWhole}
 use Rattle.ferry_carry.specs.declared.options.Carried.{Carried}
@@ -58,7 +60,7 @@ asked secrets options names told = record {
 
 -- the source that archives are copied from
 abbrev pub from_source : Request → Files → RepoState → Origin
-from_source request source repo = record { files = Some source; repo = repo; block = request.block; most = request.checkpoint }
+from_source request source repo = record { files = Some source; repo = repo; block = request.block; most = request.checkpoint; time = request.timestamp }
 
 -- ---- what is there
 
@@ -92,7 +94,8 @@ pub record IsCutThere (request : Request) (source : Files) (repo : RepoState) (n
   pub entry_is : archive_named name repo.manifest.archives ≡ Some entry
   pub text : List ℕ
   pub id : entry.id ≡ content_id repo.keys text
-  pub copy : IsCopyOf repo.keys request.block whole.items whole.fields text
+  pub salt : List ℕ
+  pub copy : IsCopyOf repo.keys request.block whole.items whole.fields salt text
 
 -- Of these names each is cut so that a manifest lacks.
 abbrev pub AreCutThere : Request → ManifestText → RepoState → List (List ℕ) → Files → Type 0
@@ -132,6 +135,12 @@ abbrev pub IsChosenFront : Request → List (List ℕ) → Files → Type 0
 IsChosenFront request done files = (repo : RepoState) → OpensFilesTo files request.secrets.source repo
     → (rest : List (List ℕ)) × (chosen_of request.names repo.manifest ≡ done ++ rest)
 
+-- Where the source's files open, a manifest is the one behind the archives of these names: each of those that are new with its time in the source, its item
+-- fields those of both manifests, its time the one of the request or the later of both, and the rest as it was.
+abbrev pub IsBehindNames : Request → ManifestText → List (List ℕ) → ManifestText → Files → Type 0
+IsBehindNames request before done manifest files = (repo : RepoState) → OpensFilesTo files request.secrets.source repo
+    → (ids : List (List ℕ)) × AreNextOf request.timestamp repo.manifest before done ids manifest
+
 -- Files open under the target's secret, with the settings that these had, and each archive of these is named there, and says the same where it was whole. Of
 -- the chosen names those of a front arrived, cut anew where they weren't there, and beside them and those that were there no other is named. What chunks
 -- came, open, and each was put because none was live under its id; what was added is the first of what is added for the chosen names. These lines tell a
@@ -148,6 +157,7 @@ pub record KeepsArchives (request : Request) (start : Files) (before : ManifestT
   pub begun : List Addition
   pub adds : AddsBehind request start image begun
   pub begins : IsBegun request start begun
+  pub next : IfSome request.source (IsBehindNames request before done repo.manifest)
   pub arrived : IfSome request.source (λ files. AllByRecursion (Arrives request files start image begun repo) done)
   pub cut : IfSome request.source (AreCutThere request before repo done)
   pub only : IsNamedBy before done repo.manifest
@@ -173,27 +183,31 @@ abbrev pub IsChosen : Request → List (List ℕ) → Files → Type 0
 IsChosen request done files =
     (repo : RepoState) × (OpensFilesTo files request.secrets.source repo × (done ≡ chosen_of request.names repo.manifest))
 
--- The source's files open, and this is all that is added for the chosen names to a target that opened so.
-abbrev pub ListsChosen : Request → RepoState → List Addition → Files → Type 0
-ListsChosen request before added files = (repo : RepoState) × (OpensFilesTo files request.secrets.source repo
-    × ListsNames (from_source request files repo) before.keys before.manifest [] (chosen_of request.names repo.manifest) added)
+-- The source's files open, and this is all that is added for the chosen names to a target that opened so, with these records, by whose ids the archives that
+-- are new come into its manifest.
+abbrev pub ListsChosen : Request → RepoState → ManifestText → List TaggedRecord → List Addition → Files → Type 0
+ListsChosen request before manifest records added files = (repo : RepoState) × (OpensFilesTo files request.secrets.source repo
+    × (ListsNames (from_source request files repo) before.keys before.manifest [] (chosen_of request.names repo.manifest) records added
+    × AreNextOf request.timestamp repo.manifest before.manifest (chosen_of request.names repo.manifest) (record_ids before.keys records) manifest))
 
 -- The target's files opened, and now they open with each archive that was there. All chosen names arrived and were told, and behind them the whole, with the
--- numbers of these names and of what was put of what was added, which is all that is added for them.
-pub record HasTransferred (request : Request) (before now : History) : Type 0 where
+-- numbers of these names and of what was put. What was begun is all that is added for them, of which all was added. From the source of random bytes the salts
+-- were drawn of the records that were added, each with that of the manifest behind it, and nothing else.
+pub record HasTransferred (request : Request) (drawn drawn_now : Option (List ℕ)) (before now : History) : Type 0 where
   pub repo : RepoState
   pub opens : OpensFilesTo (files_now before) request.secrets.target repo
   pub keeps : KeepsArchives request (files_now before) repo.manifest (lines_of now.acts) (files_now now)
   pub all : IfSome request.source (IsChosen request keeps.done)
-  pub added : List Addition
   pub carried : Carried
-  pub told_all : TellsWhole repo.manifest keeps.done added carried before now
-  pub adds : AddsAllBehind request (files_now before) (files_now now) added
-  pub lists : IfSome request.source (ListsChosen request repo added)
+  pub told_all : TellsWhole repo.manifest keeps.done keeps.begun carried before now
+  pub adds : AddsAllBehind request (files_now before) (files_now now) keeps.begun
+  pub records : List TaggedRecord
+  pub drew : DrawsSalts records drawn drawn_now
+  pub lists : IfSome request.source (ListsChosen request repo keeps.repo.manifest records keeps.begun)
 
 -- The same of a run that had made no act.
-abbrev pub TransferEnds : Request → History → History → Type 0
-TransferEnds request before now = before.acts ≡ [] → HasTransferred request before now
+abbrev pub TransferEnds : Request → Option (List ℕ) → Option (List ℕ) → History → History → Type 0
+TransferEnds request drawn drawn_now before now = before.acts ≡ [] → HasTransferred request drawn drawn_now before now
 
 -- ---- at each end
 

@@ -66,6 +66,13 @@ pub record IsFirstMissing (request : Request) (source : Files) (name : List ℕ)
   pub missing : IsMissingName repo.manifest (chosen_of request.names repo.manifest) place
   pub name_is : slice_get (chosen_of request.names repo.manifest) place ≡ Some name
 
+-- The source's files open, and each of the chosen names is that of one of its archives.
+pub record IsFound (request : Request) (source : Files) : Type 0 where
+  pub repo : RepoState
+  pub opens : OpensFilesTo source request.secrets.source repo
+  pub found : (place : ℕ) (name : List ℕ) → slice_get (chosen_of request.names repo.manifest) place ≡ Some name
+      → IsSome (archive_named name repo.manifest.archives)
+
 -- ---- the target
 
 -- The target's files open to a repository of which this holds.
@@ -115,10 +122,10 @@ StopsWriting request source start lines image Store.Memory = Unit {0}
 abbrev pub IsBehindTold : Request → Files → Files → List (List ℕ) → Type 0
 IsBehindTold request source start lines = IsOfChosen request source start lines (λ repo target name. Unit {0})
 
--- Why the target is refused: its files don't open to be written, or they can't be written on; but for a line that isn't told, in front of a name that isn't
--- told.
+-- Why the target is refused: the source has each chosen name, and the target's files don't open to be written; or they can't be written on, but for a line that
+-- isn't told, in front of a name that isn't told.
 abbrev pub RefusesTarget : Request → Files → Files → List (List ℕ) → Files → StoreRefusal → Type 0
-RefusesTarget request source start lines image refusal = RefusesOpen request.secrets.target start refusal
+RefusesTarget request source start lines image refusal = (IsFound request source × RefusesOpen request.secrets.target start refusal)
     ⊎ (StopsWriting request source start lines image refusal
     × (is_of_telling (Carry.Target refusal) ≡ false → IsBehindTold request source start lines))
 

@@ -7,9 +7,10 @@ ghost use Rattle.ferry_disk.specs.Device.{HasCause, KeepsTold, KeptWhere, RoseWh
 ghost use Rattle.ferry_disk.specs.Faults.{FailedWhere};
 ghost use Rattle.ferry_disk.specs.Moments.{Between};
 ghost use Rattle.ferry_repo.specs.Opening.{FitsRepo, OpensFilesTo, cached_in, repo_view};
+ghost use Rattle.ferry_status.specs.Devices.{drawn, store};
 ghost use Rattle.ferry_status.specs.Status.{entropy_failed, is_of_work, output_failed, source_failed, target_failed};
 ghost use Rattle.ferry_run_transfer.specs.Transfer.{LeavesTold, TransferEach, TransferEnds, TransferLeaves, asked};
-ghost use Rattle.ferry_run_transfer.specs.TransferCauses.{EndsDone, IsRefusedSo, RefusesAsked};
+ghost use Rattle.ferry_run_transfer.specs.TransferCauses.{EndsDone, IsFound, IsRefusedSo, RefusesAsked};
 
 use crate::names::{chosen_names, find_names};
 use ferry_base::Bytes;
@@ -44,7 +45,12 @@ pub fn transfer<S: Shelf, D: Depot, E: Entropy>(
     ensures each { Between (D.told target.old) (D.told target.new)
         (TransferEach (asked secrets.now options.now names.now (S.told source.old))) }
     ensures ended { result ≡ Status.Done → Between (D.told target.old) (D.told target.new)
-        (TransferEnds (asked secrets.now options.now names.now (S.told source.old))) }
+        (TransferEnds (asked secrets.now options.now names.now (S.told source.old)) (E.drawn entropy.old) (E.drawn entropy.new)) }
+    // Where the source doesn't open, or lacks a chosen name, neither is used.
+    ensures untouched { IfSome (asked secrets.now options.now names.now (S.told source.old)).source (λ files.
+        (IsFound (asked secrets.now options.now names.now (S.told source.old)) files → ⊥)
+        → (store (D.told target.new) (D.faults target.new) ≡ store (D.told target.old) (D.faults target.old))
+        × (drawn (E.drawn entropy.new) (E.faults entropy.new) ≡ drawn (E.drawn entropy.old) (E.faults entropy.old))) }
     ensures refused { (result ≡ Status.Done) ⊎ IsRefusedSo (asked secrets.now options.now names.now (S.told source.old))
         (D.told target.old) (D.told target.new) result }
     ensures completes { EndsDone (asked secrets.now options.now names.now (S.told source.old)) (D.told target.old) (D.told target.new) result }
@@ -80,8 +86,12 @@ fn copy<S: Shelf, D: Depot, E: Entropy>(
     requires options { AreRight options.now }
     requires begun { IfSome (D.told target.old) (λ t. t.history.acts ≡ []) }
     ensures works { Works (TransferEach (asked secrets.now options.now names.now (S.told source.old)))
-        (λ _. TransferEnds (asked secrets.now options.now names.now (S.told source.old)))
+        (λ _. TransferEnds (asked secrets.now options.now names.now (S.told source.old)) (E.drawn entropy.old) (E.drawn entropy.new))
         (D.told target.old) (D.told target.new) (D.faults target.old) (D.faults target.new) result }
+    ensures untouched { IfSome (asked secrets.now options.now names.now (S.told source.old)).source (λ files.
+        (IsFound (asked secrets.now options.now names.now (S.told source.old)) files → ⊥)
+        → (store (D.told target.new) (D.faults target.new) ≡ store (D.told target.old) (D.faults target.old))
+        × (drawn (E.drawn entropy.new) (E.faults entropy.new) ≡ drawn (E.drawn entropy.old) (E.faults entropy.old))) }
     ensures refused { IfErr result (RefusesAsked (asked secrets.now options.now names.now (S.told source.old))
         (D.told target.old) (D.told target.new)) }
     ensures only_told { IfErr result (λ fault. IsOfWork fault → Between (D.told target.old) (D.told target.new)
@@ -113,8 +123,12 @@ fn copy_into<S: Shelf, D: Depot, E: Entropy>(
     requires source_opens { IfSome (S.told source.old) (λ t. OpensFilesTo (told_files t) secrets.now.source (repo_view repo.old)) }
     requires source_fits { IfSome (S.told source.old) (λ t. FitsRepo (told_files t) (repo_view repo.old) (cached_in repo.old)) }
     ensures works { Works (TransferEach (asked secrets.now options.now names.now (S.told source.old)))
-        (λ _. TransferEnds (asked secrets.now options.now names.now (S.told source.old)))
+        (λ _. TransferEnds (asked secrets.now options.now names.now (S.told source.old)) (E.drawn entropy.old) (E.drawn entropy.new))
         (D.told target.old) (D.told target.new) (D.faults target.old) (D.faults target.new) result }
+    ensures untouched { IfSome (asked secrets.now options.now names.now (S.told source.old)).source (λ files.
+        (IsFound (asked secrets.now options.now names.now (S.told source.old)) files → ⊥)
+        → (store (D.told target.new) (D.faults target.new) ≡ store (D.told target.old) (D.faults target.old))
+        × (drawn (E.drawn entropy.new) (E.faults entropy.new) ≡ drawn (E.drawn entropy.old) (E.faults entropy.old))) }
     ensures refused { IfErr result (RefusesAsked (asked secrets.now options.now names.now (S.told source.old))
         (D.told target.old) (D.told target.new)) }
     ensures only_told { IfErr result (λ fault. IsOfWork fault → Between (D.told target.old) (D.told target.new)

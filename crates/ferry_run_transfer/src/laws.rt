@@ -1,10 +1,12 @@
 //! Laws of a transfer that is run again, each the contract of a function with nothing to do.
-ghost use Rattle.std.specs.Prelude.{◌≡◌, ◌≢◌, ◌↔◌, ◌∷◌, List, [], ℕ, Some};
+ghost use Rattle.std.specs.Prelude.{◌≡◌, ◌≢◌, ◌↔◌, ◌∷◌, ◌*◌, List, [], length, map, ℕ, Option, Some};
 ghost use Rattle.std.specs.List.{AllByRecursion};
 ghost use Rattle.ferry_base.specs.Limits.{zero_id};
 ghost use Rattle.ferry_blob.specs.Blob.{OpensTo, content_id};
 ghost use Rattle.ferry_piece.specs.Gather.{IsAmong, NoCollision};
 ghost use Rattle.ferry_piece.specs.Puts.{Addition, contents_in};
+ghost use Rattle.ferry_carry.specs.Listing.{ListsNames};
+ghost use Rattle.ferry_carry.specs.Naming.{DrawsSalts, TaggedRecord, salts_of};
 ghost use Rattle.ferry_check.specs.Verify.{FilesVerify};
 ghost use Rattle.ferry_disk.specs.Act.{History};
 ghost use Rattle.ferry_disk.specs.Files.{Files, file_at};
@@ -17,7 +19,8 @@ ghost use Rattle.ferry_repo.specs.Whole.{HasWhole, WholeArchive};
 ghost use Rattle.ferry_stops.specs.Counters.{SpellsNumber};
 ghost use Rattle.ferry_store.specs.New.{OpensNew};
 ghost use Rattle.ferry_run_transfer.specs.Rerun.{AreLeftInTurn, EachChosen, HasNumber, IsNamedOrChosen, KeepsNonce, LacksName, MeetsConditions};
-ghost use Rattle.ferry_run_transfer.specs.Transfer.{KeepsArchives, NoneCollide, Request, chosen_of};
+ghost use Rattle.ferry_run_transfer.specs.Rerun.{records_in};
+ghost use Rattle.ferry_run_transfer.specs.Transfer.{KeepsArchives, NoneCollide, Request, chosen_of, from_source};
 ghost use Rattle.ferry_run_transfer.specs.TransferCauses.{IsOfAdded, IsReadyFor};
 
 /// What a transfer asks of its target, it finds again in what it left at a stop, with the same words and the same source: the files open, the file
@@ -65,4 +68,12 @@ pub fn transfer_laws()
     // One content alone asks that its id isn't the manifest's.
     ensures one { (request : Request) (start : Files) (new : OpensNew request.secrets.target start) (added : Addition)
         → content_id new.repo.keys added.content ≢ zero_id → NoneCollide request start (added ∷ []) }
+    // Among what is added for names the records are these, one for each archive that is new.
+    ensures records { (request : Request) (files : Files) (source target : RepoState) (names : List (List ℕ))
+        (records : List TaggedRecord) (added : List Addition)
+        → ListsNames (from_source request files source) target.keys target.manifest [] names records added
+        → records_in added ≡ map (λ (one : TaggedRecord). one.text) records }
+    // For each 128 bytes are drawn.
+    ensures salts { (records : List TaggedRecord) (before now : Option (List ℕ)) → DrawsSalts records before now
+        → length (salts_of records) ≡ 128 * length records }
 {}

@@ -1,8 +1,9 @@
 //! The names that a transfer copies.
-ghost use Rattle.std.specs.Prelude.{◌≡◌, ◌⊎◌, ℕ, List, false, map, slice_get, IfErr, IfOk, Some};
+ghost use Rattle.std.specs.Prelude.{◌≡◌, ◌⊎◌, ℕ, List, false, map, slice_get, IfErr, IfOk, IsSome, OnOk, Some};
 ghost use Rattle.ferry_carry.specs.Chosen.{IsMissingName};
 ghost use Rattle.ferry_piece.specs.Fault.{random_failed, shelf_failed, target_failed as depot_failed};
 ghost use Rattle.ferry_manifest.specs.declared.manifest.ArchiveRef.{ArchiveRef};
+ghost use Rattle.ferry_repo.specs.Archives.{archive_named};
 ghost use Rattle.ferry_repo.specs.Opening.{repo_view};
 ghost use Rattle.ferry_run_transfer.specs.Transfer.{chosen_of};
 
@@ -18,6 +19,8 @@ use std::alloc::{AllocError, Global};
 pub fn find_names(alloc: Global, repo: &Repo, names: &[Bytes]) -> Result<(), CarryFault>
     ensures refused { IfErr result (λ fault. (fault ≡ CarryFault.Memory) ⊎ ((place : ℕ) × ((name : List ℕ)
         × (IsMissingName (repo_view repo.now).manifest names.now place × ((slice_get names.now place ≡ Some name) × (fault ≡ CarryFault.NotFound name)))))) }
+    ensures found { OnOk result ((place : ℕ) (name : List ℕ) → slice_get names.now place ≡ Some name
+        → IsSome (archive_named name (repo_view repo.now).manifest.archives)) }
     ensures shelf { IfErr result (λ fault. shelf_failed fault ≡ false) }
     ensures still { IfErr result (λ fault. depot_failed fault ≡ false) }
     ensures drawn { IfErr result (λ fault. random_failed fault ≡ false) }

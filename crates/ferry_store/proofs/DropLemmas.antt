@@ -40,7 +40,7 @@ fits_whole counts store h fits = record {
   repo = fits.repo;
   below = fits.below;
   holds = λ id blob apart. (λ live. ((fits.holds id blob apart).1 live, refl), λ has. (fits.holds id blob apart).0 has.0);
-  manifest = fits.manifest;
+  manifest = λ held. fits.manifest;
   chunks = fits.chunks;
 }
 
@@ -117,7 +117,7 @@ with_session store session = record store { session = session }
 pub chunk_dropped : (store : Store) (session : Session) (id : List ℕ) (h g : History) → id ≢ zero_id → session.after ≡ store.session.after
     → TakesEntry store.session store.counter (DeleteEntry id) session store.counter h g → OnlyAppends store.session h g
     → Drops store id (with_session store session) h g
-chunk_dropped store session id h g chunk after takes stays counts dropped fits =
+chunk_dropped store session id h g chunk after takes stays holds counts dropped fits =
     let u = fits.under_way in
     let kept = stays fits.written.committed fits.written.pending u.fits in
     let repo = repo_view store.repo in
@@ -142,7 +142,7 @@ pub committed_without : (store : Store) (repo : Repo) (session : Session) (count
     (manifest : ManifestText) (h g : History) → repo_view repo ≡ with_manifest (repo_view store.repo) manifest → cached_in repo ≡ cached_in store.repo
     → HasCommitted (with_manifest (repo_view store.repo) manifest) store.session store.counter (PutEntry zero_id blob) session counter h g
     → CommitsWithout store (with_commit store repo session counter accepted) h g
-committed_without store repo session counter accepted blob manifest h g view cached done counts dropped fits =
+committed_without store repo session counter accepted blob manifest h g view cached done held counts dropped fits =
     let u = fits.under_way in
     let before = repo_view store.repo in
     let kept = done.stays counts fits.written u in
@@ -160,7 +160,7 @@ committed_without store repo session counter accepted blob manifest h g view cac
         holds = subst (λ (r : RepoState). HoldsLess (files_now g) r.log dropped (entries_of (all_committed next))) (sym view)
             (less_later (files_now h) (files_now g) before.log dropped (entries_of fits.written) (entries_of (all_committed next)) fits.repo.log
             (blobs_stay after before.log h g kept) (λ id apart. live_renewed fits.written blob id apart) fits.holds);
-        manifest = subst (λ (r : RepoState). CommitsManifest r (all_committed next).committed) (sym view)
+        manifest = λ all. subst (λ (r : RepoState). CommitsManifest r (all_committed next).committed) (sym view)
             (record { entries = entries_committed next; is = refl; holds = done.holds fits.written });
         chunks = tt;
       },

@@ -20,6 +20,7 @@ pub mod WritingLemmas
 pub mod CauseLemmas
 pub mod LimitLemmas
 pub mod CommitLemmas
+pub mod UnopenedLemmas
 pub mod UseLemmas
 pub mod RenewLemmas
 pub mod DropLemmas

@@ -1,11 +1,13 @@
 -- A store fits from call to call.
-use Rattle.std.proofs.Common.{◌≡◌, ℕ, Bool, false, List, [], ◌∷◌, ◌++◌, Option, Some, None, Ok, IfSome, sym, subst}
+use Rattle.std.proofs.Common.{◌≡◌, ℕ, Bool, true, false, List, [], ◌∷◌, ◌++◌, Option, Some, None, Ok, IfSome, sym, subst}
 use Rattle.ferry_disk.specs.Act.{History}
 use Rattle.ferry_disk.specs.Device.{Told}
 use Rattle.ferry_store.proofs.DropLemmas.{fits_whole}
 use Rattle.ferry_store.proofs.StepLemmas.{known_end, known_then}
 use Rattle.ferry_store.specs.Adding.{Adds}
-use Rattle.ferry_store.specs.Dropping.{Drops, FitsWithout}
+use Rattle.ferry_repo.specs.declared.fault.RepoFault.{RepoFault}
+use Rattle.ferry_store.proofs.WritingLemmas.{fits_writing, without_writing}
+use Rattle.ferry_store.specs.Dropping.{BareFits, Drops, FitsWithout, IsWriting, OpenBareFits}
 use Rattle.ferry_store.specs.State.{Did, KeepsSound}
 use Rattle.ferry_store.specs.Store.{InitFits, OpenFits, StoreFits}
 use Rattle.ferry_store.specs.declared.content.Added.{Added}
@@ -27,6 +29,19 @@ fits_opened E store a b n m begun p =
     known_end (λ h. StoreFits false store h) (λ h g. (h.acts ≡ []) × (AllDone h g × OpenFits store h g)) a b p.ends
     (λ h g e. (e.1.1 false e.0 (λ c. absurd (let no : ⊥ = cc in no))).fits)
     (known_then (λ h. h.acts ≡ []) (λ h g. AllDone h g × OpenFits store h g) a b begun p.end)
+
+-- a store that was opened without its manifest writes
+pub bare_writing : (E : History → History → Type 0) (store : Store) (fault : Option RepoFault) (a b : Option Told) (n m : ℕ)
+    → IfSome a (λ t. t.history.acts ≡ []) → Did {T = Store × Option RepoFault} E OpenBareFits a b n m (Ok (store, fault))
+    → IfSome b (λ t. IsWriting store t.history)
+bare_writing E store None a b n m begun p =
+    known_end (λ h. IsWriting store h) (λ h g. (h.acts ≡ []) × (AllDone h g × OpenFits store h g)) a b p.ends
+    (λ h g e. fits_writing false store g (e.1.1 false e.0 (λ c. absurd (let no : ⊥ = cc in no))).fits)
+    (known_then (λ h. h.acts ≡ []) (λ h g. AllDone h g × OpenFits store h g) a b begun p.end)
+bare_writing E store (Some fault) a b n m begun p =
+    known_end (λ h. IsWriting store h) (λ h g. (h.acts ≡ []) × (AllDone h g × BareFits store h g)) a b p.ends
+    (λ h g e. without_writing false false [] store g (e.1.1 false e.0 (λ c. absurd (let no : ⊥ = cc in no))).fits)
+    (known_then (λ h. h.acts ≡ []) (λ h g. AllDone h g × BareFits store h g) a b begun p.end)
 
 -- a store with a content added
 pub fits_added : (store now : Store) (content : List ℕ) (added : Added) (a b : Option Told) (n m : ℕ) → IfSome a (λ t. StoreFits false store t.history)
@@ -70,5 +85,5 @@ pub fits_dropped : (counts : Bool) (store now : Store) (dropped : List (List ℕ
 fits_dropped counts store now dropped id a b n m x fits p =
     known_end (λ h. FitsWithout counts (dropped ++ id ∷ []) now h)
     (λ h g. FitsWithout counts dropped store h × (AllDone h g × Drops store id now h g)) a b p.ends
-    (λ h g e. (e.1.1 counts dropped e.0).0)
+    (λ h g e. (e.1.1 true counts dropped e.0).0)
     (known_then (λ h. FitsWithout counts dropped store h) (λ h g. AllDone h g × Drops store id now h g) a b fits p.end)

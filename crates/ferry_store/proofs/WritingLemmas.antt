@@ -1,9 +1,9 @@
 -- A store that fits writes.
-use Rattle.std.proofs.Common.{Bool, false, List, ℕ, Option, Some, None, IfSome}
+use Rattle.std.proofs.Common.{Bool, true, false, List, ℕ, Option, Some, None, IfSome}
 use Rattle.ferry_disk.specs.Act.{History}
 use Rattle.ferry_disk.specs.Device.{Told}
 use Rattle.ferry_nonce.specs.declared.counter.Counter.{Counter}
-use Rattle.ferry_store.specs.Dropping.{FitsWithout, IsWriting}
+use Rattle.ferry_store.specs.Dropping.{FitsLess, FitsWithout, IsWriting}
 use Rattle.ferry_store.specs.State.{IsUnderWay, Written}
 use Rattle.ferry_store.specs.Store.{StoreFits}
 use Rattle.ferry_store.specs.declared.store.Store.{Store}
@@ -29,8 +29,9 @@ fits_writing counts store h fits =
     record { written = fits.written; under_way = uncounted counts store.session store.counter fits.written h fits.under_way }
 
 -- also where chunks were dropped
-pub without_writing : (counts : Bool) (dropped : List (List ℕ)) (store : Store) (h : History) → FitsWithout counts dropped store h → IsWriting store h
-without_writing counts dropped store h fits =
+pub without_writing : (reads counts : Bool) (dropped : List (List ℕ)) (store : Store) (h : History) → FitsLess reads counts dropped store h
+    → IsWriting store h
+without_writing reads counts dropped store h fits =
     record { written = fits.written; under_way = uncounted counts store.session store.counter fits.written h fits.under_way }
 
 -- what a device tells, where a store fits it
@@ -42,4 +43,4 @@ told_writing store (Some t) fits = fits_writing false store t.history fits
 pub told_without : (counts : Bool) (dropped : List (List ℕ)) (store : Store) (a : Option Told)
     → IfSome a (λ t. FitsWithout counts dropped store t.history) → IfSome a (λ t. IsWriting store t.history)
 told_without counts dropped store None fits = tt
-told_without counts dropped store (Some t) fits = without_writing counts dropped store t.history fits
+told_without counts dropped store (Some t) fits = without_writing true counts dropped store t.history fits

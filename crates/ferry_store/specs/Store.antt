@@ -1,5 +1,5 @@
 -- What a store stands on, and what `init` and `open` leave, whatever a stop does.
-use Rattle.std.specs.Prelude.{◌≡◌, ◌≢◌, ◌⊎◌, ◌<◌, ◌-◌, ◌^◌, ℕ, Bool, true, false, List, [], Some, IsSome, length, min}
+use Rattle.std.specs.Prelude.{◌≡◌, ◌≢◌, ◌⊎◌, ◌<◌, ◌-◌, ◌^◌, ℕ, Bool, true, false, List, [], Option, Some, IsSome, length, min}
 use Rattle.std.specs.BTreeSet.{contains}
 use Rattle.std.specs.FinMap.{get}
 use Rattle.std.specs.List.{AllByRecursion}
@@ -12,7 +12,8 @@ use Rattle.ferry_log.specs.Live.{key_cmp}
 use Rattle.ferry_log.specs.Log.{IsUncommitted}
 use Rattle.ferry_nonce.specs.Counter.{KeepsNumbers}
 use Rattle.ferry_nonce.specs.declared.fault.NonceFault.TheVariants as Nonces
-use Rattle.ferry_repo.specs.Opening.{FitsRepo, OpensFilesTo, RefusesRepo, RepoState, cached_in, repo_view}
+use Rattle.ferry_repo.specs.Opening.{FitsRepo, OpensBare, OpensFilesTo, RefusesBare, RefusesRepo, RepoState, cached_in, repo_view}
+use Rattle.ferry_repo.specs.declared.fault.RepoFault.{RepoFault}
 use Rattle.ferry_repo.specs.declared.fault.RepoFault.TheVariants as Repos
 use Rattle.ferry_repo.specs.declared.secret.Secret.{Secret}
 use Rattle.ferry_stops.specs.Blobs.{AllTraced}
@@ -152,11 +153,25 @@ OpenFits store before now = (counts : Bool) → before.acts ≡ [] → (counts �
 abbrev pub OpenEach : History → History → Type 0
 OpenEach before now = WritesEach OpenShows before now
 
--- Why these files don't open to be written. `Nonce` says as well that the repository opens.
+-- Why files don't open to be written, by why their repository doesn't open to be read, and by what says that it does. `Nonce` says as well that it
+-- does.
+abbrev pub RefusesOpenBy : (RepoFault → Type 0) → Type 0 → Files → StoreRefusal → Type 0
+RefusesOpenBy Refuses Opens files (Repo fault) = Refuses fault
+RefusesOpenBy Refuses Opens files (Nonce Nonces.Device) = Unit {0}
+RefusesOpenBy Refuses Opens files (Nonce fault) = Opens × RefusesBegin true files (Nonce fault)
+RefusesOpenBy Refuses Opens files (Write Writes.Device) = Unit {0}
+RefusesOpenBy Refuses Opens files Memory = Unit {0}
+RefusesOpenBy Refuses Opens files refusal = ⊥
+
+abbrev pub OpensSome : Files → Secret → Type 0
+OpensSome files secret = (repo : RepoState) × OpensFilesTo files secret repo
+
 abbrev pub RefusesOpen : Secret → Files → StoreRefusal → Type 0
-RefusesOpen secret files (Repo fault) = RefusesRepo files secret fault
-RefusesOpen secret files (Nonce Nonces.Device) = Unit {0}
-RefusesOpen secret files (Nonce fault) = ((repo : RepoState) × OpensFilesTo files secret repo) × RefusesBegin true files (Nonce fault)
-RefusesOpen secret files (Write Writes.Device) = Unit {0}
-RefusesOpen secret files Memory = Unit {0}
-RefusesOpen secret files refusal = ⊥
+RefusesOpen secret files refusal = RefusesOpenBy (RefusesRepo files secret) (OpensSome files secret) files refusal
+
+-- The same of files that are opened also where their manifest doesn't open.
+abbrev pub OpensSomeBare : Files → Secret → Type 0
+OpensSomeBare files secret = (repo : RepoState) × ((fault : Option RepoFault) × OpensBare files secret repo fault)
+
+abbrev pub RefusesOpenBare : Secret → Files → StoreRefusal → Type 0
+RefusesOpenBare secret files refusal = RefusesOpenBy (RefusesBare files secret) (OpensSomeBare files secret) files refusal

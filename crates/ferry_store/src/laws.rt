@@ -9,7 +9,7 @@ ghost use Rattle.ferry_repo.specs.Opening.{OpensFilesTo, RepoState};
 ghost use Rattle.ferry_repo.specs.declared.secret.Secret.{Secret};
 ghost use Rattle.ferry_segment.specs.Entry.{LogEntry, PutEntry, DeleteEntry, CommitEntry};
 ghost use Rattle.ferry_stops.specs.Entries.{Shows};
-ghost use Rattle.ferry_store.specs.Dropping.{FitsWithout, IsWriting};
+ghost use Rattle.ferry_store.specs.Dropping.{FitsLess, FitsWithout, IsWriting};
 ghost use Rattle.ferry_store.specs.Standing.{CommitsManifest, HoldsManifest, Keeps, OpensLive, UnlocksSettings, committed_of, entries_committed};
 ghost use Rattle.ferry_store.specs.Standing.{entries_of, live_in};
 ghost use Rattle.ferry_store.specs.State.{ShowsStanding, Written, all_committed, with_entry};
@@ -58,8 +58,8 @@ pub fn keeps_laws()
 /// What holds of a store from which chunks are dropped: first of one from which none was, and then behind each commit.
 pub fn drop_laws()
     ensures begin { (counts : Bool) (store : Store) (history : History) → StoreFits counts store history → FitsWithout counts [] store history }
-    ensures writing { (counts : Bool) (dropped : List (List ℕ)) (store : Store) (history : History) → FitsWithout counts dropped store history
-        → IsWriting store history }
+    ensures writing { (reads counts : Bool) (dropped : List (List ℕ)) (store : Store) (history : History)
+        → FitsLess reads counts dropped store history → IsWriting store history }
     // A DELETE takes its id away, and each other id is what it was.
     ensures gone { (id : List ℕ) (entries : List LogEntry) → live_in id (entries ++ DeleteEntry id ∷ []) ≡ None }
     ensures others { (id other : List ℕ) (entries : List LogEntry) → other ≢ id

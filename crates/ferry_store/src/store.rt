@@ -12,7 +12,7 @@ ghost use Rattle.ferry_manifest.specs.Manifest.Writing.{IsPackable, manifest_tex
 ghost use Rattle.ferry_next.specs.Next.{next_manifest, without_entry, written_at};
 ghost use Rattle.ferry_repo.specs.Archives.{archive_named};
 ghost use Rattle.ferry_repo.specs.Objects.{IsMissing};
-ghost use Rattle.ferry_repo.specs.Opening.{OpensFilesTo, cached_in, repo_view};
+ghost use Rattle.ferry_repo.specs.Opening.{OpensBare, OpensFilesTo, cached_in, repo_view};
 ghost use Rattle.ferry_repo.specs.contracts.repo.Repo.{the_row as row_of_repo};
 ghost use Rattle.ferry_stops.specs.Tells.{TellsNothing};
 ghost use Rattle.ferry_store.specs.Adding.{Adds, Checkpoints, RefusesAdd, id_under, pending_after};
@@ -20,12 +20,13 @@ ghost use Rattle.ferry_store.specs.Causes.{Stops, StopsAt};
 ghost use Rattle.ferry_store.specs.Commit.{Commits, CommitsEntry, HasCommitted, IsUnspentBy, RefusesManifestOf, accepted_in, manifest_entry};
 ghost use Rattle.ferry_blob.specs.Blob.{OpensTo, blocks};
 ghost use Rattle.ferry_store.specs.Content.{IsNew, Learns, RefusesNew, RefusesOld, blob_for};
-ghost use Rattle.ferry_store.specs.Dropping.{CommitsWithout, Drops, IsWriting, RefusesDrop};
+ghost use Rattle.ferry_store.specs.Dropping.{CommitsWithout, Drops, IsWriting, OpenBareFits, RefusesDrop};
 ghost use Rattle.ferry_store.specs.Fault.{depot_failed, source_failed, spends};
 ghost use Rattle.ferry_store.specs.Limits.{LeavesBoth, LimitsManifest, LimitsPut};
 ghost use Rattle.ferry_store.specs.Standing.{with_manifest};
 ghost use Rattle.ferry_store.specs.State.{CommitsSound, Did, KeepsSound, RefusesCommit};
 ghost use Rattle.ferry_store.specs.Store.{HasLimit, InitEach, InitFits, InitMakes, IsKnown, IsUnspent, OpenEach, OpenFits, RefusesInit, RefusesOpen, StoreFits};
+ghost use Rattle.ferry_store.specs.Store.{RefusesOpenBare};
 ghost use Rattle.ferry_store.specs.contracts.store.Store.{the_row};
 ghost use Rattle.ferry_store.specs.declared.fault.StoreRefusal.TheVariants as Refusal;
 ghost use Rattle.ferry_write.specs.Room.{AreUsedUp, must_begin};
@@ -45,7 +46,7 @@ use ferry_mac::Keys;
 use ferry_manifest::{ArchiveRef, Manifest};
 use ferry_next::{copy_manifest, drop_archive, has_archive, name_archive, set_timestamp};
 use ferry_nonce::Counter;
-use ferry_repo::{Repo, Secret};
+use ferry_repo::{Repo, RepoFault, Secret};
 use ferry_write::Session;
 use std::alloc::Global;
 use std::collections::BTreeSet;
@@ -87,16 +88,23 @@ impl Store {
         timestamp: &[u8],
     ) -> Result<Store, StoreRefusal>
         requires iterations { (1 ≤ iterations) × (iterations ≤ 10000000) }
+        // In a run without an act before, nothing was committed, and the files are made of the drawn bytes and the timestamp.
         ensures made { (bytes : List ℕ) × (OnOk result (E.drawn entropy.new ≡ option_map (λ d. d ++ bytes) (E.drawn entropy.old))
             × OnOk result (Between (D.told depot.old) (D.told depot.new) (InitMakes secret.now iterations timestamp.now bytes))) }
+        // Each stop leaves nothing committed or the new repository, and counter blocks are kept; where a segment is committed, nothing is done.
         ensures did { Did (InitEach secret.now) InitFits (D.told depot.old) (D.told depot.new) (D.faults depot.old) (D.faults depot.new) result }
+        // Each refusal says why, and each but `Committed`, the devices and memory says as well that nothing is committed.
         ensures refused { IfErr result (λ refusal. IfSome (D.told depot.old) (λ t. RefusesInit secret.now timestamp.now t.history refusal)) }
+        // The source of random bytes counted a fault exactly where it is the answer.
         ensures entropy { HasCause source_failed (E.faults entropy.old) (E.faults entropy.new) result }
+        // No content is kept in memory, and no entry counts as put.
         ensures fresh { IfOk result (λ store. (cached_in store.repo ≡ []) × (store.pending ≡ 0)) }
+        // What is accepted is the manifest of the repository.
         ensures accepted { IfOk result (λ store. accepted_in store ≡ (repo_view store.repo).manifest) }
         ensures unspent { IfOk result IsUnspent }
         // The limit of the settings is the session's.
         ensures limit { IfOk result (λ store. IfSome (D.told depot.old) (λ t. t.history.acts ≡ [] → HasLimit store)) }
+        // The manifest can be packed.
         ensures packable { IfOk result (λ store. IsPackable (accepted_in store)) }
     {
         expect_no_commit(alloc, depot)?;
@@ -127,18 +135,26 @@ impl Store {
         depot: &mut D,
         secret: &Secret,
     ) -> Result<Store, StoreRefusal>
+        // The files open under the secret to the repository of the store.
         ensures opened { IfOk result (λ store. IfSome (D.told depot.old) (λ t. OpensFilesTo (told_files t) secret.now (repo_view store.repo))) }
         // The file `nonce` is there: a lost one isn't taken for the number 0.
         ensures numbered { OnOk result (IfSome (D.told depot.old) (λ t. IsSome (file_at (told_files t) FileName.Nonce))) }
+        // Each stop shows what is committed, with the settings as they are, and counter blocks are kept; the store fits with what was committed.
         ensures did { Did OpenEach OpenFits (D.told depot.old) (D.told depot.new) (D.faults depot.old) (D.faults depot.new) result }
+        // No line is told, also by a call that fails.
         ensures untold { Between (D.told depot.old) (D.told depot.new) TellsNothing }
+        // The repository doesn't open; or it does, and the file `nonce` is absent or has no number; or a device failed.
         ensures refused { IfErr result (λ refusal. IfSome (D.told depot.old) (λ t. RefusesOpen secret.now (told_files t) refusal)) }
+        // No content is kept in memory, and no entry counts as put.
         ensures fresh { IfOk result (λ store. (cached_in store.repo ≡ []) × (store.pending ≡ 0)) }
+        // What is accepted is the manifest of the repository.
         ensures accepted { IfOk result (λ store. accepted_in store ≡ (repo_view store.repo).manifest) }
+        // A refusal isn't one of the source of random bytes.
         ensures drawn { IfErr result (λ refusal. source_failed refusal ≡ false) }
         ensures unspent { IfOk result IsUnspent }
         // The limit of the settings is the session's.
         ensures limit { IfOk result HasLimit }
+        // The manifest can be packed.
         ensures packable { IfOk result (λ store. IsPackable (accepted_in store)) }
     {
         let repo = Repo::open(alloc, depot, secret)?;
@@ -158,9 +174,51 @@ impl Store {
         })
     }
 
+    /// Opens a repository to be written, also where its manifest doesn't open: then the manifest has no archives and no names, and isn't dated, and
+    /// the second part is the fault, of the object under the zero id or of the manifest in it. The rest is as of `open`.
+    pub fn open_bare<D: Depot>(
+        alloc: Global,
+        depot: &mut D,
+        secret: &Secret,
+    ) -> Result<(Store, Option<RepoFault>), StoreRefusal>
+        // The files open under the secret to the repository of the store, or all of it but its manifest does, which is refused so.
+        ensures opened { IfOk result (λ both. IfSome (D.told depot.old) (λ t. OpensBare (told_files t) secret.now (repo_view both.0.repo) both.1)) }
+        // The file `nonce` is there.
+        ensures numbered { OnOk result (IfSome (D.told depot.old) (λ t. IsSome (file_at (told_files t) FileName.Nonce))) }
+        // As of `open`; beside a fault the store fits whatever is committed as its manifest.
+        ensures did { Did OpenEach OpenBareFits (D.told depot.old) (D.told depot.new) (D.faults depot.old) (D.faults depot.new) result }
+        ensures untold { Between (D.told depot.old) (D.told depot.new) TellsNothing }
+        // As of `open`, and no fault of the manifest is among them.
+        ensures refused { IfErr result (λ refusal. IfSome (D.told depot.old) (λ t. RefusesOpenBare secret.now (told_files t) refusal)) }
+        ensures fresh { IfOk result (λ both. (cached_in both.0.repo ≡ []) × (both.0.pending ≡ 0)) }
+        ensures accepted { IfOk result (λ both. accepted_in both.0 ≡ (repo_view both.0.repo).manifest) }
+        ensures drawn { IfErr result (λ refusal. source_failed refusal ≡ false) }
+        ensures unspent { IfOk result (λ both. IsUnspent both.0) }
+        ensures limit { IfOk result (λ both. HasLimit both.0) }
+        ensures packable { IfOk result (λ both. IsPackable (accepted_in both.0)) }
+    {
+        let (repo, fault) = Repo::open_bare(alloc, depot, secret)?;
+        let accepted = copy_manifest(alloc, repo.manifest())?;
+        let after = Some(repo.log().transaction());
+        let limit = repo.config().limit;
+        let (counter, session) = begin_at(alloc, depot, true, after, limit)?;
+        let store = Store {
+            alloc,
+            repo,
+            session,
+            counter,
+            pending: 0,
+            opened: BTreeSet::new(alloc),
+            accepted,
+            spent: false,
+        };
+        Ok((store, fault))
+    }
+
     /// Lends the repository. What stands there when the loan ends is the store's repository from then on.
     pub fn repo(&mut self) -> &mut Repo
         ensures* lends { sem 𝓛 (Lends the_row row_of_repo self.entry result (λ w. record self.old { repo = w })) }
+        // What is lent is the store's repository.
         ensures repo { result.now ≡ self.old.repo }
     {
         &mut self.repo
@@ -193,32 +251,46 @@ impl Store {
         requires size { length content.now ≤ content_limit }
         requires unspent { IsUnspent self.old }
         requires fits { IfSome (D.told depot.old) (λ t. StoreFits false self.old t.history) }
+        // Each stop shows what was committed, and counter blocks are kept; a store that fits fits with what was put.
         ensures did { Did (KeepsSound self.old.session self.old.counter) (Adds self.old content.now self.new)
             (D.told depot.old) (D.told depot.new) (D.faults depot.old) (D.faults depot.new) result }
+        // No line is told, also by a call that fails.
         ensures untold { Between (D.told depot.old) (D.told depot.new) TellsNothing }
+        // The id is that of the content under the keys of the repository.
         ensures id { IfOk result (λ added. added.id ≡ id_under self.old content.now) }
+        // The content was put exactly where it was new.
         ensures new { IfOk result (λ added. IsTrue added.new ↔ IsNew (repo_view self.old.repo) (id_under self.old content.now)) }
+        // The store knows the id from then on.
         ensures known { OnOk result (IsKnown self.new (id_under self.old content.now)) }
+        // What the store knows is answered without a call of the depot.
         ensures answered { IsKnown self.old (id_under self.old content.now) → IfSome (D.told depot.old) (λ t. (depot.new ≡ depot.old)
             × (result ≡ Ok (record { id = id_under self.old content.now; new = false }))) }
+        // The repository is the same, but that it has learnt the place of a content that was put.
         ensures repo { IfOk result (λ added. Learns (repo_view self.old.repo) added.id added.new (repo_view self.new.repo)) }
         // What is put opens to the content.
         ensures opens { IfOk result (λ added. IsTrue added.new → OpensTo (repo_view self.old.repo).keys (id_under self.old content.now)
             (blob_for (repo_view self.old.repo) self.old.counter content.now) content.now) }
+        // What was accepted is the same.
         ensures accepted { self.new.accepted ≡ self.old.accepted }
+        // One more entry counts as put where the content was put.
         ensures pending { IfOk result (λ added. self.new.pending ≡ pending_after self.old.pending added.new) }
+        // The depot failed, the blob of a live id breaks a rule, or a new content has no counter blocks or no segment left.
         ensures refused { IfErr result (λ refusal. IfSome (D.told depot.old) (λ t. RefusesAdd self.old content.now (told_files t) refusal)) }
         // A new content is refused exactly where no blocks, or else no segment, are left for it.
         ensures limits { IsNew (repo_view self.old.repo) (id_under self.old content.now)
             → LimitsPut result self.old.session self.old.counter (84 + length content.now) (blocks (length content.now)) }
+        // What a refusal says of the depot's files as they are read behind the call.
         ensures stops { IfErr result (λ refusal. IfSome (D.told depot.new)
             (λ t. StopsAt t.history.start (told_files t) (repo_view self.old.repo).keys refusal)) }
+        // A refusal isn't one of the source of random bytes.
         ensures drawn { IfErr result (λ refusal. source_failed refusal ≡ false) }
+        // After an answer the store isn't spent.
         ensures unspent { OnOk result (IsUnspent self.new) }
         // A refusal that doesn't spend the store leaves it and the files as they were.
         ensures kept { IfErr result (IsUnspentBy self.old self.new (D.told depot.old) (D.told depot.new)) }
         // The limit of the settings is the session's.
         ensures limit { HasLimit self.old → HasLimit self.new }
+        // After a refusal it is exactly where that is memory, a failed target or used up numbers.
         ensures spent { IfErr result (λ refusal. self.new.spent ≡ spends refusal) }
     {
         let id = id_of(self.repo.keys(), content);
@@ -316,20 +388,29 @@ impl Store {
     /// Commits what was put. The manifest is the one that was committed, so that no archive is new.
     pub fn checkpoint<D: Depot>(&mut self, depot: &mut D) -> Result<(), StoreRefusal>
         requires unspent { IsUnspent self.old }
+        // Each stop shows what was committed before, or all that was put too, and counter blocks are kept.
         ensures did { Did (CommitsSound self.old.session self.old.counter) (λ _. Checkpoints self.old self.new)
             (D.told depot.old) (D.told depot.new) (D.faults depot.old) (D.faults depot.new) result }
+        // No line is told, also by a call that fails.
         ensures untold { Between (D.told depot.old) (D.told depot.new) TellsNothing }
+        // The repository is as it was, its manifest too.
         ensures repo { self.new.repo ≡ self.old.repo }
+        // What was accepted is the same.
         ensures accepted { self.new.accepted ≡ self.old.accepted }
+        // No entry counts as put.
         ensures pending { OnOk result (self.new.pending ≡ 0) }
+        // The depot failed, or the numbers of segments are used up.
         ensures refused { IfErr result (RefusesCommit self.old.session) }
-        // The same of the files, where the store fits.
+        // What a refusal says of the depot's files as they are read behind the call, where the store fits.
         ensures stops { IfSome (D.told depot.old) (λ t. StoreFits false self.old t.history)
             → IfErr result (λ refusal. IfSome (D.told depot.new) (λ t. StopsAt t.history.start (told_files t) (repo_view self.old.repo).keys refusal)) }
+        // They are exactly where no number is left.
         ensures numbers { IsErrOf result (Refusal.Write Writes.Numbers) ↔ AreUsedUp self.old.session.last }
+        // After an answer the store isn't spent.
         ensures unspent { OnOk result (IsUnspent self.new) }
         // The limit of the settings is the session's.
         ensures limit { HasLimit self.old → HasLimit self.new }
+        // After a refusal it is.
         ensures spent { OnErr result (self.new.spent ≡ true) }
     {
         match commit(depot, &mut self.session) {
@@ -457,9 +538,13 @@ impl Store {
     ) -> Result<(), StoreRefusal>
         requires packable { IsPackable (accepted_in self.old) }
         requires unnamed { archive_named entry.name (accepted_in self.old).archives ≡ None }
+        // The archive is in its place, with the names of its items.
         ensures named { OnOk result (accepted_in self.new ≡ next_manifest (accepted_in self.old) entry (map (λ name. name.items) item_keys.now)) }
+        // The manifest can be packed.
         ensures packable { IsPackable (accepted_in self.new) }
+        // Nothing else of the store changes.
         ensures rest { self.new ≡ record self.old { accepted = self.new.accepted } }
+        // A refused call leaves what was accepted.
         ensures err { OnErr result (accepted_in self.new ≡ accepted_in self.old) }
         ensures refused { IfErr result (λ refusal. refusal ≡ Refusal.Memory) }
     {
@@ -471,8 +556,11 @@ impl Store {
     pub fn drop_name(&mut self, name: &[u8])
         requires packable { IsPackable (accepted_in self.old) }
         requires named { IsSome (archive_named name.now (accepted_in self.old).archives) }
+        // The manifest is without the archive of the name.
         ensures dropped { accepted_in self.new ≡ without_entry (accepted_in self.old) name.now }
+        // The manifest can be packed.
         ensures packable { IsPackable (accepted_in self.new) }
+        // Nothing else of the store changes.
         ensures rest { self.new ≡ record self.old { accepted = self.new.accepted } }
     {
         drop_archive(self.alloc, &mut self.accepted, name);
@@ -485,18 +573,26 @@ impl Store {
         requires chunk { id.now ≢ zero_id }
         requires live { IsMissing (repo_view self.old.repo).log id.now → ⊥ }
         requires fits { IfSome (D.told depot.old) (λ t. IsWriting self.old t.history) }
+        // Each stop shows what was committed, and counter blocks are kept; the store fits without this chunk too.
         ensures did { Did (KeepsSound self.old.session self.old.counter) (λ _. Drops self.old id.now self.new)
             (D.told depot.old) (D.told depot.new) (D.faults depot.old) (D.faults depot.new) result }
+        // No line is told, also by a call that fails.
         ensures untold { Between (D.told depot.old) (D.told depot.new) TellsNothing }
+        // Only the session goes on.
         ensures rest { self.new ≡ record self.old { session = self.new.session; spent = self.new.spent } }
+        // The depot failed, or the DELETE has no room in the segment and the numbers of segments are used up.
         ensures refused { IfErr result (RefusesDrop self.old.session) }
+        // They are exactly where no number is left.
         ensures numbers { IsErrOf result (Refusal.Write Writes.Numbers)
             ↔ (IsTrue (must_begin self.old.session.last self.old.session.size self.old.session.limit 41) × AreUsedUp self.old.session.last) }
+        // What a refusal says of the depot's files as they are read behind the call.
         ensures stops { IfErr result (λ refusal. IfSome (D.told depot.new)
             (λ t. StopsAt t.history.start (told_files t) (repo_view self.old.repo).keys refusal)) }
+        // After an answer the store isn't spent.
         ensures unspent { OnOk result (IsUnspent self.new) }
         // The limit of the settings is the session's.
         ensures limit { HasLimit self.old → HasLimit self.new }
+        // After a refusal it is exactly where that is memory, a failed target or used up numbers.
         ensures spent { IfErr result (λ refusal. self.new.spent ≡ spends refusal) }
     {
         match put_delete(depot, &mut self.session, id) {
@@ -515,6 +611,7 @@ impl Store {
         requires unspent { IsUnspent self.old }
         requires packable { IsPackable (accepted_in self.old) }
         requires fits { IfSome (D.told depot.old) (λ t. IsWriting self.old t.history) }
+        // 64 bytes are drawn, the tag's salt; each stop shows what was committed before, or all with that manifest; limits come exactly.
         ensures committed { (salt : List ℕ) × ((length salt ≡ 64) × OnOk result (E.drawn entropy.new ≡ option_map (λ d. d ++ salt) (E.drawn entropy.old))
             × Did (CommitsEntry (with_manifest (repo_view self.old.repo) (written_at (accepted_in self.old) timestamp.now)) self.old.session self.old.counter
             (manifest_entry (repo_view self.old.repo) self.old.counter (written_at (accepted_in self.old) timestamp.now) salt))
@@ -524,25 +621,34 @@ impl Store {
             (length (manifest_text (repo_view self.old.repo).keys salt (written_at (accepted_in self.old) timestamp.now))))
             × LimitsManifest result self.old.session self.old.counter
             (length (manifest_text (repo_view self.old.repo).keys salt (written_at (accepted_in self.old) timestamp.now)))) }
-        // The same of a store from which chunks were dropped.
+        // A store that fitted without some chunks fits without them, and its manifest is that of the commit, whatever it was before.
         ensures without { OnOk result (Between (D.told depot.old) (D.told depot.new) (CommitsWithout self.old self.new)) }
+        // No line is told, also by a call that fails.
         ensures untold { Between (D.told depot.old) (D.told depot.new) TellsNothing }
+        // The repository has the manifest that was accepted, written at this time.
         ensures repo { OnOk result (repo_view self.new.repo
             ≡ with_manifest (repo_view self.old.repo) (written_at (accepted_in self.old) timestamp.now)) }
+        // What is accepted is that manifest.
         ensures accepted { OnOk result (accepted_in self.new ≡ written_at (accepted_in self.old) timestamp.now) }
+        // The manifest can be packed.
         ensures packable { IsPackable (accepted_in self.new) }
+        // No entry counts as put.
         ensures pending { OnOk result (self.new.pending ≡ 0) }
+        // After an answer the store isn't spent.
         ensures unspent { OnOk result (IsUnspent self.new) }
         // A refusal that doesn't spend the store leaves it and the files as they were.
         ensures kept { IfErr result (IsUnspentBy self.old self.new (D.told depot.old) (D.told depot.new)) }
         // The limit of the settings is the session's.
         ensures limit { HasLimit self.old → HasLimit self.new }
+        // After a refusal it is exactly where that is memory, a failed target or used up numbers.
         ensures spent { IfErr result (λ refusal. self.new.spent ≡ spends refusal) }
+        // What a refusal says of the depot's files as they are read behind the call.
         ensures stops { IfErr result (λ refusal. IfSome (D.told depot.new)
             (λ t. StopsAt t.history.start (told_files t) (repo_view self.old.repo).keys refusal)) }
         // Where neither the device failed nor memory was refused, nothing is committed.
         ensures keeps { IfErr result (λ refusal. depot_failed refusal ≡ false → refusal ≢ Refusal.Memory
             → Between (D.told depot.old) (D.told depot.new) (KeepsSound self.old.session self.old.counter)) }
+        // The source of random bytes counted a fault exactly where it is the answer.
         ensures entropy { HasCause source_failed (E.faults entropy.old) (E.faults entropy.new) result }
     {
         match self.commit_accepted(depot, entropy, timestamp) {

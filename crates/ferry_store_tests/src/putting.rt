@@ -2,6 +2,7 @@
 ghost use Rattle.std.specs.Prelude.{◌≡◌, [], false, IfSome};
 ghost use Rattle.ferry_manifest.specs.Manifest.Writing.{IsPackable};
 ghost use Rattle.ferry_store.specs.Commit.{accepted_in};
+ghost use Rattle.ferry_store.specs.Dropping.{IsWriting};
 ghost use Rattle.ferry_store.specs.Store.{IsUnspent, StoreFits};
 
 use crate::fixture::{entry, names, secret_of};
@@ -9,8 +10,10 @@ use crate::store::{depot_of, open_on, sizes, source_of};
 use ferry_base::ZERO_ID;
 use ferry_blob::id_of;
 use ferry_disk::{Depot, MemoryDepot};
-use ferry_repo::Secret;
+use ferry_log::open_log;
+use ferry_repo::{RepoFault, Secret};
 use ferry_store::{Store, StoreRefusal};
+use ferry_write::{Session, WriteFault};
 use std::alloc::{AllocError, Global};
 
 /// The secret of a repository, and the names of the items of an archive in it.
@@ -144,6 +147,7 @@ enum Asked {
     Accepted,
     Dropped,
     PutOnce,
+    Renewed,
 }
 
 /// Whether a test holds.
@@ -154,6 +158,7 @@ fn holds(alloc: Global, asked: Asked) -> bool {
                 Asked::Accepted => is_accepted(alloc, &given),
                 Asked::Dropped => are_dropped(alloc, &given),
                 Asked::PutOnce => is_put_once(alloc, &given.secret),
+                Asked::Renewed => is_renewed(alloc, &given),
             };
             drop(given);
             done
@@ -278,4 +283,73 @@ fn is_put_once(alloc: Global, secret: &Secret) -> bool {
 #[test]
 fn a_content_is_put_once(rt: HostRuntime) {
     assert!(rt; holds(rt.alloc(), Asked::PutOnce));
+}
+
+/// Deletes the manifest of a repository.
+fn lose_manifest<D: Depot>(alloc: Global, depot: &mut D) -> Result<(), WriteFault> {
+    let transaction = match open_log(alloc, depot) {
+        Ok(log) => log.transaction(),
+        Err(_) => return Err(WriteFault::Device),
+    };
+    let mut session = Session::begin(alloc, depot, Some(transaction), 524288000)?;
+    session.delete(depot, &ZERO_ID)?;
+    session.commit(depot)?;
+    Ok(())
+}
+
+/// Commits what was accepted.
+fn commit_on<D: Depot>(alloc: Global, store: &mut Store, depot: &mut D) -> Result<(), StoreRefusal>
+    requires unspent { IsUnspent store.old }
+    requires packable { IsPackable (accepted_in store.old) }
+    requires fits { IfSome (D.told depot.old) (λ t. IsWriting store.old t.history) }
+{
+    let mut entropy = source_of(alloc, 0)?;
+    store.commit(depot, &mut entropy, b"again")
+}
+
+/// Opens a repository without its manifest and commits one; answers whether there was none.
+fn renew<D: Depot>(alloc: Global, depot: &mut D, secret: &Secret) -> Result<bool, StoreRefusal>
+    requires begun { IfSome (D.told depot.old) (λ t. t.history.acts ≡ []) }
+{
+    let (mut store, fault) = Store::open_bare(alloc, depot, secret)?;
+    let committed = commit_on(alloc, &mut store, depot);
+    drop(store);
+    committed?;
+    Ok(fault == Some(RepoFault::Missing(ZERO_ID)))
+}
+
+/// Whether a repository whose manifest is gone gets a new one in the next run, and opens in the one behind it, without archives.
+fn opens_renewed(alloc: Global, depot: MemoryDepot, secret: &Secret) -> bool {
+    match depot.again() {
+        Ok(mut next) => {
+            let is_new = renew(alloc, &mut next, secret) == Ok(true);
+            match next.again() {
+                Ok(mut last) => {
+                    let opened = open_on(alloc, &mut last, secret);
+                    drop(last);
+                    is_new && opened == Ok((0, false, false))
+                }
+                Err(_) => false,
+            }
+        }
+        Err(_) => false,
+    }
+}
+
+/// Whether a repository with an archive loses its manifest, doesn't open then, and gets a new one.
+fn is_renewed(alloc: Global, given: &Given) -> bool {
+    match depot_of(alloc, b"", 0) {
+        Ok(mut depot) => {
+            let is_named = name_made(alloc, &mut depot, given) == Ok([false, true]);
+            let is_lost = lose_manifest(alloc, &mut depot) == Ok(());
+            let is_open = open_on(alloc, &mut depot, &given.secret).is_ok();
+            opens_renewed(alloc, depot, &given.secret) && is_named && is_lost && !is_open
+        }
+        Err(_) => false,
+    }
+}
+
+#[test]
+fn a_lost_manifest_is_renewed(rt: HostRuntime) {
+    assert!(rt; holds(rt.alloc(), Asked::Renewed));
 }

@@ -18,6 +18,7 @@ use Rattle.ferry_run_compact.specs.Compact.{IsCompactedUnless, IsCompactingRefus
 use Rattle.ferry_run_delete.specs.Delete.{DeletesDone, Deletion, IsDeletedUnless, LimitsDeletion, deletion}
 use Rattle.ferry_run_plan.proofs.PlanCauseLemmas.{plan_completes}
 use Rattle.ferry_run_plan.specs.Planning.{CanBePlanned, IsPlannedUnless, PrintsPlan, Sends, planned_for}
+use Rattle.ferry_run_tag.specs.Tag.{IsTaggedUnless, LimitsTagging, OpensNew, Tagging, TagsDone, tagging}
 use Rattle.ferry_run_transfer.specs.Transfer.{Request, asked}
 use Rattle.ferry_run_transfer.specs.TransferCauses.{EndsDone, IsDoneUnless, MeetsLimit}
 use Rattle.ferry_status.specs.Devices.{Devices, Written}
@@ -46,7 +47,7 @@ use Rattle.ferry_view.specs.Items.{RefusesFile, RefusesItems}
 use Rattle.ferry_view.specs.declared.fault.ViewFault.TheVariants as View
 use Rattle.ferry_words.specs.declared.command.Command.{Command}
 use Rattle.ferry_words.specs.declared.command.Command.TheVariants.{Keys, Key, List as ListArchives, ListItems, Extract, Check}
-use Rattle.ferry_words.specs.declared.command.Command.TheVariants.{Init, MakeKey, Transfer, Plan, Delete, Compact}
+use Rattle.ferry_words.specs.declared.command.Command.TheVariants.{Init, MakeKey, Transfer, Plan, Delete, Compact, TagArchives}
 
 -- ---- by what a command prints
 
@@ -257,6 +258,39 @@ module _ (asked_for : Deletion) (repo : RepoState) (start image : Files) (IsMet 
   delete_done (Taken name) d = absurd d
   delete_done (NotFound name) d = absurd d
 
+module _ (asked_for : Tagging) (repo : RepoState) (files start image : Files) (opens : OpensNew files repo image) (IsMet : LimitKind → Type 0)
+    (met : (limit : LimitKind) → LimitsTagging asked_for repo files start image limit → IsMet limit) where
+  tag_done : (status : Status) → IsTaggedUnless asked_for repo files start image status → IsDoneOr IsMet status
+  tag_done Done d = tt
+  tag_done Memory d = tt
+  tag_done SourceDevice d = tt
+  tag_done TargetDevice d = tt
+  tag_done EntropyDevice d = tt
+  tag_done OutputDevice d = tt
+  tag_done (Limit limit) d = met limit d
+  tag_done No d = absurd d
+  tag_done (Usage word) d = absurd d
+  tag_done (SourceRefused refusal) d = absurd d
+  tag_done (TargetRefused (Repo (Repos.Blob id fault))) d = absurd (opens id fault d.0 d.1)
+  tag_done (TargetRefused (Repo Repos.NoCommit)) d = absurd d
+  tag_done (TargetRefused (Repo (Repos.Damaged segment at))) d = absurd d
+  tag_done (TargetRefused (Repo (Repos.Config cause))) d = absurd d
+  tag_done (TargetRefused (Repo (Repos.Key cause))) d = absurd d
+  tag_done (TargetRefused (Repo (Repos.Missing id))) d = absurd d
+  tag_done (TargetRefused (Repo (Repos.Manifest cause))) d = absurd d
+  tag_done (TargetRefused (Repo (Repos.Archive id cause))) d = absurd d
+  tag_done (TargetRefused (Repo (Repos.Item id cause))) d = absurd d
+  tag_done (TargetRefused (Repo (Repos.Size id))) d = absurd d
+  tag_done (TargetRefused (Repo (Repos.KeyFile cause))) d = absurd d
+  tag_done (TargetRefused (Repo (Repos.Other file config))) d = absurd d
+  tag_done (TargetRefused (Repo Repos.NoKey)) d = absurd d
+  tag_done (TargetRefused (Repo Repos.Device)) d = absurd d
+  tag_done (TargetRefused (Repo Repos.Memory)) d = absurd d
+  tag_done (TargetRefused (Nonce fault)) d = absurd d
+  tag_done (TargetRefused Committed) d = absurd d
+  tag_done (Taken name) d = absurd d
+  tag_done (NotFound name) d = absurd d
+
 module _ (image : Files) (IsMet : LimitKind → Type 0) (met : (limit : LimitKind) → IsCompactedUnless image (Limit limit) → IsMet limit) where
   compact_done : (status : Status) → IsCompactedUnless image status → IsDoneOr IsMet status
   compact_done Done d = tt
@@ -350,6 +384,7 @@ module _ (secrets : Secrets) (output output_now : Written) (status : Status) whe
   shown (Plan block names) (Some s) IsMet ready shows = absurd ready
   shown (Delete timestamp name) (Some s) IsMet ready shows = absurd ready
   shown (Compact threshold) (Some s) IsMet ready shows = absurd ready
+  shown (TagArchives timestamp) (Some s) IsMet ready shows = absurd ready
 
   made : (iterations : ℕ) (timestamp : Option (List ℕ)) (source before now : Option Told) → IfSome before (λ b. b.history.acts ≡ [])
       → IsReadyTo (Init iterations timestamp) secrets source before now
@@ -395,6 +430,15 @@ module _ (secrets : Secrets) (output output_now : Written) (status : Status) whe
   compacted threshold source (Some b) (Some t) ready refused =
       compacted_done b t status (Meets (Compact threshold) secrets source (Some b) (Some t)) (λ limit m. m) ready refused
 
+  tagged : (timestamp : Option (List ℕ)) (source before now : Option Told) → IfSome before (λ b. b.history.acts ≡ [])
+      → IsReadyTo (TagArchives timestamp) secrets source before now → TagsDone (tagging secrets.target timestamp) before now status
+      → IsDoneOr (Meets (TagArchives timestamp) secrets source before now) status
+  tagged timestamp source None now begun ready done = absurd ready
+  tagged timestamp source (Some b) None begun ready done = absurd ready
+  tagged timestamp source (Some b) (Some t) begun ready done =
+      tag_done (tagging secrets.target timestamp) ready.0.repo (told_files b) t.history.start (told_files t) ready.1
+      (Meets (TagArchives timestamp) secrets source (Some b) (Some t)) (λ limit m. (ready.0.repo, (ready.0.opens, m))) status (done begun ready.0)
+
 pub completes : (command : Command) (secrets : Secrets) (before after : Devices) (status : Status)
     → IfSome before.target.told (λ b. b.history.acts ≡ []) → IsReadyTo command secrets before.source.told before.target.told after.target.told
     → DoesCommand (Ok command) secrets before status after
@@ -421,3 +465,5 @@ completes (Delete timestamp name) secrets before after status begun ready does =
     deleted secrets before.output after.output status timestamp name before.source.told before.target.told after.target.told begun ready does.completes
 completes (Compact threshold) secrets before after status begun ready does =
     compacted secrets before.output after.output status threshold before.source.told before.target.told after.target.told ready does.refused
+completes (TagArchives timestamp) secrets before after status begun ready does =
+    tagged secrets before.output after.output status timestamp before.source.told before.target.told after.target.told begun ready does.completes

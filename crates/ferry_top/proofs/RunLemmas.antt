@@ -8,6 +8,8 @@ use Rattle.ferry_repo.specs.declared.secret.Secret.{Secret}
 use Rattle.ferry_run_compact.proofs.CompactLemmas.{compacts_nothing}
 use Rattle.ferry_run_delete.proofs.DoneLemmas.{deletes_nothing}
 use Rattle.ferry_run_delete.specs.Delete.{deletion}
+use Rattle.ferry_run_tag.proofs.DoneLemmas.{tags_nothing}
+use Rattle.ferry_run_tag.specs.Tag.{tagging}
 use Rattle.ferry_top.proofs.InitLemmas.{each_command}
 use Rattle.ferry_status.proofs.StatusLemmas.{IsOfStore, of_store}
 use Rattle.ferry_run_plan.proofs.PlanLemmas.{plans_nothing}
@@ -34,7 +36,7 @@ use Rattle.ferry_status.specs.declared.status.Status.TheVariants.{SourceRefused,
 use Rattle.ferry_write.specs.Session.{SettlesFirst}
 use Rattle.ferry_words.specs.declared.command.Command.{Command}
 use Rattle.ferry_words.specs.declared.command.Command.TheVariants.{Keys, Key, List as ListArchives, ListItems, Extract, Check}
-use Rattle.ferry_words.specs.declared.command.Command.TheVariants.{Init, MakeKey, Transfer, Plan, Delete, Compact}
+use Rattle.ferry_words.specs.declared.command.Command.TheVariants.{Init, MakeKey, Transfer, Plan, Delete, Compact, TagArchives}
 
 -- ---- a command of the source
 
@@ -241,6 +243,8 @@ first_of (Ok (Delete timestamp name)) secrets before after status does =
     between_map before.target.told after.target.told _ SettlesFirst (λ h g each. each.1.1.1) does.each
 first_of (Ok (Compact threshold)) secrets before after status does =
     between_map before.target.told after.target.told _ SettlesFirst (λ h g each. each.1.1.1) does.each
+first_of (Ok (TagArchives timestamp)) secrets before after status does =
+    between_map before.target.told after.target.told _ SettlesFirst (λ h g each. each.1.1.1) does.each
 first_of (Ok (Plan block names)) secrets before after status does =
     read_first {T = Unit {0}} {F = Bool} (λ failed. failed) before.target.told after.target.told (Err (target_failed status)) does.target
 first_of (Err word) secrets before after status does = unused_first before after (ap (λ (d : Devices). d.target) does)
@@ -293,4 +297,5 @@ does_nothing (Ok (Transfer block checkpoint timestamp names)) secrets all =
 does_nothing (Ok (Plan block names)) secrets all = plans_nothing (planned_for secrets block names all.source.told) all
 does_nothing (Ok (Delete timestamp name)) secrets all = deletes_nothing (deletion secrets.target name timestamp) all
 does_nothing (Ok (Compact threshold)) secrets all = compacts_nothing threshold all
+does_nothing (Ok (TagArchives timestamp)) secrets all = tags_nothing (tagging secrets.target timestamp) all
 does_nothing (Err word) secrets all = refl

@@ -12,6 +12,7 @@ use Rattle.ferry_repo.specs.declared.secret.Secret.{Secret}
 use Rattle.ferry_run_compact.specs.Compact.{IsCompactedUnless}
 use Rattle.ferry_run_delete.specs.Delete.{IsReadyToDelete, LimitsDeletion, deletion}
 use Rattle.ferry_run_plan.specs.Planning.{CanBePlanned, planned_for}
+use Rattle.ferry_run_tag.specs.Tag.{IsReadyToTag, LimitsTagging, OpensNew, tagging}
 use Rattle.ferry_run_transfer.specs.Transfer.{KeepsArchives, NoneCollide, Request, asked}
 use Rattle.ferry_run_transfer.specs.TransferCauses.{IsReadyFor, MeetsLimit}
 use Rattle.ferry_status.specs.declared.status.Limit.{Limit as LimitKind}
@@ -26,7 +27,7 @@ use Rattle.ferry_top.specs.Keys.{IsListing}
 use Rattle.ferry_top.specs.List.{IsArchiveListing}
 use Rattle.ferry_words.specs.declared.command.Command.{Command}
 use Rattle.ferry_words.specs.declared.command.Command.TheVariants.{Keys, Key, List as ListArchives, ListItems, Extract, Check}
-use Rattle.ferry_words.specs.declared.command.Command.TheVariants.{Init, MakeKey, Transfer, Plan, Delete, Compact}
+use Rattle.ferry_words.specs.declared.command.Command.TheVariants.{Init, MakeKey, Transfer, Plan, Delete, Compact, TagArchives}
 
 -- A device tells, and this holds of it.
 abbrev pub Tells : Option Told → (Told → Type 0) → Type 0
@@ -53,7 +54,7 @@ IsReadyToCopy request source start now = (ready : IsReadyFor request source (tol
 abbrev pub IsReadyToCompact : Files → Type 0
 IsReadyToCompact files = (state : LogState) × (IsStateOf files state × ((config : Settings) × (config_of (contents_at files Config) ≡ Ok config)))
 
--- what each command asks of what the source and the target tell before it, and `transfer` also of what the target tells behind it
+-- what each command asks of what the source and the target tell before it, and `transfer` and `tag-archives` also of what the target tells behind it
 abbrev pub IsReadyTo : Command → Secrets → (source before now : Option Told) → Type 0
 IsReadyTo (Init iterations timestamp) secrets source before now = Tells before (λ b. IsReady secrets.target (time_or timestamp) (told_files b))
 IsReadyTo (MakeKey iterations) secrets source before now = Unit {0}
@@ -64,6 +65,8 @@ IsReadyTo (Plan block names) secrets source before now =
 IsReadyTo (Delete timestamp name) secrets source before now =
     Tells before (λ b. Tells now (λ t. IsReadyToDelete (deletion secrets.target name timestamp) (told_files b)))
 IsReadyTo (Compact threshold) secrets source before now = Tells before (λ b. Tells now (λ t. IsReadyToCompact (told_files b)))
+IsReadyTo (TagArchives timestamp) secrets source before now = Tells before (λ b. Tells now (λ t.
+    (ready : IsReadyToTag (tagging secrets.target timestamp) (told_files b)) × OpensNew (told_files b) ready.repo (told_files t)))
 IsReadyTo command secrets source before now = Tells source (λ s. HasShown command secrets.source (told_files s))
 
 -- the limits that a command can meet, each with what it says then
@@ -74,6 +77,9 @@ Meets (Transfer block checkpoint timestamp names) secrets source before now limi
 Meets (Delete timestamp name) secrets source before now limit = Tells before (λ b. Tells now (λ t. (repo : RepoState)
     × (OpensFilesTo (told_files b) secrets.target repo
     × LimitsDeletion (deletion secrets.target name timestamp) repo t.history.start (told_files t) limit)))
+Meets (TagArchives timestamp) secrets source before now limit = Tells before (λ b. Tells now (λ t. (repo : RepoState)
+    × (OpensFilesTo (told_files b) secrets.target repo
+    × LimitsTagging (tagging secrets.target timestamp) repo (told_files b) t.history.start (told_files t) limit)))
 Meets (Compact threshold) secrets source before now limit = Tells now (λ t. IsCompactedUnless (told_files t) (Limit limit))
 Meets command secrets source before now limit = ⊥
 

@@ -1,11 +1,15 @@
-//! A law of all commands, the contract of a function with nothing to do.
+//! Laws of all commands, each the contract of a function with nothing to do.
 ghost use Rattle.std.specs.Prelude.{◌≡◌, [], IfSome, Ok};
+ghost use Rattle.ferry_disk.specs.Act.{History, files_now};
+ghost use Rattle.ferry_disk.specs.Moments.{Moments};
 ghost use Rattle.ferry_status.specs.Devices.{Devices};
 ghost use Rattle.ferry_status.specs.declared.status.Secrets.{Secrets as TheSecrets};
 ghost use Rattle.ferry_status.specs.declared.status.Status.{Status as TheStatus};
 ghost use Rattle.ferry_top.specs.Ready.{IsDoneOr, IsReadyTo, Meets};
 ghost use Rattle.ferry_top.specs.Run.{Runs};
+ghost use Rattle.ferry_stops.specs.Chance.{IsLeft};
 ghost use Rattle.ferry_words.specs.declared.command.Command.{Command as TheCommand};
+ghost use Rattle.ferry_write.specs.Session.{SettlesFirst};
 
 /// Where what a command asks is there, its run is done, unless memory was refused, a device failed, or one of its limits was met.
 pub fn complete_laws()
@@ -13,4 +17,10 @@ pub fn complete_laws()
         → IfSome before.target.told (λ t. t.history.acts ≡ [])
         → IsReadyTo command secrets before.source.told before.target.told after.target.told → Runs (Ok command) secrets before status after
         → IsDoneOr (Meets command secrets before.source.told before.target.told after.target.told) status }
+{}
+
+/// What a read gives at a moment of a run is among what a stop leaves then, also where the last act isn't done: so what holds of all that a stop leaves
+/// holds of something.
+pub fn stop_laws()
+    ensures now { (before now : History) → before.acts ≡ [] → SettlesFirst before now → Moments (λ _. Unit {0}) before now → IsLeft now (files_now now) }
 {}

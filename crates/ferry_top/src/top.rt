@@ -16,6 +16,7 @@ use ferry_disk::{Depot, Entropy, Shelf, Sink};
 use ferry_run_compact::compact;
 use ferry_run_delete::delete;
 use ferry_run_plan::plan;
+use ferry_run_tag::tag_archives;
 use ferry_run_transfer::transfer;
 use ferry_status::{Secrets, Status, report};
 use ferry_words::{Command, Usage, read_words};
@@ -37,8 +38,9 @@ use std::alloc::Global;
 /// `entropy`. `delete` takes the archive of a name out of the target, with the chunks that no other archive uses, and tells `deleted `, the name
 /// and how many chunks went; it uses neither `source` nor `out` but for its fault line. `compact` writes again what is in use in those segments
 /// of the target of which a part is unused, removes them, and tells `compacted ` and how many these were; it uses neither `source` and
-/// `entropy` nor `out` but for its fault line. `make-key` draws a new key, seals it with the target's passphrase and prints the text of its key
-/// file; it uses neither `source` nor `target`.
+/// `entropy` nor `out` but for its fault line. `tag-archives` gives the record of each archive of the target an authentication tag that has none,
+/// and tells `tagged ` and how many these were; it uses neither `source` nor `out` but for its fault line. `make-key` draws a new key, seals it
+/// with the target's passphrase and prints the text of its key file; it uses neither `source` nor `target`.
 pub fn run<S: Shelf, D: Depot, E: Entropy, K: Sink>(
     alloc: Global,
     words: &[String],
@@ -162,6 +164,9 @@ fn carry_out<S: Shelf, D: Depot, E: Entropy, K: Sink>(
             delete(alloc, &secrets.target, timestamp, name, target, entropy)
         }
         Command::Compact { threshold } => compact(alloc, threshold, target),
+        Command::TagArchives { timestamp } => {
+            tag_archives(alloc, &secrets.target, timestamp, target, entropy)
+        }
         Command::MakeKey { iterations } => make_key(
             alloc,
             &secrets.target,

@@ -14,7 +14,7 @@ use Rattle.ferry_tree.specs.Index.{known_in}
 use Rattle.ferry_tree.specs.Nodes.{Placed, Planted, is_bare, no_nodes}
 use Rattle.ferry_tree.specs.Planning.{mark_of}
 use Rattle.ferry_tree.specs.Restoring.{Stands, AreRead, RestoresItems, ReadsTo, PartOfNext, PartOfItems, RefusesItems, RefusesArchive, RestoresArchive}
-use Rattle.ferry_tree.specs.Restoring.{PartOfArchive}
+use Rattle.ferry_tree.specs.Restoring.{IsEmpty, PartOfArchive}
 use Rattle.ferry_tree.specs.declared.fault.RestoreFault.{RestoreFault}
 use Rattle.ferry_tree.specs.declared.fault.RestoreFault.TheVariants as Faults
 use Rattle.ferry_tree.specs.declared.known.Index.{Index}
@@ -114,22 +114,22 @@ archive_part told middle repo mid_repo name walk before after same same_repo emp
 }
 
 refused_by : (files : Files) (repo : RepoState) (name : List ℕ) (walk : WalkState) (before : Option Planted) (fault : RestoreFault)
-    → Begins files repo name walk → RefusesItems files repo walk fault → RefusesArchive files repo name before fault
-refused_by files repo name walk before (Faults.Source fault) begins refuses = λ of_files. inr (walk, (begins, refuses))
-refused_by files repo name walk before (Faults.Place path fault) begins refuses = (walk, (begins, refuses))
-refused_by files repo name walk before Faults.NotFound begins (inl ends) = absurd ends.refused
-refused_by files repo name walk before Faults.NotFound begins (inr ends) = absurd ends
-refused_by files repo name walk before Faults.NotEmpty begins (inl ends) = absurd ends.refused
-refused_by files repo name walk before Faults.NotEmpty begins (inr ends) = absurd ends
-refused_by files repo name walk before Faults.Tree begins refuses = tt
-refused_by files repo name walk before Faults.Memory begins refuses = tt
+    → IsEmpty before → Begins files repo name walk → RefusesItems files repo walk fault → RefusesArchive files repo name before fault
+refused_by files repo name walk before (Faults.Source fault) empty begins refuses = λ of_files. (empty, inr (walk, (begins, refuses)))
+refused_by files repo name walk before (Faults.Place path fault) empty begins refuses = (empty, (walk, (begins, refuses)))
+refused_by files repo name walk before Faults.NotFound empty begins (inl ends) = absurd ends.refused
+refused_by files repo name walk before Faults.NotFound empty begins (inr ends) = absurd ends
+refused_by files repo name walk before Faults.NotEmpty empty begins (inl ends) = absurd ends.refused
+refused_by files repo name walk before Faults.NotEmpty empty begins (inr ends) = absurd ends
+refused_by files repo name walk before Faults.Tree empty begins refuses = tt
+refused_by files repo name walk before Faults.Memory empty begins refuses = tt
 
 pub archive_refused : (told middle : Option Told) (repo mid_repo : RepoState) (name : List ℕ) (walk : WalkState) (before : Option Planted)
-    (fault : RestoreFault) → heard middle ≡ heard told → mid_repo ≡ repo → IfSome told (λ t. Begins (told_files t) repo name walk)
+    (fault : RestoreFault) → heard middle ≡ heard told → mid_repo ≡ repo → IsEmpty before → IfSome told (λ t. Begins (told_files t) repo name walk)
     → IfSome middle (λ t. RefusesItems (told_files t) mid_repo walk fault) → IfSome told (λ t. RefusesArchive (told_files t) repo name before fault)
-archive_refused told middle repo mid_repo name walk before fault same same_repo begins refuses =
+archive_refused told middle repo mid_repo name walk before fault same same_repo empty begins refuses =
     told_then told (λ f. Begins f repo name walk × RefusesItems f repo walk fault) (λ f. RefusesArchive f repo name before fault)
-    (λ f both. refused_by f repo name walk before fault both.0 both.1)
+    (λ f both. refused_by f repo name walk before fault empty both.0 both.1)
     (told_both told (λ f. Begins f repo name walk) (λ f. RefusesItems f repo walk fault) begins
     (subst (λ (r : RepoState). IfSome told (λ t. RefusesItems (told_files t) r walk fault)) same_repo
     (told_same middle told (λ f. RefusesItems f mid_repo walk fault) (sym same) refuses)))

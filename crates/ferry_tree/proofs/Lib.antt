@@ -10,4 +10,5 @@ mod FillingLemmas
 mod ItemLemmas
 mod RestoringLemmas
 mod ArchiveLemmas
-mod LawLemmas
+pub mod LawLemmas
+pub mod WholeLemmas

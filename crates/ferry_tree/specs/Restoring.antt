@@ -183,12 +183,21 @@ RefusesBegin files repo name Memory = Unit {0}
 abbrev pub RefusesNamedItems : Files → RepoState → List ℕ → RestoreFault → Type 0
 RefusesNamedItems files repo name fault = (walk : WalkState) × (Begins files repo name walk × RefusesItems files repo walk fault)
 
--- What a refusal says of the archive of a name: it isn't there; the tree has something already; its record or its items are refused so.
+-- Some archive has the name.
+abbrev pub IsNamed : RepoState → List ℕ → Type 0
+IsNamed repo name = (named : ArchiveRef) × (archive_named name repo.manifest.archives ≡ Some named)
+
+-- A tree that tells its nodes has none.
+abbrev pub IsEmpty : Option Planted → Type 0
+IsEmpty tree = IfSome tree (λ t. is_bare t ≡ true)
+
+-- What a refusal says of the archive of a name, in the order of what is looked at: it isn't there; it is, and the tree has something already; the tree is
+-- empty, and the record or the items are refused so.
 abbrev pub RefusesArchive : Files → RepoState → List ℕ → Option Planted → RestoreFault → Type 0
 RefusesArchive files repo name before (Source fault) =
-    IsOfFiles fault → RefusesNamedRecord files repo name fault ⊎ RefusesNamedItems files repo name (Source fault)
-RefusesArchive files repo name before (Place path fault) = RefusesNamedItems files repo name (Place path fault)
+    IsOfFiles fault → IsEmpty before × (RefusesNamedRecord files repo name fault ⊎ RefusesNamedItems files repo name (Source fault))
+RefusesArchive files repo name before (Place path fault) = IsEmpty before × RefusesNamedItems files repo name (Place path fault)
 RefusesArchive files repo name before NotFound = archive_named name repo.manifest.archives ≡ None
-RefusesArchive files repo name before NotEmpty = IfSome before (λ t. is_bare t ≡ false)
+RefusesArchive files repo name before NotEmpty = IsNamed repo name × IfSome before (λ t. is_bare t ≡ false)
 RefusesArchive files repo name before Tree = Unit {0}
 RefusesArchive files repo name before Memory = Unit {0}

@@ -12,11 +12,12 @@ use crate::fault::RestoreFault;
 use crate::making::write_content;
 use ferry_disk::Shelf;
 use ferry_item::ChunkRef;
-use ferry_repo::Repo;
+use ferry_repo::{Repo, Walk};
 
-/// Reads the contents of chunks, one after another, and appends each to the current file where they belong to it.
+/// Reads the contents of chunks, one after another, and appends each to the current file where they belong to it. The walk stands behind their item.
 #[tactic(auto, using(crate::proofs::FaultLemmas::conversions))]
 pub(crate) fn fill<S: Shelf, T: Tree>(
+    walk: &Walk,
     repo: &mut Repo,
     shelf: &mut S,
     tree: &mut T,
@@ -36,7 +37,7 @@ pub(crate) fn fill<S: Shelf, T: Tree>(
     ensures cause { HasCause tree_lost (T.faults tree.old) (T.faults tree.new) result }
 {
     for place in 0..chunks.len() {
-        let content = repo.content(shelf, &chunks[place])?;
+        let content = walk.content(repo, shelf, &chunks[place], &chunks[place..])?;
         put_content(tree, &content, takes)?;
     }
     Ok(())

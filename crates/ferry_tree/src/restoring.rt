@@ -50,16 +50,17 @@ pub(crate) fn restore_items<S: Shelf, T: Tree>(
 {
     for _ in 0..u64::MAX {
         match walk.step(repo, shelf)? {
-            Some(item) => restore_item(alloc, repo, shelf, tree, known, counts, &item)?,
+            Some(item) => restore_item(alloc, walk, repo, shelf, tree, known, counts, &item)?,
             None => return Ok(()),
         }
     }
     Err(RestoreFault::Memory)
 }
 
-/// Restores an item: makes its node, and reads its content, which goes to the file that was made for it.
+/// Restores an item, behind which the walk stands: makes its node, and reads its content, which goes to the file that was made for it.
 fn restore_item<S: Shelf, T: Tree>(
     alloc: Global,
+    walk: &Walk,
     repo: &mut Repo,
     shelf: &mut S,
     tree: &mut T,
@@ -83,13 +84,14 @@ fn restore_item<S: Shelf, T: Tree>(
 {
     let shape = shape_of(alloc, item)?;
     match place_item(alloc, tree, known, counts, &shape) {
-        Ok(takes) => fill_item(repo, shelf, tree, item, takes),
+        Ok(takes) => fill_item(walk, repo, shelf, tree, item, takes),
         Err(stop) => Err(of_stop(shape, stop)),
     }
 }
 
 /// Reads the content of an item, which goes to the current file where it belongs there.
 fn fill_item<S: Shelf, T: Tree>(
+    walk: &Walk,
     repo: &mut Repo,
     shelf: &mut S,
     tree: &mut T,
@@ -109,8 +111,8 @@ fn fill_item<S: Shelf, T: Tree>(
     ensures cause { HasCause tree_lost (T.faults tree.old) (T.faults tree.new) result }
 {
     match &item.chunks {
-        Some(chunks) => fill(repo, shelf, tree, chunks.as_slice(), takes),
-        None => fill(repo, shelf, tree, &[], takes),
+        Some(chunks) => fill(walk, repo, shelf, tree, chunks.as_slice(), takes),
+        None => fill(walk, repo, shelf, tree, &[], takes),
     }
 }
 

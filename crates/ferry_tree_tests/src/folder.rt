@@ -1,7 +1,7 @@
 //! An archive is restored in a folder.
 
 use crate::restoring::{Said, restored};
-use ferry_real::FolderTree;
+use ferry_real::{FolderTree, Progress, Terminals};
 use std::alloc::AllocError;
 use std::fs::Metadata;
 use std::os::unix::fs::MetadataExt;
@@ -54,7 +54,12 @@ fn is_whole(rt: &HostRuntime, place: &str) -> io::Result<bool> {
 
 /// What `restore` says of `whole` in the folder, and once more.
 fn restored_twice(rt: &HostRuntime, place: &str) -> Result<(Said, Said), AllocError> {
-    let mut tree = FolderTree::new(rt.clone()?, rt.alloc(), place)?;
+    let terminals = Terminals {
+        output: false,
+        error: false,
+    };
+    let progress = Progress::new(rt.clone()?, rt.alloc(), terminals)?;
+    let mut tree = FolderTree::new(rt.clone()?, rt.alloc(), place, progress)?;
     let first = restored(rt.alloc(), &mut tree, b"whole", b"");
     let second = restored(rt.alloc(), &mut tree, b"whole", b"");
     drop(tree);

@@ -34,7 +34,7 @@ pub(crate) fn begin<S: Shelf>(
     let Some(archive) = repo.archive(shelf, name)? else {
         return Err(ViewFault::NotFound);
     };
-    let walk = repo.walk(&id, &archive);
+    let walk = repo.walk_stream(&id, &archive);
     drop(archive);
     Ok(walk?)
 }

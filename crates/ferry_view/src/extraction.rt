@@ -166,7 +166,7 @@ fn write_contents<S: Shelf, K: Sink>(
     ensures cause { HasCause view_failed (K.faults out.old) (K.faults out.new) result }
 {
     for place in 0..chunks.len() {
-        let content = repo.content(shelf, &chunks[place])?;
+        let content = repo.content_ahead(shelf, &chunks[place], &chunks[place..])?;
         out.write(&content)?;
     }
     Ok(())

@@ -61,11 +61,11 @@ stops_by front number wrong more command h =
 
 -- ---- IsWrong
 
-take_front : (front : List (List ℕ)) (word : List ℕ) (rest : List (List ℕ)) → take (length front) (front ++ (word ∷ rest)) ≡ front
+pub take_front : (front : List (List ℕ)) (word : List ℕ) (rest : List (List ℕ)) → take (length front) (front ++ (word ∷ rest)) ≡ front
 take_front [] word rest = refl
 take_front (first ∷ front) word rest = ap (λ (front : List (List ℕ)). first ∷ front) (take_front front word rest)
 
-take_next : (front : List (List ℕ)) (word : List ℕ) (rest : List (List ℕ))
+pub take_next : (front : List (List ℕ)) (word : List ℕ) (rest : List (List ℕ))
     → take (suc (length front)) (front ++ (word ∷ rest)) ≡ front ++ (word ∷ [])
 take_next [] word rest = refl
 take_next (first ∷ front) word rest = ap (λ (front : List (List ℕ)). first ∷ front) (take_next front word rest)

@@ -5,3 +5,4 @@ pub mod WordsLemmas
 pub mod LawsLemmas
 pub mod PlaceLemmas
 pub mod NumberLemmas
+pub mod RestoreLemmas

@@ -172,7 +172,14 @@ found_at (suc (suc (suc (suc (suc (suc (suc (suc (suc (suc zero)))))))))) row wi
       filled = none _ refl;
       in_range = λ given operands. threshold_in_range given;
     }
-found_at (suc (suc (suc (suc (suc (suc (suc (suc (suc (suc (suc k))))))))))) row within e = absurd (omega arith)
+found_at (suc (suc (suc (suc (suc (suc (suc (suc (suc (suc (suc zero))))))))))) row within e =
+    subst IsFound e record {
+      found = refl;
+      usable = (usable_timestamp, tt);
+      filled = none _ refl;
+      in_range = λ given operands. tt;
+    }
+found_at (suc (suc (suc (suc (suc (suc (suc (suc (suc (suc (suc (suc k)))))))))))) row within e = absurd (omega arith)
 
 pub listed_found : (row : Row) → Contains rows row → IsFound row
 listed_found row h = found_at h.0 row h.1 h.2

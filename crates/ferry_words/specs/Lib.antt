@@ -3,3 +3,4 @@ pub mod Laws
 pub mod Options
 pub mod Lone
 pub mod Usage
+pub mod Restore

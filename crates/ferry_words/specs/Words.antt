@@ -12,7 +12,7 @@ use Rattle.std.specs.List.{list_any, starts_with}
 use Rattle.std.specs.Option.{option_and_then}
 use Rattle.ferry_words.specs.declared.command.Command.{Command}
 use Rattle.ferry_words.specs.declared.command.Command.TheVariants.{Keys, Key, List as ListArchives, ListItems, Extract, Check}
-use Rattle.ferry_words.specs.declared.command.Command.TheVariants.{Init, MakeKey, Transfer, Plan, Delete, Compact}
+use Rattle.ferry_words.specs.declared.command.Command.TheVariants.{Init, MakeKey, Transfer, Plan, Delete, Compact, TagArchives}
 
 -- ---- values
 
@@ -191,6 +191,10 @@ delete_form = form (timestamp ∷ []) 1 (up_to 1) deleted
 abbrev pub compact_form : Form
 compact_form = form (threshold ∷ []) 0 (up_to 0) (λ given operands. Compact (threshold_of given))
 
+-- the form of `tag-archives [--timestamp T]`
+abbrev pub tag_archives_form : Form
+tag_archives_form = form (timestamp ∷ []) 0 (up_to 0) (λ given operands. TagArchives (timestamp_of given))
+
 -- the numbers of a command are in the ranges of its options
 abbrev pub IsInRange : Command → Type 0
 IsInRange (Init number text) = (1 ≤ number) × (number ≤ 10000000)
@@ -218,6 +222,7 @@ rows =
     ∷ row (codes "plan") plan_form
     ∷ row (codes "delete") delete_form
     ∷ row (codes "compact") compact_form
+    ∷ row (codes "tag-archives") tag_archives_form
     ∷ []
 
 -- the row of this word

@@ -68,4 +68,9 @@ pub enum Command {
         /// How many hundredths of a segment's bytes are unused where it is compacted, 0 to 100.
         threshold: u8,
     },
+    /// `tag-archives [--timestamp T]`: gives each archive of the target an authentication tag whose record has none.
+    TagArchives {
+        /// The manifest's timestamp, where one is given.
+        timestamp: Option<Bytes>,
+    },
 }

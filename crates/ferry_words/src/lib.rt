@@ -11,10 +11,12 @@ mod names;
 mod number;
 mod options;
 mod reading;
+mod restore;
 mod usage;
 
 pub use command::Command;
 pub use laws::words_laws;
 pub use names::Names;
 pub use reading::read_words;
+pub use restore::{read_restore, restore_words_laws};
 pub use usage::Usage;

@@ -55,6 +55,8 @@ pub(crate) enum Options {
     Delete,
     /// `--threshold P`.
     Compact,
+    /// `--timestamp T`.
+    TagArchives,
 }
 
 impl Options {
@@ -64,7 +66,10 @@ impl Options {
     {
         match (self, name) {
             (Options::Init | Options::MakeKey, "--iterations") => true,
-            (Options::Init | Options::Transfer | Options::Delete, "--timestamp") => true,
+            (
+                Options::Init | Options::Transfer | Options::Delete | Options::TagArchives,
+                "--timestamp",
+            ) => true,
             (Options::Transfer | Options::Plan, "--block") => true,
             (Options::Transfer, "--checkpoint") => true,
             (Options::Compact, "--threshold") => true,
@@ -87,8 +92,10 @@ impl Options {
             (Options::Init | Options::MakeKey, "--iterations") => {
                 number_of(value, 1, ITERATIONS_LIMIT).is_some()
             }
-            (Options::Init | Options::Transfer | Options::Delete, "--timestamp") =>
-                !value.is_empty(),
+            (
+                Options::Init | Options::Transfer | Options::Delete | Options::TagArchives,
+                "--timestamp",
+            ) => !value.is_empty(),
             (Options::Transfer | Options::Plan, "--block") => {
                 number_of(value, LEAST_BLOCK, GREATEST_BLOCK).is_some()
             }

@@ -62,6 +62,7 @@ fn read_row(alloc: Global, words: &[String]) -> Result<Command, Usage>
         "plan" => plan(alloc, behind),
         "delete" => delete(alloc, behind),
         "compact" => compact(behind),
+        "tag-archives" => tag_archives(alloc, behind),
         _ => Err(Usage::Word(1)),
     }
 }
@@ -225,6 +226,20 @@ fn compact(behind: &[String]) -> Result<Command, Usage>
     match parts.operands {
         [] => Ok(Command::Compact {
             threshold: threshold_of(parts.given),
+        }),
+        [_, ..] => Err(Usage::Word(parts.first)),
+    }
+}
+
+/// `tag-archives` with its option.
+#[tactic(auto, unfolding(crate::specs::Words::made, crate::specs::Words::first_unfit))]
+fn tag_archives(alloc: Global, behind: &[String]) -> Result<Command, Usage>
+    ensures answer { IsAnswer result (spec.meaning_of spec.tag_archives_form (map string_bytes behind.now)) }
+{
+    let parts = parts_of(Options::TagArchives, behind)?;
+    match parts.operands {
+        [] => Ok(Command::TagArchives {
+            timestamp: timestamp_of(alloc, parts.given)?,
         }),
         [_, ..] => Err(Usage::Word(parts.first)),
     }

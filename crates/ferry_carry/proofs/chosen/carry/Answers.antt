@@ -7,7 +7,7 @@ use Rattle.ferry_carry.proofs.ReportLemmas.{reports_whole, telling_unbroken, who
 use Rattle.ferry_piece.proofs.WorkLemmas.{err_is}
 use Rattle.ferry_carry.proofs.chosen.carry.Goals as goal
 use Rattle.ferry_carry.specs.Accepting.{LimitsNames}
-use Rattle.ferry_carry.specs.Carrying.{origin}
+use Rattle.ferry_carry.specs.Flight.{origin_of}
 use Rattle.ferry_carry.specs.Lines.{total_line}
 use Rattle.ferry_carry.specs.Refusals.{RefusesNames}
 use Rattle.ferry_carry.specs.Counting.{nothing_carried}
@@ -23,21 +23,23 @@ use Rattle.ferry_piece.specs.Fault.{IsOfWork}
 
 pub returns-in_err-name-clause-works : goal.returns-in_err-name-clause-works
 returns-in_err-name-clause-works g c =
+    let x = g.E.Entropy.drawn c.args.entropy.now in
     let store = c.args.store.now in
     let names = c.args.names.now in
     let a = g.D.Shelf.told c.args.depot.now in
     let n = g.D.Shelf.faults c.args.depot.now in
-    let from = origin (g.S.Shelf.told c.args.shelf.now) (repo_view c.args.source.now) c.args.options.now.block c.args.options.now.checkpoint in
-    err_is c.from_residual.result Memory (λ (r : Result Carried CarryFault). ReportsWhole from names store store a a n n r) c.from_residual.ensures.1
-    (whole_nothing from names store store a n Memory (accepts_on store store c.requires.settled) refl tt (λ source. source))
+    let from = origin_of (g.S.Shelf.told c.args.shelf.now) (repo_view c.args.source.now) c.args.options.now in
+    err_is c.from_residual.result Memory (λ (r : Result Carried CarryFault). ReportsWhole from names store store a a n n x x r) c.from_residual.ensures.1
+    (whole_nothing from names store store a n x x Memory (accepts_on store store c.requires.settled) refl tt (λ source. source))
 
 pub returns-in-Some-clause-works : goal.returns-in-Some-clause-works
 returns-in-Some-clause-works g c =
     let store = c.args.store.now in
     let names = c.args.names.now in
     whole_nothing
-    (origin (g.S.Shelf.told c.args.shelf.now) (repo_view c.args.source.now) c.args.options.now.block c.args.options.now.checkpoint) names store store
-    (g.D.Shelf.told c.args.depot.now) (g.D.Shelf.faults c.args.depot.now) (NotFound c.new.result) (accepts_on store store c.requires.settled) refl
+    (origin_of (g.S.Shelf.told c.args.shelf.now) (repo_view c.args.source.now) c.args.options.now) names store store
+    (g.D.Shelf.told c.args.depot.now) (g.D.Shelf.faults c.args.depot.now) (g.E.Entropy.drawn c.args.entropy.now) (g.E.Entropy.drawn c.args.entropy.now)
+    (NotFound c.new.result) (accepts_on store store c.requires.settled) refl
     tt (λ source. source)
 
 pub returns-in_err-carry_all-clause-works : goal.returns-in_err-carry_all-clause-works
@@ -50,10 +52,12 @@ returns-in_err-carry_all-clause-works g c =
     let n = g.D.Shelf.faults c.args.depot.now in
     let m = g.D.Shelf.faults c.carry_all.new.depot in
     let fault = c.in_err-carry_all.field-0.0 in
-    let from = origin (g.S.Shelf.told c.args.shelf.now) (repo_view c.args.source.now) c.args.options.now.block c.args.options.now.checkpoint in
-    err_is c.from_residual-in_err-carry_all.result fault (λ (r : Result Carried CarryFault). ReportsWhole from names store now a b n m r)
+    let from = origin_of (g.S.Shelf.told c.args.shelf.now) (repo_view c.args.source.now) c.args.options.now in
+    err_is c.from_residual-in_err-carry_all.result fault (λ (r : Result Carried CarryFault). ReportsWhole from names store now a b n m (g.E.Entropy.drawn
+    c.args.entropy.now) (g.E.Entropy.drawn c.carry_all.new.entropy) r)
     c.from_residual-in_err-carry_all.ensures.1
-    (whole_err from names store now _ _ a b n m fault c.in_err-carry_all.ensures.works)
+    (whole_err from names store now _ _ a b n m (g.E.Entropy.drawn c.args.entropy.now) (g.E.Entropy.drawn c.carry_all.new.entropy) fault
+    c.in_err-carry_all.ensures.works)
 
 pub returns-in_err-line-clause-works : goal.returns-in_err-line-clause-works
 returns-in_err-line-clause-works g c =
@@ -64,10 +68,12 @@ returns-in_err-line-clause-works g c =
     let b = g.D.Shelf.told c.carry_all.new.depot in
     let n = g.D.Shelf.faults c.args.depot.now in
     let m = g.D.Shelf.faults c.carry_all.new.depot in
-    let from = origin (g.S.Shelf.told c.args.shelf.now) (repo_view c.args.source.now) c.args.options.now.block c.args.options.now.checkpoint in
-    err_is c.from_residual-in_err-line.result Memory (λ (r : Result Carried CarryFault). ReportsWhole from names store now a b n m r)
+    let from = origin_of (g.S.Shelf.told c.args.shelf.now) (repo_view c.args.source.now) c.args.options.now in
+    err_is c.from_residual-in_err-line.result Memory (λ (r : Result Carried CarryFault). ReportsWhole from names store now a b n m (g.E.Entropy.drawn
+    c.args.entropy.now) (g.E.Entropy.drawn c.carry_all.new.entropy) r)
     c.from_residual-in_err-line.ensures.1
-    (whole_unwritten from c.nothing-carried.result c.carry_all.new.carried names store now a b n m c.in_ok-carry_all.ensures.works)
+    (whole_unwritten from c.nothing-carried.result c.carry_all.new.carried names store now a b n m (g.E.Entropy.drawn c.args.entropy.now)
+    (g.E.Entropy.drawn c.carry_all.new.entropy) c.in_ok-carry_all.ensures.works)
 
 pub returns-in_err-tell-clause-works : goal.returns-in_err-tell-clause-works
 returns-in_err-tell-clause-works g c =
@@ -85,10 +91,13 @@ returns-in_err-tell-clause-works g c =
     let is : line ≡ total_line carried = search rules in
     let fault = c.in_err-tell.field-0.0 in
     let ensures = c.in_ok-carry_all.ensures in
-    let from = origin (g.S.Shelf.told c.args.shelf.now) (repo_view c.args.source.now) c.args.options.now.block c.args.options.now.checkpoint in
-    err_is c.from_residual-in_err-tell.result fault (λ (r : Result Carried CarryFault). ReportsWhole from names store now a d n k r)
+    let from = origin_of (g.S.Shelf.told c.args.shelf.now) (repo_view c.args.source.now) c.args.options.now in
+    err_is c.from_residual-in_err-tell.result fault (λ (r : Result Carried CarryFault). ReportsWhole from names store now a d n k (g.E.Entropy.drawn
+    c.args.entropy.now) (g.E.Entropy.drawn c.carry_all.new.entropy) r)
     c.from_residual-in_err-tell.ensures.1
-    (whole_untold from c.nothing-carried.result carried names line store now a b d n m k fault is c.requires.settled (accepts_on now now ensures.settled)
+    (whole_untold from c.nothing-carried.result carried names line store now a b d n m k (g.E.Entropy.drawn c.args.entropy.now) (g.E.Entropy.drawn
+    c.carry_all.new.entropy)
+    (g.E.Entropy.drawn c.carry_all.new.entropy) fault is c.requires.settled (accepts_on now now ensures.settled)
     ensures.works (telling_unbroken fault c.in_err-tell.ensures.telling) (target_apart fault c.in_err-tell.ensures.target) c.in_err-tell.ensures.works)
 
 pub returns-clause-works : goal.returns-clause-works
@@ -106,10 +115,12 @@ returns-clause-works g c =
     let line = c.deref.result.now in
     let is : line ≡ total_line carried = search rules in
     let ensures = c.in_ok-carry_all.ensures in
-    let from = origin (g.S.Shelf.told c.args.shelf.now) (repo_view c.args.source.now) c.args.options.now.block c.args.options.now.checkpoint in
+    let from = origin_of (g.S.Shelf.told c.args.shelf.now) (repo_view c.args.source.now) c.args.options.now in
     let nothing : c.nothing-carried.result ≡ nothing_carried = c.nothing-carried.ensures in
-    reports_whole from carried names line store now a b d n m k is c.requires.settled (accepts_on now now ensures.settled)
-    (subst (λ (before : Carried). Reports from names store now before carried a b n m (Ok tt)) nothing ensures.works) c.in_ok-tell.ensures.works
+    reports_whole from carried names line store now a b d n m k (g.E.Entropy.drawn c.args.entropy.now) (g.E.Entropy.drawn c.carry_all.new.entropy) is
+    c.requires.settled (accepts_on now now ensures.settled)
+    (subst (λ (before : Carried). Reports from names store now before carried a b n m (g.E.Entropy.drawn c.args.entropy.now) (g.E.Entropy.drawn
+    c.carry_all.new.entropy) (Ok tt)) nothing ensures.works) c.in_ok-tell.ensures.works
 
 pub returns-in_err-carry_all-clause-refused : goal.returns-in_err-carry_all-clause-refused
 returns-in_err-carry_all-clause-refused g c =
@@ -120,7 +131,7 @@ returns-in_err-carry_all-clause-refused g c =
     let now = c.carry_all.new.store in
     let names = c.args.names.now in
     let fault = c.in_err-carry_all.field-0.0 in
-    let from = origin (g.S.Shelf.told c.args.shelf.now) (repo_view c.args.source.now) c.args.options.now.block c.args.options.now.checkpoint in
+    let from = origin_of (g.S.Shelf.told c.args.shelf.now) (repo_view c.args.source.now) c.args.options.now in
     err_is c.from_residual-in_err-carry_all.result fault (λ (r : Result Carried CarryFault). IfErr r (RefusesNames from a store b now names))
     c.from_residual-in_err-carry_all.ensures.1
     (names_refused from a b store now names fault (c.missing_name.ensures.found none) c.in_err-carry_all.ensures.refused)
@@ -129,7 +140,7 @@ pub returns-in_err-carry_all-clause-nothing : goal.returns-in_err-carry_all-clau
 returns-in_err-carry_all-clause-nothing g c =
     λ missing is.
     let none : c.missing_name.result ≡ None = search rules in
-    let from = origin (g.S.Shelf.told c.args.shelf.now) (repo_view c.args.source.now) c.args.options.now.block c.args.options.now.checkpoint in
+    let from = origin_of (g.S.Shelf.told c.args.shelf.now) (repo_view c.args.source.now) c.args.options.now in
     absurd (none_missing {T = Carried} from (g.D.Shelf.told c.args.depot.now) (g.D.Shelf.told c.carry_all.new.depot) c.args.store.now
     c.carry_all.new.store c.args.names.now c.from_residual-in_err-carry_all.result c.in_err-carry_all.field-0.0 missing
     (c.missing_name.ensures.found none) c.in_err-carry_all.ensures.refused c.from_residual-in_err-carry_all.ensures.1 is)
@@ -153,7 +164,7 @@ pub returns-in_err-line-clause-refused : goal.returns-in_err-line-clause-refused
 returns-in_err-line-clause-refused g c =
     let a = g.D.Shelf.told c.args.depot.now in
     let b = g.D.Shelf.told c.carry_all.new.depot in
-    let from = origin (g.S.Shelf.told c.args.shelf.now) (repo_view c.args.source.now) c.args.options.now.block c.args.options.now.checkpoint in
+    let from = origin_of (g.S.Shelf.told c.args.shelf.now) (repo_view c.args.source.now) c.args.options.now in
     line_refused {T = Carried} from a b c.args.store.now c.carry_all.new.store c.args.names.now (repo_view c.args.store.now.repo).keys
     c.from_residual-in_err-line.result Memory c.from_residual-in_err-line.ensures.1 refl refl tt
 
@@ -161,7 +172,7 @@ pub returns-in_err-tell-clause-refused : goal.returns-in_err-tell-clause-refused
 returns-in_err-tell-clause-refused g c =
     let a = g.D.Shelf.told c.args.depot.now in
     let d = g.D.Shelf.told c.tell.new.depot in
-    let from = origin (g.S.Shelf.told c.args.shelf.now) (repo_view c.args.source.now) c.args.options.now.block c.args.options.now.checkpoint in
+    let from = origin_of (g.S.Shelf.told c.args.shelf.now) (repo_view c.args.source.now) c.args.options.now in
     line_refused {T = Carried} from a d c.args.store.now c.carry_all.new.store c.args.names.now (repo_view c.carry_all.new.store.repo).keys
     c.from_residual-in_err-tell.result c.in_err-tell.field-0.0 c.from_residual-in_err-tell.ensures.1 c.in_ok-carry_all.ensures.most.keys
     c.in_err-tell.ensures.telling c.in_err-tell.ensures.stops
@@ -182,7 +193,7 @@ returns-in_err-tell-clause-limit g c =
 pub returns-in_err-name-clause-stands : goal.returns-in_err-name-clause-stands
 returns-in_err-name-clause-stands g c =
     let a = g.D.Shelf.told c.args.depot.now in
-    let from = origin (g.S.Shelf.told c.args.shelf.now) (repo_view c.args.source.now) c.args.options.now.block c.args.options.now.checkpoint in
+    let from = origin_of (g.S.Shelf.told c.args.shelf.now) (repo_view c.args.source.now) c.args.options.now in
     err_is c.from_residual.result Memory
     (λ (r : Result Carried CarryFault). IfErr r (λ (f : CarryFault). IsOfWork f → StopsBehind from c.args.names.now c.args.store.now a a))
     c.from_residual.ensures.1 (λ work. memory_apart work)
@@ -190,14 +201,14 @@ returns-in_err-name-clause-stands g c =
 pub returns-in-Some-clause-stands : goal.returns-in-Some-clause-stands
 returns-in-Some-clause-stands g c = λ _.
     let store = c.args.store.now in
-    let from = origin (g.S.Shelf.told c.args.shelf.now) (repo_view c.args.source.now) c.args.options.now.block c.args.options.now.checkpoint in
+    let from = origin_of (g.S.Shelf.told c.args.shelf.now) (repo_view c.args.source.now) c.args.options.now in
     stops_here from c.args.names.now store (g.D.Shelf.told c.args.depot.now) (accepts_on store store c.requires.settled)
 
 pub returns-in_err-carry_all-clause-stands : goal.returns-in_err-carry_all-clause-stands
 returns-in_err-carry_all-clause-stands g c =
     let a = g.D.Shelf.told c.args.depot.now in
     let b = g.D.Shelf.told c.carry_all.new.depot in
-    let from = origin (g.S.Shelf.told c.args.shelf.now) (repo_view c.args.source.now) c.args.options.now.block c.args.options.now.checkpoint in
+    let from = origin_of (g.S.Shelf.told c.args.shelf.now) (repo_view c.args.source.now) c.args.options.now in
     err_is c.from_residual-in_err-carry_all.result c.in_err-carry_all.field-0.0
     (λ (r : Result Carried CarryFault). IfErr r (λ (f : CarryFault). IsOfWork f → StopsBehind from c.args.names.now c.args.store.now a b))
     c.from_residual-in_err-carry_all.ensures.1 c.in_err-carry_all.ensures.stands
@@ -206,7 +217,7 @@ pub returns-in_err-line-clause-stands : goal.returns-in_err-line-clause-stands
 returns-in_err-line-clause-stands g c =
     let a = g.D.Shelf.told c.args.depot.now in
     let b = g.D.Shelf.told c.carry_all.new.depot in
-    let from = origin (g.S.Shelf.told c.args.shelf.now) (repo_view c.args.source.now) c.args.options.now.block c.args.options.now.checkpoint in
+    let from = origin_of (g.S.Shelf.told c.args.shelf.now) (repo_view c.args.source.now) c.args.options.now in
     err_is c.from_residual-in_err-line.result Memory
     (λ (r : Result Carried CarryFault). IfErr r (λ (f : CarryFault). IsOfWork f → StopsBehind from c.args.names.now c.args.store.now a b))
     c.from_residual-in_err-line.ensures.1 (λ work. memory_apart work)
@@ -215,7 +226,7 @@ pub returns-in_err-tell-clause-stands : goal.returns-in_err-tell-clause-stands
 returns-in_err-tell-clause-stands g c =
     let a = g.D.Shelf.told c.args.depot.now in
     let d = g.D.Shelf.told c.tell.new.depot in
-    let from = origin (g.S.Shelf.told c.args.shelf.now) (repo_view c.args.source.now) c.args.options.now.block c.args.options.now.checkpoint in
+    let from = origin_of (g.S.Shelf.told c.args.shelf.now) (repo_view c.args.source.now) c.args.options.now in
     let fault = c.in_err-tell.field-0.0 in
     err_is c.from_residual-in_err-tell.result fault
     (λ (r : Result Carried CarryFault). IfErr r (λ (f : CarryFault). IsOfWork f → StopsBehind from c.args.names.now c.args.store.now a d))

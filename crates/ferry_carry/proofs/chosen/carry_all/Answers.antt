@@ -1,13 +1,13 @@
-use Rattle.std.proofs.Common.{◌≡◌, ◌<◌, ◌≤◌, ◌+◌, ℕ, List, Result, Ok, Err, length, take, drop, get_or, refl, ◌∙◌, ap, subst, arith, IfErr, IfSome, inr}
-use Rattle.std.proofs.lemmas.List.{take_all}
-use Rattle.ferry_carry.proofs.AcceptingLemmas.{next_at, one_large}
+use Rattle.std.proofs.Common.{◌≡◌, ◌<◌, ◌≤◌, ◌+◌, Result, Ok, Err, length, take, drop, get_or, refl, ◌∙◌, ap, arith, IfErr, IfSome, inr}
+use Rattle.ferry_carry.proofs.AcceptingLemmas.{one_large}
 use Rattle.ferry_carry.proofs.FlyLemmas.{origin_kept}
 use Rattle.ferry_carry.proofs.GrowLemmas.{accepts_on, most_here, most_then}
 use Rattle.ferry_carry.proofs.ReportLemmas.{reports_all, reports_begin, reports_front, reports_more}
 use Rattle.ferry_piece.proofs.WorkLemmas.{err_is}
 use Rattle.ferry_carry.proofs.chosen.carry_all.Goals as goal
-use Rattle.ferry_carry.specs.Accepting.{AreNextOf, HasLargeNext, LimitsNames}
+use Rattle.ferry_carry.specs.Accepting.{HasLargeNext, LimitsNames}
 use Rattle.ferry_carry.specs.Carrying.{origin}
+use Rattle.ferry_carry.specs.Flight.{origin_of}
 use Rattle.ferry_carry.specs.Telling.{CarriesNames, Reports, StopsBehind, TellsNames}
 use Rattle.ferry_piece.specs.declared.fault.CarryFault.{CarryFault}
 use Rattle.ferry_piece.specs.declared.fault.CarryFault.TheVariants.{Target}
@@ -35,10 +35,9 @@ loop-place-init g c = record {
   pending = c.requires.pending;
   ended = λ none. none;
   most = most_here c.args.store.now;
-  next = refl;
   works = reports_begin
-      (origin (g.S.Shelf.told c.args.shelf.now) (repo_view c.args.source.now) c.args.options.now.block c.args.options.now.checkpoint)
-      c.args.store.now c.args.carried.now (g.D.Shelf.told c.args.depot.now) (g.D.Shelf.faults c.args.depot.now)
+      (origin_of (g.S.Shelf.told c.args.shelf.now) (repo_view c.args.source.now) c.args.options.now)
+      c.args.store.now c.args.carried.now (g.D.Shelf.told c.args.depot.now) (g.D.Shelf.faults c.args.depot.now) (g.E.Entropy.drawn c.args.entropy.now)
       (accepts_on c.args.store.now c.args.store.now c.requires.settled) (omega arith) (omega arith) (omega arith) (omega arith) (omega arith);
 }
 
@@ -50,6 +49,7 @@ loop-place-preserved g c =
     let now = c.carry_one.new.store in
     let block = c.args.options.now.block in
     let most = c.args.options.now.checkpoint in
+    let time = c.args.options.now.timestamp in
     let lt : c.loop-place.place < length c.args.names.now = omega arith in
     let name = c.as_slice-name.result.now in
     let named : name ≡ get_or c.args.names.now c.loop-place.place _ = c.as_slice-name.ensures ∙ c.index-names-place.is in
@@ -70,16 +70,14 @@ loop-place-preserved g c =
       pending = omega (arith, ensures.pending);
       ended = λ none. ensures.pending;
       most = most_then store c.loop-place.store now invariant.most ensures.most;
-      next = next_at c.args.options.now.timestamp source.manifest after.manifest (repo_view store.repo).keys (repo_view c.loop-place.store.repo).keys
-          c.args.names.now c.loop-place.place name _ (accepted_in store) (accepted_in c.loop-place.store) (accepted_in now)
-          (ap (λ (r : RepoState). r.manifest) invariant.repo) invariant.most.keys lt named invariant.next ensures.next;
       works = (
-        reports_more (origin told source block most) (origin later after block most) c.args.names.now c.loop-place.place name _
-            c.args.options.now.timestamp source.manifest store c.loop-place.store now c.args.carried.now c.loop-place.carried c.carry_one.new.carried
+        reports_more (origin told source block most time) (origin later after block most time) c.args.names.now c.loop-place.place name _
+            store c.loop-place.store now c.args.carried.now c.loop-place.carried c.carry_one.new.carried
             (g.D.Shelf.told c.args.depot.now) (g.D.Shelf.told c.loop-place.depot) (g.D.Shelf.told c.carry_one.new.depot)
-            (g.D.Shelf.faults c.args.depot.now) (g.D.Shelf.faults c.loop-place.depot) (g.D.Shelf.faults c.carry_one.new.depot) (Ok tt)
-            (origin_kept told later source after block block most most invariant.alike invariant.repo refl refl) lt named c.requires.settled
-            (accepts_on c.loop-place.store c.loop-place.store invariant.settled) c.requires.fits invariant.next invariant.most.keys invariant.works.0
+            (g.D.Shelf.faults c.args.depot.now) (g.D.Shelf.faults c.loop-place.depot) (g.D.Shelf.faults c.carry_one.new.depot)
+            (g.E.Entropy.drawn c.args.entropy.now) (g.E.Entropy.drawn c.loop-place.entropy) (g.E.Entropy.drawn c.carry_one.new.entropy) (Ok tt)
+            (origin_kept told later source after block block most most time time invariant.alike invariant.repo refl refl refl) lt named c.requires.settled
+            (accepts_on c.loop-place.store c.loop-place.store invariant.settled) c.requires.fits invariant.most.keys invariant.works.0
             invariant.works.1 ensures.works,
         inr ensures.pending,
       );
@@ -97,6 +95,7 @@ returns-in_err-carry_one-clause-works g c =
     let fault = c.in_err-carry_one.field-0.0 in
     let block = c.args.options.now.block in
     let most = c.args.options.now.checkpoint in
+    let time = c.args.options.now.timestamp in
     let names = c.args.names.now in
     let lt : c.loop-place.place < length names = omega arith in
     let name = c.as_slice-name.result.now in
@@ -105,16 +104,19 @@ returns-in_err-carry_one-clause-works g c =
     let later = g.S.Shelf.told c.loop-place.shelf in
     let source = repo_view c.args.source.now in
     let after = repo_view c.loop-place.source in
-    let from = origin told source block most in
+    let from = origin told source block most time in
     let carried = c.args.carried.now in
     let last = c.carry_one.new.carried in
-    err_is c.from_residual.result fault (λ (r : Result (Unit {0}) CarryFault). Reports from names store now carried last a d n k r)
+    let x = g.E.Entropy.drawn c.args.entropy.now in
+    let z = g.E.Entropy.drawn c.carry_one.new.entropy in
+    err_is c.from_residual.result fault (λ (r : Result (Unit {0}) CarryFault). Reports from names store now carried last a d n k x z r)
     c.from_residual.ensures.1
-    (reports_front from names (c.loop-place.place + 1) store now carried last a d n k fault
-    (reports_more from (origin later after block most) names c.loop-place.place name _ c.args.options.now.timestamp source.manifest store c.loop-place.store
-    now carried c.loop-place.carried last a (g.D.Shelf.told c.loop-place.depot) d n (g.D.Shelf.faults c.loop-place.depot) k (Err fault)
-    (origin_kept told later source after block block most most invariant.alike invariant.repo refl refl) lt
-    named c.requires.settled (accepts_on c.loop-place.store c.loop-place.store invariant.settled) c.requires.fits invariant.next invariant.most.keys
+    (reports_front from names (c.loop-place.place + 1) store now carried last a d n k x z fault
+    (reports_more from (origin later after block most time) names c.loop-place.place name _ store c.loop-place.store
+    now carried c.loop-place.carried last a (g.D.Shelf.told c.loop-place.depot) d n (g.D.Shelf.faults c.loop-place.depot) k x
+    (g.E.Entropy.drawn c.loop-place.entropy) z (Err fault)
+    (origin_kept told later source after block block most most time time invariant.alike invariant.repo refl refl refl) lt
+    named c.requires.settled (accepts_on c.loop-place.store c.loop-place.store invariant.settled) c.requires.fits invariant.most.keys
     invariant.works.0 invariant.works.1 c.in_err-carry_one.ensures.works))
 
 pub returns-clause-works : goal.returns-clause-works
@@ -123,9 +125,10 @@ returns-clause-works g c =
     let names = c.args.names.now in
     let le : length names ≤ c.loop-place.place = omega arith in
     reports_all
-    (origin (g.S.Shelf.told c.args.shelf.now) (repo_view c.args.source.now) c.args.options.now.block c.args.options.now.checkpoint) names
+    (origin_of (g.S.Shelf.told c.args.shelf.now) (repo_view c.args.source.now) c.args.options.now) names
     c.loop-place.place c.args.store.now c.loop-place.store c.args.carried.now c.loop-place.carried (g.D.Shelf.told c.args.depot.now)
-    (g.D.Shelf.told c.loop-place.depot) (g.D.Shelf.faults c.args.depot.now) (g.D.Shelf.faults c.loop-place.depot) le invariant.works.0
+    (g.D.Shelf.told c.loop-place.depot) (g.D.Shelf.faults c.args.depot.now) (g.D.Shelf.faults c.loop-place.depot) (g.E.Entropy.drawn c.args.entropy.now)
+    (g.E.Entropy.drawn c.loop-place.entropy) le invariant.works.0
 
 pub returns-in_err-carry_one-clause-refused : goal.returns-in_err-carry_one-clause-refused
 returns-in_err-carry_one-clause-refused g c =
@@ -138,6 +141,7 @@ returns-in_err-carry_one-clause-refused g c =
     let fault = c.in_err-carry_one.field-0.0 in
     let block = c.args.options.now.block in
     let most = c.args.options.now.checkpoint in
+    let time = c.args.options.now.timestamp in
     let names = c.args.names.now in
     let lt : c.loop-place.place < length names = omega arith in
     let name = c.as_slice-name.result.now in
@@ -146,25 +150,18 @@ returns-in_err-carry_one-clause-refused g c =
     let later = g.S.Shelf.told c.loop-place.shelf in
     let source = repo_view c.args.source.now in
     let after = repo_view c.loop-place.source in
-    let from = origin told source block most in
+    let from = origin told source block most time in
     let accepted = accepted_in store in
     let done = take c.loop-place.place names in
-    let told_all = between_map a b (λ h g. AllDone h g × (CarriesNames from done invariant.works.0.added store c.loop-place.store h g
+    let told_all = between_map a b (λ h g. AllDone h g × (CarriesNames from done invariant.works.0.records invariant.works.0.added store c.loop-place.store h g
     × TellsNames accepted done h g)) (TellsNames accepted done) (λ h g e. e.1.1) invariant.works.0.works.end in
     err_is c.from_residual.result fault (λ (r : Result (Unit {0}) CarryFault). IfErr r (RefusesOne from a store d now names)) c.from_residual.ensures.1
     (one_refused from a d store now names done name (drop (c.loop-place.place + 1) names) fault (split_at names c.loop-place.place name _ lt named)
     (λ still. told_still accepted done a b d told_all (c.in_err-carry_one.ensures.untold still))
-    (name_refused {T = Unit {0}} from (origin later after block most) a b d _ store c.loop-place.store now name name (Err fault)
-    (origin_kept told later source after block block most most invariant.alike invariant.repo refl refl) refl invariant.works.0.works.each invariant.most
+    (name_refused {T = Unit {0}} from (origin later after block most time) a b d _ store c.loop-place.store now name name (Err fault)
+    (origin_kept told later source after block block most most time time invariant.alike invariant.repo refl refl refl) refl invariant.works.0.works.each
+    invariant.most
     c.in_err-carry_one.ensures.refused))
-
-pub returns-clause-next : goal.returns-clause-next
-returns-clause-next g c =
-    let names = c.args.names.now in
-    let le : length names ≤ c.loop-place.place = omega arith in
-    let store = c.args.store.now in
-    subst (λ (l : List (List ℕ)). AreNextOf c.args.options.now.timestamp (repo_view c.args.source.now).manifest (repo_view store.repo).keys
-    (accepted_in store) l (accepted_in c.loop-place.store)) (take_all c.loop-place.place names le) c.loop-place.invariant.next
 
 pub returns-in_err-carry_one-clause-limit : goal.returns-in_err-carry_one-clause-limit
 returns-in_err-carry_one-clause-limit g c =
@@ -184,10 +181,10 @@ returns-in_err-carry_one-clause-limit g c =
     let source = repo_view c.args.source.now in
     let after = repo_view c.loop-place.source in
     let keys = (repo_view store.repo).keys in
-    let from = origin (g.S.Shelf.told c.args.shelf.now) source block c.args.options.now.checkpoint in
+    let from = origin (g.S.Shelf.told c.args.shelf.now) source block c.args.options.now.checkpoint given in
     let accepted = accepted_in store in
     let done = take c.loop-place.place names in
-    let told_all = between_map a b (λ h g. AllDone h g × (CarriesNames from done invariant.works.0.added store c.loop-place.store h g
+    let told_all = between_map a b (λ h g. AllDone h g × (CarriesNames from done invariant.works.0.records invariant.works.0.added store c.loop-place.store h g
     × TellsNames accepted done h g)) (TellsNames accepted done) (λ h g e. e.1.1) invariant.works.0.works.end in
     err_is c.from_residual.result fault
     (λ (r : Result (Unit {0}) CarryFault). IfErr r (λ (f : CarryFault). f ≡ Target TooLarge
@@ -197,8 +194,8 @@ returns-in_err-carry_one-clause-limit g c =
     let large : IfSome d (λ _. HasLargeNext given after.manifest (repo_view c.loop-place.store.repo).keys (accepted_in c.loop-place.store) name) =
     c.in_err-carry_one.ensures.limit is in
     one_large d given source.manifest after.manifest keys (repo_view c.loop-place.store.repo).keys a names done name
-    (drop (c.loop-place.place + 1) names) accepted (accepted_in c.loop-place.store) (ap (λ (r : RepoState). r.manifest) invariant.repo) invariant.most.keys
-    (split_at names c.loop-place.place name _ lt named) invariant.next
+    (drop (c.loop-place.place + 1) names) _ accepted (accepted_in c.loop-place.store) (ap (λ (r : RepoState). r.manifest) invariant.repo) invariant.most.keys
+    (split_at names c.loop-place.place name _ lt named) invariant.works.0.accepts.0
     (told_still accepted done a b d told_all (c.in_err-carry_one.ensures.untold (ap is_of_telling is))) large)
 
 pub returns-in_err-carry_one-clause-stands : goal.returns-in_err-carry_one-clause-stands
@@ -212,6 +209,7 @@ returns-in_err-carry_one-clause-stands g c =
     let fault = c.in_err-carry_one.field-0.0 in
     let block = c.args.options.now.block in
     let most = c.args.options.now.checkpoint in
+    let time = c.args.options.now.timestamp in
     let names = c.args.names.now in
     let place = c.loop-place.place in
     let lt : place < length names = omega arith in
@@ -221,11 +219,12 @@ returns-in_err-carry_one-clause-stands g c =
     let later = g.S.Shelf.told c.loop-place.shelf in
     let source = repo_view c.args.source.now in
     let after = repo_view c.loop-place.source in
-    let from = origin told source block most in
+    let from = origin told source block most time in
     err_is c.from_residual.result fault (λ (r : Result (Unit {0}) CarryFault). IfErr r (λ (f : CarryFault). IsOfWork f → StopsBehind from names store a d))
     c.from_residual.ensures.1
-    (λ work. stops_behind from (origin later after block most) names (take place names) name (drop (place + 1) names) c.args.options.now.timestamp
-    source.manifest store middle c.args.carried.now c.loop-place.carried a b d (g.D.Shelf.faults c.args.depot.now) (g.D.Shelf.faults c.loop-place.depot)
-    (origin_kept told later source after block block most most invariant.alike invariant.repo refl refl) (split_at names place name _ lt named)
-    c.requires.settled (accepts_on middle middle invariant.settled) invariant.most.keys invariant.next invariant.works.0
+    (λ work. stops_behind from (origin later after block most time) names (take place names) name (drop (place + 1) names) store middle
+    c.args.carried.now c.loop-place.carried a b d (g.D.Shelf.faults c.args.depot.now) (g.D.Shelf.faults c.loop-place.depot)
+    (g.E.Entropy.drawn c.args.entropy.now) (g.E.Entropy.drawn c.loop-place.entropy)
+    (origin_kept told later source after block block most most time time invariant.alike invariant.repo refl refl refl) (split_at names place name _ lt named)
+    c.requires.settled (accepts_on middle middle invariant.settled) invariant.most.keys invariant.works.0
     invariant.works.1 (c.in_err-carry_one.ensures.stands work))

@@ -1,8 +1,7 @@
 use Rattle.std.proofs.Common.{◌≡◌, ◌≤◌, false, Ok, IfSome, take}
 use Rattle.ferry_carry.proofs.GrowLemmas.{Follows}
 use Rattle.ferry_carry.proofs.chosen.carry_all.Given as goal
-use Rattle.ferry_carry.specs.Accepting.{AreNextOf}
-use Rattle.ferry_carry.specs.Carrying.{origin}
+use Rattle.ferry_carry.specs.Flight.{origin_of}
 use Rattle.ferry_carry.specs.Grow.{KeepsMost}
 use Rattle.ferry_carry.specs.Telling.{Reports}
 use Rattle.ferry_disk.specs.Device.{heard, told_files}
@@ -26,9 +25,7 @@ invariant-loop-place g l = record {
   pending : l.store.pending ≤ l.fn.options.checkpoint;
   ended : l.fn.store.pending ≡ 0 → l.store.pending ≡ 0;
   most : KeepsMost l.fn.store l.store;
-  next : AreNextOf l.fn.options.timestamp (repo_view l.fn.source).manifest (repo_view l.fn.store.repo).keys (accepted_in l.fn.store)
-      (take l.place l.names) (accepted_in l.store);
-  works : (before : Reports (origin (g.S.Shelf.told l.fn.shelf) (repo_view l.fn.source) l.fn.options.block l.fn.options.checkpoint) (take l.place l.names)
+  works : (before : Reports (origin_of (g.S.Shelf.told l.fn.shelf) (repo_view l.fn.source) l.fn.options) (take l.place l.names)
       l.fn.store l.store l.fn.carried l.carried (g.D.Shelf.told l.fn.depot) (g.D.Shelf.told l.depot) (g.D.Shelf.faults l.fn.depot)
-      (g.D.Shelf.faults l.depot) (Ok tt)) × Follows before.added l.store;
+      (g.D.Shelf.faults l.depot) (g.E.Entropy.drawn l.fn.entropy) (g.E.Entropy.drawn l.entropy) (Ok tt)) × Follows before.added l.store;
 }

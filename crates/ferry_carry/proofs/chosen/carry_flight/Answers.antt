@@ -36,11 +36,13 @@ returns-in_err-named-clause-works g c =
     let from = flown_from (g.S.Shelf.told c.args.shelf.now) (repo_view c.args.source.now) c.args.flight.now in
     let name = c.args.flight.now.named.name in
     let carried = c.args.carried.now in
+    let x = g.E.Entropy.drawn c.args.entropy.now in
+    let z = g.E.Entropy.drawn c.fly.new.entropy in
     let fault = c.in_err-named.field-0.0 in
     let flown = c.in_err-named.ensures.works c.requires.flight.0 in
-    err_is c.from_residual.result fault (λ (r : Result (Unit {0}) CarryFault). Reports from (name ∷ []) store now carried carried a b n m r)
-    c.from_residual.ensures.1 (reports_silent from name flown.0 store now _ carried carried a b n m fault
-    (takes_begin from name _ flown.0 store now c.fly.new.flight a b n m (Err fault) c.requires.flight.1 flown.1))
+    err_is c.from_residual.result fault (λ (r : Result (Unit {0}) CarryFault). Reports from (name ∷ []) store now carried carried a b n m x z r)
+    c.from_residual.ensures.1 (reports_silent from name flown.0 store now _ carried carried a b n m x z flown.1.0 fault
+    (takes_begin from name _ flown.0 flown.1.0 store now c.fly.new.flight a b n m (Err fault) c.requires.flight.1 flown.1.1.0))
 
 pub returns-in_err-tell_name-clause-works : goal.returns-in_err-tell_name-clause-works
 returns-in_err-tell_name-clause-works g c =
@@ -55,15 +57,17 @@ returns-in_err-tell_name-clause-works g c =
     let from = flown_from (g.S.Shelf.told c.args.shelf.now) (repo_view c.args.source.now) c.args.flight.now in
     let name = c.args.flight.now.named.name in
     let carried = c.args.carried.now in
+    let x = g.E.Entropy.drawn c.args.entropy.now in
+    let z = g.E.Entropy.drawn c.fly.new.entropy in
     let fault = c.in_err-tell_name.field-0.0 in
     let ensures = c.in_ok-named.ensures in
     let named = c.in_ok-named.named in
     let flown = ensures.works c.requires.flight.0 in
-    let all = takes_begin from name _ flown.0 store now c.fly.new.flight a b n m (Ok named) c.requires.flight.1 flown.1 in
+    let all = takes_begin from name _ flown.0 flown.1.0 store now c.fly.new.flight a b n m (Ok named) c.requires.flight.1 flown.1.1.0 in
     err_is c.from_residual-in_err-tell_name.result fault
-    (λ (r : Result (Unit {0}) CarryFault). Reports from (name ∷ []) store now carried carried a d n k r) c.from_residual-in_err-tell_name.ensures.1
-    (reports_name {T = Bool} from named name c.args.name.now flown.0 store now carried carried a b d n m k named (Err fault) c.requires.called
-    (accepts_on now now ensures.settled) ensures.word all.lists.0 all.begins tt (telling_unbroken fault c.in_err-tell_name.ensures.telling)
+    (λ (r : Result (Unit {0}) CarryFault). Reports from (name ∷ []) store now carried carried a d n k x z r) c.from_residual-in_err-tell_name.ensures.1
+    (reports_name {T = Bool} from named name c.args.name.now flown.1.0 flown.0 store now carried carried a b d n m k x z named (Err fault) c.requires.called
+    (accepts_on now now ensures.settled) ensures.word all.lists.0 all.begins tt tt (telling_unbroken fault c.in_err-tell_name.ensures.telling)
     (target_apart fault c.in_err-tell_name.ensures.target) all.carries c.in_err-tell_name.ensures.works)
 
 pub returns-clause-works : goal.returns-clause-works
@@ -79,15 +83,17 @@ returns-clause-works g c =
     let from = flown_from (g.S.Shelf.told c.args.shelf.now) (repo_view c.args.source.now) c.args.flight.now in
     let name = c.args.flight.now.named.name in
     let carried = c.args.carried.now in
+    let x = g.E.Entropy.drawn c.args.entropy.now in
+    let z = g.E.Entropy.drawn c.fly.new.entropy in
     let after = c.count.new.self in
     let ensures = c.in_ok-named.ensures in
     let named = c.in_ok-named.named in
     let flown = ensures.works c.requires.flight.0 in
-    let all = takes_begin from name _ flown.0 store now c.fly.new.flight a b n m (Ok named) c.requires.flight.1 flown.1 in
+    let all = takes_begin from name _ flown.0 flown.1.0 store now c.fly.new.flight a b n m (Ok named) c.requires.flight.1 flown.1.1.0 in
     let put : c.put.result ≡ c.fly.new.flight.put = c.put.ensures in
     let counted = c.count.ensures in
-    reports_name {T = Bool} from named name c.args.name.now flown.0 store now carried after a b d n m k named (Ok tt) c.requires.called
-    (accepts_on now now ensures.settled) ensures.word all.lists.0 all.begins
+    reports_name {T = Bool} from named name c.args.name.now flown.1.0 flown.0 store now carried after a b d n m k x z named (Ok tt) c.requires.called
+    (accepts_on now now ensures.settled) ensures.word all.lists.0 all.begins flown.1.1.1
     (counts_one (accepted_in store) name flown.0 named c.put.result carried after ensures.word (subst (CountsOf flown.0) (sym put) all.lists.1)
     counted.transferred counted.present counted.chunks counted.bytes counted.meta) tt tt all.carries c.in_ok-tell_name.ensures.works
 
@@ -102,7 +108,7 @@ returns-in_err-named-clause-untold g c =
     (λ (r : Result (Unit {0}) CarryFault). IfErr r (λ (f : CarryFault). is_of_telling f ≡ false → Between a b TellsNothing)) c.from_residual.ensures.1
     (λ still. between_map a b
     (KeepsGrowing c.requires.flight.0.added from (c.args.flight.now.named.name ∷ []) c.args.store.now flown.0) TellsNothing (λ h g e. e.0)
-    flown.1.carries.each)
+    flown.1.1.0.carries.each)
 
 pub returns-in_err-tell_name-clause-untold : goal.returns-in_err-tell_name-clause-untold
 returns-in_err-tell_name-clause-untold g c =
@@ -139,7 +145,7 @@ returns-in_err-named-clause-stands g c =
     let name = c.args.flight.now.named.name in
     let fault = c.in_err-named.field-0.0 in
     let flown = c.in_err-named.ensures.works c.requires.flight.0 in
-    let all = takes_begin from name _ flown.0 store now c.fly.new.flight a b n m (Err fault) c.requires.flight.1 flown.1 in
+    let all = takes_begin from name _ flown.0 flown.1.0 store now c.fly.new.flight a b n m (Err fault) c.requires.flight.1 flown.1.1.0 in
     err_is c.from_residual.result fault (λ (r : Result (Unit {0}) CarryFault). IfErr r (λ (f : CarryFault). IsOfWork f → StopsUnnamed from name store a b))
     c.from_residual.ensures.1
     (λ work. record {

@@ -1,4 +1,4 @@
-use Rattle.std.proofs.Common.{◌≡◌, [], ◌∷◌, ℕ, List, false, Result, ap, IfErr, IfSome, OnOk, refl, subst, sym}
+use Rattle.std.proofs.Common.{◌≡◌, [], ◌∷◌, ℕ, List, false, Result, ap, IfErr, IfSome, refl, subst, sym}
 use Rattle.ferry_carry.proofs.AcceptingLemmas.{begin_small}
 use Rattle.ferry_carry.proofs.GrowLemmas.{accepts_on}
 use Rattle.ferry_carry.proofs.HeldLemmas.{begin_apart}
@@ -6,9 +6,9 @@ use Rattle.ferry_carry.proofs.ReportLemmas.{reports_as, reports_nothing}
 use Rattle.ferry_carry.proofs.TellLemmas.{begin_unbroken, begin_still}
 use Rattle.ferry_piece.proofs.WorkLemmas.{err_is}
 use Rattle.ferry_carry.proofs.chosen.carry_one.Goals as goal
-use Rattle.ferry_carry.specs.Accepting.{HasLargeNext, IsNextOf}
-use Rattle.ferry_carry.specs.Carrying.{origin, Origin}
-use Rattle.ferry_carry.specs.Flight.{flown_from}
+use Rattle.ferry_carry.specs.Accepting.{HasLargeNext}
+use Rattle.ferry_carry.specs.Carrying.{Origin}
+use Rattle.ferry_carry.specs.Flight.{flown_from, origin_of}
 use Rattle.ferry_piece.specs.Fault.{IsOfWork}
 use Rattle.ferry_carry.specs.Telling.{Reports, StopsUnnamed}
 use Rattle.ferry_piece.specs.declared.fault.CarryFault.{CarryFault}
@@ -28,12 +28,13 @@ returns-in_err-flight-clause-works g c =
     let store = c.args.store.now in
     let a = g.D.Shelf.told c.args.depot.now in
     let n = g.D.Shelf.faults c.args.depot.now in
-    let from = origin (g.S.Shelf.told c.args.shelf.now) (repo_view c.args.source.now) c.args.options.now.block c.args.options.now.checkpoint in
+    let from = origin_of (g.S.Shelf.told c.args.shelf.now) (repo_view c.args.source.now) c.args.options.now in
     let names = c.args.name.now ∷ [] in
     let carried = c.args.carried.now in
+    let x = g.E.Entropy.drawn c.args.entropy.now in
     let fault = c.in_err-flight.field-0.0 in
-    err_is c.from_residual.result fault (λ (r : Result (Unit {0}) CarryFault). Reports from names store store carried carried a a n n r)
-    c.from_residual.ensures.1 (reports_nothing from names store store carried carried a n fault (accepts_on store store c.requires.settled)
+    err_is c.from_residual.result fault (λ (r : Result (Unit {0}) CarryFault). Reports from names store store carried carried a a n n x x r)
+    c.from_residual.ensures.1 (reports_nothing from names store store carried carried a n x x fault (accepts_on store store c.requires.settled)
     (begin_still fault c.args.name.now _ c.in_err-flight.ensures.refused) (begin_unbroken fault c.args.name.now _ c.in_err-flight.ensures.refused)
     (begin_apart fault c.args.name.now _ c.in_err-flight.ensures.refused))
 
@@ -49,12 +50,13 @@ returns-clause-works g c =
     let told = g.S.Shelf.told c.args.shelf.now in
     let source = repo_view c.args.source.now in
     let flight = c.in_ok-flight.flight in
-    let is : flown_from told source flight ≡ origin told source c.args.options.now.block c.args.options.now.checkpoint =
-    ap (λ (o : Options). origin told source o.block o.checkpoint) c.in_ok-flight.ensures.options in
-    reports_as (origin told source c.args.options.now.block c.args.options.now.checkpoint) (flown_from told source flight) (c.args.name.now ∷ [])
+    let is : flown_from told source flight ≡ origin_of told source c.args.options.now =
+    ap (origin_of told source) c.in_ok-flight.ensures.options in
+    reports_as (origin_of told source c.args.options.now) (flown_from told source flight) (c.args.name.now ∷ [])
     (flight.named.name ∷ []) c.args.store.now c.carry_flight-done.new.store c.args.carried.now c.carry_flight-done.new.carried (g.D.Shelf.told c.args.depot.now)
     (g.D.Shelf.told c.carry_flight-done.new.depot) (g.D.Shelf.faults c.args.depot.now) (g.D.Shelf.faults c.carry_flight-done.new.depot)
-    c.carry_flight-done.result is (ap (λ (n : List ℕ). n ∷ []) c.in_ok-flight.ensures.name) c.carry_flight-done.ensures.works
+    (g.E.Entropy.drawn c.args.entropy.now) (g.E.Entropy.drawn c.carry_flight-done.new.entropy) c.carry_flight-done.result is (ap (λ (n : List ℕ). n ∷ [])
+    c.in_ok-flight.ensures.name) c.carry_flight-done.ensures.works
 
 pub returns-clause-refused : goal.returns-clause-refused
 returns-clause-refused g c =
@@ -65,8 +67,8 @@ returns-clause-refused g c =
     let b = g.D.Shelf.told c.carry_flight-done.new.depot in
     let store = c.args.store.now in
     let now = c.carry_flight-done.new.store in
-    let is : flown_from told source flight ≡ origin told source c.args.options.now.block c.args.options.now.checkpoint =
-    ap (λ (o : Options). origin told source o.block o.checkpoint) c.in_ok-flight.ensures.options in
+    let is : flown_from told source flight ≡ origin_of told source c.args.options.now =
+    ap (origin_of told source) c.in_ok-flight.ensures.options in
     subst (λ (f : Origin). IfErr c.carry_flight-done.result (RefusesName f a store b now c.args.name.now)) is
     (subst (λ (n : List ℕ). IfErr c.carry_flight-done.result (RefusesName (flown_from told source flight) a store b now n)) c.in_ok-flight.ensures.name
     c.carry_flight-done.ensures.refused)
@@ -102,23 +104,11 @@ returns-clause-limit g c =
     (subst (λ (n : List ℕ). IfErr c.carry_flight-done.result (λ (f : CarryFault). f ≡ Target TooLarge
     → IfSome b (λ _. HasLargeNext flight.options.timestamp manifest keys (accepted_in store) n))) c.in_ok-flight.ensures.name c.carry_flight-done.ensures.limit)
 
-pub returns-clause-next : goal.returns-clause-next
-returns-clause-next g c =
-    let store = c.args.store.now in
-    let now = c.carry_flight-done.new.store in
-    let manifest = (repo_view c.args.source.now).manifest in
-    let keys = (repo_view store.repo).keys in
-    let flight = c.in_ok-flight.flight in
-    subst (λ (o : Options). OnOk c.carry_flight-done.result (IsNextOf o.timestamp manifest keys (accepted_in store) c.args.name.now (accepted_in now)))
-    c.in_ok-flight.ensures.options
-    (subst (λ (n : List ℕ). OnOk c.carry_flight-done.result (IsNextOf flight.options.timestamp manifest keys (accepted_in store) n (accepted_in now)))
-    c.in_ok-flight.ensures.name c.carry_flight-done.ensures.next)
-
 pub returns-in_err-flight-clause-stands : goal.returns-in_err-flight-clause-stands
 returns-in_err-flight-clause-stands g c =
     let a = g.D.Shelf.told c.args.depot.now in
     let store = c.args.store.now in
-    let from = origin (g.S.Shelf.told c.args.shelf.now) (repo_view c.args.source.now) c.args.options.now.block c.args.options.now.checkpoint in
+    let from = origin_of (g.S.Shelf.told c.args.shelf.now) (repo_view c.args.source.now) c.args.options.now in
     let name = c.args.name.now in
     let fault = c.in_err-flight.field-0.0 in
     err_is c.from_residual.result fault (λ (r : Result (Unit {0}) CarryFault). IfErr r (λ (f : CarryFault). IsOfWork f → StopsUnnamed from name store a a))
@@ -133,6 +123,6 @@ returns-clause-stands g c =
     let b = g.D.Shelf.told c.carry_flight-done.new.depot in
     let store = c.args.store.now in
     subst (λ (o : Options). IfErr c.carry_flight-done.result (λ (f : CarryFault). IsOfWork f
-    → StopsUnnamed (origin told source o.block o.checkpoint) c.args.name.now store a b)) c.in_ok-flight.ensures.options
+    → StopsUnnamed (origin_of told source o) c.args.name.now store a b)) c.in_ok-flight.ensures.options
     (subst (λ (n : List ℕ). IfErr c.carry_flight-done.result (λ (f : CarryFault). IsOfWork f → StopsUnnamed (flown_from told source flight) n store a b))
     c.in_ok-flight.ensures.name c.carry_flight-done.ensures.stands)

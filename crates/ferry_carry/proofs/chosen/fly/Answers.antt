@@ -1,6 +1,7 @@
-use Rattle.std.proofs.Common.{◌≡◌, ◌≤◌, List, ◌++◌, Bool, true, false, None, Result, Ok, Err, IsSome, refl, ◌∙◌, ap, subst, sym, IfErr, IfSome, inl}
-use Rattle.ferry_carry.proofs.FlyLemmas.{TakesOn, origin_kept, taken_err, takes_end, takes_last, takes_more, takes_none, takes_refused}
-use Rattle.ferry_carry.proofs.AcceptingLemmas.{flown_large, flown_named}
+use Rattle.std.proofs.Common.{◌≡◌, ◌≢◌, ◌≤◌, List, [], ◌++◌, Bool, true, false, None, Result, Ok, Err, IsSome, refl, ◌∙◌, ap, subst, sym, IfErr, IfSome}
+use Rattle.ferry_carry.proofs.FlyLemmas.{TakesOn, origin_same, taken_err, takes_end, takes_last, takes_more, takes_none, takes_refused}
+use Rattle.ferry_carry.proofs.AcceptingLemmas.{flown_large, flown_named, flown_present}
+use Rattle.ferry_carry.proofs.NextLemmas.{on_err}
 use Rattle.ferry_carry.proofs.GrowLemmas.{accepts_on, most_here, most_then}
 use Rattle.ferry_carry.proofs.FlightLemmas.{settled_committed}
 use Rattle.ferry_carry.proofs.ThereLemmas.{tells_named, tells_present}
@@ -12,6 +13,7 @@ use Rattle.ferry_carry.specs.Accepting.{HasLargeNext}
 use Rattle.ferry_piece.specs.declared.fault.CarryFault.{CarryFault}
 use Rattle.ferry_piece.specs.declared.fault.CarryFault.TheVariants.{Target}
 use Rattle.ferry_carry.specs.declared.flight.Turn.{Turn}
+use Rattle.ferry_carry.specs.declared.flight.Turn.TheVariants.{Named}
 use Rattle.ferry_carry.specs.declared.options.Options.{Options}
 use Rattle.ferry_manifest.specs.declared.manifest.ArchiveRef.{ArchiveRef}
 use Rattle.ferry_manifest.specs.Manifest.Text.{ManifestText}
@@ -37,6 +39,7 @@ loop-init g c = record {
   alike = refl;
   faults = refl;
   drawn = refl;
+  undrawn = refl;
   most = most_here c.args.store.now;
   pending = c.requires.pending;
   works = λ fits.
@@ -78,19 +81,23 @@ returns-in_err-step-clause-works g c =
     let name = c.args.flight.now.named.name in
     let called = c.loop.flight.named.name in
     let same : other ≡ from =
-    origin_kept told later source after c.args.flight.now.options.block c.loop.flight.options.block c.args.flight.now.options.checkpoint
-    c.loop.flight.options.checkpoint invariant.alike invariant.repo (ap (λ (o : Options). o.block) invariant.options)
-    (ap (λ (o : Options). o.checkpoint) invariant.options) in
+    origin_same told later source after c.args.flight.now.options c.loop.flight.options invariant.alike invariant.repo invariant.options in
     let names = ap (λ (e : ArchiveRef). e.name) invariant.named in
     let fault = c.in_err-step.field-0.0 in
     λ fits.
     let before = invariant.works fits in
     let stepped = c.in_err-step.ensures.works before.fits in (
       before.more ++ stepped.0,
-      taken_err from name fits.added (before.more ++ stepped.0) store now _ a d n k c.from_residual.result fault c.from_residual.ensures.1
-          (takes_refused later (g.S.Shelf.told c.step.new.shelf) after (repo_view c.step.new.source) from other name called fits.added stepped.0 store middle
-          now c.loop.flight _ a b d n m k fault same names invariant.accepted invariant.most.keys
-          (accepts_on middle middle invariant.settled) before stepped.1),
+      (
+        stepped.1.0,
+        (
+          taken_err from name fits.added (before.more ++ stepped.0) stepped.1.0 store now _ a d n k c.from_residual.result fault c.from_residual.ensures.1
+              (takes_refused later (g.S.Shelf.told c.step.new.shelf) after (repo_view c.step.new.source) from other name called fits.added stepped.0
+              stepped.1.0 store middle now c.loop.flight _ a b d n m k fault same names invariant.accepted invariant.most.keys
+              (accepts_on middle middle invariant.settled) before stepped.1.1.0),
+          on_err {T = Bool} _ c.from_residual.result fault c.from_residual.ensures.1,
+        ),
+      ),
     )
 
 pub returns-in-Named-clause-works : goal.returns-in-Named-clause-works
@@ -114,20 +121,29 @@ returns-in-Named-clause-works g c =
     let name = c.args.flight.now.named.name in
     let called = c.loop.flight.named.name in
     let same : other ≡ from =
-    origin_kept told later source after c.args.flight.now.options.block c.loop.flight.options.block c.args.flight.now.options.checkpoint
-    c.loop.flight.options.checkpoint invariant.alike invariant.repo (ap (λ (o : Options). o.block) invariant.options)
-    (ap (λ (o : Options). o.checkpoint) invariant.options) in
+    origin_same told later source after c.args.flight.now.options c.loop.flight.options invariant.alike invariant.repo invariant.options in
     let names = ap (λ (e : ArchiveRef). e.name) invariant.named in
     let seen = g.S.Shelf.told c.step.new.shelf in
     let then = repo_view c.step.new.source in
     let flight = c.step.new.self in
     λ fits.
     let before = invariant.works fits in
-    let stepped = c.in_ok-step.ensures.works before.fits in (
+    let stepped = c.in_ok-step.ensures.works before.fits in
+    let records = stepped.1.0 in
+    let turn = subst (λ (t : Turn). TakesTurn seen then other called before.fits.added stepped.0 records middle now flight b d m k (Ok t)) c.in-Named.is
+    stepped.1.1.0 in (
       before.more ++ stepped.0,
-      takes_last later seen after then from other name called fits.added stepped.0 store middle now c.loop.flight flight a b d n m k true same names
-          invariant.accepted invariant.most.keys (ap (λ (e : ArchiveRef). e.name) (c.step.ensures.name ∙ invariant.named)) before
-          (subst (λ (t : Turn). TakesTurn seen then other called before.fits.added stepped.0 middle now flight b d m k (Ok t)) c.in-Named.is stepped.1),
+      (
+        records,
+        (
+          takes_last later seen after then from other name called fits.added stepped.0 records store middle now c.loop.flight flight a b d n m k true same
+              names invariant.accepted invariant.most.keys (ap (λ (e : ArchiveRef). e.name) (c.step.ensures.name ∙ invariant.named)) before turn,
+          flown_named told c.args.flight.now.options c.loop.flight.options source after store middle now c.args.flight.now.named c.loop.flight.named records
+              (g.E.Entropy.drawn c.args.entropy.now) (g.E.Entropy.drawn c.loop.entropy) (g.E.Entropy.drawn c.step.new.entropy) invariant.settled
+              invariant.options invariant.repo invariant.named invariant.accepted invariant.most.keys c.requires.flight.stands.named
+              (c.in_ok-step.ensures.new (ap Ok c.in-Named.is)) invariant.undrawn (stepped.1.1.1 c.in-Named.is),
+        ),
+      ),
     )
 
 pub returns-in-Present-clause-works : goal.returns-in-Present-clause-works
@@ -151,20 +167,31 @@ returns-in-Present-clause-works g c =
     let name = c.args.flight.now.named.name in
     let called = c.loop.flight.named.name in
     let same : other ≡ from =
-    origin_kept told later source after c.args.flight.now.options.block c.loop.flight.options.block c.args.flight.now.options.checkpoint
-    c.loop.flight.options.checkpoint invariant.alike invariant.repo (ap (λ (o : Options). o.block) invariant.options)
-    (ap (λ (o : Options). o.checkpoint) invariant.options) in
+    origin_same told later source after c.args.flight.now.options c.loop.flight.options invariant.alike invariant.repo invariant.options in
     let names = ap (λ (e : ArchiveRef). e.name) invariant.named in
     let seen = g.S.Shelf.told c.step.new.shelf in
     let then = repo_view c.step.new.source in
     let flight = c.step.new.self in
     λ fits.
     let before = invariant.works fits in
-    let stepped = c.in_ok-step.ensures.works before.fits in (
+    let stepped = c.in_ok-step.ensures.works before.fits in
+    let records = stepped.1.0 in
+    let turn = subst (λ (t : Turn). TakesTurn seen then other called before.fits.added stepped.0 records middle now flight b d m k (Ok t)) c.in-Present.is
+    stepped.1.1.0 in (
       before.more ++ stepped.0,
-      takes_last later seen after then from other name called fits.added stepped.0 store middle now c.loop.flight flight a b d n m k false same names
-          invariant.accepted invariant.most.keys (ap (λ (e : ArchiveRef). e.name) (c.step.ensures.name ∙ invariant.named)) before
-          (subst (λ (t : Turn). TakesTurn seen then other called before.fits.added stepped.0 middle now flight b d m k (Ok t)) c.in-Present.is stepped.1),
+      (
+        records,
+        (
+          takes_last later seen after then from other name called fits.added stepped.0 records store middle now c.loop.flight flight a b d n m k false same
+              names invariant.accepted invariant.most.keys (ap (λ (e : ArchiveRef). e.name) (c.step.ensures.name ∙ invariant.named)) before turn,
+          flown_present from name store now records (g.E.Entropy.drawn c.args.entropy.now) (g.E.Entropy.drawn c.step.new.entropy)
+              (subst (λ (m : ManifestText). IsSome (archive_named name m.archives)) invariant.accepted
+              (subst (λ (e : ArchiveRef). IsSome (archive_named e.name (accepted_in middle).archives)) invariant.named
+              (c.in_ok-step.ensures.there (ap Ok c.in-Present.is)))) (c.in_ok-step.ensures.still (ap Ok c.in-Present.is) ∙ invariant.accepted)
+              (c.in_ok-step.ensures.undrawn (subst (λ (t : Turn). t ≢ Named) (sym c.in-Present.is) (λ is. let no : ⊥ = cc in no)) ∙ invariant.undrawn)
+              turn.lists.0.0,
+        ),
+      ),
     )
 
 pub loop-preserved : goal.loop-preserved
@@ -188,9 +215,7 @@ loop-preserved g c =
     let name = c.args.flight.now.named.name in
     let called = c.loop.flight.named.name in
     let same : other ≡ from =
-    origin_kept told later source after c.args.flight.now.options.block c.loop.flight.options.block c.args.flight.now.options.checkpoint
-    c.loop.flight.options.checkpoint invariant.alike invariant.repo (ap (λ (o : Options). o.block) invariant.options)
-    (ap (λ (o : Options). o.checkpoint) invariant.options) in
+    origin_same told later source after c.args.flight.now.options c.loop.flight.options invariant.alike invariant.repo invariant.options in
     let names = ap (λ (e : ArchiveRef). e.name) invariant.named in
     let seen = g.S.Shelf.told c.step.new.shelf in
     let then = repo_view c.step.new.source in
@@ -200,9 +225,10 @@ loop-preserved g c =
     → TakesOn seen then from name start store now flight a d n k =
     λ start before.
     let stepped = ensures.works before.fits in
-    takes_more later seen after then from other name called start stepped.0 store middle now c.loop.flight flight a b d n m k same names
+    takes_more later seen after then from other name called start stepped.0 stepped.1.0 store middle now c.loop.flight flight a b d n m k same names
     (accepts_on middle middle invariant.settled) before
-    (subst (λ (t : Turn). TakesTurn seen then other called before.fits.added stepped.0 middle now flight b d m k (Ok t)) c.in-More.is stepped.1) in
+    (subst (λ (t : Turn). TakesTurn seen then other called before.fits.added stepped.0 stepped.1.0 middle now flight b d m k (Ok t)) c.in-More.is
+    stepped.1.1.0) in
     record {
       flight = (turned c.requires.flight.added (invariant.works c.requires.flight)).fits;
       named = ensures.name ∙ invariant.named;
@@ -217,6 +243,7 @@ loop-preserved g c =
       alike = ensures.same ∙ invariant.alike;
       faults = ensures.cause ∙ invariant.faults;
       drawn = ensures.entropy ∙ invariant.drawn;
+      undrawn = ensures.undrawn (subst (λ (t : Turn). t ≢ Named) (sym c.in-More.is) (λ is. let no : ⊥ = cc in no)) ∙ invariant.undrawn;
       most = most_then store middle now invariant.most ensures.most;
       pending = subst (λ (o : Options). now.pending ≤ o.checkpoint) invariant.options ensures.pending;
       works = λ fits. turned fits.added (invariant.works fits);
@@ -234,9 +261,8 @@ returns-in_err-step-clause-refused g c =
     let other = flown_from (g.S.Shelf.told c.loop.shelf) (repo_view c.loop.source) c.loop.flight in
     let name = c.args.flight.now.named.name in
     let same : other ≡ from =
-    origin_kept (g.S.Shelf.told c.args.shelf.now) (g.S.Shelf.told c.loop.shelf) (repo_view c.args.source.now) (repo_view c.loop.source)
-    c.args.flight.now.options.block c.loop.flight.options.block c.args.flight.now.options.checkpoint c.loop.flight.options.checkpoint invariant.alike
-    invariant.repo (ap (λ (o : Options). o.block) invariant.options) (ap (λ (o : Options). o.checkpoint) invariant.options) in
+    origin_same (g.S.Shelf.told c.args.shelf.now) (g.S.Shelf.told c.loop.shelf) (repo_view c.args.source.now) (repo_view c.loop.source)
+    c.args.flight.now.options c.loop.flight.options invariant.alike invariant.repo invariant.options in
     let fault = c.in_err-step.field-0.0 in
     err_is c.from_residual.result fault (λ (r : Result Bool CarryFault). IfErr r (RefusesName from a store d now name)) c.from_residual.ensures.1
     (name_refused {T = Turn} from other a b d _ store c.loop.store now name c.loop.flight.named.name (Err fault) same
@@ -271,32 +297,17 @@ returns-clause-works g c =
     λ fits.
     let before = invariant.works fits in (
       before.more,
-      takes_end later after (cached_in c.loop.source) (flown_from told source flight) flight.named.name fits.added c.args.store.now c.loop.store
-          c.loop.flight (g.D.Shelf.told c.args.depot.now) (g.D.Shelf.told c.loop.depot) (g.D.Shelf.faults c.args.depot.now) (g.D.Shelf.faults c.loop.depot)
-          (origin_kept told later source after flight.options.block c.loop.flight.options.block flight.options.checkpoint c.loop.flight.options.checkpoint
-          invariant.alike invariant.repo (ap (λ (o : Options). o.block) invariant.options) (ap (λ (o : Options). o.checkpoint) invariant.options))
-          (ap (λ (e : ArchiveRef). e.name) invariant.named) invariant.accepted invariant.most.keys invariant.source_fits
-          (accepts_on c.loop.store c.loop.store invariant.settled) before,
-    )
-
-pub returns-in-Named-clause-next : goal.returns-in-Named-clause-next
-returns-in-Named-clause-next g c =
-    let invariant = c.loop.invariant in
-    let flight = c.args.flight.now in
-    let ensures = c.in_ok-step.ensures in
-    flown_named flight.options.timestamp c.loop.flight.options.timestamp (repo_view c.args.source.now) (repo_view c.loop.source) c.args.store.now c.loop.store
-    c.step.new.store flight.named c.loop.flight.named invariant.settled (ap (λ (o : Options). o.timestamp) invariant.options) invariant.repo invariant.named
-    invariant.accepted invariant.most.keys c.requires.flight.stands.named (ensures.new (ap Ok c.in-Named.is)) (ensures.next (ap Ok c.in-Named.is))
-
-pub returns-in-Present-clause-next : goal.returns-in-Present-clause-next
-returns-in-Present-clause-next g c =
-    let invariant = c.loop.invariant in
-    let name = c.args.flight.now.named.name in
-    inl (
-      subst (λ (m : ManifestText). IsSome (archive_named name m.archives)) invariant.accepted
-          (subst (λ (e : ArchiveRef). IsSome (archive_named e.name (accepted_in c.loop.store).archives)) invariant.named
-          (c.in_ok-step.ensures.there (ap Ok c.in-Present.is))),
-      c.in_ok-step.ensures.still (ap Ok c.in-Present.is) ∙ invariant.accepted,
+      (
+        [],
+        (
+          takes_end later after (cached_in c.loop.source) (flown_from told source flight) flight.named.name fits.added c.args.store.now c.loop.store
+              c.loop.flight (g.D.Shelf.told c.args.depot.now) (g.D.Shelf.told c.loop.depot) (g.D.Shelf.faults c.args.depot.now) (g.D.Shelf.faults c.loop.depot)
+              (origin_same told later source after flight.options c.loop.flight.options invariant.alike invariant.repo invariant.options)
+              (ap (λ (e : ArchiveRef). e.name) invariant.named) invariant.accepted invariant.most.keys invariant.source_fits
+              (accepts_on c.loop.store c.loop.store invariant.settled) before,
+          tt,
+        ),
+      ),
     )
 
 pub returns-in_err-step-clause-limit : goal.returns-in_err-step-clause-limit

@@ -25,6 +25,7 @@ invariant-loop g l = record {
   alike : heard (g.S.Shelf.told l.shelf) ≡ heard (g.S.Shelf.told l.fn.shelf);
   faults : g.S.Shelf.faults l.shelf ≡ g.S.Shelf.faults l.fn.shelf;
   drawn : g.E.Entropy.faults l.entropy ≡ g.E.Entropy.faults l.fn.entropy;
+  undrawn : g.E.Entropy.drawn l.entropy ≡ g.E.Entropy.drawn l.fn.entropy;
   most : KeepsMost l.fn.store l.store;
   pending : l.store.pending ≤ l.fn.flight.options.checkpoint;
   works : (fits : FlightFits (g.S.Shelf.told l.fn.shelf) (repo_view l.fn.source) (g.D.Shelf.told l.fn.depot) l.fn.store l.fn.flight)

@@ -44,19 +44,19 @@ returns-clause-fits g c =
     (c.step.ensures.target_kept ∙ ap repo_view c.repo.ensures.repo) c.step.ensures.target_same c.step.ensures.target_fits c.requires.fits
 
 pub returns-clause-equal : goal.returns-clause-equal
-returns-clause-equal g c e block most =
+returns-clause-equal g c e block most time =
     let is : c.in_ok-compared.compared ≡ Equal = cc in
     same_read {T = Compared} (g.S.Shelf.told c.args.shelf.now) (g.D.Shelf.told c.args.depot.now) (g.D.Shelf.told c.step.new.other)
-    (repo_view c.args.source.now) block most (repo_view c.args.store.now.repo) (repo_view c.step.new.target) (comparison_view c.args.comparison.now).name
+    (repo_view c.args.source.now) block most time (repo_view c.args.store.now.repo) (repo_view c.step.new.target) (comparison_view c.args.comparison.now).name
     c.in_ok-compared.compared (c.step.ensures.target_kept ∙ ap repo_view c.repo.ensures.repo) c.in_ok-compared.ensures.target_same
     (subst (λ (r : RepoState). AreEqual (g.S.Shelf.told c.args.shelf.now) (repo_view c.args.source.now) (g.D.Shelf.told c.args.depot.now) r
     (comparison_view c.args.comparison.now).name) (ap repo_view c.repo.ensures.repo) (c.in_ok-compared.ensures.equal (ap Ok is)))
 
 pub returns-clause-differs_now : goal.returns-clause-differs_now
-returns-clause-differs_now g c e block most =
+returns-clause-differs_now g c e block most time =
     let is : c.in_ok-compared.compared ≡ Differs = cc in
     differs_there {T = Compared} (g.S.Shelf.told c.args.shelf.now) (g.D.Shelf.told c.args.depot.now) (g.D.Shelf.told c.step.new.other)
-    (repo_view c.args.source.now) block most (repo_view c.args.store.now.repo) (repo_view c.step.new.target) (comparison_view c.args.comparison.now).name
+    (repo_view c.args.source.now) block most time (repo_view c.args.store.now.repo) (repo_view c.step.new.target) (comparison_view c.args.comparison.now).name
     c.in_ok-compared.compared (c.step.ensures.target_kept ∙ ap repo_view c.repo.ensures.repo) c.in_ok-compared.ensures.target_same
     (subst (λ (r : RepoState). Differ (g.S.Shelf.told c.args.shelf.now) (repo_view c.args.source.now) (g.D.Shelf.told c.args.depot.now) r
     (comparison_view c.args.comparison.now).name) (ap repo_view c.repo.ensures.repo) (c.in_ok-compared.ensures.differs (ap Ok is)))

@@ -35,7 +35,7 @@ returns-in_err-commit-clause-works g c accepted named one =
     let text = written_at (accepted_in store) c.args.timestamp.now in
     let blob = blob_for (repo_view store.repo) store.counter (manifest_text (repo_view store.repo).keys made.0 text) in
     let refusal = c.in_err-commit.field-0.0 in
-    err_is c.from_residual.result (target_fault refusal) (λ (r : Result (Unit {0}) CarryFault). NamesArchive accepted named store now a b n m r)
+    err_is c.from_residual.result (target_fault refusal) (λ (r : Result (Unit {0}) CarryFault). NamesArchive accepted named text store now a b n m r)
     c.from_residual.ensures.1 (commit_works_err accepted named store now text blob a b n m refusal c.requires.accepts refl one c.commit.ensures.untold made.1.2)
 
 pub returns-clause-works : goal.returns-clause-works
@@ -99,3 +99,7 @@ returns-in_err-commit-clause-unbroken g c =
     let refusal = c.in_err-commit.field-0.0 in
     err_is c.from_residual.result (target_fault refusal) (λ (r : Result (Unit {0}) CarryFault). IfErr r IsNoChunk) c.from_residual.ensures.1
     (manifest_unbroken c.args.store.now _ refusal made.1.3)
+
+pub returns-clause-salt : goal.returns-clause-salt
+returns-clause-salt g c =
+    let made = c.in_ok-commit.ensures.committed in (made.0, (made.1.0, made.1.1))

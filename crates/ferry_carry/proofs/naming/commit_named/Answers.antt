@@ -25,8 +25,9 @@ returns-in_err-name_archive-clause-works g c =
     let store = c.args.store.now in
     let now = c.name_archive.new.self in
     let is : c.in_err-name_archive.field-0.0 ≡ _ = c.in_err-name_archive.ensures.refused in
-    err_is c.from_residual.result Memory (λ (r : Result (Unit {0}) CarryFault). NamesArchive (accepted_in store) c.args.entry store now a a n n r)
-    (search rules) (names_nothing c.args.entry store now a n Memory c.requires.accepts refl)
+    let next = written_at (next_manifest (accepted_in store) c.args.entry (repo_view c.args.source.now).manifest.item_keys) c.args.timestamp.now in
+    err_is c.from_residual.result Memory (λ (r : Result (Unit {0}) CarryFault). NamesArchive (accepted_in store) c.args.entry next store now a a n n r)
+    (search rules) (names_nothing c.args.entry next store now a n Memory c.requires.accepts refl)
 
 pub commit-requires-clause-fits : goal.commit-requires-clause-fits
 commit-requires-clause-fits g c =
@@ -49,10 +50,17 @@ returns-clause-works g c =
     let middle = c.name_archive.new.self in
     let same : (repo_view middle.repo).manifest ≡ (repo_view store.repo).manifest =
     ap (λ (s : Store). (repo_view s.repo).manifest) c.in_ok-name_archive.ensures.rest in
-    named_behind (accepted_in store) c.args.entry store middle c.commit.new.store (g.D.Shelf.told c.args.depot.now) (g.D.Shelf.told c.commit.new.depot)
-    (g.D.Shelf.faults c.args.depot.now) (g.D.Shelf.faults c.commit.new.depot) c.commit.result c.in_ok-name_archive.ensures.rest
+    let now = c.commit.new.store in
+    let time = c.args.timestamp.now in
+    let next = next_manifest (accepted_in store) c.args.entry (repo_view c.args.source.now).manifest.item_keys in
+    let named : accepted_in middle ≡ next = search rules in
+    named_behind (accepted_in store) c.args.entry (written_at next time) store middle now (g.D.Shelf.told c.args.depot.now)
+    (g.D.Shelf.told c.commit.new.depot) (g.D.Shelf.faults c.args.depot.now) (g.D.Shelf.faults c.commit.new.depot) c.commit.result
+    c.in_ok-name_archive.ensures.rest
+    (subst (λ (m : ManifestText). NamesArchive (accepted_in store) c.args.entry (written_at m time) middle now (g.D.Shelf.told c.args.depot.now)
+    (g.D.Shelf.told c.commit.new.depot) (g.D.Shelf.faults c.args.depot.now) (g.D.Shelf.faults c.commit.new.depot) c.commit.result) named
     (c.commit.ensures.works (accepted_in store) c.args.entry
-    (accepts_one store middle c.args.entry _ same c.in_ok-name_archive.ensures.named c.requires.accepts))
+    (accepts_one store middle c.args.entry _ same c.in_ok-name_archive.ensures.named c.requires.accepts)))
 
 pub returns-clause-limit : goal.returns-clause-limit
 returns-clause-limit g c =

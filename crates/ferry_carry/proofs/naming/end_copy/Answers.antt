@@ -5,7 +5,8 @@ use Rattle.ferry_carry.proofs.AcceptingLemmas.{record_named}
 use Rattle.ferry_carry.proofs.GrowLemmas.{most_from, most_then}
 use Rattle.ferry_carry.proofs.FlightLemmas.{rest_accepts, rest_packable}
 use Rattle.ferry_piece.proofs.FaultLemmas.{stops_of_pieces}
-use Rattle.ferry_carry.proofs.NamingLemmas.{begins_done, behind_record, counts_done, lists_done, pieces_limit, record_limit, unnamed_rest}
+use Rattle.ferry_carry.proofs.NamingLemmas.{begins_done, behind_record, counts_done, lists_done, pieces_limit, record_limit, tagged_as, unnamed_rest}
+use Rattle.ferry_carry.proofs.NextLemmas.{behind_named, on_err}
 use Rattle.ferry_piece.proofs.PieceLemmas.{pieces_at}
 use Rattle.ferry_carry.proofs.ProgressLemmas.{readies}
 use Rattle.ferry_piece.proofs.PutsLemmas.{front_all}
@@ -29,7 +30,7 @@ use Rattle.ferry_carry.proofs.StandLemmas.{stands_behind}
 
 pub returns-in_err-id-clause-works : goal.returns-in_err-id-clause-works
 returns-in_err-id-clause-works g c =
-    λ from added all.
+    λ from added all flown.
     let store = c.args.store.now in
     let now = c.end_stream.new.store in
     let copy = c.args.copy.now in
@@ -45,15 +46,21 @@ returns-in_err-id-clause-works g c =
     let works = pieces_at {T = List ℕ} from.most copy.stream.checkpoint store now more a b n m (Err fault) (c.requires.ready.same ∙ sym all.0.most)
     ended.1.1.0 in (
       more,
-      err_is c.from_residual.result fault (λ (r : Result Carried CarryFault). EndsCopy from named.name added more store now a b n m r)
-          c.from_residual.ensures.1 (record {
-            carries = carried_from_err {T = List ℕ} {U = Carried} added from chosen chosen store now now more more a b n m fault c.requires.accepts
-                (front_all more) works;
-            begins = begins_done from named a store copy added ended.0 ended.1.0 c.requires.ready ended.1.1.1.0 ended.1.1.1.1.0 all;
-            stands = λ _. works.works.each;
-            last = works.last;
-            lists = tt;
-          }),
+      (
+        [],
+        (
+          err_is c.from_residual.result fault (λ (r : Result Carried CarryFault). EndsCopy from named.name added more [] store now a b n m r)
+              c.from_residual.ensures.1 (record {
+                carries = carried_from_err {T = List ℕ} {U = Carried} added from chosen chosen store now now more more a b n m fault c.requires.accepts
+                    (front_all more) works;
+                begins = begins_done from named a store copy added ended.0 ended.1.0 c.requires.ready ended.1.1.1.0 ended.1.1.1.1.0 all;
+                stands = λ _. works.works.each;
+                last = works.last;
+                lists = tt;
+              }),
+          on_err {T = Carried} _ c.from_residual.result fault c.from_residual.ensures.1,
+        ),
+      ),
     )
 
 pub name_record-requires-clause-packable : goal.name_record-requires-clause-packable
@@ -68,7 +75,7 @@ name_record-requires-clause-unnamed g c =
 
 pub returns-in_err-name_record-clause-works : goal.returns-in_err-name_record-clause-works
 returns-in_err-name_record-clause-works g c =
-    λ from added all.
+    λ from added all flown.
     let store = c.args.store.now in
     let middle = c.end_stream.new.store in
     let now = c.name_record.new.store in
@@ -89,32 +96,41 @@ returns-in_err-name_record-clause-works g c =
     let more = ended.0 ++ ended.1.0 in
     let works = pieces_at {T = List ℕ} from.most copy.stream.checkpoint store middle more a b n m (Ok id) (c.requires.ready.same ∙ sym all.0.most)
     ended.1.1.0 in
-    let ready = readies {T = List ℕ} from a b named store middle copy added ended.0 ended.1.0 id n m id c.requires.fits c.requires.ready works.works rest
+    let ready = readies {T = List ℕ} from a b named store middle copy added ended.0 ended.1.0 (g.E.Entropy.drawn c.args.entropy.now) (g.E.Entropy.drawn
+    c.end_stream.new.entropy) id n m id c.requires.fits c.requires.ready works.works rest
     ended.1.1.1.0 under all in
     let archive = copied_in (archive_view copy.archive) copy.block (copy.stream.chunks.items
     ++ chunks_of (repo_view store.repo).keys (cut copy.stream.cutter.block copy.stream.cutter.piece)) in
     let behind : border_behind AtBegin (added ++ more) ≡ AtEnd = behind_record (repo_view store.repo).keys archive added ended.0 ended.1.0 under.adds in
+    let next = behind_named from (repo_view c.args.source.now) c.args.timestamp.now middle named id flown
+    (unnamed_rest store middle named.name rest c.requires.unnamed) in
     let carried = carried_then {T = Unit {0}} {U = Unit {0}} added from [] chosen more [] store middle now a b z n m k tt (Err fault)
     (carried_from {T = List ℕ} {U = Unit {0}} added from chosen store middle more a b n m id tt c.requires.accepts rest works)
-    (c.in_err-name_record.ensures.works from (added ++ more) behind ready) in (
+    (c.in_err-name_record.ensures.works from (added ++ more) behind ready next) in (
       more,
-      err_is c.from_residual-in_err-name_record.result fault (λ (r : Result Carried CarryFault). EndsCopy from named.name added more store now a z n k r)
-          c.from_residual-in_err-name_record.ensures.1 (record {
-            carries = carried_err {T = Unit {0}} {U = Carried} added from chosen chosen chosen (more ++ []) more store now now a z n k fault
-                ([], sym (append-nil more) ∙ sym (append-nil (more ++ []))) carried;
-            begins = begins_done from named a store copy added ended.0 ended.1.0 c.requires.ready ended.1.1.1.0 ended.1.1.1.1.0 all;
-            stands = λ work.
-                subst (λ (l : List Addition). Between a z (KeepsStanding from.most store l)) (append-nil more)
-                (stands_behind {T = List ℕ} from.most store middle more [] a b z n m id rest.keys works.works
-                (c.in_err-name_record.ensures.stands work from.most));
-            last = stops_unbroken a (repo_view store.repo).keys more fault c.in_err-name_record.ensures.unbroken;
-            lists = tt;
-          }),
+      (
+        [],
+        (
+          err_is c.from_residual-in_err-name_record.result fault (λ (r : Result Carried CarryFault). EndsCopy from named.name added more [] store now a z n k r)
+              c.from_residual-in_err-name_record.ensures.1 (record {
+                carries = carried_err {T = Unit {0}} {U = Carried} added from chosen chosen chosen (more ++ []) more store now now a z n k fault
+                    ([], sym (append-nil more) ∙ sym (append-nil (more ++ []))) carried;
+                begins = begins_done from named a store copy added ended.0 ended.1.0 c.requires.ready ended.1.1.1.0 ended.1.1.1.1.0 all;
+                stands = λ work.
+                    subst (λ (l : List Addition). Between a z (KeepsStanding from.most store l)) (append-nil more)
+                    (stands_behind {T = List ℕ} from.most store middle more [] a b z n m id rest.keys works.works
+                    (c.in_err-name_record.ensures.stands work from.most));
+                last = stops_unbroken a (repo_view store.repo).keys more fault c.in_err-name_record.ensures.unbroken;
+                lists = tt;
+              }),
+          on_err {T = Carried} _ c.from_residual-in_err-name_record.result fault c.from_residual-in_err-name_record.ensures.1,
+        ),
+      ),
     )
 
 pub returns-clause-works : goal.returns-clause-works
 returns-clause-works g c =
-    λ from added all.
+    λ from added all flown.
     let store = c.args.store.now in
     let middle = c.end_stream.new.store in
     let now = c.name_record.new.store in
@@ -135,30 +151,43 @@ returns-clause-works g c =
     let last = ended.0 in
     let more = last ++ ended.1.0 in
     let put = c.of_pieces.result in
+    let salt = c.in_ok-name_record.ensures.salt in
+    let one = tagged_as under.adds.text under.adds.salt salt.0 in
     let archive = copied_in (archive_view copy.archive) copy.block (copy.stream.chunks.items
     ++ chunks_of keys (cut copy.stream.cutter.block copy.stream.cutter.piece)) in
     let works = pieces_at {T = List ℕ} from.most copy.stream.checkpoint store middle more a b n m (Ok id) (c.requires.ready.same ∙ sym all.0.most)
     ended.1.1.0 in
-    let ready = readies {T = List ℕ} from a b named store middle copy added last ended.1.0 id n m id c.requires.fits c.requires.ready works.works rest
+    let ready = readies {T = List ℕ} from a b named store middle copy added last ended.1.0 (g.E.Entropy.drawn c.args.entropy.now) (g.E.Entropy.drawn
+    c.end_stream.new.entropy) id n m id c.requires.fits c.requires.ready works.works rest
     ended.1.1.1.0 under all in
     let behind : border_behind AtBegin (added ++ more) ≡ AtEnd = behind_record keys archive added last ended.1.0 under.adds in
+    let next = behind_named from (repo_view c.args.source.now) c.args.timestamp.now middle named id flown
+    (unnamed_rest store middle named.name rest c.requires.unnamed) in
     let carried = carried_then {T = Unit {0}} {U = Unit {0}} added from [] chosen more [] store middle now a b z n m k tt (Ok tt)
     (carried_from {T = List ℕ} {U = Unit {0}} added from chosen store middle more a b n m id tt c.requires.accepts rest works)
-    (c.in_ok-name_record.ensures.works from (added ++ more) behind ready) in (
+    (c.in_ok-name_record.ensures.works from (added ++ more) behind ready next) in (
       more,
-      record {
-        carries = subst (λ (l : List Addition). Carries {T = Carried} added from chosen l store now a z n k (Ok put)) (append-nil more)
-            (carried_as {T = Unit {0}} {U = Carried} added from chosen chosen (more ++ []) store now a z n k tt put carried);
-        begins = begins_done from named a store copy added last ended.1.0 c.requires.ready ended.1.1.1.0 ended.1.1.1.1.0 all;
-        stands = tt;
-        last = tt;
-        lists = (
-          lists_done from named a store copy added last ended.1.0 c.requires.ready ended.1.1.1.0 under.adds all,
-          counts_done from copy c.end_stream.new.stream added last ended.1.0 keys archive put all.0 ended.1.1.1.0.1 ended.1.1.1.1.1.1 under.adds
-              (ap (λ (x : Carried). x.chunks) c.of_pieces.ensures ∙ c.put.ensures.0) (ap (λ (x : Carried). x.bytes) c.of_pieces.ensures ∙ c.put.ensures.1)
-              (ap (λ (x : Carried). x.meta) c.of_pieces.ensures ∙ c.put-2.ensures.0),
-        );
-      },
+      (
+        one ∷ [],
+        (
+          record {
+            carries = subst (λ (l : List Addition). Carries {T = Carried} added from chosen l store now a z n k (Ok put)) (append-nil more)
+                (carried_as {T = Unit {0}} {U = Carried} added from chosen chosen (more ++ []) store now a z n k tt put carried);
+            begins = begins_done from named a store copy added last ended.1.0 c.requires.ready ended.1.1.1.0 ended.1.1.1.1.0 all;
+            stands = tt;
+            last = tt;
+            lists = (
+              lists_done from named a store copy added last ended.1.0 salt.0 c.requires.ready ended.1.1.1.0 under.adds all,
+              counts_done from copy c.end_stream.new.stream added last ended.1.0 keys archive put all.0 ended.1.1.1.0.1 ended.1.1.1.1.1.1 under.adds
+                  (ap (λ (x : Carried). x.chunks) c.of_pieces.ensures ∙ c.put.ensures.0) (ap (λ (x : Carried). x.bytes) c.of_pieces.ensures ∙ c.put.ensures.1)
+                  (ap (λ (x : Carried). x.meta) c.of_pieces.ensures ∙ c.put-2.ensures.0),
+            );
+          },
+          record_named c.args.timestamp.now (repo_view c.args.source.now) store middle now named id one (g.E.Entropy.drawn c.args.entropy.now)
+              (g.E.Entropy.drawn c.end_stream.new.entropy) (g.E.Entropy.drawn c.name_record.new.entropy) rest under.id_is
+              c.in_ok-name_record.ensures.named c.in_ok-name_record.ensures.accepted under.drew salt.1,
+        ),
+      ),
     )
 
 pub returns-clause-most : goal.returns-clause-most
@@ -209,11 +238,3 @@ returns-in_err-name_record-clause-limit g c =
     c.from_residual-in_err-name_record.ensures.1
     (record_limit d given source store c.end_stream.new.store named c.in_ok-id.id under.adds.text fault c.in_ok-id.ensures.rest under.id_is
     c.requires.unnamed c.in_err-name_record.ensures.limit)
-
-pub returns-clause-named : goal.returns-clause-named
-returns-clause-named g c =
-    let under = c.in_ok-id.ensures.ended.1.1.1.1.1.0 in (
-      under.adds.text,
-      record_named c.args.timestamp.now (repo_view c.args.source.now) c.args.store.now c.end_stream.new.store c.name_record.new.store c.args.named.now
-          c.in_ok-id.id under.adds.text c.in_ok-id.ensures.rest under.id_is c.in_ok-name_record.ensures.named c.in_ok-name_record.ensures.accepted,
-    )

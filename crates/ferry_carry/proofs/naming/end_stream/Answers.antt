@@ -36,7 +36,8 @@ returns-in_err-pieces-clause-ended g c =
         err_is c.from_residual.result fault
             (λ (r : Result (List ℕ) CarryFault). AddsOn most store (last ++ []) now a b n m r
             × (ArePieces Stream left last × (BeginsRecord keys archive []
-            × (IfOk r (AddsUnder keys archive []) × OnOk r (CountsOn Stream stream last c.finish.new.self)))))
+            × (IfOk r (AddsUnder keys archive [] (g.E.Entropy.drawn c.args.entropy.now) (g.E.Entropy.drawn c.args.entropy.now)) × OnOk r (CountsOn Stream
+            stream last c.finish.new.self)))))
             c.from_residual.ensures.1 (
               subst (λ (l : List Addition). AddsOn {T = List ℕ} most store l now a b n m (Err fault)) (sym (append-nil last))
                   (gathered_err {T = Vec ChunkRef Global} {U = List ℕ} most store now last a b n m fault finished.1.0),
@@ -57,7 +58,8 @@ returns-clause-ended g c =
     let finished = c.in_ok-pieces.ensures.works Stream refl in
     let put = c.put_copied.ensures.put in
     let said = record_as c.put_copied.result keys (repo_view middle.repo).keys (archive_view c.args.archive.now) c.args.block
-    (stream.chunks.items ++ chunks_of keys left) c.deref.result.now put.0 c.in_ok-pieces.ensures.rest.keys
+    (stream.chunks.items ++ chunks_of keys left) c.deref.result.now put.0
+    (g.E.Entropy.drawn c.args.entropy.now) (g.E.Entropy.drawn c.put_copied.new.entropy) c.in_ok-pieces.ensures.rest.keys
     (c.deref.ensures.value ∙ c.in_ok-pieces.ensures.chunks) put.1.1 in (
       finished.0,
       (

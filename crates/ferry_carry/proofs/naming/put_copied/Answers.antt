@@ -23,7 +23,8 @@ returns-in_err-copied_archive-clause-put g c =
             (gathered_nothing {T = List ℕ} most store a n Memory refl tt),
         (
           inl refl,
-          err_is c.from_residual.result Memory (λ (r : Result (List ℕ) CarryFault). IfOk r (AddsUnder (repo_view store.repo).keys archive []))
+          err_is c.from_residual.result Memory (λ (r : Result (List ℕ) CarryFault). IfOk r (AddsUnder (repo_view store.repo).keys archive []
+              (g.E.Entropy.drawn c.args.entropy.now) (g.E.Entropy.drawn c.args.entropy.now)))
               c.from_residual.ensures.1 tt,
         ),
       ),
@@ -36,6 +37,7 @@ returns-clause-put g c =
       put.0,
       (
         put.1.0,
-        subst (λ (archive : ArchiveText). RecordIs keys archive put.0 c.put_record.result) c.in_ok-copied_archive.ensures.archive put.1.1,
+        subst (λ (archive : ArchiveText). RecordIs keys archive put.0 (g.E.Entropy.drawn c.args.entropy.now)
+            (g.E.Entropy.drawn c.put_record.new.entropy) c.put_record.result) c.in_ok-copied_archive.ensures.archive put.1.1,
       ),
     )

@@ -24,7 +24,8 @@ returns-in_err-text-clause-put g c =
             (gathered_nothing {T = List ℕ} most store a n fault c.in_err-text.ensures.still c.in_err-text.ensures.unbroken),
         (
           inl refl,
-          err_is c.from_residual.result fault (λ (r : Result (List ℕ) CarryFault). IfOk r (AddsUnder keys (archive_view c.args.archive.now) []))
+          err_is c.from_residual.result fault (λ (r : Result (List ℕ) CarryFault). IfOk r (AddsUnder keys (archive_view c.args.archive.now) []
+              (g.E.Entropy.drawn c.args.entropy.now) (g.E.Entropy.drawn c.tagged_record.new.entropy)))
               c.from_residual.ensures.1 tt,
         ),
       ),
@@ -36,12 +37,14 @@ returns-clause-put g c =
     let archive = archive_view c.args.archive.now in
     let text = c.deref.result.now in
     let works = c.add_record.ensures.works in
+    let made = c.in_ok-text.ensures.text in
     let more = addition Record text works.0 ∷ [] in (
       more,
       (
         works.1,
-        record_put c.add_record.result keys c.keys.result.now text c.in_ok-text.text.items works.0 archive c.keys.ensures.keys
-            c.deref.ensures.value c.in_ok-text.ensures.reads c.add_record.ensures.id,
+        record_put c.add_record.result keys c.keys.result.now made.0 text c.in_ok-text.text.items works.0 archive (g.E.Entropy.drawn c.args.entropy.now)
+            (g.E.Entropy.drawn c.tagged_record.new.entropy) c.keys.ensures.keys c.deref.ensures.value made.1.0 made.1.1 c.in_ok-text.ensures.reads
+            c.add_record.ensures.id,
       ),
     )
 

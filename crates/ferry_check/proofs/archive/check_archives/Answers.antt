@@ -1,9 +1,8 @@
-use Rattle.std.proofs.Common.{◌≡◌, ◌+◌, ◌<◌, [], length, IsSome, IfSome, refl, sym, ◌∙◌, ap, subst, take, get_or, arith}
+use Rattle.std.proofs.Common.{◌+◌, ◌<◌, length, IsSome, IfSome, refl, sym, ◌∙◌, ap, subst, take, get_or, arith}
 use Rattle.std.proofs.lemmas.List.{take_all}
 use Rattle.std.specs.BTreeMap.{get}
 use Rattle.ferry_disk.specs.Device.{told_files}
 use Rattle.ferry_log.specs.Live.{key_cmp}
-use Rattle.ferry_manifest.specs.declared.manifest.ArchiveRef.{ArchiveRef}
 use Rattle.ferry_repo.specs.Archives.{archive_named}
 use Rattle.ferry_repo.specs.Fault.{IsOfFiles}
 use Rattle.ferry_repo.specs.Opening.{RepoState, repo_view}

@@ -1,4 +1,4 @@
-use Rattle.std.proofs.Common.{◌≡◌, IfSome, ◌≤◌, length, take}
+use Rattle.std.proofs.Common.{◌≡◌, IfSome, ◌≤◌, take}
 use Rattle.std.specs.BTreeMap.{get}
 use Rattle.ferry_disk.specs.Device.{heard, told_files}
 use Rattle.ferry_log.specs.Live.{key_cmp}

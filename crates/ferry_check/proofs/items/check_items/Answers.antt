@@ -1,4 +1,4 @@
-use Rattle.std.proofs.Common.{◌⊎◌, Some, Ok, ◌∷◌, [], IfSome, refl, sym, ◌∙◌, ap, subst}
+use Rattle.std.proofs.Common.{◌⊎◌, Ok, ◌∷◌, [], IfSome, refl, sym, ◌∙◌, ap, subst}
 use Rattle.std.specs.BTreeMap.{get}
 use Rattle.ferry_disk.specs.Device.{told_files}
 use Rattle.ferry_item.specs.Item.{item_view}

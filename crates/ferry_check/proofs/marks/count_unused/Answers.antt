@@ -1,9 +1,9 @@
-use Rattle.std.proofs.Common.{◌≡◌, ◌+◌, ◌<◌, [], length, true, false, not, cond, arith}
+use Rattle.std.proofs.Common.{[], not, arith}
 use Rattle.std.proofs.lemmas.Grind.{common_steps}
 use Rattle.std.proofs.lemmas.List.Filters.{length-filter_more}
 use Rattle.std.specs.BTreeMap.{get}
 use Rattle.ferry_log.specs.Live.{key_cmp}
-use Rattle.ferry_check.specs.Steps.{is_used, unused}
+use Rattle.ferry_check.specs.Steps.{is_used}
 use Rattle.ferry_check.proofs.marks.count_unused.Goals.{then-not-is_used, else-not-is_used}
 use Rattle.ferry_check.proofs.marks.count_unused.Goals as goal
 

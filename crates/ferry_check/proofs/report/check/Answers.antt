@@ -1,4 +1,4 @@
-use Rattle.std.proofs.Common.{◌≡◌, ℕ, List, Some, None, IfSome, refl, sym, ◌∙◌, ap, subst}
+use Rattle.std.proofs.Common.{◌≡◌, ℕ, List, Some, None, IfSome, refl, sym, subst}
 use Rattle.ferry_disk.specs.Device.{told_files}
 use Rattle.ferry_log.specs.State.{LogState}
 use Rattle.ferry_repo.specs.Fault.{IsOfFiles}

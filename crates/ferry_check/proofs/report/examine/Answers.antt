@@ -1,4 +1,4 @@
-use Rattle.std.proofs.Common.{IfSome, refl, sym, ◌∙◌, ap, subst}
+use Rattle.std.proofs.Common.{IfSome, refl, sym, subst}
 use Rattle.std.specs.BTreeMap.{get}
 use Rattle.ferry_disk.specs.Device.{told_files}
 use Rattle.ferry_log.specs.Live.{key_cmp}

@@ -1,9 +1,9 @@
-use Rattle.std.proofs.Common.{sym, subst}
+use Rattle.std.proofs.Common.{rules, sym, subst}
 use Rattle.ferry_disk.specs.Device.{RoseWhere}
 use Rattle.ferry_repo.specs.Opening.{repo_view}
 use Rattle.ferry_status.specs.Status.{source_failed}
 use Rattle.ferry_status.specs.declared.status.Status.{Status}
-use Rattle.ferry_run_plan.proofs.PlanLemmas.{chosen_made, chosen_refused, source_of_plan, unfound_refused, unopened_target}
+use Rattle.ferry_run_plan.proofs.PlanLemmas.{chosen_made, chosen_refused, plan_found, source_of_plan, unfound_refused, unopened_target}
 use Rattle.ferry_run_transfer.proofs.SourceLemmas.{source_fits, source_opens}
 use Rattle.ferry_run_plan.proofs.command.count_chosen.Goals as goal
 use Rattle.ferry_run_plan.specs.Planning.{IsPlanRefused, planned_for}
@@ -23,7 +23,9 @@ returns-in-Err-open-clause-refused g c = λ names is.
     let target = g.T.Shelf.told c.args.target.now in
     let request = planned_for c.args.secrets.now c.args.block names told in
     subst (λ (s : Status). IsPlanRefused request told target s) (sym c.of_store.ensures)
-    (unopened_target request told target c.in-Err-open.fault c.in-Err-open.ensures.refused)
+    (unopened_target request told target c.in-Err-open.fault
+    (plan_found c.args.secrets.now c.args.block names (repo_view c.args.repo.now) told c.args.chosen.now c.requires.source_opens is
+    (search rules)) c.in-Err-open.ensures.refused)
 
 pub plan-requires-clause-target_fits : goal.plan-requires-clause-target_fits
 plan-requires-clause-target_fits g c =

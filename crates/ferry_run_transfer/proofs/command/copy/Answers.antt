@@ -1,4 +1,4 @@
-use Rattle.std.proofs.Common.{Result, subst}
+use Rattle.std.proofs.Common.{◌≡◌, Result, refl, subst, IfSome}
 use Rattle.ferry_piece.proofs.FaultLemmas.{source_still}
 use Rattle.ferry_piece.proofs.WorkLemmas.{err_is}
 use Rattle.ferry_piece.specs.Fault.{IsOfWork, source_fault}
@@ -14,8 +14,9 @@ use Rattle.ferry_run_transfer.proofs.UntouchedLemmas.{untouched}
 use Rattle.ferry_run_transfer.proofs.command.copy.Goals as goal
 use Rattle.ferry_run_transfer.specs.Transfer.{LeavesTold, Request, TransferEach, TransferEnds, asked}
 use Rattle.std.proofs.Common.{IfErr}
-use Rattle.ferry_run_transfer.proofs.RefusedLemmas.{asked_source, unread_refused}
-use Rattle.ferry_run_transfer.specs.TransferCauses.{RefusesAsked}
+use Rattle.ferry_run_transfer.proofs.RefusedLemmas.{asked_source, unread_refused, unused}
+use Rattle.ferry_run_transfer.specs.TransferCauses.{IsFound, RefusesAsked}
+use Rattle.ferry_status.specs.Devices.{drawn, store}
 
 pub returns-in_err-repo-clause-works : goal.returns-in_err-repo-clause-works
 returns-in_err-repo-clause-works g c =
@@ -24,8 +25,10 @@ returns-in_err-repo-clause-works g c =
     let request = asked c.args.secrets.now c.args.options.now c.args.names.now (g.S.Shelf.told c.args.source.now) in
     let fault = source_fault c.in_err-repo.field-0.0 in
     err_is c.from_residual.result fault
-    (λ (r : Result (Unit {0}) CarryFault). Works (TransferEach request) (λ _. TransferEnds request) a a n n r) c.from_residual.ensures.1
-    (untouched {T = Unit {0}} request a n fault (source_still c.in_err-repo.field-0.0))
+    (λ (r : Result (Unit {0}) CarryFault). Works (TransferEach request) (λ _. TransferEnds request (g.E.Entropy.drawn c.args.entropy.now) (g.E.Entropy.drawn
+    c.args.entropy.now)) a a n n r) c.from_residual.ensures.1
+    (untouched {T = Unit {0}} request (g.E.Entropy.drawn c.args.entropy.now) (g.E.Entropy.drawn c.args.entropy.now) a n fault (source_still
+    c.in_err-repo.field-0.0))
 
 pub copy_into-requires-clause-source_opens : goal.copy_into-requires-clause-source_opens
 copy_into-requires-clause-source_opens g c =
@@ -40,7 +43,8 @@ copy_into-requires-clause-source_fits g c =
 
 pub returns-clause-works : goal.returns-clause-works
 returns-clause-works g c =
-    subst (λ (request : Request). Works (TransferEach request) (λ _. TransferEnds request) (g.D.Shelf.told c.args.target.now)
+    subst (λ (request : Request). Works (TransferEach request) (λ _. TransferEnds request (g.E.Entropy.drawn c.args.entropy.now) (g.E.Entropy.drawn
+    c.copy_into.new.entropy)) (g.D.Shelf.told c.args.target.now)
     (g.D.Shelf.told c.copy_into.new.target) (g.D.Shelf.faults c.args.target.now) (g.D.Shelf.faults c.copy_into.new.target) c.copy_into.result)
     (asked_kept {T = Repo} {F = RepoFault} c.args.secrets.now c.args.options.now c.args.names.now repo_failed (g.S.Shelf.told c.args.source.now)
     (g.S.Shelf.told c.open.new.shelf) c.in_ok-repo.repo c.in_ok-repo.ensures.same) c.copy_into.ensures.works
@@ -74,3 +78,17 @@ returns-clause-only_told g c =
     → Between (g.D.Shelf.told c.args.target.now) (g.D.Shelf.told c.copy_into.new.target) (LeavesTold request)))
     (asked_kept {T = Repo} {F = RepoFault} c.args.secrets.now c.args.options.now c.args.names.now repo_failed (g.S.Shelf.told c.args.source.now)
     (g.S.Shelf.told c.open.new.shelf) c.in_ok-repo.repo c.in_ok-repo.ensures.same) c.copy_into.ensures.only_told
+
+pub returns-in_err-repo-clause-untouched : goal.returns-in_err-repo-clause-untouched
+returns-in_err-repo-clause-untouched g c =
+    unused (asked c.args.secrets.now c.args.options.now c.args.names.now (g.S.Shelf.told c.args.source.now)) _ (refl, refl)
+
+pub returns-clause-untouched : goal.returns-clause-untouched
+returns-clause-untouched g c =
+    subst (λ (request : Request). IfSome request.source (λ files. (IsFound request files → ⊥)
+    → (store (g.D.Shelf.told c.copy_into.new.target) (g.D.Shelf.faults c.copy_into.new.target)
+    ≡ store (g.D.Shelf.told c.args.target.now) (g.D.Shelf.faults c.args.target.now))
+    × (drawn (g.E.Entropy.drawn c.copy_into.new.entropy) (g.E.Entropy.faults c.copy_into.new.entropy)
+    ≡ drawn (g.E.Entropy.drawn c.args.entropy.now) (g.E.Entropy.faults c.args.entropy.now))))
+    (asked_kept {T = Repo} {F = RepoFault} c.args.secrets.now c.args.options.now c.args.names.now repo_failed (g.S.Shelf.told c.args.source.now)
+    (g.S.Shelf.told c.open.new.shelf) c.in_ok-repo.repo c.in_ok-repo.ensures.same) c.copy_into.ensures.untouched

@@ -13,7 +13,7 @@ use Rattle.ferry_run_transfer.proofs.TransferLemmas.{copied_all, copied_some}
 use Rattle.ferry_run_transfer.proofs.UntouchedLemmas.{unopened, untouched}
 use Rattle.ferry_run_transfer.proofs.command.copy_into.Goals as goal
 use Rattle.ferry_run_transfer.specs.Transfer.{LeavesTold, TransferEach, TransferEnds, asked}
-use Rattle.ferry_run_transfer.proofs.RefusedLemmas.{memory_refused, missing_refused, unopened_refused}
+use Rattle.ferry_run_transfer.proofs.RefusedLemmas.{found_apart, memory_refused, missing_refused, names_found, unopened_refused, unused}
 use Rattle.ferry_run_transfer.proofs.CauseLemmas.{names_refused}
 use Rattle.ferry_run_transfer.specs.TransferCauses.{RefusesAsked}
 
@@ -23,8 +23,9 @@ returns-in_err-chosen-clause-works g c =
     let n = g.D.Shelf.faults c.args.target.now in
     let request = asked c.args.secrets.now c.args.options.now c.args.names.now (g.S.Shelf.told c.args.source.now) in
     err_is c.from_residual.result Memory
-    (λ (r : Result (Unit {0}) CarryFault). Works (TransferEach request) (λ _. TransferEnds request) a a n n r)
-    c.from_residual.ensures.1 (untouched {T = Unit {0}} request a n Memory refl)
+    (λ (r : Result (Unit {0}) CarryFault). Works (TransferEach request) (λ _. TransferEnds request (g.E.Entropy.drawn c.args.entropy.now) (g.E.Entropy.drawn
+    c.args.entropy.now)) a a n n r)
+    c.from_residual.ensures.1 (untouched {T = Unit {0}} request (g.E.Entropy.drawn c.args.entropy.now) (g.E.Entropy.drawn c.args.entropy.now) a n Memory refl)
 
 pub returns-in_err-find_names-clause-works : goal.returns-in_err-find_names-clause-works
 returns-in_err-find_names-clause-works g c =
@@ -33,8 +34,10 @@ returns-in_err-find_names-clause-works g c =
     let request = asked c.args.secrets.now c.args.options.now c.args.names.now (g.S.Shelf.told c.args.source.now) in
     let fault = c.in_err-find_names.field-0.0 in
     err_is c.from_residual-in_err-find_names.result fault
-    (λ (r : Result (Unit {0}) CarryFault). Works (TransferEach request) (λ _. TransferEnds request) a a n n r)
-    c.from_residual-in_err-find_names.ensures.1 (untouched {T = Unit {0}} request a n fault c.in_err-find_names.ensures.still)
+    (λ (r : Result (Unit {0}) CarryFault). Works (TransferEach request) (λ _. TransferEnds request (g.E.Entropy.drawn c.args.entropy.now) (g.E.Entropy.drawn
+    c.args.entropy.now)) a a n n r)
+    c.from_residual-in_err-find_names.ensures.1 (untouched {T = Unit {0}} request (g.E.Entropy.drawn c.args.entropy.now) (g.E.Entropy.drawn c.args.entropy.now)
+    a n fault c.in_err-find_names.ensures.still)
 
 pub returns-in_err-store-clause-works : goal.returns-in_err-store-clause-works
 returns-in_err-store-clause-works g c =
@@ -45,8 +48,10 @@ returns-in_err-store-clause-works g c =
     let request = asked c.args.secrets.now c.args.options.now c.args.names.now (g.S.Shelf.told c.args.source.now) in
     let refusal = c.in_err-store.field-0.0 in
     err_is c.from_residual-in_err-store.result (target_fault refusal)
-    (λ (r : Result (Unit {0}) CarryFault). Works (TransferEach request) (λ _. TransferEnds request) a b n m r) c.from_residual-in_err-store.ensures.1
-    (unopened {T = Unit {0}} request OpenFits a b n m refusal c.open.ensures.untold c.in_err-store.ensures.did)
+    (λ (r : Result (Unit {0}) CarryFault). Works (TransferEach request) (λ _. TransferEnds request (g.E.Entropy.drawn c.args.entropy.now) (g.E.Entropy.drawn
+    c.args.entropy.now)) a b n m r) c.from_residual-in_err-store.ensures.1
+    (unopened {T = Unit {0}} request (g.E.Entropy.drawn c.args.entropy.now) (g.E.Entropy.drawn c.args.entropy.now) OpenFits a b n m refusal
+    c.open.ensures.untold c.in_err-store.ensures.did)
 
 pub carry-requires-clause-fits : goal.carry-requires-clause-fits
 carry-requires-clause-fits g c =
@@ -66,10 +71,12 @@ returns-in_err-carry-clause-works g c =
     let store = c.in_ok-store.store in
     let fault = c.in_err-carry.field-0.0 in
     err_is c.from_residual-in_err-carry.result fault
-    (λ (r : Result (Unit {0}) CarryFault). Works (TransferEach request) (λ _. TransferEnds request) a d n k r)
+    (λ (r : Result (Unit {0}) CarryFault). Works (TransferEach request) (λ _. TransferEnds request (g.E.Entropy.drawn c.args.entropy.now) (g.E.Entropy.drawn
+    c.carry.new.entropy)) a d n k r)
     c.from_residual-in_err-carry.ensures.1
     (copied_some c.args.secrets.now c.args.options.now c.args.names.now (repo_view c.args.repo.now) told c.deref-2.result.now
-    c.requires.source_opens (c.deref-2.ensures.value ∙ c.in_ok-chosen.ensures.chosen) {U = Unit {0}} store c.carry.new.store a b d n m k fault
+    c.requires.source_opens (c.deref-2.ensures.value ∙ c.in_ok-chosen.ensures.chosen) {U = Unit {0}} store c.carry.new.store a b d n m k
+    (g.E.Entropy.drawn c.args.entropy.now) (g.E.Entropy.drawn c.carry.new.entropy) fault
     c.in_ok-store.ensures.accepted c.in_ok-store.ensures.opened c.open.ensures.untold
     c.in_ok-store.ensures.did c.in_err-carry.ensures.works)
 
@@ -80,6 +87,7 @@ returns-clause-works g c =
     c.deref-2.result.now c.requires.source_opens (c.deref-2.ensures.value ∙ c.in_ok-chosen.ensures.chosen) {U = Unit {0}} store
     c.carry.new.store (g.D.Shelf.told c.args.target.now) (g.D.Shelf.told c.open.new.depot) (g.D.Shelf.told c.carry.new.depot)
     (g.D.Shelf.faults c.args.target.now) (g.D.Shelf.faults c.open.new.depot) (g.D.Shelf.faults c.carry.new.depot) c.in_ok-carry.field-0 tt
+    (g.E.Entropy.drawn c.args.entropy.now) (g.E.Entropy.drawn c.carry.new.entropy)
     c.in_ok-store.ensures.accepted c.in_ok-carry.ensures.settled
     (c.in_ok-carry.ensures.ended c.in_ok-store.ensures.fresh.1) c.in_ok-store.ensures.opened c.open.ensures.untold c.in_ok-store.ensures.did
     c.in_ok-carry.ensures.works
@@ -109,7 +117,10 @@ returns-in_err-store-clause-refused g c =
     let request = asked c.args.secrets.now c.args.options.now c.args.names.now (g.S.Shelf.told c.args.source.now) in
     let refusal = c.in_err-store.field-0.0 in
     err_is c.from_residual-in_err-store.result (target_fault refusal) (λ (r : Result (Unit {0}) CarryFault). IfErr r (RefusesAsked request a b))
-    c.from_residual-in_err-store.ensures.1 (unopened_refused request a b refusal c.in_err-store.ensures.refused)
+    c.from_residual-in_err-store.ensures.1 (unopened_refused request a b refusal (names_found c.args.secrets.now c.args.options.now c.args.names.now (repo_view
+    c.args.repo.now)
+    (g.S.Shelf.told c.args.source.now) c.deref.result.now c.requires.source_opens (c.deref.ensures.value ∙ c.in_ok-chosen.ensures.chosen)
+    c.in_ok-find_names.ensures.found) c.in_err-store.ensures.refused)
 
 pub returns-in_err-carry-clause-refused : goal.returns-in_err-carry-clause-refused
 returns-in_err-carry-clause-refused g c =
@@ -126,7 +137,8 @@ returns-in_err-carry-clause-refused g c =
     let chosen_is = c.deref-2.ensures.value ∙ c.in_ok-chosen.ensures.chosen in
     let accepts = c.in_ok-store.ensures.accepted in
     let works = copied_some c.args.secrets.now c.args.options.now c.args.names.now (repo_view c.args.repo.now) told c.deref-2.result.now
-    c.requires.source_opens chosen_is {U = Unit {0}} store c.carry.new.store a b d n m k fault accepts
+    c.requires.source_opens chosen_is {U = Unit {0}} store c.carry.new.store a b d n m k
+    (g.E.Entropy.drawn c.args.entropy.now) (g.E.Entropy.drawn c.carry.new.entropy) fault accepts
     c.in_ok-store.ensures.opened c.open.ensures.untold c.in_ok-store.ensures.did c.in_err-carry.ensures.works in
     err_is c.from_residual-in_err-carry.result fault (λ (r : Result (Unit {0}) CarryFault). IfErr r (RefusesAsked request a d))
     c.from_residual-in_err-carry.ensures.1
@@ -180,7 +192,8 @@ returns-in_err-carry-clause-only_told g c =
     let chosen_is = c.deref-2.ensures.value ∙ c.in_ok-chosen.ensures.chosen in
     let accepts = c.in_ok-store.ensures.accepted in
     let works = copied_some c.args.secrets.now c.args.options.now c.args.names.now (repo_view c.args.repo.now) told c.deref-2.result.now
-    c.requires.source_opens chosen_is {U = Unit {0}} store c.carry.new.store a b d n m k fault accepts
+    c.requires.source_opens chosen_is {U = Unit {0}} store c.carry.new.store a b d n m k
+    (g.E.Entropy.drawn c.args.entropy.now) (g.E.Entropy.drawn c.carry.new.entropy) fault accepts
     c.in_ok-store.ensures.opened c.open.ensures.untold c.in_ok-store.ensures.did c.in_err-carry.ensures.works in
     err_is c.from_residual-in_err-carry.result fault
     (λ (r : Result (Unit {0}) CarryFault). IfErr r (λ (f : CarryFault). IsOfWork f → Between a d (LeavesTold request)))
@@ -189,3 +202,34 @@ returns-in_err-carry-clause-only_told g c =
     stopped_told c.args.secrets.now c.args.options.now c.args.names.now (repo_view c.args.repo.now) told c.deref-2.result.now
     c.requires.source_opens chosen_is store a b d n m accepts c.in_ok-store.ensures.opened c.open.ensures.untold c.in_ok-store.ensures.did
     works.each (c.in_err-carry.ensures.stands w))
+
+pub returns-in_err-chosen-clause-untouched : goal.returns-in_err-chosen-clause-untouched
+returns-in_err-chosen-clause-untouched g c =
+    let request = asked c.args.secrets.now c.args.options.now c.args.names.now (g.S.Shelf.told c.args.source.now) in
+    unused request _ (refl, refl)
+
+pub returns-in_err-find_names-clause-untouched : goal.returns-in_err-find_names-clause-untouched
+returns-in_err-find_names-clause-untouched g c =
+    let request = asked c.args.secrets.now c.args.options.now c.args.names.now (g.S.Shelf.told c.args.source.now) in
+    unused request _ (refl, refl)
+
+pub returns-in_err-store-clause-untouched : goal.returns-in_err-store-clause-untouched
+returns-in_err-store-clause-untouched g c =
+    let request = asked c.args.secrets.now c.args.options.now c.args.names.now (g.S.Shelf.told c.args.source.now) in
+    found_apart request _
+    (names_found c.args.secrets.now c.args.options.now c.args.names.now (repo_view c.args.repo.now) (g.S.Shelf.told c.args.source.now)
+    c.deref.result.now c.requires.source_opens (c.deref.ensures.value ∙ c.in_ok-chosen.ensures.chosen) c.in_ok-find_names.ensures.found)
+
+pub returns-in_err-carry-clause-untouched : goal.returns-in_err-carry-clause-untouched
+returns-in_err-carry-clause-untouched g c =
+    let request = asked c.args.secrets.now c.args.options.now c.args.names.now (g.S.Shelf.told c.args.source.now) in
+    found_apart request _
+    (names_found c.args.secrets.now c.args.options.now c.args.names.now (repo_view c.args.repo.now) (g.S.Shelf.told c.args.source.now)
+    c.deref.result.now c.requires.source_opens (c.deref.ensures.value ∙ c.in_ok-chosen.ensures.chosen) c.in_ok-find_names.ensures.found)
+
+pub returns-clause-untouched : goal.returns-clause-untouched
+returns-clause-untouched g c =
+    let request = asked c.args.secrets.now c.args.options.now c.args.names.now (g.S.Shelf.told c.args.source.now) in
+    found_apart request _
+    (names_found c.args.secrets.now c.args.options.now c.args.names.now (repo_view c.args.repo.now) (g.S.Shelf.told c.args.source.now)
+    c.deref.result.now c.requires.source_opens (c.deref.ensures.value ∙ c.in_ok-chosen.ensures.chosen) c.in_ok-find_names.ensures.found)

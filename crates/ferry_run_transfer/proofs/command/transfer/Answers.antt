@@ -13,7 +13,8 @@ use Rattle.ferry_status.specs.declared.status.Status.{Status}
 pub returns-in-Ok-clause-ended : goal.returns-in-Ok-clause-ended
 returns-in-Ok-clause-ended g c done =
     transfer_ended {T = Unit {0}} (asked c.args.secrets.now c.args.options.now c.args.names.now (g.S.Shelf.told c.args.source.now))
-    (g.D.Shelf.told c.args.target.now) (g.D.Shelf.told c.copy.new.target) (g.D.Shelf.faults c.args.target.now) (g.D.Shelf.faults c.copy.new.target) tt
+    (g.E.Entropy.drawn c.args.entropy.now) (g.E.Entropy.drawn c.copy.new.entropy) (g.D.Shelf.told c.args.target.now) (g.D.Shelf.told c.copy.new.target)
+    (g.D.Shelf.faults c.args.target.now) (g.D.Shelf.faults c.copy.new.target) tt
     c.in-Ok.ensures.works
 
 pub returns-in-Ok-clause-left : goal.returns-in-Ok-clause-left

@@ -45,7 +45,8 @@ returns-in-Ok-clause-refused g c =
     let mid_repo = repo_view c.begin.new.repo in
     let walk = walk_view c.in-Ok.walk in
     let before = g.T.Tree.told c.args.tree.now in
+    let empty : IfSome before (λ t. is_bare t ≡ true) = empty_is before c.in_ok-is_empty.field-0 c.if-not-branch.false c.in_ok-is_empty.ensures.empty in
     if_err c.restore_walk.result (λ fault. IfSome middle (λ t. RefusesItems (told_files t) mid_repo walk fault))
     (λ fault. IfSome told (λ t. RefusesArchive (told_files t) repo c.args.name.now before fault))
-    (λ fault r. archive_refused told middle repo mid_repo c.args.name.now walk before fault c.in-Ok.ensures.same c.in-Ok.ensures.kept
+    (λ fault r. archive_refused told middle repo mid_repo c.args.name.now walk before fault c.in-Ok.ensures.same c.in-Ok.ensures.kept empty
     c.in-Ok.ensures.begins r) c.restore_walk.ensures.refused

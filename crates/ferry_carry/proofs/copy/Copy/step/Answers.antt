@@ -190,21 +190,21 @@ returns-clause-steps g c =
 
 pub returns-in_err-item-clause-copied : goal.returns-in_err-item-clause-copied
 returns-in_err-item-clause-copied g c =
-    λ named added so.
+    λ time named added so.
     let store = c.args.store.now in
     let copy = c.args.self.now in
     let a = g.D.Shelf.told c.args.depot.now in
     let n = g.D.Shelf.faults c.args.depot.now in
     let steps = returns-in_err-item-clause-steps g c in (
       steps.0,
-      copied_refused (g.S.Shelf.told c.args.shelf.now) a a (repo_view c.args.source.now) named store store copy c.next.new.self added steps.0 n n
+      copied_refused time (g.S.Shelf.told c.args.shelf.now) a a (repo_view c.args.source.now) named store store copy c.next.new.self added steps.0 n n
           c.requires.ready so (cached_in c.args.source.now) c.from_residual.result c.in_err-item.field-0.0 c.requires.source_fits
           c.from_residual.ensures.1 steps.1,
     )
 
 pub returns-in_default-clause-copied : goal.returns-in_default-clause-copied
 returns-in_default-clause-copied g c =
-    λ named added so.
+    λ time named added so.
     let store = c.args.store.now in
     let a = g.D.Shelf.told c.args.depot.now in
     let n = g.D.Shelf.faults c.args.depot.now in
@@ -214,17 +214,17 @@ returns-in_default-clause-copied g c =
     let archive : copy_now.archive ≡ copy.archive = ap (λ (x : Copy). x.archive) c.in_ok-item.ensures.others in
     let block : copy_now.block ≡ copy.block = ap (λ (x : Copy). x.block) c.in_ok-item.ensures.others in (
       steps.0,
-      copied_behind (g.S.Shelf.told c.args.shelf.now) a a (repo_view c.args.source.now) named store store copy copy_now added steps.0 n n c.requires.ready
+      copied_behind time (g.S.Shelf.told c.args.shelf.now) a a (repo_view c.args.source.now) named store store copy copy_now added steps.0 n n c.requires.ready
           so (cached_in c.args.source.now) false c.requires.source_fits c.requires.fits (rest_here store) archive block
           (most_taken copy copy_now c.in_ok-item.ensures.others) steps.1,
     )
 
 pub returns-in_err-chunks-clause-copied : goal.returns-in_err-chunks-clause-copied
 returns-in_err-chunks-clause-copied g c =
-    λ named added so.
+    λ time named added so.
     let steps = returns-in_err-chunks-clause-steps g c in (
       steps.0,
-      copied_refused (g.S.Shelf.told c.args.shelf.now) (g.D.Shelf.told c.args.depot.now) (g.D.Shelf.told c.copy_chunks.new.depot)
+      copied_refused time (g.S.Shelf.told c.args.shelf.now) (g.D.Shelf.told c.args.depot.now) (g.D.Shelf.told c.copy_chunks.new.depot)
           (repo_view c.args.source.now) named c.args.store.now c.copy_chunks.new.store c.args.self.now c.copy_chunks.new.self added steps.0
           (g.D.Shelf.faults c.args.depot.now) (g.D.Shelf.faults c.copy_chunks.new.depot) c.requires.ready so (cached_in c.args.source.now)
           c.from_residual-in_err-chunks.result c.in_err-chunks.field-0.0 c.requires.source_fits c.from_residual-in_err-chunks.ensures.1 steps.1,
@@ -232,10 +232,10 @@ returns-in_err-chunks-clause-copied g c =
 
 pub returns-in_err-write_item-clause-copied : goal.returns-in_err-write_item-clause-copied
 returns-in_err-write_item-clause-copied g c =
-    λ named added so.
+    λ time named added so.
     let steps = returns-in_err-write_item-clause-steps g c in (
       steps.0,
-      copied_refused (g.S.Shelf.told c.args.shelf.now) (g.D.Shelf.told c.args.depot.now) (g.D.Shelf.told c.write_item.new.depot)
+      copied_refused time (g.S.Shelf.told c.args.shelf.now) (g.D.Shelf.told c.args.depot.now) (g.D.Shelf.told c.write_item.new.depot)
           (repo_view c.args.source.now) named c.args.store.now c.write_item.new.store c.args.self.now c.write_item.new.self added steps.0
           (g.D.Shelf.faults c.args.depot.now) (g.D.Shelf.faults c.write_item.new.depot) c.requires.ready so (cached_in c.args.source.now)
           c.from_residual-in_err-write_item.result c.in_err-write_item.field-0.0 c.requires.source_fits c.from_residual-in_err-write_item.ensures.1
@@ -244,7 +244,7 @@ returns-in_err-write_item-clause-copied g c =
 
 pub returns-clause-copied : goal.returns-clause-copied
 returns-clause-copied g c =
-    λ named added so.
+    λ time named added so.
     let store = c.args.store.now in
     let middle = c.copy_chunks.new.store in
     let now = c.write_item.new.store in
@@ -261,7 +261,7 @@ returns-clause-copied g c =
     ap (λ (x : Copy). x.contents.checkpoint) c.in_ok-write_item.ensures.others
     ∙ (c.in_ok-chunks.ensures.checkpoint ∙ ap (λ (x : Copy). x.contents.checkpoint) c.in_ok-item.ensures.others) in (
       steps.0,
-      copied_behind (g.S.Shelf.told c.args.shelf.now) (g.D.Shelf.told c.args.depot.now) (g.D.Shelf.told c.write_item.new.depot)
+      copied_behind time (g.S.Shelf.told c.args.shelf.now) (g.D.Shelf.told c.args.depot.now) (g.D.Shelf.told c.write_item.new.depot)
           (repo_view c.args.source.now) named store now copy copy_now added steps.0 (g.D.Shelf.faults c.args.depot.now)
           (g.D.Shelf.faults c.write_item.new.depot) c.requires.ready so (cached_in c.args.source.now) true c.requires.source_fits c.requires.fits
           (rest_then store middle now c.in_ok-chunks.ensures.rest c.in_ok-write_item.ensures.rest) archive block most steps.1,
@@ -269,20 +269,20 @@ returns-clause-copied g c =
 
 pub returns-in_err-item-clause-refused : goal.returns-in_err-item-clause-refused
 returns-in_err-item-clause-refused g c =
-    λ named added named_is so.
+    λ time named added named_is so.
     let told = g.S.Shelf.told c.args.shelf.now in
     let source = repo_view c.args.source.now in
     let copy = c.args.self.now in
     let heard = g.D.Shelf.told c.args.depot.now in
     let fault = c.in_err-item.field-0.0 in
     err_is c.from_residual.result fault
-    (λ (r : Result Bool CarryFault). IfErr r (RefusesStep (origin told source copy.block copy.contents.checkpoint) heard named.name))
+    (λ (r : Result Bool CarryFault). IfErr r (RefusesStep (origin told source copy.block copy.contents.checkpoint time) heard named.name))
     c.from_residual.ensures.1
-    (next_refused told heard source copy.block copy.contents.checkpoint named c.args.store.now copy added fault named_is so c.in_err-item.ensures.refused)
+    (next_refused told heard source copy.block copy.contents.checkpoint time named c.args.store.now copy added fault named_is so c.in_err-item.ensures.refused)
 
 pub returns-in_err-chunks-clause-refused : goal.returns-in_err-chunks-clause-refused
 returns-in_err-chunks-clause-refused g c =
-    λ named added named_is so.
+    λ time named added named_is so.
     let told = g.S.Shelf.told c.args.shelf.now in
     let source = repo_view c.args.source.now in
     let copy = c.args.self.now in
@@ -291,9 +291,9 @@ returns-in_err-chunks-clause-refused g c =
     let block : c.next.new.self.block ≡ copy.block = ap (λ (x : Copy). x.block) c.in_ok-item.ensures.others in
     let taken = some_holds c.in_ok-item.field-0 c.in-Some.item _ c.in-Some.is c.in_ok-item.ensures.item in
     err_is c.from_residual-in_err-chunks.result fault
-    (λ (r : Result Bool CarryFault). IfErr r (RefusesStep (origin told source copy.block copy.contents.checkpoint) heard named.name))
+    (λ (r : Result Bool CarryFault). IfErr r (RefusesStep (origin told source copy.block copy.contents.checkpoint time) heard named.name))
     c.from_residual-in_err-chunks.ensures.1
     (item_refused told (g.S.Shelf.told c.next.new.shelf) heard source (repo_view c.next.new.source) (cached_in c.args.source.now) copy.block
-    c.next.new.self.block copy.contents.checkpoint named c.args.store.now copy added (item_view c.in-Some.item) (walk_view c.next.new.self.walk) fault
+    c.next.new.self.block copy.contents.checkpoint time named c.args.store.now copy added (item_view c.in-Some.item) (walk_view c.next.new.self.walk) fault
     c.in_ok-item.ensures.same
     c.in_ok-item.ensures.kept block c.requires.source_fits taken named_is so c.in_err-chunks.ensures.refused)

@@ -97,7 +97,7 @@ returns-in-Equal-clause-works g c =
     let rest = read_rest store middle c.compare_item-compared.ensures.read in
     let same : IsSame from b (repo_view middle.repo) name =
     subst (IsSame from b (repo_view middle.repo)) c.requires.same_name
-    (c.in_ok-compared.ensures.equal (ap Ok c.in-Equal.is) from.block from.most) in
+    (c.in_ok-compared.ensures.equal (ap Ok c.in-Equal.is) from.block from.most from.time) in
     let compared = c.in_ok-compared.field-0 in
     let works = c.in_ok-compared.ensures.works from.most in
     let ends = c.present.ensures.works from.most in
@@ -141,7 +141,7 @@ returns-in_err-compared-clause-works g c =
     let at = border_behind AtBegin [] in
     let works = c.in_err-compared.ensures.works from.most in (
       [],
-      turned_err _ _ from name [] [] store now _ a b n m c.from_residual.result fault c.from_residual.ensures.1 (record {
+      turned_err _ _ from name [] [] [] store now _ a b n m c.from_residual.result fault c.from_residual.ensures.1 (record {
         flies = flies_fault {T = Compared} [] from name store now [] a b n m fault c.requires.accepts works;
         begins = begins_there a from (repo_view store.repo).keys (accepted_in store) name
             (there_accepted store name c.requires.accepts c.requires.there);
@@ -195,9 +195,10 @@ returns-in_err-compared-clause-refused g c =
     let a = g.D.Shelf.told c.args.depot.now in
     let b = g.D.Shelf.told c.compare_item-compared.new.depot in
     let fault = c.in_err-compared.field-0.0 in
-    err_is c.from_residual.result fault (λ (r : Result Turn CarryFault). IfErr r (RefusesName (origin told source block most) a store b now name))
+    err_is c.from_residual.result fault (λ (r : Result Turn CarryFault). IfErr r (RefusesName (origin told source block most c.args.self.now.options.timestamp)
+    a store b now name))
     c.from_residual.ensures.1
-    (comparing_refused told a b source block most name store now fault c.in_err-compared.ensures.stops
+    (comparing_refused told a b source block most c.args.self.now.options.timestamp name store now fault c.in_err-compared.ensures.stops
     (subst (λ (n : List ℕ). RefusesComparing told source n fault) c.requires.same_name c.in_err-compared.ensures.refused))
 
 pub returns-in-Differs-clause-refused : goal.returns-in-Differs-clause-refused
@@ -211,7 +212,7 @@ returns-in-Differs-clause-refused g c =
     let read = c.compare_item-compared.ensures.read in
     let differs : DiffersThere from b (repo_view now.repo) name =
     subst (DiffersThere from b (repo_view now.repo)) c.requires.same_name
-    (c.in_ok-compared.ensures.differs_now (ap Ok c.in-Differs.is) from.block from.most) in
+    (c.in_ok-compared.ensures.differs_now (ap Ok c.in-Differs.is) from.block from.most from.time) in
     taken_refused from a b store now name c.as_slice.result.now c.taken.result c.taken.ensures.taken c.as_slice.ensures differs (record {
       fits = c.compare_item-compared.ensures.fits;
       there = subst (λ (r : RepoState). IsSome (archive_named name r.manifest.archives)) (sym read.repo) c.requires.there;

@@ -7,12 +7,13 @@ use Rattle.ferry_carry.proofs.FlyLemmas.{stands_within, stepped_as, turn_ended, 
 use Rattle.ferry_carry.proofs.GrowLemmas.{most_from, most_then}
 use Rattle.ferry_carry.proofs.HeldLemmas.{held_within}
 use Rattle.ferry_carry.proofs.NamingLemmas.{pieces_limit, rest_limit}
+use Rattle.ferry_carry.proofs.NextLemmas.{unnamed_err}
 use Rattle.ferry_carry.proofs.WorkLemmas.{carried_from}
 use Rattle.ferry_piece.proofs.WorkLemmas.{err_is}
 use Rattle.ferry_carry.proofs.flight.Flight.copy.Goals as goal
 use Rattle.ferry_piece.specs.Adding.{AddsOn}
 use Rattle.ferry_carry.specs.Carrying.{origin}
-use Rattle.ferry_carry.specs.Flight.{WorkFits, flown_from}
+use Rattle.ferry_carry.specs.Flight.{IsFlown, WorkFits, flown_from}
 use Rattle.ferry_piece.specs.Gather.{KeepsStanding}
 use Rattle.ferry_carry.specs.Progress.{CopiesOn, IsCopiedSoFar}
 use Rattle.ferry_piece.specs.Puts.{Addition, AtBegin, border_behind}
@@ -43,22 +44,29 @@ returns-in-Err-clause-works g c =
     let name = flight.named.name in
     let copy = c.args.copy in
     let at = border_behind AtBegin added in
-    let stepped = c.in-Err.ensures.copied flight.named added
-    (so_far_as told source from.block from.most flight.named a store copy added so) in
-    let works = stepped_as told source from.block from.most copy.block copy.contents.checkpoint flight.named a b store now c.step.new.self added stepped.0
+    let stepped = c.in-Err.ensures.copied from.time flight.named added
+    (so_far_as told source from.block from.most from.time flight.named a store copy added so) in
+    let works = stepped_as told source from.block from.most copy.block copy.contents.checkpoint from.time flight.named a b store now c.step.new.self added
+    stepped.0
     n m (Err fault) (sym so.0.block) (sym so.0.most) stepped.1 in (
       stepped.0,
-      record {
-        flies = flies_fault {T = Bool} added from name store now stepped.0 a b n m fault c.requires.accepts works.0;
-        begins = begins_new a from (repo_view store.repo).keys (accepted_in store) name (added ++ stepped.0) c.requires.unnamed
-            (works.1.0 c.requires.flight.named);
-        stands = λ _. stands_within at from.most store stepped.0 a b works.0.works.each;
-        last = works.0.last;
-        held = held_within {T = Turn} at from.most store now stepped.0 a b (Err fault) works.0.held;
-        fills = fills_new a from (repo_view store.repo).keys (accepted_in store) name (added ++ stepped.0) fault c.requires.unnamed
-            (works.1.1.0 c.requires.flight.named);
-        lists = tt;
-      },
+      (
+        [],
+        (
+          record {
+            flies = flies_fault {T = Bool} added from name store now stepped.0 a b n m fault c.requires.accepts works.0;
+            begins = begins_new a from (repo_view store.repo).keys (accepted_in store) name (added ++ stepped.0) c.requires.unnamed
+                (works.1.0 c.requires.flight.named);
+            stands = λ _. stands_within at from.most store stepped.0 a b works.0.works.each;
+            last = works.0.last;
+            held = held_within {T = Turn} at from.most store now stepped.0 a b (Err fault) works.0.held;
+            fills = fills_new a from (repo_view store.repo).keys (accepted_in store) name (added ++ stepped.0) fault c.requires.unnamed
+                (works.1.1.0 c.requires.flight.named);
+            lists = tt;
+          },
+          tt,
+        ),
+      ),
     )
 
 pub returns-in-Ok-true-clause-works : goal.returns-in-Ok-true-clause-works
@@ -83,39 +91,47 @@ returns-in-Ok-true-clause-works g c =
     let more = c.in-Ok-true.field-0 in
     let taken : more ≡ true = search rules in
     let at = border_behind AtBegin added in
-    let stepped = ensures.copied named added (so_far_as told source from.block from.most named a store copy added so) in
-    let works = stepped_as told source from.block from.most copy.block copy.contents.checkpoint named a b store now c.step.new.self added stepped.0 n m
+    let stepped = ensures.copied from.time named added (so_far_as told source from.block from.most from.time named a store copy added so) in
+    let works = stepped_as told source from.block from.most copy.block copy.contents.checkpoint from.time named a b store now c.step.new.self added stepped.0 n
+    m
     (Ok more) (sym so.0.block) (sym so.0.most) stepped.1 in
     let so_far : IsCopiedSoFar from named b now c.step.new.self (added ++ stepped.0) =
     subst (CopiesOn from named b now c.step.new.self added stepped.0) taken works.1.1.1 in (
       stepped.0,
-      record {
-        flies = flies_as {T = Bool} added from name [] stepped.0 store now a b n m more More refl
-            (carried_from {T = Bool} {U = Bool} added from (name ∷ []) store now stepped.0 a b n m more more c.requires.accepts ensures.rest works.0);
-        begins = begins_new a from (repo_view store.repo).keys (accepted_in store) name (added ++ stepped.0) c.requires.unnamed
-            (works.1.0 c.requires.flight.named);
-        stands = stands_within at from.most store stepped.0 a b works.0.works.each;
-        last = tt;
-        held = tt;
-        fills = tt;
-        lists = (
+      (
+        [],
+        (
           record {
-            stands = record {
-              options = c.requires.flight.options;
-              named = subst (λ (r : RepoState). archive_named name r.manifest.archives ≡ Some named) (sym ensures.kept) c.requires.flight.named;
-            };
-            added = added ++ stepped.0;
-            work = subst (WorkFits later after b now named flight.options (added ++ stepped.0)) (sym c.renew.ensures) (
-              ensures.ready,
-              subst (λ (m : ManifestText). archive_named name m.archives ≡ None) (sym ensures.rest.accepted) c.requires.unnamed,
-              ensures.walk_fits,
-              so_far_later told later source after from.block from.most named b now c.step.new.self (added ++ stepped.0) ensures.same ensures.kept so_far,
+            flies = flies_as {T = Bool} added from name [] stepped.0 store now a b n m more More refl
+                (carried_from {T = Bool} {U = Bool} added from (name ∷ []) store now stepped.0 a b n m more more c.requires.accepts ensures.rest works.0);
+            begins = begins_new a from (repo_view store.repo).keys (accepted_in store) name (added ++ stepped.0) c.requires.unnamed
+                (works.1.0 c.requires.flight.named);
+            stands = stands_within at from.most store stepped.0 a b works.0.works.each;
+            last = tt;
+            held = tt;
+            fills = tt;
+            lists = (
+              record {
+                stands = record {
+                  options = c.requires.flight.options;
+                  named = subst (λ (r : RepoState). archive_named name r.manifest.archives ≡ Some named) (sym ensures.kept) c.requires.flight.named;
+                };
+                added = added ++ stepped.0;
+                work = subst (WorkFits later after b now named flight.options (added ++ stepped.0)) (sym c.renew.ensures) (
+                  ensures.ready,
+                  subst (λ (m : ManifestText). archive_named name m.archives ≡ None) (sym ensures.rest.accepted) c.requires.unnamed,
+                  ensures.walk_fits,
+                  so_far_later told later source after from.block from.most from.time named b now c.step.new.self (added ++ stepped.0) ensures.same
+                      ensures.kept so_far,
+                );
+                uncounted = c.requires.uncounted;
+              },
+              refl,
             );
-            uncounted = c.requires.uncounted;
           },
-          refl,
-        );
-      },
+          λ is. absurd (let no : ⊥ = cc in no),
+        ),
+      ),
     )
 
 pub returns-in-Ok-true-clause-accepts : goal.returns-in-Ok-true-clause-accepts
@@ -147,20 +163,35 @@ returns-in_err-self-in-Ok-false-clause-works g c =
     let more = c.in-Ok-false.field-0 in
     let not_more : more ≡ false = search rules in
     let rest = c.in-Ok-false.ensures.rest in
-    let stepped = c.in-Ok-false.ensures.copied named added (so_far_as told source from.block from.most named a store copy added so) in
-    let works = stepped_as told source from.block from.most copy.block copy.contents.checkpoint named a b store middle c.step.new.self added stepped.0 n m
+    let stepped = c.in-Ok-false.ensures.copied from.time named added (so_far_as told source from.block from.most from.time named a store copy added so) in
+    let works = stepped_as told source from.block from.most copy.block copy.contents.checkpoint from.time named a b store middle c.step.new.self added
+    stepped.0 n m
     (Ok more) (sym so.0.block) (sym so.0.most) stepped.1 in
     let ended : CopiesOn from named b middle c.step.new.self added stepped.0 false =
     subst (CopiesOn from named b middle c.step.new.self added stepped.0) not_more works.1.1.1 in
     let first : AddsOn {T = Bool} from.most store [] middle a b n m (Ok more) =
     subst (λ (l : List Addition). AddsOn {T = Bool} from.most store l middle a b n m (Ok more)) ended.0 works.0 in
-    let ends = c.in_err-self-in-Ok-false.ensures.works from added (ended.1 c.requires.flight.named) in (
+    let kept = c.step.ensures.kept in
+    let flown : IsFlown from (repo_view c.step.new.source) flight.options.timestamp named =
+    record {
+      repo = sym kept;
+      time = refl;
+      named_is = subst (λ (r : RepoState). archive_named named.name r.manifest.archives ≡ Some named) (sym kept) c.requires.flight.named;
+    } in
+    let ends = c.in_err-self-in-Ok-false.ensures.works from added (ended.1 c.requires.flight.named) flown in
+    let does = ends.1.1.0 in (
       ends.0,
-      turned_err _ _ from name added ends.0 store now _ a d n k c.from_residual.result fault c.from_residual.ensures.1
-          (turn_ended from name added ends.0 store middle now _ _ _ a b d n m k more (Err fault) c.requires.accepts rest c.requires.unnamed first
-          (flies_err {T = Carried} added from name (name ∷ []) ends.0 middle now now b d m k fault ends.1.carries) ends.1.begins ends.1.stands ends.1.last
-          (end_apart from b (repo_view middle.repo).keys name fault
-          (c.in_err-self-in-Ok-false.ensures.refused from added (ended.1 c.requires.flight.named))) tt),
+      (
+        [],
+        (
+          turned_err _ _ from name added ends.0 [] store now _ a d n k c.from_residual.result fault c.from_residual.ensures.1
+              (turn_ended from name added ends.0 [] store middle now _ _ _ a b d n m k more (Err fault) c.requires.accepts rest c.requires.unnamed first
+              (flies_err {T = Carried} added from name (name ∷ []) ends.0 middle now now b d m k fault does.carries) does.begins does.stands does.last
+              (end_apart from b (repo_view middle.repo).keys name fault
+              (c.in_err-self-in-Ok-false.ensures.refused from added (ended.1 c.requires.flight.named))) tt),
+          unnamed_err _ c.from_residual.result fault c.from_residual.ensures.1,
+        ),
+      ),
     )
 
 pub returns-in_ok-self-in-Ok-false-clause-works : goal.returns-in_ok-self-in-Ok-false-clause-works
@@ -185,25 +216,42 @@ returns-in_ok-self-in-Ok-false-clause-works g c =
     let more = c.in-Ok-false.field-0 in
     let not_more : more ≡ false = search rules in
     let rest = c.in-Ok-false.ensures.rest in
-    let stepped = c.in-Ok-false.ensures.copied named added (so_far_as told source from.block from.most named a store copy added so) in
-    let works = stepped_as told source from.block from.most copy.block copy.contents.checkpoint named a b store middle c.step.new.self added stepped.0 n m
+    let stepped = c.in-Ok-false.ensures.copied from.time named added (so_far_as told source from.block from.most from.time named a store copy added so) in
+    let works = stepped_as told source from.block from.most copy.block copy.contents.checkpoint from.time named a b store middle c.step.new.self added
+    stepped.0 n m
     (Ok more) (sym so.0.block) (sym so.0.most) stepped.1 in
     let ended : CopiesOn from named b middle c.step.new.self added stepped.0 false =
     subst (CopiesOn from named b middle c.step.new.self added stepped.0) not_more works.1.1.1 in
     let first : AddsOn {T = Bool} from.most store [] middle a b n m (Ok more) =
     subst (λ (l : List Addition). AddsOn {T = Bool} from.most store l middle a b n m (Ok more)) ended.0 works.0 in
-    let ends = c.in_ok-self-in-Ok-false.ensures.works from added (ended.1 c.requires.flight.named) in (
+    let kept = c.step.ensures.kept in
+    let flown : IsFlown from (repo_view c.step.new.source) flight.options.timestamp named =
+    record {
+      repo = sym kept;
+      time = refl;
+      named_is = subst (λ (r : RepoState). archive_named named.name r.manifest.archives ≡ Some named) (sym kept) c.requires.flight.named;
+    } in
+    let ends = c.in_ok-self-in-Ok-false.ensures.works from added (ended.1 c.requires.flight.named) flown in
+    let records = ends.1.0 in
+    let does = ends.1.1.0 in (
       ends.0,
-      turn_ended from name added ends.0 store middle now _ _ _ a b d n m k more (Ok Named) c.requires.accepts rest c.requires.unnamed first
-          (flies_as {T = Carried} added from name (name ∷ []) ends.0 middle now b d m k c.in_ok-self-in-Ok-false.field-0 Named refl ends.1.carries)
-          ends.1.begins tt tt tt (
-            refl,
-            (
-              done_before from from (repo_view store.repo).keys (repo_view middle.repo).keys name (added ++ ends.0) (added ++ ends.0) true
-                  (KeepsStanding from.most store []) a b first.works.each refl rest.keys refl ends.1.lists.0,
-              ends.1.lists.1,
-            ),
-          ),
+      (
+        records,
+        (
+          turn_ended from name added ends.0 records store middle now _ _ _ a b d n m k more (Ok Named) c.requires.accepts rest c.requires.unnamed first
+              (flies_as {T = Carried} added from name (name ∷ []) ends.0 middle now b d m k c.in_ok-self-in-Ok-false.field-0 Named refl does.carries)
+              does.begins tt tt tt (
+                refl,
+                (
+                  done_before from from (repo_view store.repo).keys (repo_view middle.repo).keys name records (added ++ ends.0) (added ++ ends.0) true
+                      (KeepsStanding from.most store []) a b first.works.each refl rest.keys refl does.lists.0,
+                  does.lists.1,
+                ),
+              ),
+          λ _. next_rest flight.options.timestamp source (repo_view c.step.new.source) store middle now named records
+              (g.E.Entropy.drawn c.args.entropy.now) (g.E.Entropy.drawn c.end_copy-put.new.entropy) rest kept ends.1.1.1,
+        ),
+      ),
     )
 
 pub returns-in_ok-self-in-Ok-false-clause-most : goal.returns-in_ok-self-in-Ok-false-clause-most
@@ -224,14 +272,16 @@ returns-in-Err-clause-refused g c =
     let flight = c.args.self.now in
     let block = flight.options.block in
     let most = flight.options.checkpoint in
+    let time = flight.options.timestamp in
     let named = flight.named in
     let added = c.requires.copied.0 in
     let so = c.requires.copied.1 in
-    let refused = c.in-Err.ensures.refused named added c.requires.flight.named (so_far_as told source block most named a store c.args.copy added so) in
+    let refused = c.in-Err.ensures.refused time named added c.requires.flight.named (so_far_as told source block most time named a store c.args.copy added so)
+    in
     let lacks = lacks_by (repo_view store.repo).manifest (accepted_in store) named.name c.requires.accepts c.requires.unnamed in
-    step_refused (origin told source block most) a b store now named.name fault lacks c.in-Err.ensures.stops
-    (subst (λ (l : ℕ). RefusesStep (origin told source block l) a named.name fault) (sym so.0.most)
-    (subst (λ (d : ℕ). RefusesStep (origin told source d c.args.copy.contents.checkpoint) a named.name fault) (sym so.0.block) refused))
+    step_refused (origin told source block most time) a b store now named.name fault lacks c.in-Err.ensures.stops
+    (subst (λ (l : ℕ). RefusesStep (origin told source block l time) a named.name fault) (sym so.0.most)
+    (subst (λ (d : ℕ). RefusesStep (origin told source d c.args.copy.contents.checkpoint time) a named.name fault) (sym so.0.block) refused))
 
 pub returns-in_err-self-in-Ok-false-clause-refused : goal.returns-in_err-self-in-Ok-false-clause-refused
 returns-in_err-self-in-Ok-false-clause-refused g c =
@@ -253,8 +303,9 @@ returns-in_err-self-in-Ok-false-clause-refused g c =
     let not_more : more ≡ false = search rules in
     let added = c.requires.copied.0 in
     let so = c.requires.copied.1 in
-    let stepped = c.in-Ok-false.ensures.copied named added (so_far_as told source from.block from.most named a store copy added so) in
-    let works = stepped_as told source from.block from.most copy.block copy.contents.checkpoint named a b store middle c.step.new.self added stepped.0 n m
+    let stepped = c.in-Ok-false.ensures.copied from.time named added (so_far_as told source from.block from.most from.time named a store copy added so) in
+    let works = stepped_as told source from.block from.most copy.block copy.contents.checkpoint from.time named a b store middle c.step.new.self added
+    stepped.0 n m
     (Ok more) (sym so.0.block) (sym so.0.most) stepped.1 in
     let ended : CopiesOn from named b middle c.step.new.self added stepped.0 false =
     subst (CopiesOn from named b middle c.step.new.self added stepped.0) not_more works.1.1.1 in
@@ -285,9 +336,3 @@ returns-in_err-self-in-Ok-false-clause-limit g c =
     c.from_residual.ensures.1
     (rest_limit d given source (repo_view c.step.new.source) store c.step.new.store flight.named fault c.in-Ok-false.ensures.rest c.step.ensures.kept
     c.in_err-self-in-Ok-false.ensures.limit)
-
-pub returns-in_ok-self-in-Ok-false-clause-next : goal.returns-in_ok-self-in-Ok-false-clause-next
-returns-in_ok-self-in-Ok-false-clause-next g c _ =
-    let flight = c.args.self.now in
-    next_rest flight.options.timestamp (repo_view c.args.source.now) (repo_view c.step.new.source) c.args.store.now c.step.new.store flight.named
-    (accepted_in c.end_copy-put.new.store) c.in-Ok-false.ensures.rest c.step.ensures.kept c.in_ok-self-in-Ok-false.ensures.named

@@ -1,4 +1,5 @@
 use Rattle.std.proofs.Common.{rules, ◌≡◌, [], List, sym, subst}
+use Rattle.ferry_carry.proofs.NextLemmas.{unnamed_all}
 use Rattle.ferry_carry.proofs.flight.Flight.step.Goals as goal
 use Rattle.ferry_carry.specs.Flight.{TakesTurn, WorkFits, flown_from}
 use Rattle.ferry_piece.specs.Puts.{Addition}
@@ -17,9 +18,15 @@ returns-in-Waiting-clause-works g c =
     let is : flight.work ≡ Waiting = search rules in
     let none : fits.added ≡ [] = subst (WorkFits told source a store flight.named flight.options fits.added) is fits.work in (
       taken.0,
-      subst (λ (l : List Addition). TakesTurn (g.S.Shelf.told c.take_first.new.shelf) (repo_view c.take_first.new.source) (flown_from told source flight)
-          flight.named.name l taken.0 store c.take_first.new.store c.take_first.new.self a (g.D.Shelf.told c.take_first.new.depot)
-          (g.D.Shelf.faults c.args.depot.now) (g.D.Shelf.faults c.take_first.new.depot) c.take_first.result) (sym none) taken.1,
+      (
+        taken.1.0,
+        (
+          subst (λ (l : List Addition). TakesTurn (g.S.Shelf.told c.take_first.new.shelf) (repo_view c.take_first.new.source) (flown_from told source flight)
+              flight.named.name l taken.0 taken.1.0 store c.take_first.new.store c.take_first.new.self a (g.D.Shelf.told c.take_first.new.depot)
+              (g.D.Shelf.faults c.args.depot.now) (g.D.Shelf.faults c.take_first.new.depot) c.take_first.result) (sym none) taken.1.1.0,
+          taken.1.1.1,
+        ),
+      ),
     )
 
 pub take_first-requires-clause-uncounted : goal.take_first-requires-clause-uncounted
@@ -55,7 +62,13 @@ returns-in-Comparing-clause-works g c =
     let is : flight.work ≡ Comparing c.in-Comparing.comparison = search rules in
     let work = subst (WorkFits told source a store flight.named flight.options fits.added) is fits.work in (
       compared.0,
-      subst (λ (l : List Addition). TakesTurn (g.S.Shelf.told c.compare.new.shelf) (repo_view c.compare.new.source) (flown_from told source flight)
-          flight.named.name l compared.0 store c.compare.new.store c.compare.new.self a (g.D.Shelf.told c.compare.new.depot)
-          (g.D.Shelf.faults c.args.depot.now) (g.D.Shelf.faults c.compare.new.depot) c.compare.result) (sym work.3) compared.1,
+      (
+        [],
+        (
+          subst (λ (l : List Addition). TakesTurn (g.S.Shelf.told c.compare.new.shelf) (repo_view c.compare.new.source) (flown_from told source flight)
+              flight.named.name l compared.0 [] store c.compare.new.store c.compare.new.self a (g.D.Shelf.told c.compare.new.depot)
+              (g.D.Shelf.faults c.args.depot.now) (g.D.Shelf.faults c.compare.new.depot) c.compare.result) (sym work.3) compared.1,
+          unnamed_all _ c.compare.result c.compare.ensures.unnamed,
+        ),
+      ),
     )

@@ -1,6 +1,5 @@
-use Rattle.std.proofs.Common.{rules, [], ◌∷◌, Result, Err, refl, sym, IfErr, IsSome, subst, ◌∙◌}
+use Rattle.std.proofs.Common.{rules, ◌≡◌, [], ◌∷◌, Result, Err, refl, sym, IfErr, IfOk, IsSome, subst, ◌∙◌}
 use Rattle.std.proofs.lemmas.Result.{on_ok_weaker}
-use Rattle.ferry_carry.proofs.AcceptingLemmas.{next_rest, next_source}
 use Rattle.ferry_piece.proofs.AddingLemmas.{stops_unbroken}
 use Rattle.ferry_carry.proofs.FlightLemmas.{read_rest}
 use Rattle.ferry_carry.proofs.FlyLemmas.{begins_none, fills_begin, fills_there, flies_err, flies_fault, origin_kept, record_unbroken, stands_within}
@@ -17,11 +16,14 @@ use Rattle.ferry_carry.specs.Grow.{KeepsMost}
 use Rattle.ferry_piece.specs.Puts.{AtBegin, border_behind}
 use Rattle.ferry_piece.specs.declared.fault.CarryFault.{CarryFault}
 use Rattle.ferry_carry.specs.declared.flight.Turn.{Turn}
+use Rattle.ferry_carry.specs.declared.flight.Turn.TheVariants.{Named}
 use Rattle.ferry_compare.specs.declared.comparison.Comparison.{Comparison}
 use Rattle.ferry_repo.specs.Archives.{archive_named}
 use Rattle.ferry_repo.specs.Opening.{RepoState, repo_view}
 use Rattle.ferry_store.specs.Commit.{accepted_in}
 use Rattle.ferry_carry.proofs.CauseLemmas.{begin_refused, comparing_refused, name_refused}
+use Rattle.ferry_carry.proofs.NextLemmas.{unnamed_all, unnamed_err}
+use Rattle.ferry_carry.specs.Accepting.{NamesNew}
 use Rattle.ferry_carry.specs.Carrying.{Origin, origin}
 use Rattle.ferry_piece.specs.Gather.{KeepsStanding}
 use Rattle.ferry_carry.specs.Refusals.{IsLimited, RefusesName}
@@ -40,18 +42,24 @@ returns-in_err-copy-clause-works g c =
     let name = c.args.self.now.named.name in
     let at = border_behind AtBegin [] in (
       [],
-      turned_err _ _ from name [] [] store store _ a a n n c.from_residual-in_err-copy.result fault c.from_residual-in_err-copy.ensures.1 (record {
-        flies = flies_err {T = Turn} [] from name [] [] store store store a a n n fault
-            (carried_nothing {T = Turn} [] from (name ∷ []) [] [] store store a n fault c.requires.accepts c.in_err-copy.ensures.still);
-        begins = begins_none a from (repo_view store.repo).keys (accepted_in store) name;
-        stands = λ _. stands_within at from.most store [] a a (here_each (KeepsStanding from.most store []) a (λ h. stands_here from.most store [] h));
-        last = stops_unbroken a (repo_view store.repo).keys [] fault
-            (record_unbroken (g.S.Shelf.told c.args.shelf.now) (repo_view c.args.source.now) c.args.self.now.named.id fault c.in_err-copy.ensures.refused);
-        held = λ _. here_each (HoldsAll at from.most store [] store) a (λ h. holds_here at from.most store h);
-        fills = fills_begin a (g.S.Shelf.told c.args.shelf.now) (repo_view c.args.source.now) from.block from.most (repo_view store.repo).keys
-            (accepted_in store) c.args.self.now.named fault c.requires.flight.named c.in_err-copy.ensures.refused;
-        lists = tt;
-      }),
+      (
+        [],
+        (
+          turned_err _ _ from name [] [] [] store store _ a a n n c.from_residual-in_err-copy.result fault c.from_residual-in_err-copy.ensures.1 (record {
+            flies = flies_err {T = Turn} [] from name [] [] store store store a a n n fault
+                (carried_nothing {T = Turn} [] from (name ∷ []) [] [] store store a n fault c.requires.accepts c.in_err-copy.ensures.still);
+            begins = begins_none a from (repo_view store.repo).keys (accepted_in store) name;
+            stands = λ _. stands_within at from.most store [] a a (here_each (KeepsStanding from.most store []) a (λ h. stands_here from.most store [] h));
+            last = stops_unbroken a (repo_view store.repo).keys [] fault
+                (record_unbroken (g.S.Shelf.told c.args.shelf.now) (repo_view c.args.source.now) c.args.self.now.named.id fault c.in_err-copy.ensures.refused);
+            held = λ _. here_each (HoldsAll at from.most store [] store) a (λ h. holds_here at from.most store h);
+            fills = fills_begin a (g.S.Shelf.told c.args.shelf.now) (repo_view c.args.source.now) from.block from.most from.time (repo_view store.repo).keys
+                (accepted_in store) c.args.self.now.named fault c.requires.flight.named c.in_err-copy.ensures.refused;
+            lists = tt;
+          }),
+          unnamed_err _ c.from_residual-in_err-copy.result fault c.from_residual-in_err-copy.ensures.1,
+        ),
+      ),
     )
 
 pub returns-in_ok-comparison-clause-works : goal.returns-in_ok-comparison-clause-works
@@ -65,12 +73,19 @@ returns-in_ok-comparison-clause-works g c =
     let flight = c.args.self.now in
     let compared = c.compare.ensures.works in (
       compared.0,
-      turned_behind {T = Comparison} told later (g.S.Shelf.told c.compare.new.shelf) source after (repo_view c.compare.new.source) flight.options.block
-          flight.options.checkpoint flight.named.name store middle c.compare.new.store c.compare.new.self compared.0 (g.D.Shelf.told c.args.depot.now)
-          (g.D.Shelf.told c.begin_comparing.new.depot) (g.D.Shelf.told c.compare.new.depot) (g.D.Shelf.faults c.args.depot.now)
-          (g.D.Shelf.faults c.begin_comparing.new.depot) (g.D.Shelf.faults c.compare.new.depot) c.in_ok-comparison.comparison c.compare.result
-          c.in_ok-comparison.ensures.same c.begin_comparing.ensures.kept c.requires.accepts (read_rest store middle c.begin_comparing.ensures.read)
-          (c.in_ok-comparison.ensures.works flight.options.checkpoint) compared.1,
+      (
+        [],
+        (
+          turned_behind {T = Comparison} told later (g.S.Shelf.told c.compare.new.shelf) source after (repo_view c.compare.new.source) flight.options.block
+              flight.options.checkpoint flight.options.timestamp flight.named.name store middle c.compare.new.store c.compare.new.self compared.0 []
+              (g.D.Shelf.told c.args.depot.now)
+              (g.D.Shelf.told c.begin_comparing.new.depot) (g.D.Shelf.told c.compare.new.depot) (g.D.Shelf.faults c.args.depot.now)
+              (g.D.Shelf.faults c.begin_comparing.new.depot) (g.D.Shelf.faults c.compare.new.depot) c.in_ok-comparison.comparison c.compare.result
+              c.in_ok-comparison.ensures.same c.begin_comparing.ensures.kept c.requires.accepts (read_rest store middle c.begin_comparing.ensures.read)
+              (c.in_ok-comparison.ensures.works flight.options.checkpoint) compared.1,
+          unnamed_all _ c.compare.result c.compare.ensures.unnamed,
+        ),
+      ),
     )
 
 pub returns-in_ok-comparison-clause-most : goal.returns-in_ok-comparison-clause-most
@@ -96,15 +111,21 @@ returns-in_err-comparison-clause-works g c =
     let there : IsSome (archive_named name (accepted_in store).archives) = search rules in
     let works = c.in_err-comparison.ensures.works from.most in (
       [],
-      turned_err _ _ from name [] [] store now _ a b n m c.from_residual.result fault c.from_residual.ensures.1 (record {
-        flies = flies_fault {T = Comparison} [] from name store now [] a b n m fault c.requires.accepts works;
-        begins = begins_none a from (repo_view store.repo).keys (accepted_in store) name;
-        stands = λ _. stands_within at from.most store [] a b works.works.each;
-        last = works.last;
-        held = held_within {T = Turn} at from.most store now [] a b (Err fault) works.held;
-        fills = fills_there a from (repo_view store.repo).keys (accepted_in store) name fault there;
-        lists = tt;
-      }),
+      (
+        [],
+        (
+          turned_err _ _ from name [] [] [] store now _ a b n m c.from_residual.result fault c.from_residual.ensures.1 (record {
+            flies = flies_fault {T = Comparison} [] from name store now [] a b n m fault c.requires.accepts works;
+            begins = begins_none a from (repo_view store.repo).keys (accepted_in store) name;
+            stands = λ _. stands_within at from.most store [] a b works.works.each;
+            last = works.last;
+            held = held_within {T = Turn} at from.most store now [] a b (Err fault) works.held;
+            fills = fills_there a from (repo_view store.repo).keys (accepted_in store) name fault there;
+            lists = tt;
+          }),
+          unnamed_err _ c.from_residual.result fault c.from_residual.ensures.1,
+        ),
+      ),
     )
 
 pub copy-requires-clause-copied : goal.copy-requires-clause-copied
@@ -113,7 +134,8 @@ copy-requires-clause-copied g c =
     let options = c.args.self.now.options in (
       [],
       begin_copied (g.S.Shelf.told c.args.shelf.now) (g.S.Shelf.told c.begin.new.shelf) (g.D.Shelf.told c.args.depot.now) (repo_view c.args.source.now)
-          (repo_view c.begin.new.source) options.block options.checkpoint c.args.self.now.named c.args.store.now c.in_ok-copy.copy ensures.same
+          (repo_view c.begin.new.source) options.block options.checkpoint options.timestamp c.args.self.now.named c.args.store.now c.in_ok-copy.copy
+          ensures.same
           c.begin.ensures.kept (sym ensures.block) (sym ensures.checkpoint) ensures.archive ensures.walk ensures.stream ensures.counted,
     )
 
@@ -127,16 +149,24 @@ returns-in_ok-copy-clause-works g c =
     let flight = c.args.self.now in
     let block = flight.options.block in
     let most = flight.options.checkpoint in
+    let time = flight.options.timestamp in
     let a = g.D.Shelf.told c.args.depot.now in
     let ensures = c.in_ok-copy.ensures in
     let kept = c.begin.ensures.kept in
-    let so = begin_copied told later a source after block most flight.named store c.in_ok-copy.copy ensures.same kept (sym ensures.block)
+    let so = begin_copied told later a source after block most time flight.named store c.in_ok-copy.copy ensures.same kept (sym ensures.block)
     (sym ensures.checkpoint) ensures.archive ensures.walk ensures.stream ensures.counted in
     let copied = c.copy.ensures.works [] so in (
       copied.0,
-      subst (λ (f : Origin). TakesTurn (g.S.Shelf.told c.copy.new.shelf) (repo_view c.copy.new.source) f flight.named.name [] copied.0 store c.copy.new.store
-          c.copy.new.self a (g.D.Shelf.told c.copy.new.depot) (g.D.Shelf.faults c.args.depot.now) (g.D.Shelf.faults c.copy.new.depot) c.copy.result)
-          (origin_kept told later source after block block most most ensures.same kept refl refl) copied.1,
+      (
+        copied.1.0,
+        (
+          subst (λ (f : Origin). TakesTurn (g.S.Shelf.told c.copy.new.shelf) (repo_view c.copy.new.source) f flight.named.name [] copied.0 copied.1.0 store
+              c.copy.new.store c.copy.new.self a (g.D.Shelf.told c.copy.new.depot) (g.D.Shelf.faults c.args.depot.now) (g.D.Shelf.faults c.copy.new.depot)
+              c.copy.result) (origin_kept told later source after block block most most time time ensures.same kept refl refl refl) copied.1.1.0,
+          subst (λ (r : RepoState). IfOk c.copy.result (λ (turn : Turn). turn ≡ Named → NamesNew time r store flight.named copied.1.0 c.copy.new.store
+              (g.E.Entropy.drawn c.args.entropy.now) (g.E.Entropy.drawn c.copy.new.entropy))) kept copied.1.1.1,
+        ),
+      ),
     )
 
 pub returns-in_err-copy-clause-refused : goal.returns-in_err-copy-clause-refused
@@ -148,11 +178,12 @@ returns-in_err-copy-clause-refused g c =
     let flight = c.args.self.now in
     let block = flight.options.block in
     let most = flight.options.checkpoint in
+    let time = flight.options.timestamp in
     let fault = c.in_err-copy.field-0.0 in
     err_is c.from_residual-in_err-copy.result fault
-    (λ (r : Result Turn CarryFault). IfErr r (RefusesName (origin told source block most) a store a store flight.named.name))
+    (λ (r : Result Turn CarryFault). IfErr r (RefusesName (origin told source block most time) a store a store flight.named.name))
     c.from_residual-in_err-copy.ensures.1
-    (begin_refused told a a source block most flight.named store store fault c.requires.flight.named c.in_err-copy.ensures.refused)
+    (begin_refused told a a source block most time flight.named store store fault c.requires.flight.named c.in_err-copy.ensures.refused)
 
 pub returns-in_ok-copy-clause-refused : goal.returns-in_ok-copy-clause-refused
 returns-in_ok-copy-clause-refused g c =
@@ -163,8 +194,11 @@ returns-in_ok-copy-clause-refused g c =
     let after = repo_view c.begin.new.source in
     let block = flight.options.block in
     let most = flight.options.checkpoint in
+    let time = flight.options.timestamp in
     subst (λ (f : Origin). IfErr c.copy.result (RefusesName f (g.D.Shelf.told c.args.depot.now) c.args.store.now (g.D.Shelf.told c.copy.new.depot)
-    c.copy.new.store flight.named.name)) (origin_kept told later source after block block most most c.in_ok-copy.ensures.same c.begin.ensures.kept refl refl)
+    c.copy.new.store flight.named.name)) (origin_kept told later source after block block most most time time c.in_ok-copy.ensures.same c.begin.ensures.kept
+    refl
+    refl refl)
     c.copy.ensures.refused
 
 pub returns-in_err-comparison-clause-refused : goal.returns-in_err-comparison-clause-refused
@@ -178,9 +212,11 @@ returns-in_err-comparison-clause-refused g c =
     let b = g.D.Shelf.told c.begin_comparing.new.depot in
     let fault = c.in_err-comparison.field-0.0 in
     err_is c.from_residual.result fault
-    (λ (r : Result Turn CarryFault). IfErr r (RefusesName (origin told source flight.options.block flight.options.checkpoint) a store b now flight.named.name))
+    (λ (r : Result Turn CarryFault). IfErr r (RefusesName (origin told source flight.options.block flight.options.checkpoint flight.options.timestamp) a store
+    b now flight.named.name))
     c.from_residual.ensures.1
-    (comparing_refused told a b source flight.options.block flight.options.checkpoint flight.named.name store now fault c.in_err-comparison.ensures.stops
+    (comparing_refused told a b source flight.options.block flight.options.checkpoint flight.options.timestamp flight.named.name store now fault
+    c.in_err-comparison.ensures.stops
     c.in_err-comparison.ensures.refused)
 
 pub returns-in_ok-comparison-clause-refused : goal.returns-in_ok-comparison-clause-refused
@@ -194,10 +230,11 @@ returns-in_ok-comparison-clause-refused g c =
     let after = repo_view c.begin_comparing.new.source in
     let block = flight.options.block in
     let most = flight.options.checkpoint in
-    name_refused {T = Turn} (origin told source block most) (origin later after block most) (g.D.Shelf.told c.args.depot.now)
+    let time = flight.options.timestamp in
+    name_refused {T = Turn} (origin told source block most time) (origin later after block most time) (g.D.Shelf.told c.args.depot.now)
     (g.D.Shelf.told c.begin_comparing.new.depot) (g.D.Shelf.told c.compare.new.depot) (KeepsStanding most store []) store middle c.compare.new.store
     flight.named.name flight.named.name c.compare.result
-    (origin_kept told later source after block block most most c.in_ok-comparison.ensures.same c.begin_comparing.ensures.kept refl refl) refl
+    (origin_kept told later source after block block most most time time c.in_ok-comparison.ensures.same c.begin_comparing.ensures.kept refl refl refl) refl
     (c.in_ok-comparison.ensures.works most).works.each (most_from store middle (read_rest store middle c.begin_comparing.ensures.read))
     c.compare.ensures.refused
 
@@ -245,20 +282,6 @@ returns-in_ok-copy-clause-limit g c =
     subst (λ (r : RepoState). IfErr c.copy.result (IsLimited (g.D.Shelf.told c.copy.new.depot) flight.options.timestamp r c.args.store.now flight.named))
     c.begin.ensures.kept c.copy.ensures.limit
 
-pub returns-in_ok-comparison-clause-next : goal.returns-in_ok-comparison-clause-next
-returns-in_ok-comparison-clause-next g c is =
-    let flight = c.args.self.now in
-    let store = c.args.store.now in
-    let middle = c.begin_comparing.new.store in
-    next_rest flight.options.timestamp (repo_view c.args.source.now) (repo_view c.begin_comparing.new.source) store middle flight.named
-    (accepted_in c.compare.new.store) (read_rest store middle c.begin_comparing.ensures.read) c.begin_comparing.ensures.kept (c.compare.ensures.next is)
-
 pub returns-in_ok-comparison-clause-still : goal.returns-in_ok-comparison-clause-still
 returns-in_ok-comparison-clause-still g c is =
     c.compare.ensures.still is ∙ (read_rest c.args.store.now c.begin_comparing.new.store c.begin_comparing.ensures.read).accepted
-
-pub returns-in_ok-copy-clause-next : goal.returns-in_ok-copy-clause-next
-returns-in_ok-copy-clause-next g c is =
-    let flight = c.args.self.now in
-    next_source flight.options.timestamp (repo_view c.args.source.now) (repo_view c.begin.new.source) c.args.store.now flight.named
-    (accepted_in c.copy.new.store) c.begin.ensures.kept (c.copy.ensures.next is)

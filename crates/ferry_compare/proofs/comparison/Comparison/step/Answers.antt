@@ -24,7 +24,7 @@ returns-in_err-take-in-Some-clause-refused_source g c =
     let told = g.S.Shelf.told c.args.shelf.now in
     let repo = repo_view c.args.source.now in
     let state = comparison_view c.args.self.now in
-    let now = walk_view c.step.new.self in
+    let now = walk_view c.step_ahead.new.walk in
     let item = item_view c.in-Some.item in
     let leads = some_holds c.in_ok-item.field-0 c.in-Some.item
     (λ i. IfSome told (λ t. LeadsOn (told_files t) repo.log repo.keys state.walk (item_view i ∷ []) now)) c.in-Some.is c.in_ok-item.ensures.item in
@@ -33,19 +33,19 @@ returns-in_err-take-in-Some-clause-refused_source g c =
     subst (λ (f : CompareFault). RefusesSource told repo state.name f) (sym is)
     (source_lacks told repo state.name state.walk now c.requires.fits.front item c.in_err-take-in-Some.field-0.0
     (log_fits told repo _ c.requires.source_fits) c.requires.fits.read goes
-    (item_at_first told (g.S.Shelf.told c.step.new.shelf) repo (repo_view c.step.new.repo) item.chunks c.in_err-take-in-Some.field-0.0
+    (item_at_first told (g.S.Shelf.told c.step_ahead.new.shelf) repo (repo_view c.step_ahead.new.repo) item.chunks c.in_err-take-in-Some.field-0.0
     c.in_ok-item.ensures.same c.in_ok-item.ensures.kept c.in_err-take-in-Some.ensures.refused)))
 
 pub returns-in_ok-take-in-Some-clause-fits : goal.returns-in_ok-take-in-Some-clause-fits
 returns-in_ok-take-in-Some-clause-fits g c = λ e.
     let told = g.S.Shelf.told c.args.shelf.now in
-    let mid = g.S.Shelf.told c.step.new.shelf in
+    let mid = g.S.Shelf.told c.step_ahead.new.shelf in
     let repo = repo_view c.args.source.now in
-    let mid_repo = repo_view c.step.new.repo in
+    let mid_repo = repo_view c.step_ahead.new.repo in
     let heard = g.T.Shelf.told c.args.other.now in
     let target = repo_view c.args.target.now in
     let state = comparison_view c.args.self.now in
-    let now = walk_view c.step.new.self in
+    let now = walk_view c.step_ahead.new.walk in
     let after = option_map walk_view c.take.new.walk in
     let item = item_view c.in-Some.item in
     let leads = some_holds c.in_ok-item.field-0 c.in-Some.item
@@ -65,7 +65,7 @@ returns-in_ok-take-in-Some-clause-more g c = λ e.
     let told = g.S.Shelf.told c.args.shelf.now in
     let repo = repo_view c.args.source.now in
     let state = comparison_view c.args.self.now in
-    let now = walk_view c.step.new.self in
+    let now = walk_view c.step_ahead.new.walk in
     let item = item_view c.in-Some.item in
     let leads = some_holds c.in_ok-item.field-0 c.in-Some.item
     (λ i. IfSome told (λ t. LeadsOn (told_files t) repo.log repo.keys state.walk (item_view i ∷ []) now)) c.in-Some.is c.in_ok-item.ensures.item in

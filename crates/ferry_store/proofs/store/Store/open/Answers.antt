@@ -3,9 +3,11 @@ use Rattle.ferry_disk.specs.Device.{told_files}
 use Rattle.ferry_disk.specs.Moments.{Between}
 use Rattle.ferry_nonce.specs.declared.counter.Counter.{Counter}
 use Rattle.ferry_repo.specs.Fault.{repo_failed}
-use Rattle.ferry_repo.specs.Opening.{repo_view}
+use Rattle.ferry_repo.specs.Opening.{OpensFilesTo, repo_view}
+use Rattle.ferry_repo.specs.declared.repo.Repo.{Repo}
 use Rattle.ferry_stops.proofs.TellLemmas.{told_both, told_kept}
-use Rattle.ferry_store.proofs.OpenLemmas.{begin_told, open_begun, open_unbegun, open_uncopied, open_unread, there_told}
+use Rattle.ferry_store.proofs.OpenLemmas.{open_begun, open_unbegun, open_uncopied, open_unread}
+use Rattle.ferry_store.proofs.UnopenedLemmas.{begin_told, there_told}
 use Rattle.ferry_store.proofs.StepLemmas.{err_is, same_told}
 use Rattle.ferry_store.proofs.store.Store.open.Goals as goal
 use Rattle.ferry_store.specs.Fault.{repo_refusal}
@@ -25,7 +27,7 @@ returns-in_err-repo-clause-did g c =
     let m = g.D.Shelf.faults c.open.new.shelf in
     let fault = c.in_err-repo.field-0.0 in
     err_is c.from_residual.result (repo_refusal fault) (λ (r : Result Store StoreRefusal). Did OpenEach OpenFits a b n m r) c.from_residual.ensures.1
-    (open_unread fault a b n m c.in_err-repo.ensures.same c.in_err-repo.ensures.cause)
+    (open_unread Repo {T = Store} OpenFits fault a b n m c.in_err-repo.ensures.same c.in_err-repo.ensures.cause)
 
 pub returns-in_err-accepted-clause-did : goal.returns-in_err-accepted-clause-did
 returns-in_err-accepted-clause-did g c =
@@ -35,7 +37,7 @@ returns-in_err-accepted-clause-did g c =
     let m = g.D.Shelf.faults c.open.new.shelf in
     err_is c.from_residual-in_err-accepted.result Memory (λ (r : Result Store StoreRefusal). Did OpenEach OpenFits a b n m r)
     c.from_residual-in_err-accepted.ensures.1
-    (open_uncopied c.in_ok-repo.repo Memory a b n m refl c.in_ok-repo.ensures.same c.in_ok-repo.ensures.cause)
+    (open_uncopied {R = Repo} {T = Store} OpenFits c.in_ok-repo.repo Memory a b n m refl c.in_ok-repo.ensures.same c.in_ok-repo.ensures.cause)
 
 pub returns-in_err-counter-clause-did : goal.returns-in_err-counter-clause-did
 returns-in_err-counter-clause-did g c =
@@ -50,7 +52,8 @@ returns-in_err-counter-clause-did g c =
     let is : c.transaction-transaction.result ≡ (repo_view repo).log.transaction = search rules in
     err_is c.from_residual-in_err-counter.result refusal (λ (r : Result Store StoreRefusal). Did OpenEach OpenFits a d n k r)
     c.from_residual-in_err-counter.ensures.1
-    (open_unbegun c.args.secret.now repo refusal a b d n m k c.in_ok-repo.ensures.same c.in_ok-repo.ensures.cause c.in_ok-repo.ensures.repository
+    (open_unbegun {R = Repo} {T = Store} (λ f. OpensFilesTo f c.args.secret.now (repo_view repo)) OpenFits repo (repo_view repo).log refusal a b d n m k
+    (λ f o. o.opens.unlocks.reads) c.in_ok-repo.ensures.same c.in_ok-repo.ensures.cause c.in_ok-repo.ensures.repository
     c.in_err-counter.ensures.first
     (subst (λ (t : ℕ). Did {T = Counter × Session} (BeginsSound (Some t)) (λ x. Begins (Some t) x.0 x.1) b d m k (Err refusal)) is
     c.in_err-counter.ensures.did))

@@ -1,0 +1,3 @@
+pub mod OverLemmas
+pub mod StatusLemmas
+pub mod LawLemmas

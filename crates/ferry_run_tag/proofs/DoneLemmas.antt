@@ -1,0 +1,34 @@
+-- Lemmas on specs/Tag.antt: a run that memory refused before it began.
+use Rattle.std.proofs.Common.{◌≡◌, inr, inl, true, false, Option, Some, None, refl}
+use Rattle.ferry_disk.specs.Device.{Told}
+use Rattle.ferry_disk.specs.Moments.{Between}
+use Rattle.ferry_piece.specs.declared.fault.CarryFault.TheVariants as Carry
+use Rattle.ferry_run_tag.proofs.CauseLemmas.{tags_done}
+use Rattle.ferry_run_tag.proofs.ShowLemmas.{each_opened, some_left}
+use Rattle.ferry_run_tag.specs.Tag.{TagEach, TagLeaves, TagsArchives, Tagging, IsTaggingRefused, RefusesTags}
+use Rattle.ferry_status.specs.Devices.{Devices}
+use Rattle.ferry_status.specs.declared.status.Status.TheVariants as Statuses
+use Rattle.ferry_store.proofs.OpenLemmas.{each_here}
+use Rattle.ferry_store.proofs.StepLemmas.{here_each}
+use Rattle.ferry_store.specs.declared.fault.StoreRefusal.TheVariants as Stores
+
+memory_refused : (asked : Tagging) (before now : Option Told) → RefusesTags asked before now Carry.Memory
+memory_refused asked None now = tt
+memory_refused asked (Some t) now = λ begun. inl (Stores.Memory, (refl, tt))
+
+memory_is : (asked : Tagging) (before now : Option Told) → IsTaggingRefused asked before now Statuses.Memory
+memory_is asked before now = record { fault = Carry.Memory; status_is = refl; refuses = memory_refused asked before now }
+
+pub tags_nothing : (asked : Tagging) (all : Devices) → TagsArchives asked all Statuses.Memory all
+tags_nothing asked all =
+    let told = all.target.told in
+    record {
+      source = refl;
+      output = refl;
+      completes = tags_done asked told told Statuses.Memory (inr (memory_is asked told told));
+      refused = inr (memory_is asked told told);
+      ended = λ done. absurd (let no : ⊥ = cc in no);
+      left = here_each (TagLeaves asked) told (λ h. some_left asked h h (each_opened asked h h (each_here h)).0);
+      kept = λ work. absurd (let no : ⊥ = cc in no);
+      each = here_each (TagEach asked) told (λ h. (each_opened asked h h (each_here h)).0);
+    }

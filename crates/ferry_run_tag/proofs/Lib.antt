@@ -1,0 +1,4 @@
+pub mod ShowLemmas
+pub mod EndLemmas
+pub mod CauseLemmas
+pub mod DoneLemmas

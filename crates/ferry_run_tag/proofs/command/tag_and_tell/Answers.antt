@@ -1,0 +1,29 @@
+use Rattle.std.proofs.Common.{Result}
+use Rattle.ferry_piece.proofs.WorkLemmas.{err_is}
+use Rattle.ferry_piece.specs.Fault.{IsOfWork, target_fault}
+use Rattle.ferry_piece.specs.Work.{Works}
+use Rattle.ferry_piece.specs.declared.fault.CarryFault.{CarryFault}
+use Rattle.ferry_run_tag.proofs.EndLemmas.{all_works, untold_works}
+use Rattle.ferry_run_tag.proofs.command.tag_and_tell.Goals as goal
+use Rattle.ferry_run_tag.specs.Tag.{TagEach, TagEnds, tagging}
+
+pub returns-in_err-tell_tagged-clause-works : goal.returns-in_err-tell_tagged-clause-works
+returns-in_err-tell_tagged-clause-works g c =
+    let asked = tagging c.args.secret.now c.args.timestamp.now in
+    let a = g.D.Shelf.told c.args.target.now in
+    let b = g.D.Shelf.told c.tag_target.new.target in
+    let d = g.D.Shelf.told c.tell_tagged.new.target in
+    let n = g.D.Shelf.faults c.args.target.now in
+    let m = g.D.Shelf.faults c.tag_target.new.target in
+    let k = g.D.Shelf.faults c.tell_tagged.new.target in
+    let refusal = c.in_err-tell_tagged.field-0.0 in
+    err_is c.from_residual-in_err-tell_tagged.result (target_fault refusal)
+    (λ (r : Result (Unit {0}) CarryFault). Works (TagEach asked) (λ _. TagEnds asked) a d n k r) c.from_residual-in_err-tell_tagged.ensures.1
+    (untold_works asked c.in_ok-count.count a b d n m k refusal c.in_ok-count.ensures.works c.in_err-tell_tagged.ensures.did)
+
+pub returns-clause-works : goal.returns-clause-works
+returns-clause-works g c =
+    let asked = tagging c.args.secret.now c.args.timestamp.now in
+    all_works asked c.in_ok-count.count (g.D.Shelf.told c.args.target.now) (g.D.Shelf.told c.tag_target.new.target)
+    (g.D.Shelf.told c.tell_tagged.new.target) (g.D.Shelf.faults c.args.target.now) (g.D.Shelf.faults c.tag_target.new.target)
+    (g.D.Shelf.faults c.tell_tagged.new.target) c.in_ok-count.ensures.works c.in_ok-tell_tagged.ensures.did
