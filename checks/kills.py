@@ -7,14 +7,16 @@ so many; the status has to be that of a kill. After each kill:
 `list` and `check` of the target end well; the names that were told are there; those that are there are a front of the chosen ones; `list NAME` and
 `extract` print of them what the plain program has put into the source; and the same words run again end with 0 and leave all three, each told once. The
 same is looked at where a file may not grow beyond a size, where the target's folder can't be written, and where nobody reads standard output; there the
-status is that of the device that failed. A compaction is killed at each of its calls, and done again: what is live stays. A deletion of an archive is killed at each
-of its calls too: the archive is there as it was or is gone, each other one is there, and the same words then delete it or don't find it.
-Where RANDOM is given, so many transfers are killed besides, each at a random time, as SEED has it, and one path of each archive is extracted; where Borg is
-installed the source of all is one that Borg wrote, and each hundredth target is checked with `borg check --verify-data`. And where file systems may be mounted,
+status is that of the device that failed. An `init`, a compaction, a deletion of an archive and a `tag-archives` are killed at each of their calls, and done again: what is
+live stays behind a compaction; the archive is there as it was or is gone, and each other one is there, behind a deletion; each archive is there, and all records have
+their tags or those that had none have none, behind a `tag-archives`.
+Where RANDOM is given, so many runs of each command are killed besides, each at a random time, as SEED has it; where Borg is installed the source of all is one that
+Borg wrote, and each hundredth target is checked with `borg check --verify-data`. And where file systems may be mounted,
 the target lies on one that is too small, and on one that becomes read only.
 One line for each thing that differs, then what can't be tried here (no strace, no other user, no mounts, no Borg), and at the end
 'N passed, M failed, K skipped'; status 1 where M isn't 0.
 """
+import glob
 import os
 import random
 import resource
@@ -30,6 +32,7 @@ import segments
 import tracing
 from counting import finish, judge, skip
 from repositories import Archive, Item, Keys, escaped, fields, repository
+from tags import OLDER, interpreter
 from users import give, other_user
 
 PROGRAM = os.path.abspath(sys.argv[1])
@@ -38,6 +41,8 @@ RANDOM = int(sys.argv[3]) if len(sys.argv) > 3 else 0
 SEED = sys.argv[4] if len(sys.argv) > 4 else "1"
 SECRETS = {"BORG_OTHER_PASSPHRASE": "source passphrase", "BORG_PASSPHRASE": "target passphrase"}
 NAMES = ("first", "second", "third")
+# Those of the source whose records have no tag.
+UNTAGGED = NAMES[1:]
 WORDS = ("source", "target", "transfer", "--block", "4096", "--checkpoint", "3", *NAMES)
 
 
@@ -58,7 +63,7 @@ def make_source(root):
     """Writes the source; answers of each archive what `list NAME` has to print, and the content of each path that has one."""
     keys = Keys()
     items = items_of_archives()
-    made = {name: Archive(keys, name.encode(), those, length=100) for name, those in items.items()}
+    made = {name: Archive(keys, name.encode(), those, length=100, how={"tam": "none"} if name in UNTAGGED else {}) for name, those in items.items()}
     listed = [entry for name, archive in made.items() for entry in archive.named(name.encode())]
     chunks = dict(pair for archive in made.values() for pair in archive.chunks())
     for place, content in repository(keys, SECRETS["BORG_OTHER_PASSPHRASE"].encode(), keys.blob(keys.tagged(fields(listed))), *chunks.items()).items():
@@ -70,11 +75,16 @@ def make_source(root):
     return {name: (made[name].lines(), files[name]) for name in NAMES}
 
 
-def run_borg(root, *words):
+def older(name):
+    """Borg, but for these names one that writes no tags."""
+    return [interpreter(), "-c", OLDER] if name in UNTAGGED else ["borg"]
+
+
+def run_borg(root, *words, program=("borg",)):
     """Runs Borg in a folder, with the secret of the source or the target, whichever the words name."""
     secret = SECRETS["BORG_PASSPHRASE" if "target" in words else "BORG_OTHER_PASSPHRASE"]
     settings = {"BORG_PASSPHRASE": secret, "BORG_BASE_DIR": os.path.join(root, "borg"), "BORG_RELOCATED_REPO_ACCESS_IS_OK": "yes"}
-    return subprocess.run(["borg", *words], cwd=root, env={**os.environ, **settings}, capture_output=True)
+    return subprocess.run([*program, *words], cwd=root, env={**os.environ, **settings}, capture_output=True)
 
 
 def listed_by_borg(root, name):
@@ -102,7 +112,7 @@ def make_borg_source(root):
         os.symlink("file 0", os.path.join(folder, "symbolic"))
     run_borg(root, "init", "--encryption=repokey", "source")
     for name in NAMES:
-        ran = run_borg(root, "create", "--compression=none", "--chunker-params=fixed,3000", f"source::{name}", f"tree/{name}")
+        ran = run_borg(root, "create", "--compression=none", "--chunker-params=fixed,3000", f"source::{name}", f"tree/{name}", program=older(name))
         judge(ran.returncode == 0, f"borg create {name} ends with {ran.returncode}: {ran.stderr}")
     return {name: (listed_by_borg(root, name), wanted[name]) for name in NAMES}
 
@@ -110,8 +120,8 @@ def make_borg_source(root):
 class Trial:
     """A folder with a source and a target, which begins as it was made."""
 
-    def __init__(self, root, wanted):
-        self.root, self.wanted = root, wanted
+    def __init__(self, root, wanted, is_of_borg):
+        self.root, self.wanted, self.is_of_borg = root, wanted, is_of_borg
         made = self.run("-", "target", "init", "--iterations", "1")
         judge(made.returncode == 0, f"init ends with {made.returncode}")
         shutil.copytree(self.path("target"), self.path("made"))
@@ -255,11 +265,15 @@ def unread_output(trial):
     trial.look("standard output closed", told)
 
 
-def borg_checks(trial, what):
-    """Whether Borg finds the target right, where it is installed."""
-    if shutil.which("borg") is not None:
-        ran = run_borg(trial.root, "check", "--verify-data", "target")
-        judge(ran.returncode == 0, f"{what}: borg check ends with {ran.returncode}: {ran.stderr}")
+def borg_checks(trial, what, folder="target", secret="BORG_PASSPHRASE"):
+    """Whether Borg, which knows nothing of it yet, finds a repository right, where it is installed. Its own files there are removed before, as a person is told."""
+    if shutil.which("borg") is None:
+        return
+    for path in [path for kind in ("index.*", "hints.*", "integrity.*") for path in glob.glob(trial.path(os.path.join(folder, kind)))]:
+        os.remove(path)
+    settings = {"BORG_PASSPHRASE": SECRETS[secret], "BORG_BASE_DIR": tempfile.mkdtemp(dir=trial.root), "BORG_RELOCATED_REPO_ACCESS_IS_OK": "yes"}
+    ran = subprocess.run(["borg", "check", "--verify-data", folder], cwd=trial.root, env={**os.environ, **settings}, capture_output=True)
+    judge(ran.returncode == 0, f"{what}: borg check ends with {ran.returncode}: {ran.stderr}")
 
 
 def random_kills(trial):
@@ -331,11 +345,73 @@ def small_systems(trial):
         trial.look("a file system that becomes read only", told)
 
 
+class Command:
+    """A command that writes a target, run in an environment, and how it is killed: at each of its calls of the system, and at random times.
+
+    `make` lays the target as it is before the command.
+    """
+
+    def __init__(self, called, target, words, make, secrets=None):
+        self.called, self.target, self.words, self.make, self.secrets = called, target, words, make, {**os.environ, **(secrets or {})}
+        self.calls = target + ".calls"
+
+    def start(self, *prefix):
+        words = [*prefix, PROGRAM, "-", self.target, *self.words]
+        return subprocess.Popen(words, env=self.secrets, stdin=subprocess.DEVNULL, stdout=subprocess.PIPE, stderr=subprocess.DEVNULL)
+
+    def run(self, *prefix):
+        process = self.start(*prefix)
+        told, _ = process.communicate()
+        return process.returncode, told
+
+    def killed(self):
+        """What to call each killed run, once it was made and killed. The first are those at the calls of the system, as a run to its end shows them."""
+        self.make()
+        self.run(*tracing.tracing(self.calls))
+        places = tracing.places(self.calls, self.target)
+        judge(len(places) > 15, f"{self.called} makes {len(places)} calls")
+        for place in places:
+            self.make()
+            status, _ = self.run(*tracing.tracing(self.calls, *tracing.killing(place)))
+            what = f"{self.called} that is killed at the {place[0]} of number {place[1]}"
+            judge(status == -signal.SIGKILL, f"{what}: status {status}")
+            yield what
+        yield from self.killed_by_chance()
+
+    def killed_by_chance(self):
+        some = random.Random(f"{SEED} {self.called}")
+        self.make()
+        begun = time.monotonic()
+        self.run()
+        lasts = time.monotonic() - begun
+        for number in range(RANDOM):
+            after = some.uniform(0, 1.1 * lasts)
+            self.make()
+            process = self.start()
+            time.sleep(after)
+            process.kill()
+            process.communicate()
+            what = f"{self.called} that is killed after {after:.4f} of {lasts:.4f} seconds"
+            judge(process.returncode in (0, -signal.SIGKILL), f"{what}: status {process.returncode}")
+            yield what
+
+
+def kills_of_making(root):
+    """A new repository that is killed at any moment: the next `init` makes it, or finds that it is there."""
+    target = os.path.join(root, "new")
+    command = Command("an init", target, ("init", "--iterations", "1"), lambda: shutil.rmtree(target, ignore_errors=True), {"BORG_PASSPHRASE": "new"})
+    secrets = {**os.environ, "BORG_OTHER_PASSPHRASE": "new"}
+    for what in command.killed():
+        status, told = command.run()
+        judge(status == 0 and told.startswith(b"initialized ") or (status, told) == (9, b"target refused: committed\n"), f"behind {what}: {status} {told!r}")
+        ran = subprocess.run([PROGRAM, target, "-", "check"], env=secrets, stdin=subprocess.DEVNULL, capture_output=True)
+        said = (ran.returncode, ran.stdout)
+        judge(said == (0, b"ok archives 0 chunks 0 orphans 0 untagged 0\n"), f"behind {what} and made again: check says {said}")
+
+
 def kills_of_compaction(root):
-    """A compaction that is killed at any of its calls of the system leaves each key its object, and no other; the same words then end well."""
-    if shutil.which("strace") is None:
-        return
-    target, calls = os.path.join(root, "compacted"), os.path.join(root, "calls")
+    """A compaction that is killed at any moment leaves each key its object, and no other; the same words then end well."""
+    target = os.path.join(root, "compacted")
     gone, moved, kept = (bytes([number]) * 32 for number in (1, 2, 3))
     contents = [
         segments.segment(segments.put(gone, b"x" * 900), segments.put(kept, b"y" * 5000)),
@@ -351,94 +427,115 @@ def kills_of_compaction(root):
             with open(os.path.join(target, name), "wb") as file:
                 file.write(content)
 
-    def compact(*prefix):
-        ran = subprocess.run([*prefix, PROGRAM, "-", target, "compact", "--threshold", "20"], stdin=subprocess.DEVNULL, stdout=subprocess.PIPE, stderr=subprocess.DEVNULL)
-        return ran.returncode, ran.stdout
-
+    command = Command("a compaction", target, ("compact", "--threshold", "20"), make)
     make()
     live = segments.keys(target)
-    judge(compact(*tracing.tracing(calls)) == (0, b"compacted 3\n"), "a compaction isn't done")
+    judge(command.run() == (0, b"compacted 3\n"), "a compaction isn't done")
     judge(segments.keys(target) == live, "a compaction has changed what is live")
-    for place in tracing.places(calls, target):
-        make()
-        status, _ = compact(*tracing.tracing(calls, *tracing.killing(place)))
-        judge(status == -signal.SIGKILL, f"a compaction isn't killed at {place}: status {status}")
-        judge(segments.keys(target) == live, f"a compaction that is killed at {place} has changed what is live")
-        status, told = compact()
-        judge(status == 0 and told.startswith(b"compacted "), f"behind a compaction that is killed at {place}: {status} {told!r}")
-        judge(segments.keys(target) == live, f"behind a compaction that is killed at {place} and done again something else is live")
+    for what in command.killed():
+        judge(segments.keys(target) == live, f"{what} has changed what is live")
+        status, told = command.run()
+        judge(status == 0 and told.startswith(b"compacted "), f"behind {what}: {status} {told!r}")
+        judge(segments.keys(target) == live, f"behind {what} and done again something else is live")
+
+
+def laid_anew(made, target):
+    """A copy of a repository as a target, which has a number for its first blob where it had none."""
+    shutil.rmtree(target, ignore_errors=True)
+    shutil.copytree(made, target)
+    if not os.path.exists(os.path.join(target, "nonce")):
+        with open(os.path.join(target, "nonce"), "wb") as file:
+            file.write(b"00000000000f4240")
+
+
+class Looked:
+    """What is looked at of a target beside a command: what `check` says, and the archives that are there, one file of each extracted."""
+
+    def __init__(self, trial, target):
+        self.trial, self.target = trial, target
+        self.some = {name: those[:1] for name, those in trial.paths().items()}
+
+    def check(self):
+        return self.trial.reads(self.target, "check")
+
+    def names(self, what):
+        status, listed = self.trial.reads(self.target, "list")
+        names = [line.split(b" ")[2].decode() for line in listed.splitlines()] if status == 0 else []
+        self.trial.same(what, self.target, names, self.some)
+        return names
 
 
 DELETED = "second"
 
 
 def kills_of_deletion(trial):
-    """A deletion that is killed at any of its calls of the system leaves each other archive, and the one of its name as it was or not at all."""
-    if shutil.which("strace") is None:
-        return
-    target, calls = trial.path("lessened"), trial.path("calls")
-    # One file of each archive is extracted: `check` opens all chunks.
-    paths = {name: those[:1] for name, those in trial.paths().items()}
-    secrets = {**os.environ, "BORG_PASSPHRASE": SECRETS["BORG_OTHER_PASSPHRASE"]}
-
-    def make():
-        shutil.rmtree(target, ignore_errors=True)
-        shutil.copytree(trial.path("source"), target)
-        if not os.path.exists(os.path.join(target, "nonce")):
-            with open(os.path.join(target, "nonce"), "wb") as file:
-                file.write(b"00000000000f4240")
-
-    def delete(*prefix):
-        ran = subprocess.run([*prefix, PROGRAM, "-", target, "delete", DELETED], env=secrets, stdin=subprocess.DEVNULL, stdout=subprocess.PIPE, stderr=subprocess.DEVNULL)
-        return ran.returncode, ran.stdout
-
-    def there(what):
-        """The archives that are there, each of which is looked at."""
-        status, listed = trial.reads(target, "list")
-        names = [line.split(b" ")[2].decode() for line in listed.splitlines()] if status == 0 else []
-        judge([name for name in names if name != DELETED] == [name for name in NAMES if name != DELETED], f"{what}: {names} are there")
-        trial.same(what, target, names, paths)
-        return names
-
-    def numbers():
-        """What `check` says: how many chunks are there, and how many of them no archive uses."""
-        return trial.reads(target, "check")
-
-    make()
-    before = numbers()
-    status, told = delete(*tracing.tracing(calls))
+    """A deletion that is killed at any moment leaves each other archive, and the one of its name as it was or not at all."""
+    target = trial.path("lessened")
+    secrets = {"BORG_PASSPHRASE": SECRETS["BORG_OTHER_PASSPHRASE"]}
+    command = Command("a deletion", target, ("delete", DELETED), lambda: laid_anew(trial.path("source"), target), secrets)
+    looked = Looked(trial, target)
+    others = [name for name in NAMES if name != DELETED]
+    command.make()
+    before = looked.check()
+    status, told = command.run()
     judge(status == 0 and told.startswith(b"deleted second chunks "), f"a deletion ends with {status}: {told}")
-    judge(DELETED not in there("a deletion"), "a deletion leaves its archive")
-    done, places = numbers(), tracing.places(calls, target)
+    judge(looked.names("a deletion") == others, "a deletion leaves its archive, or not another")
+    done = looked.check()
     judge(done[0] == 0 and b" orphans 0 " in done[1], f"check behind a deletion says {done}")
-    judge(len(places) > 15, f"a deletion makes {len(places)} calls")
-    for place in places:
-        make()
-        what = f"a deletion that is killed at the {place[0]} of number {place[1]}"
-        status, _ = delete(*tracing.tracing(calls, *tracing.killing(place)))
-        judge(status == -signal.SIGKILL, f"{what}: status {status}")
-        is_there = DELETED in there(what)
-        said = numbers()
+    for number, what in enumerate(command.killed()):
+        names = looked.names(what)
+        judge([name for name in names if name != DELETED] == others, f"{what}: {names} are there")
+        is_there = DELETED in names
+        said = looked.check()
         judge(said == (before if is_there else done), f"{what}: check says {said}")
-        wanted = (0, told) if is_there else (11, b"not found: second\n")
-        again = delete()
-        judge(again == wanted, f"behind {what}: {again}")
-        said = numbers()
+        again = command.run()
+        judge(again == ((0, told) if is_there else (11, b"not found: second\n")), f"behind {what}: {again}")
+        said = looked.check()
         judge(said == done, f"behind {what} and done again: check says {said}")
+        if trial.is_of_borg and number % 100 == 0:
+            borg_checks(trial, what, target, "BORG_OTHER_PASSPHRASE")
+
+
+def kills_of_tagging(trial):
+    """Records that get their tags, killed at any moment: each archive is as it was, and either none of the records that had no tag has one, or each; the
+    same words then give it to those that have none."""
+    target, lacking = trial.path("target tagged"), len(UNTAGGED)
+    command = Command("a tagging", target, ("tag-archives",), lambda: laid_anew(trial.path("source"), target), {"BORG_PASSPHRASE": SECRETS["BORG_OTHER_PASSPHRASE"]})
+    looked = Looked(trial, target)
+    command.make()
+    before = looked.check()
+    judge(before[0] == 0 and before[1].endswith(b" untagged %d\n" % lacking), f"check before a tagging says {before}")
+    judge(command.run() == (0, b"tagged %d\n" % lacking), "a tagging isn't done")
+    done = looked.check()
+    judge(done[0] == 0 and done[1].endswith(b" untagged 0\n"), f"check behind a tagging says {done}")
+    for number, what in enumerate(command.killed()):
+        judge(tuple(looked.names(what)) == tuple(sorted(NAMES)), f"{what}: not all archives are there")
+        said = looked.check()
+        judge(said in (before, done), f"{what}: check says {said}")
+        again = command.run()
+        judge(again == (0, b"tagged %d\n" % (lacking if said == before else 0)), f"behind {what}: {again}")
+        judge(tuple(looked.names(what)) == tuple(sorted(NAMES)), f"behind {what} and done again: not all archives are there")
+        said = looked.check()
+        judge(said == done, f"behind {what} and done again: check says {said}")
+        if trial.is_of_borg and number % 100 == 0:
+            borg_checks(trial, what, target, "BORG_OTHER_PASSPHRASE")
 
 
 def main():
-    has_borg = shutil.which("borg") is not None
+    is_of_borg = RANDOM > 0 and shutil.which("borg") is not None
     with tempfile.TemporaryDirectory() as root:
-        trial = Trial(root, make_borg_source(root) if RANDOM > 0 and has_borg else make_source(root))
+        trial = Trial(root, make_borg_source(root) if is_of_borg else make_source(root), is_of_borg)
         kills_at_calls(trial)
-        kills_of_compaction(root)
-        kills_of_deletion(trial)
+        if shutil.which("strace") is not None:
+            kills_of_making(root)
+            kills_of_compaction(root)
+            kills_of_deletion(trial)
+            kills_of_tagging(trial)
         small_files(trial)
         closed_folder(trial)
         unread_output(trial)
         if RANDOM > 0:
-            if not has_borg:
+            if not is_of_borg:
                 skip("a source that Borg wrote: there is no Borg")
             small_systems(trial)
             random_kills(trial)

@@ -119,13 +119,14 @@ def start(words, cwd, variables=None, stdout=subprocess.PIPE, stderr=subprocess.
     return ran.returncode, ran.stdout or b"", ran.stderr or b""
 
 
-def run(words, cwd, variables=None, says=b"", is_record=False, prefix=()):
+def run(words, cwd, variables=None, says=b"", is_record=False, prefix=(), foreign=""):
     """The status and the output of one run, whose standard error is the line of its row, and has this text in it.
 
-    `is_record` says whether the object that it names is an archive's record, which nobody sees from outside.
+    `is_record` says whether the object that it names is an archive's record, `foreign` is the printed path that isn't UTF-8, or whose link leads to none that
+    is; nobody sees these from outside.
     """
     status, out, err = start(words, cwd, variables, prefix=prefix)
-    explained(words, cwd, status, out, err, variables or {}, says, is_record)
+    explained(words, cwd, status, out, err, variables or {}, says, is_record, foreign)
     return status, out
 
 
@@ -138,12 +139,15 @@ LOCK_ROW = "none", "a lock of Borg lies in TARGET, in front of `init`, `transfer
 INDEX_ROW = "none", "files of Borg's lie in TARGET, behind `delete`, `tag-archives` and `compact`"
 EMPTY_ROW = "none", "`init` or `make-key` is done with an empty passphrase"
 OUTPUT_ROW = "none", "standard output failed, status 7"
+FOREIGN_ROW = "tree failed", "the path PATH isn't UTF-8, or the target of the symbolic link there"
 UNREAD_ROWS = {of: ("target refused: REASON", f"an archive, the command {of}") for of in ("delete", "tag-archives")}
 
 
-def filled(row, side):
-    """The text of a row for one of the repositories, the source or the target, as a line."""
+def filled(row, side, path=""):
+    """The text of a row for one of the repositories, the source or the target, and for a path, as a line."""
     text = PLAIN.get(row, f"no such row: {row}")
+    if row == FOREIGN_ROW:
+        text = text.replace("PATH", path)
     for name, word in (TARGET_WORDS if side == "target" else SOURCE_WORDS).items():
         text = text.replace(name, word)
     return b"%s\n" % text.encode()
@@ -207,7 +211,7 @@ def where_of(line, kinds, words, cwd, place, is_zero, is_record):
     return ""
 
 
-def row_of(words, cwd, status, out, variables, is_record):
+def row_of(words, cwd, status, out, variables, is_record, foreign):
     """The row of the table of plain words that a run comes under, `None` where nothing is said, and the repository that it speaks of."""
     if status in (1, 7):
         return (("bad REASON", "") if status == 1 else OUTPUT_ROW), "source"
@@ -220,6 +224,8 @@ def row_of(words, cwd, status, out, variables, is_record):
     if len(words) > 2 and words[2] in UNREAD_ROWS and is_of_archive(line, out):
         return UNREAD_ROWS[words[2]], "target"
     side = "target" if line.startswith("target ") else "source"
+    if line == "tree failed" and foreign:
+        return FOREIGN_ROW, side
     if line == "tree failed":
         return (line, "`-` or an empty word" if words[1] in ("-", "") else ""), side
     common = re.sub(r"^(source|target) (?=refused: )", "", line)
@@ -256,11 +262,11 @@ def names_somebody(roster):
     return text != "" and any(json.loads(text).values())
 
 
-def explained(words, cwd, status, out, err, variables, says, is_record):
+def explained(words, cwd, status, out, err, variables, says, is_record, foreign=""):
     """Looks whether standard error has the line of the row that a run comes under, and no more; where the case says a text, that stands in it."""
-    row, side = row_of(words, cwd, status, out, variables, is_record)
+    row, side = row_of(words, cwd, status, out, variables, is_record, foreign)
     before = filled(LOCK_ROW, "target") if is_locked(words, cwd) else b""
-    want = before + (b"" if row is None else filled(row, side))
+    want = before + (b"" if row is None else filled(row, side, foreign))
     judge(f"standard error of {words}", (status, err), (status, want))
     if says not in err:
         judge(f"standard error of {words}", (status, err), (status, says))
@@ -993,9 +999,10 @@ class Deletion:
                 judge(f"delete: {what}: extract {name} {path}", run(words, self.root, OPEN), (0, archive.content(path)))
 
 
-def restored(name, items, folder=None, archive="a", words=None, want=None, left=None, other=None):
+def restored(name, items, folder=None, archive="a", words=None, want=None, left=None, other=None, foreign=""):
     """An archive of these items, restored: status, line and what is in the folder are those of the plain program, or, where `want` is given, that and
-    the tree of the items `left`. `folder` are files that are there before, `other` a content in whose place another one is stored."""
+    the tree of the items `left`. `folder` are files that are there before, `other` a content in whose place another one is stored, `foreign` the path that
+    standard error names since it or its link's target isn't UTF-8."""
     keys = Keys()
     whole = Archive(keys, b"a", items)
     chunks = whole.chunks(other=None if other is None else keys.id(other))
@@ -1004,7 +1011,7 @@ def restored(name, items, folder=None, archive="a", words=None, want=None, left=
         make(root, inside("source", repository(keys, PASSPHRASE, keys.blob(keys.tagged(fields(whole.named(b"a")))), *chunks)))
         make(root, {} if folder is None else {"folder": None, **inside("folder", folder)})
         source, kept = state(os.path.join(root, "source")), state(place)
-        got = run(words or ("source", "folder", "restore", archive), root, OPEN)
+        got = run(words or ("source", "folder", "restore", archive), root, OPEN, foreign=foreign)
         tree, answer = trees.tree_of(items if left is None else left)
         judge(f"restore: {name}", got, answer if want is None else want)
         if want is None or left is not None:
@@ -1065,8 +1072,9 @@ def restores():
     restored("no folder above", row, words=("source", "no/where", "restore", "a"), want=(13, b"tree failed\n"))
     first, last = item(b"a", [b"1"]), item(b"b", [b"3"])
     restored("a long name", [first, item(b"x" * 256, [b"2"]), last], want=(13, b"tree failed\n"), left=[first])
-    restored("a path that isn't UTF-8", [first, item(b"d/\xff", [b"2"]), last], want=(13, b"tree failed\n"), left=[first, item(b"d", mode=folder)])
-    restored("a target that isn't UTF-8", [first, item(b"s", mode=link, source=b"\xff"), last], want=(13, b"tree failed\n"), left=[first])
+    foreign = item(b"d/\xff\xc3\xa4\n", [b"2"])
+    restored("a path that isn't UTF-8", [first, foreign, last], want=(13, b"tree failed\n"), left=[first, item(b"d", mode=folder)], foreign=r"d/\xffä\x0a")
+    restored("a target that isn't UTF-8", [first, item(b"s", mode=link, source=b"\xff"), last], want=(13, b"tree failed\n"), left=[first], foreign="s")
     lost = 8, b"source refused: blob 5 %s\n" % Keys().id(b"22").hex().encode()
     restored("a content that is another", [first, item(b"f", [b"2", b"22", b"222"]), last], want=lost, left=[first, item(b"f", [b"2"])], other=b"22")
     restored("the content of a pipe that is another", [first, item(b"p", [b"22"], mode=pipe), last], want=lost, left=[first], other=b"22")

@@ -3,7 +3,7 @@
 
 No proof speaks of folders, of the random bytes of the system, of standard output and of variables; the cases here do, each by what a user would lose: random
 bytes that fail, end early or come in parts; a folder or a segment that can't be read; modes of files; parents that aren't there; links; an output
-that takes a part; streams that are closed; passphrases; where segments lie; the line of progress. With names of cases, those alone are tried. One line for each
+that takes a part; streams that are closed; passphrases; where segments lie; the line of progress; the memory that heads take which claim more than is there. With names of cases, those alone are tried. One line for each
 thing that differs, then what can't be tried here (no strace, no Borg, no other user), and at the end 'N passed, M failed, K skipped'; status 1 where M isn't 0.
 """
 import itertools
@@ -22,7 +22,7 @@ import tty
 sys.dont_write_bytecode = True
 import tracing
 from counting import finish, judge, skip
-from repositories import Archive, Item, Keys, fields, repository
+from repositories import Archive, Item, Keys, config, fields, repository
 from users import other_user
 
 PROGRAM = os.path.abspath(sys.argv[1])
@@ -446,8 +446,57 @@ def restored(root):
     ended("a folder that can't be listed", run(root, *words, prefix=other), 13, b"tree failed\n")
 
 
+COUNT = b"\xff\xff\xff\xff"
+# A front of a value whose head claims 2^32 - 1 bytes or entries, of which none are there.
+CLAIMS = {
+    "a raw value": b"\xdb" + COUNT, "an array": b"\xdd" + COUNT, "a map": b"\xdf" + COUNT, "a map's key": b"\x81\xdb" + COUNT, "arrays in one another": (b"\xdd" + COUNT) * 64,
+    "chunks": b"\x81\xa6chunks\xdd" + COUNT, "a chunk's id": b"\x81\xa6chunks\x91\x93\xdb" + COUNT, "item ids": b"\x82\xa7version\x01\xa5items\xdd" + COUNT,
+    "archives": b"\x82\xa7version\x01\xa8archives\xdf" + COUNT, "item fields": b"\x82\xa7version\x01\xa9item_keys\xdd" + COUNT,
+}
+
+
+def limited_to(kib):
+    return lambda: resource.setrlimit(resource.RLIMIT_AS, (kib * 1024, kib * 1024))
+
+
+def least_memory(root, *words):
+    """The least of the address space, in KiB, in which a command ends well."""
+    too_little, enough = 0, 1 << 20
+    while enough - too_little > 64:
+        middle = (too_little + enough) // 2
+        if run(root, *words, preexec_fn=limited_to(middle)).returncode == 0:
+            enough = middle
+        else:
+            too_little = middle
+    return enough
+
+
+def claimed_counts(root):
+    """Heads that claim 2^32 - 1 bytes or entries, in a key text, a manifest, a record and a stream of items, take at most 1 MiB more than what is right."""
+    make_source(root, size=4096)
+    needed = {words: least_memory(root, "source", "-", *words) + 1024 for words in (("list",), ("list", "a"), ("check",))}
+    for claim, front in CLAIMS.items():
+        keys = Keys()
+        bad = Archive(keys, b"a", [], behind=front, how=RECORD)
+        record = Archive(keys, b"a", [], how={**RECORD, "packed": lambda _, front=front: front})
+        manifest = lambda archive, keys=keys: keys.blob(keys.tagged(fields(archive.named(b"a"))))
+        sources = {
+            "a stream": (repository(keys, b"passphrase", manifest(bad), *dict(bad.chunks()).items()), {("list", "a"): b"source refused: items 5 ", ("check",): b"bad items 5 "}),
+            "a record": (repository(keys, b"passphrase", manifest(record), *dict(record.chunks()).items()), {("list", "a"): b"source refused: record 1 ", ("check",): b"bad record 1 "}),
+            "a manifest": (repository(keys, b"passphrase", keys.blob(front)), {("list",): b"source refused: manifest 1\n"}),
+            "a key text": ({**repository(keys, b"passphrase", manifest(bad)), "config": config(front)}, {("list",): b"source refused: key 1\n"}),
+        }
+        for place, (files, wanted) in sources.items():
+            shutil.rmtree(os.path.join(root, "claims"), ignore_errors=True)
+            for path, content in files.items():
+                write(os.path.join(root, "claims", path), content)
+            for words, line in wanted.items():
+                ran = run(root, "claims", "-", *words, preexec_fn=limited_to(needed[words]))
+                judge(ran.stdout.startswith(line), f"{place} with {claim} that claims more than is there: {' '.join(words)}: {ran.returncode} {ran.stdout!r}")
+
+
 NEED_STRACE = (random_bytes, unreadable, unsynced, progress)
-CASES = (*NEED_STRACE, closed_by_mode, drawn, modes, places, outputs, short_writes, restored, closed, passphrases, borders)
+CASES = (*NEED_STRACE, closed_by_mode, drawn, modes, places, outputs, short_writes, restored, closed, passphrases, borders, claimed_counts)
 
 
 def main(chosen):

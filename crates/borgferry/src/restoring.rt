@@ -8,7 +8,8 @@ use crate::fault::StartFault;
 use crate::places::{compressed_in, is_record, presence};
 use crate::secrets::source_secret;
 use crate::side::Side;
-use crate::tree::advice_of;
+use crate::start::advise;
+use crate::tree::{advice_of, foreign_line};
 use ferry_disk::Shelf;
 use ferry_real::{FolderShelf, FolderTree, Progress, StdSink, Terminals};
 use ferry_run_restore::{Restored, restore};
@@ -88,7 +89,7 @@ fn with_output<R: Runtime + AllocGlobal>(
     let ended = restore(rt.alloc(), task.words, task.secret, source, tree, &mut out);
     let is_record = names_record(rt.alloc(), &ended, task.secret, source);
     progress.end();
-    say(rt, task, &ended, is_record);
+    say(rt, task, &ended, is_record, tree.foreign());
     Ok(ended.number())
 }
 
@@ -108,8 +109,19 @@ fn names_record<S: Shelf>(
     }
 }
 
-/// Says in plain words why an archive wasn't restored to its end.
-fn say<R: Runtime + AllocGlobal>(rt: &R, task: &Task, ended: &Restored, is_record: bool) {
+/// Says in plain words why an archive wasn't restored to its end. `foreign` is the path that isn't UTF-8, itself or the target of its link, where one was met.
+fn say<R: Runtime + AllocGlobal>(
+    rt: &R,
+    task: &Task,
+    ended: &Restored,
+    is_record: bool,
+    foreign: Option<&[u8]>,
+) {
+    if let (Restored::TreeDevice, Some(path)) = (ended, foreign)
+        && let Ok(line) = foreign_line(rt.alloc(), path)
+    {
+        return advise(rt, line.as_str());
+    }
     let source = presence(rt, task.places.source);
     let folder = presence(rt, task.places.target);
     if let Some(text) = advice_of(ended, source, folder, is_record) {

@@ -7,7 +7,9 @@ use crate::advice::{MEMORY, MISSING, OUTPUT};
 use crate::refusal::{DEVICE, of_repo};
 use ferry_real::Presence;
 use ferry_run_restore::Restored;
+use ferry_text::write_text;
 use ferry_tree::PlaceFault;
+use std::alloc::{AllocError, Global};
 
 const FORM: &str =
     "the form is borgferry SOURCE FOLDER restore NAME; a NAME that begins with -- stands behind --";
@@ -16,7 +18,10 @@ const UNNAMED: &str =
     "FOLDER is - or empty, which stands for no folder: name the folder that the archive is to be restored in";
 
 const TREE: &str =
-    "a file, folder or link can't be made in FOLDER: see that you may write it, that its disk has room and that it takes names of this length; a path or the target of a link that isn't UTF-8 can't be made here, and borg extract makes it; what lies in front of it is in FOLDER";
+    "a file, folder or link can't be made in FOLDER: see that you may write it, that its disk has room and that it takes names of this length; what lies in front of it is in FOLDER";
+
+const FOREIGN: &str =
+    ", or the target of the link there, isn't UTF-8, and so can't be made here: borg extract makes it; what lies in front of it is in FOLDER";
 
 const NOT_EMPTY: &str =
     "FOLDER has something in it, and nothing is written over or beside it: name a folder that is empty or isn't there";
@@ -74,5 +79,42 @@ fn of_tree(folder: Presence) -> &'static str {
     match folder {
         Presence::Unnamed => UNNAMED,
         Presence::There | Presence::Absent => TREE,
+    }
+}
+
+/// The text, without its end, where a path, or the target of the symbolic link there, isn't UTF-8.
+pub fn foreign_line(alloc: Global, path: &[u8]) -> Result<String, AllocError> {
+    let mut line = String::from_str(alloc, "the path ")?;
+    push_escaped(alloc, path, &mut line)?;
+    line.push_str(FOREIGN)?;
+    Ok(line)
+}
+
+/// Appends bytes as names are printed; a byte that isn't part of a character of UTF-8 is printed as `\x` and two hex digits too.
+fn push_escaped(alloc: Global, bytes: &[u8], line: &mut String) -> Result<(), AllocError> {
+    let mut escaped = Vec::new(alloc);
+    write_text(bytes, &mut escaped)?;
+    for chunk in escaped.as_slice().utf8_chunks() {
+        line.push_str(chunk.valid())?;
+        push_digits(chunk.invalid(), line)?;
+    }
+    Ok(())
+}
+
+/// Appends `\x` and two hex digits for each byte.
+fn push_digits(bytes: &[u8], line: &mut String) -> Result<(), AllocError> {
+    for byte in bytes {
+        line.push_str("\\x")?;
+        line.push(digit(*byte / 16))?;
+        line.push(digit(*byte % 16))?;
+    }
+    Ok(())
+}
+
+/// The hex digit of a number below 16.
+fn digit(number: u8) -> char {
+    match number {
+        0..=9 => char::from(b'0' + number),
+        _ => char::from(b'a' + (number % 16) - 10),
     }
 }

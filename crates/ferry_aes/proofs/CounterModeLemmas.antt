@@ -132,19 +132,23 @@ output_blocks-append w n a (suc b) =
     ∙ ap (λ xs. output_blocks w n a ++ xs) (sym last ∙ right)
 
 -- eight blocks of rows are those of eight numbers
+pub output_blocks_of : (w : List (List ℕ)) (n : ℕ) (rows : List (List ℕ)) → ((i : ℕ) → i < 8 → block_at rows i ≡ cipher w (counter_block (n + i)))
+    → joined_blocks rows ≡ output_blocks w n 8
+unfolding output_blocks
+output_blocks_of w n rows made =
+    let e0 = made 0 (omega arith) in
+    let e1 = made 1 (omega arith) in
+    let e2 = made 2 (omega arith) in
+    let e3 = made 3 (omega arith) in
+    let e4 = made 4 (omega arith) in
+    let e5 = made 5 (omega arith) in
+    let e6 = made 6 (omega arith) in
+    let e7 = made 7 (omega arith) in
+    rw (e0, e1, e2, e3, e4, e5, e6, e7) refl
+
 pub output_blocks_by_rows : (w : List (List ℕ)) (n : ℕ) (blocks rows : List (List ℕ)) → ((i : ℕ) → i < 8 → block_at blocks i ≡ counter_block (n + i))
     → ((i : ℕ) → i < 8 → block_at rows i ≡ cipher w (block_at blocks i)) → joined_blocks rows ≡ output_blocks w n 8
-unfolding output_blocks
-output_blocks_by_rows w n blocks rows counted made =
-    let e0 = made 0 (omega arith) ∙ ap (cipher w) (counted 0 (omega arith)) in
-    let e1 = made 1 (omega arith) ∙ ap (cipher w) (counted 1 (omega arith)) in
-    let e2 = made 2 (omega arith) ∙ ap (cipher w) (counted 2 (omega arith)) in
-    let e3 = made 3 (omega arith) ∙ ap (cipher w) (counted 3 (omega arith)) in
-    let e4 = made 4 (omega arith) ∙ ap (cipher w) (counted 4 (omega arith)) in
-    let e5 = made 5 (omega arith) ∙ ap (cipher w) (counted 5 (omega arith)) in
-    let e6 = made 6 (omega arith) ∙ ap (cipher w) (counted 6 (omega arith)) in
-    let e7 = made 7 (omega arith) ∙ ap (cipher w) (counted 7 (omega arith)) in
-    rw (e0, e1, e2, e3, e4, e5, e6, e7) refl
+output_blocks_by_rows w n blocks rows counted made = output_blocks_of w n rows (λ i l. made i l ∙ ap (cipher w) (counted i l))
 
 -- the output blocks of a number that is taken modulo 2^128
 pub output_blocks-wrapped : (w : List (List ℕ)) (n : ℕ) → output_blocks w (n % 2 ^ 128) 8 ≡ output_blocks w n 8

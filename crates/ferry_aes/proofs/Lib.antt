@@ -9,3 +9,4 @@ pub mod BitLemmas
 pub mod ByteLemmas
 pub mod CircuitLemmas
 pub mod PlanesLemmas
+pub mod FirstRoundLemmas

@@ -5,7 +5,10 @@ use Rattle.std.specs.Int.{bit_at}
 use Rattle.std.specs.List.{range_with_len, flat_map}
 use Rattle.std.specs.Simd.Lanes.{number_l}
 use Rattle.ferry_aes.specs.Field.{multiply}
-use Rattle.ferry_aes.specs.State.{word, state_by}
+use Rattle.ferry_aes.specs.SBox.{sbox}
+use Rattle.ferry_aes.specs.State.{word, state_by, state_of}
+use Rattle.ferry_aes.specs.Rounds.{sub_bytes, add_round_key}
+use Rattle.ferry_aes.specs.CounterMode.{counter_block}
 
 -- bit i of byte j of a plane
 abbrev pub wire : List ℕ → ℕ → ℕ → ℕ
@@ -59,3 +62,16 @@ block_at rows i = map (λ m. slice_index (slice_index_or rows i []) (crossed_pla
 -- eight blocks joined
 abbrev pub joined_blocks : List (List ℕ) → List ℕ
 joined_blocks rows = flat_map (λ i. block_at rows i) (range_with_len 0 8)
+
+-- byte s[r,c] of a block after ADDROUNDKEY of round 0 and SUBBYTES of round 1
+abbrev pub first_byte : List (List ℕ) → List ℕ → ℕ → ℕ → ℕ
+first_byte w block r c = sbox (bit_xor (slice_index block (r + 4 * c)) (slice_index (word w c) r))
+
+-- planes of the counter blocks of eight numbers after SUBBYTES of round 1, but for s[3,3], the lowest byte of a number
+abbrev pub HasHigherBytes : List (List ℕ) → ℕ → List (List ℕ) → Type 0
+HasHigherBytes w n planes =
+    (r c i : ℕ) → r < 4 → c < 4 → r + c < 6 → i < 8 → byte_at planes (4 * r + c) i ≡ first_byte w (counter_block (n + i)) r c
+
+-- the same with all bytes
+abbrev pub HasAllBytes : List (List ℕ) → ℕ → List (List ℕ) → Type 0
+HasAllBytes w n planes = (i : ℕ) → i < 8 → state_at planes i ≡ sub_bytes (add_round_key w 0 (state_of (counter_block (n + i))))

@@ -1,16 +1,20 @@
 //! Counter mode over AES-256, NIST SP 800-38A, section 6.5, eight blocks at a time.
-ghost use Rattle.std.specs.Prelude.{ℕ, List, ◌≡◌, ◌+◌, ◌*◌, ◌<◌, ◌≤◌, ◌++◌, take, drop, length, slice_index};
+ghost use Rattle.std.specs.Prelude.{ℕ, List, ◌≡◌, ◌+◌, ◌*◌, ◌%◌, ◌<◌, ◌≤◌, ◌++◌, take, drop, length, slice_index};
 ghost use Rattle.ferry_aes.specs.CounterMode.{counter_block, output_blocks, key_stream};
-ghost use Rattle.ferry_aes.specs.Planes.{AreRoundKeys, block_at, crossed_place};
+ghost use Rattle.ferry_aes.specs.Planes.{AreRoundKeys, block_at, crossed_place, HasHigherBytes, HasAllBytes};
 
-use crate::eight::{eight_blocks, round_keys};
+use crate::eight::{eight_blocks, finished, first_substituted, round_keys};
 use crate::gates::Planes;
 use crate::joining::joined;
+use crate::low_bytes::{all_low_bytes, with_lasts};
 use crate::schedule::Schedule;
 use std::simd::prelude::*;
 
 /// The number of bytes in eight blocks.
 const GROUP: usize = 128;
+
+/// The most bytes for which what the first round makes of the counters isn't kept.
+const SHORT: usize = 1024;
 
 /// The counter block of a number by rows: byte 4r + c is byte r + 4c of the number, the highest first.
 #[inline(always)]
@@ -58,6 +62,68 @@ fn put_group(into: &mut [u8], at: usize, group: &[u8; 128])
     into[at..at + count].copy_from_slice(&group[..count]);
 }
 
+/// The key stream of a short buffer: each group is made whole.
+fn short_stream(keys: &[Planes; 15], counter: u128, into: &mut [u8])
+    ensures { (w : List (List ℕ)) → AreRoundKeys w keys.now → into.new ≡ key_stream w counter (length into.old) }
+{
+    for number in 0..into.len().div_ceil(GROUP) {
+        let first = counter.wrapping_add(8 * number as u128);
+        let group = group_from(keys, first);
+        put_group(into, GROUP * number, &group);
+    }
+}
+
+/// The states of the counter blocks from `first` on after SubBytes of round 1, but for the lowest bytes of the counters: those
+/// that are `known`, where the eight counters before these had the same higher bytes.
+fn higher_bytes(keys: &[Planes; 15], first: u128, known: &Planes) -> Planes
+    ensures { (w : List (List ℕ)) → AreRoundKeys w keys.now → (8 ≤ first % 256 → first % 256 ≤ 248 → HasHigherBytes w first known.now)
+        → HasHigherBytes w first result }
+{
+    let low = (first % 256) as u8;
+    if low < 8 || low > 248 {
+        first_substituted(keys, &counters(first))
+    } else {
+        *known
+    }
+}
+
+/// The output blocks of eight numbers that follow each other, from the states of their counter blocks after SubBytes of round 1.
+fn group_behind(keys: &[Planes; 15], subbed: &Planes) -> [u8; 128]
+    ensures { (w : List (List ℕ)) (n : ℕ) → AreRoundKeys w keys.now → HasAllBytes w n subbed.now → result ≡ output_blocks w n 8 }
+{
+    let rows = finished(keys, subbed);
+    joined(&rows)
+}
+
+/// The key stream of a long buffer. Up to SubBytes of round 1 a block's bytes don't depend on each other: what becomes of the
+/// lowest bytes of 256 counters is worked out once, and what becomes of the higher ones as often as they change.
+fn long_stream(keys: &[Planes; 15], counter: u128, into: &mut [u8])
+    ensures { (w : List (List ℕ)) → AreRoundKeys w keys.now → into.new ≡ key_stream w counter (length into.old) }
+{
+    let lows = all_low_bytes(&keys[0], (counter % 256) as u8);
+    let mut higher = first_substituted(keys, &counters(counter));
+    for number in 0..into.len().div_ceil(GROUP) {
+        let first = counter.wrapping_add(8 * number as u128);
+        let next = higher_bytes(keys, first, &higher);
+        higher = next;
+        let subbed = with_lasts(&higher, &lows[number / 16 % 2], number % 16);
+        let group = group_behind(keys, &subbed);
+        put_group(into, GROUP * number, &group);
+    }
+}
+
+/// The key stream of a buffer.
+#[inline(always)]
+fn stream_of(keys: &[Planes; 15], counter: u128, into: &mut [u8])
+    ensures { (w : List (List ℕ)) → AreRoundKeys w keys.now → into.new ≡ key_stream w counter (length into.old) }
+{
+    if into.len() <= SHORT {
+        short_stream(keys, counter, into);
+    } else {
+        long_stream(keys, counter, into);
+    }
+}
+
 /// Fills `into` with the key stream of counter mode from `counter` on.
 ///
 /// Block j of the stream is the encrypted counter block of `counter + j`, which is taken modulo
@@ -71,9 +137,5 @@ pub fn keystream(schedule: &Schedule, counter: u128, into: &mut [u8])
     ensures stream { into.new ≡ key_stream schedule.now counter (length into.old) }
 {
     let keys = round_keys(&schedule.words);
-    for number in 0..into.len().div_ceil(GROUP) {
-        let first = counter.wrapping_add(8 * number as u128);
-        let group = group_from(&keys, first);
-        put_group(into, GROUP * number, &group);
-    }
+    stream_of(&keys, counter, into);
 }

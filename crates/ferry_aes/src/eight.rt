@@ -1,6 +1,7 @@
 //! The cipher of AES-256, FIPS 197, section 5.1, on eight blocks at a time, in bit planes.
 ghost use Rattle.std.specs.Prelude.{ℕ, List, ◌≡◌, ◌<◌, ◌≤◌, ◌+◌, ◌*◌, slice_index, slice_index_or, []};
-ghost use Rattle.ferry_aes.specs.State.{word};
+ghost use Rattle.ferry_aes.specs.State.{word, state_of};
+ghost use Rattle.ferry_aes.specs.Rounds.{sub_bytes, shift_rows, mix_columns, add_round_key};
 ghost use Rattle.ferry_aes.specs.Cipher.{round, last_round, cipher};
 ghost use Rattle.ferry_aes.specs.Planes.{byte_at, state_at, block_at, AreRoundKeys, IsRoundKey};
 
@@ -49,15 +50,24 @@ pub(crate) fn round_keys(words: &[[u8; 4]; 60]) -> [Planes; 15]
     keys
 }
 
+/// What follows SubBytes in a round before the last one.
+#[inline(always)]
+fn behind_sub_bytes(subbed: &Planes, key: &Planes) -> Planes
+    ensures { (w : List (List ℕ)) (n i : ℕ) → IsRoundKey w n key.now → i < 8
+        → state_at result i ≡ add_round_key w n (mix_columns (shift_rows (state_at subbed.now i))) }
+{
+    let shifted = turned(subbed);
+    let mixed_state = mixed(&shifted);
+    added(&mixed_state, key)
+}
+
 /// A round before the last one.
 #[inline(always)]
 fn full_round(state: &Planes, key: &Planes) -> Planes
     ensures { (w : List (List ℕ)) (n i : ℕ) → IsRoundKey w n key.now → i < 8 → state_at result i ≡ round w n (state_at state.now i) }
 {
     let subbed = substituted_planes(state);
-    let shifted = turned(&subbed);
-    let mixed_state = mixed(&shifted);
-    added(&mixed_state, key)
+    behind_sub_bytes(&subbed, key)
 }
 
 /// The last round, which has no MixColumns.
@@ -70,16 +80,34 @@ fn final_round(state: &Planes, key: &Planes) -> Planes
     added(&shifted, key)
 }
 
-/// The eight blocks that `rows` become. Each vector has one block, its bytes by rows.
-pub(crate) fn eight_blocks(keys: &[Planes; 15], rows: &Planes) -> Planes
-    ensures { (w : List (List ℕ)) (i : ℕ) → AreRoundKeys w keys.now → i < 8 → block_at result i ≡ cipher w (block_at rows.now i) }
+/// The states of eight blocks after SubBytes of round 1. Each vector of `rows` has one block, its bytes by rows.
+pub(crate) fn first_substituted(keys: &[Planes; 15], rows: &Planes) -> Planes
+    ensures { (w : List (List ℕ)) (i : ℕ) → AreRoundKeys w keys.now → i < 8
+        → state_at result i ≡ sub_bytes (add_round_key w 0 (state_of (block_at rows.now i))) }
 {
     let into = transposed(rows);
-    let mut state = added(&into, &keys[0]);
-    for number in 1..ROUNDS {
+    let state = added(&into, &keys[0]);
+    substituted_planes(&state)
+}
+
+/// The eight blocks that blocks become whose states after SubBytes of round 1 are `subbed`.
+pub(crate) fn finished(keys: &[Planes; 15], subbed: &Planes) -> Planes
+    ensures { (w : List (List ℕ)) (input : List ℕ) (i : ℕ) → AreRoundKeys w keys.now → i < 8
+        → state_at subbed.now i ≡ sub_bytes (add_round_key w 0 (state_of input)) → block_at result i ≡ cipher w input }
+{
+    let mut state = behind_sub_bytes(subbed, &keys[1]);
+    for number in 2..ROUNDS {
         let next = full_round(&state, &keys[number]);
         state = next;
     }
     let last = final_round(&state, &keys[ROUNDS]);
     transposed(&last)
+}
+
+/// The eight blocks that `rows` become. Each vector has one block, its bytes by rows.
+pub(crate) fn eight_blocks(keys: &[Planes; 15], rows: &Planes) -> Planes
+    ensures { (w : List (List ℕ)) (i : ℕ) → AreRoundKeys w keys.now → i < 8 → block_at result i ≡ cipher w (block_at rows.now i) }
+{
+    let subbed = first_substituted(keys, rows);
+    finished(keys, &subbed)
 }

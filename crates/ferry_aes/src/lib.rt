@@ -14,6 +14,7 @@ mod eight;
 mod expansion;
 mod gates;
 mod joining;
+mod low_bytes;
 mod planes;
 mod rounds;
 mod schedule;

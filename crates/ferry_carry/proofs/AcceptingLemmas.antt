@@ -156,13 +156,11 @@ flown_large now given other source after store middle named was fault settled op
     let l = large is in
     record {
       new = record { named = named; named_is = named_is; lacks = lacked_before named was (accepted_in store) (accepted_in middle) called accepted l.lacks };
-      text = l.text;
-      salt = l.salt;
-      salt_size = l.salt_size;
-      large = subst (λ (m : ManifestText). content_limit < length (manifest_text (repo_view store.repo).keys l.salt m))
-          (settled_next given other source after store middle named was l.text settled options repo called accepted keys)
-          (subst (λ (k : Keys). content_limit < length (manifest_text k l.salt
-          (named_next other after middle was (content_id (repo_view middle.repo).keys l.text)))) keys l.large);
+      large = λ text salt size.
+          subst (λ (m : ManifestText). content_limit < length (manifest_text (repo_view store.repo).keys salt m))
+          (settled_next given other source after store middle named was text settled options repo called accepted keys)
+          (subst (λ (k : Keys). content_limit < length (manifest_text k salt
+          (named_next other after middle was (content_id (repo_view middle.repo).keys text)))) keys (l.large text salt size));
     })
 
 -- where a flight isn't begun, no manifest is too large

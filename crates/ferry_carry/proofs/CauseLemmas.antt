@@ -163,7 +163,8 @@ differs_there {T} told a b source block most time target now name x same kept di
 
 -- it isn't the target's archive of its name
 pub taken_refused : (from : Origin) (heard now : Option Told) (store store_now : Store) (name given : List ℕ) (fault : CarryFault)
-    → (fault ≡ Taken given) ⊎ (fault ≡ Memory) → given ≡ name → DiffersThere from now (repo_view store_now.repo) name → TakenAt store now store_now name
+    → (fault ≡ Taken given) ⊎ (fault ≡ Memory) → given ≡ name → DiffersThere from now (repo_view store_now.repo) name
+    → TakenAt from.most store now store_now name
     → RefusesName from heard store now store_now name fault
 taken_refused from heard now store store_now name given fault (inl is) same differs at =
     subst (RefusesName from heard store now store_now name) (sym is) (same, (differs, at))
@@ -180,8 +181,21 @@ refused_before from a b c E store middle now name (Source fault) between most re
 refused_before from a b c E store middle now name (Target refusal) between most refuses =
     subst (λ (k : Keys). StopsTarget c k (Target refusal)) most.keys refuses
 refused_before from a b c E store middle now name (Taken taken) between most refuses =
-    let at = refuses.1.1 in
-    (refuses.0, (refuses.1.0, record { fits = at.fits; there = at.there; most = most_then store middle now most at.most }))
+    let at = refuses.1.1 in (
+      refuses.0,
+      (
+        refuses.1.0,
+        record {
+          fits = at.fits;
+          there = at.there;
+          most_kept = most_then store middle now most at.most_kept;
+          unspent = at.unspent;
+          pending = at.pending;
+          packable = at.packable;
+          accepts = at.accepts;
+        },
+      ),
+    )
 refused_before from a b c E store middle now name (NotFound missing) between most refuses = refuses
 refused_before from a b c E store middle now name Pieces between most refuses = (
   lacks_by (repo_view store.repo).manifest (repo_view middle.repo).manifest name most.names refuses.0,
@@ -221,18 +235,17 @@ record_refused from heard named store copy added Record ready all refuses =
     let keys = (repo_view store.repo).keys in
     let archive = archive_view copy.archive in
     IfSome_then heard all.1 (λ d known. IfSome_then from.files known (λ there c.
-    let IsLarge : ℕ → Type 0 = λ block. content_limit < length (archive_text keys refuses.0
+    let IsLarge : List ℕ → ℕ → Type 0 = λ salt block. content_limit < length (archive_text keys salt
     (copied_archive archive block (map (content_id keys) (stream_pieces keys block c.wholes)))) in
     record {
       whole = record { time = named.time; fields = archive.fields; items = c.wholes };
       source = c.source_whole;
       archive = archive;
       fields = refl;
-      salt = refuses.0;
-      salt_size = refuses.1.0;
-      large = subst IsLarge (sym all.0.block)
-          (subst (λ (ids : List (List ℕ)). content_limit < length (archive_text keys refuses.0 (copied_archive archive copy.block ids)))
-          (stream_ids (told_files d) (repo_view store.repo) copy c.wholes added ready c.writes) refuses.1.1);
+      large = λ salt size.
+          subst (IsLarge salt) (sym all.0.block)
+          (subst (λ (ids : List (List ℕ)). content_limit < length (archive_text keys salt (copied_archive archive copy.block ids)))
+          (stream_ids (told_files d) (repo_view store.repo) copy c.wholes added ready c.writes) (refuses salt size));
     }))
 
 -- ---- chosen names

@@ -36,7 +36,7 @@ use Rattle.ferry_store.proofs.StepLemmas.{done_here, same_told}
 use Rattle.ferry_store.specs.Commit.{accepted_in, IsSettled, ReadsStore}
 use Rattle.ferry_store.specs.Fault.{depot_failed}
 use Rattle.ferry_store.specs.Standing.{CommitsManifest, HoldsLive, committed_of, entries_of, live_in}
-use Rattle.ferry_store.specs.Store.{StoreFits}
+use Rattle.ferry_store.specs.Store.{IsUnspent, StoreFits}
 use Rattle.ferry_store.specs.declared.fault.StoreRefusal.TheVariants as Stores
 use Rattle.ferry_store.specs.declared.store.Store.{Store}
 use Rattle.ferry_write.specs.Script.{AllDone}
@@ -215,6 +215,14 @@ read_rest store now reads = record {
   config = ap (λ (r : RepoState). r.config) reads.repo;
   manifest = ap (λ (r : RepoState). r.manifest) reads.repo;
   accepted = ap (λ (s : Store). accepted_in s) reads.rest;
+}
+
+-- a store of which nothing changed but what its repository keeps in memory isn't spent where it wasn't
+pub read_unspent : (store now : Store) → ReadsStore store now → IsUnspent store → IsUnspent now
+read_unspent store now reads unspent = record {
+  session = ap (λ (s : Store). s.session.spent) reads.rest ∙ unspent.session;
+  counter = ap (λ (s : Store). s.counter.spent) reads.rest ∙ unspent.counter;
+  itself = ap (λ (s : Store). s.spent) reads.rest ∙ unspent.itself;
 }
 
 pub rest_packable : (store now : Store) → KeepsRest store now → IsPackable (accepted_in store) → IsPackable (accepted_in now)

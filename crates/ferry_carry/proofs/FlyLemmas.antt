@@ -1,6 +1,6 @@
 -- Turns of a flight, one after another.
 use Rattle.std.proofs.Common.{◌≡◌, ◌≢◌, ◌⊎◌, inl, inr, Bool, true, false, ℕ, List, [], ◌∷◌, ◌++◌}
-use Rattle.std.proofs.Common.{Option, Some, None, Result, Ok, Err, IfErr, IfOk, IfSome, IsErrAnd, IsSome, OnOk}
+use Rattle.std.proofs.Common.{Option, Some, None, Result, Ok, Err, IfErr, IfOk, IfSome, IsErrAnd, IsSome, MatchResult, OnOk}
 use Rattle.std.proofs.Common.{refl, sym, ◌∙◌, ap, subst}
 use Rattle.std.proofs.lemmas.List.{append-nil, append_assoc}
 use Rattle.ferry_disk.proofs.MomentLemmas.{between_both, between_map, between_then}
@@ -32,7 +32,7 @@ use Rattle.ferry_carry.proofs.HeldLemmas.{grows_all, heard_apart, heard_back, he
 use Rattle.ferry_carry.proofs.HeldLemmas.{known_back}
 use Rattle.ferry_piece.proofs.PutsLemmas.{adds_at, adds_here, allows_within, border_append, front_all, goes_at, goes_same}
 use Rattle.ferry_piece.specs.Adding.{AddsOn, HoldsAll, HoldsRefused, IsNoChunk, StopsLast}
-use Rattle.ferry_carry.specs.Naming.{TaggedRecord}
+use Rattle.ferry_carry.specs.Naming.{TaggedRecord, records_in}
 use Rattle.ferry_carry.specs.declared.options.Options.{Options}
 use Rattle.ferry_carry.specs.Carrying.{Origin, origin}
 use Rattle.ferry_carry.specs.Counting.{CountsOf, nothing_carried}
@@ -231,7 +231,7 @@ StepsOf from a b store now named copy added more n m result =
     → IfSome a (λ _. BeginsOne from (repo_view store.repo).keys named.name (added ++ more)))
     × (IfErr result (λ fault. archive_named named.name from.repo.manifest.archives ≡ Some named
     → WhereHeard a fault (λ refusal. FillsOne from (repo_view store.repo).keys named.name refusal (added ++ more)))
-    × IfOk result (CopiesOn from named b now copy added more)))
+    × MatchResult result (CopiesOn from named b now copy added more) (λ _. records_in more ≡ [])))
 
 -- the same, in the words of such a source
 pub stepped_as : (told : Option Told) (source : RepoState) (block most other others : ℕ) (time : Option (List ℕ)) (named : ArchiveRef) (a b : Option Told)
@@ -657,7 +657,7 @@ takes_none told source from name store flight a n fits accepts = record {
 }
 
 -- all that was added by turns so far, and by one more
-takes_added : (told : Option Told) (source : RepoState) (from : Origin) (name : List ℕ) (start more : List Addition) (store now : Store) (flight : Flight)
+pub takes_added : (told : Option Told) (source : RepoState) (from : Origin) (name : List ℕ) (start more : List Addition) (store now : Store) (flight : Flight)
     (a b : Option Told) (n m : ℕ) (before : TakesOn told source from name start store now flight a b n m)
     → before.fits.added ++ more ≡ start ++ (before.more ++ more)
 takes_added told source from name start more store now flight a b n m before =

@@ -11,6 +11,9 @@ pub mod StepLemmas
 pub mod RefusalLemmas
 pub mod NamingLemmas
 pub mod NextLemmas
+pub mod LengthLemmas
+pub mod TagLemmas
+pub mod ChunkLemmas
 pub mod AcceptingLemmas
 pub mod FlightLemmas
 pub mod CauseLemmas

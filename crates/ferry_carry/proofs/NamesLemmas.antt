@@ -164,6 +164,12 @@ module _ (from : Origin) (keys : Keys) where
     by (inl there) = inl (there, refl)
     by (inr new) = inr (new, inl refl)
 
+  -- of a name, behind names that came
+  pub name_behind : (accepted middle : ManifestText) (some : List (List ℕ)) (name : List ℕ) (begun : List Addition) → Extends accepted some middle
+      → BeginsName from keys middle [] name begun → BeginsName from keys accepted some name begun
+  name_behind accepted middle some name begun extends p =
+      subst (λ (b : List (List ℕ)). BeginsName from keys accepted b name begun) (append-nil some) (there_or accepted middle some [] name extends p)
+
   -- of more names
   begins_wider : (accepted : ManifestText) (before names more : List (List ℕ)) (begun : List Addition) → BeginsNames from keys accepted before names begun
       → BeginsNames from keys accepted before (names ++ more) begun
@@ -195,6 +201,14 @@ module _ (from : Origin) (keys : Keys) where
       names_both accepted (BeginsNames from keys accepted) (λ before name names all p. inr p) [] some others records added begun lists
       (subst (λ (b : List (List ℕ)). BeginsNames from keys accepted b others begun) (append-nil some)
       (begins_behind accepted middle some [] others begun extends behind))
+
+-- all that is added for some names, and a part of what is for the next
+pub lists_begins : (from : Origin) (keys : Keys) (accepted : ManifestText) (some : List (List ℕ)) (name : List ℕ) (rest : List (List ℕ))
+    (records : List TaggedRecord) (added begun : List Addition) → ListsNames from keys accepted [] some records added
+    → BeginsName from keys accepted some name begun → BeginsNames from keys accepted [] (some ++ name ∷ rest) (added ++ begun)
+lists_begins from keys accepted some name rest records added begun lists begins =
+    names_both from keys accepted (BeginsNames from keys accepted) (λ before name names all p. inr p) [] some (name ∷ rest) records added begun lists
+    (inl begins)
 
 -- the same where a target tells its files
 pub all_nothing : (before : Option Told) (from : Origin) (store : Store) (names : List (List ℕ)) → BeginsAll before from store names []

@@ -1,10 +1,10 @@
 -- Lemmas on specs/Naming.antt: the record that was put for an archive, what the store lets a next body do, and the commit of a name.
 use Rattle.std.proofs.Common.{◌≡◌, ◌⊎◌, inl, inr, Bool, ℕ, List, [], ◌∷◌, Option, None, Result, Ok, Err, IfOk, IfSome, OnOk, ◌+◌, ◌-◌, ◌^◌, min}
-use Rattle.std.proofs.Common.{length, ◌<◌, ◌++◌, refl, sym, ◌∙◌, ap, arith, subst, false, true}
+use Rattle.std.proofs.Common.{length, ◌<◌, ◌≤◌, ◌++◌, refl, sym, ◌∙◌, ap, arith, subst, false, true}
 use Rattle.std.proofs.lemmas.List.{append-nil, append_assoc}
 use Rattle.std.proofs.lemmas.Option.{IfSome_then}
-use Rattle.std.proofs.lemmas.Result.{IfOk-weaker}
 use Rattle.ferry_base.specs.Limits.{content_limit, zero_id}
+use Rattle.ferry_blob.proofs.CallerLemmas.{length-content_id}
 use Rattle.ferry_blob.specs.Blob.{content_id}
 use Rattle.ferry_disk.proofs.MomentLemmas.{between_both, between_map}
 use Rattle.ferry_disk.specs.Act.{files_now}
@@ -37,6 +37,8 @@ use Rattle.ferry_piece.proofs.FaultLemmas.{failed_target}
 use Rattle.ferry_carry.proofs.GrowLemmas.{commit_growing, commit_grows, growing_accepted, grows_accepted}
 use Rattle.ferry_carry.proofs.ListingLemmas.{bytes_apart, count_apart, counts_then, items_ended}
 use Rattle.ferry_carry.proofs.ProgressLemmas.{any_told, stream_ids}
+use Rattle.ferry_carry.proofs.LengthLemmas.{manifest_length}
+use Rattle.ferry_carry.proofs.TagLemmas.{tags_one}
 use Rattle.ferry_piece.proofs.PutsLemmas.{border_record, bytes_append, count_append}
 use Rattle.ferry_carry.proofs.WorkLemmas.{carried_nothing}
 use Rattle.ferry_piece.proofs.WorkLemmas.{between_known, works_as, works_front}
@@ -50,7 +52,7 @@ use Rattle.ferry_carry.specs.Counting.{CountsOf}
 use Rattle.ferry_piece.specs.Gather.{KeepsRest, chunks_of}
 use Rattle.ferry_carry.specs.Grow.{AcceptsMore, GrowsBy, IsBehind, KeepsGrowingBy, KeepsMost, KeepsNames}
 use Rattle.ferry_carry.specs.Listing.{BeginsOne, ListsArchive, ListsContents}
-use Rattle.ferry_carry.specs.Naming.{AddsRecord, AddsUnder, BeginsRecord, Draws, TaggedRecord, copied_in, entry_for}
+use Rattle.ferry_carry.specs.Naming.{AddsRecord, BeginsRecord, Draws, PutsRecord, TaggedRecord, copied_in, entry_for}
 use Rattle.ferry_piece.specs.Piece.{CountsOn}
 use Rattle.ferry_carry.specs.Progress.{CopiesAll, IsAllCopied, IsCopyFrom, WritesItems}
 use Rattle.ferry_piece.specs.Puts.{Addition, AreOf, ArePieces, AtBegin, AtEnd, Content, Kind, Record, Stream, addition, border_behind, put_bytes, put_count}
@@ -67,28 +69,32 @@ use Rattle.ferry_piece.specs.declared.piece.PieceWriter.{PieceWriter}
 
 -- What was added of a record, and whose id was answered.
 abbrev pub RecordIs : Keys → ArchiveText → List Addition → Option (List ℕ) → Option (List ℕ) → Result (List ℕ) CarryFault → Type 0
-RecordIs keys archive more before now r = BeginsRecord keys archive more × IfOk r (AddsUnder keys archive more before now)
+RecordIs keys archive more before now r = BeginsRecord keys archive more × PutsRecord keys archive more before now r
 
 -- a text that was tagged and read under the store's keys, and added
 pub record_put : (r : Result (List ℕ) CarryFault) (keys other : Keys) (salt text given : List ℕ) (put : Bool) (archive : ArchiveText)
     (before now : Option (List ℕ)) → other ≡ keys → text ≡ given → Draws salt before now → given ≡ archive_text other salt archive
-    → archive_of other given ≡ Ok (as_tagged archive) → IfOk r (λ id. id ≡ content_id keys text)
+    → archive_of other given ≡ Ok (as_tagged archive) → length given ≤ content_limit → IfOk r (λ id. id ≡ content_id keys text)
     → RecordIs keys archive (addition Record text put ∷ []) before now r
-record_put r keys other salt text given put archive before now same is drew text_is reads id_is =
-    let adds : AddsRecord keys archive (addition Record text put ∷ []) =
-    record {
-      salt = salt;
-      salt_size = drew.0;
-      text = text;
-      text_is = is ∙ (text_is ∙ ap (λ (k : Keys). archive_text k salt archive) same);
-      put = put;
-      more_is = refl;
-      reads = ap (λ (t : List ℕ). archive_of keys t) is ∙ (ap (λ (k : Keys). archive_of k given) (sym same) ∙ reads);
-    } in (
-      inr adds,
-      IfOk-weaker r (λ id. id ≡ content_id keys text) (AddsUnder keys archive (addition Record text put ∷ []) before now)
-          (λ id under. record { adds = adds; drew = drew; id_is = under }) id_is,
-    )
+record_put r keys other salt text given put archive before now same is drew text_is reads small id_is = (inr adds, by r id_is) where
+  spelled : text ≡ archive_text keys salt archive
+  spelled = is ∙ (text_is ∙ ap (λ (k : Keys). archive_text k salt archive) same)
+
+  adds : AddsRecord keys archive (addition Record text put ∷ [])
+  adds = record {
+    salt = salt;
+    salt_size = drew.0;
+    text = text;
+    text_is = spelled;
+    put = put;
+    more_is = refl;
+    reads = ap (λ (t : List ℕ). archive_of keys t) is ∙ (ap (λ (k : Keys). archive_of k given) (sym same) ∙ reads);
+    small = subst (λ (t : List ℕ). length t ≤ content_limit) (sym is) small;
+  }
+
+  by : (q : Result (List ℕ) CarryFault) → IfOk q (λ id. id ≡ content_id keys text) → PutsRecord keys archive (addition Record text put ∷ []) before now q
+  by (Ok id) under = record { adds = adds; drew = drew; id_is = under }
+  by (Err fault) under = inr (tags_one keys archive salt text put before now drew spelled)
 
 -- the same under the same keys, with the same pieces
 pub record_as : (r : Result (List ℕ) CarryFault) (keys other : Keys) (archive : ArchiveText) (block : ℕ) (pieces given : List ChunkRef)
@@ -123,6 +129,7 @@ copied_so files repo copy wholes added more ready writes adds =
       tagged = refl;
       text_is = adds.text_is;
       reads = adds.reads;
+      small = adds.small;
       spelled = writes.spelled;
     }
 
@@ -355,13 +362,18 @@ record_limit now given source store middle named id text fault rest id_is lacks 
     let large = limits is in
     record {
       lacks = lacks;
-      text = text;
-      salt = large.0;
-      salt_size = large.1.0;
-      large = subst (λ (i : List ℕ). Large large.0 (repo_view store.repo).keys (accepted_in store) (repo_view store.repo).manifest i) id_is
-          (subst (λ (m : ManifestText). Large large.0 (repo_view store.repo).keys (accepted_in store) m id) rest.manifest
+      large = λ other salt size.
+          let here : Large large.0 (repo_view store.repo).keys (accepted_in store) (repo_view store.repo).manifest id =
+          subst (λ (m : ManifestText). Large large.0 (repo_view store.repo).keys (accepted_in store) m id) rest.manifest
           (subst (λ (m : ManifestText). Large large.0 (repo_view store.repo).keys m (repo_view middle.repo).manifest id) rest.accepted
-          (subst (λ (k : Keys). Large large.0 k (accepted_in middle) (repo_view middle.repo).manifest id) rest.keys large.1.1)));
+          (subst (λ (k : Keys). Large large.0 k (accepted_in middle) (repo_view middle.repo).manifest id) rest.keys large.1.1)) in
+          let ids : length id ≡ length (content_id (repo_view store.repo).keys other) =
+          ap (λ (i : List ℕ). length i) id_is ∙ (length-content_id (repo_view store.repo).keys text
+          ∙ sym (length-content_id (repo_view store.repo).keys other)) in
+          subst (λ (n : ℕ). content_limit < n)
+          (manifest_length (repo_view store.repo).keys large.0 salt (accepted_in store) named source.manifest.item_keys
+          (time_for given source.manifest.timestamp (repo_view store.repo).manifest.timestamp) id (content_id (repo_view store.repo).keys other)
+          (large.1.0 ∙ sym size) ids) here;
     }) where
       Large : List ℕ → Keys → ManifestText → ManifestText → List ℕ → Type 0
       Large salt keys accepted manifest id = content_limit < length (manifest_text keys salt
@@ -376,12 +388,10 @@ rest_limit now given source after store middle named fault rest same limited =
     let l = large is in
     record {
       lacks = subst (λ (m : ManifestText). archive_named named.name m.archives ≡ None) rest.accepted l.lacks;
-      text = l.text;
-      salt = l.salt;
-      salt_size = l.salt_size;
-      large = subst (λ (m : ManifestText). Large l.text l.salt (repo_view store.repo).keys (accepted_in store) m) rest.manifest
-          (subst (λ (m : ManifestText). Large l.text l.salt (repo_view store.repo).keys m (repo_view middle.repo).manifest) rest.accepted
-          (subst (λ (k : Keys). Large l.text l.salt k (accepted_in middle) (repo_view middle.repo).manifest) rest.keys l.large));
+      large = λ text salt size.
+          subst (λ (m : ManifestText). Large text salt (repo_view store.repo).keys (accepted_in store) m) rest.manifest
+          (subst (λ (m : ManifestText). Large text salt (repo_view store.repo).keys m (repo_view middle.repo).manifest) rest.accepted
+          (subst (λ (k : Keys). Large text salt k (accepted_in middle) (repo_view middle.repo).manifest) rest.keys (l.large text salt size)));
     }) where
       Large : List ℕ → List ℕ → Keys → ManifestText → ManifestText → Type 0
       Large text salt keys accepted manifest = content_limit < length (manifest_text keys salt

@@ -1,7 +1,6 @@
 -- Lemmas on specs/Naming.antt, specs/Accepting.antt and specs/Grow.antt: the salts that were drawn, and the manifests behind archives, one after another.
 use Rattle.std.proofs.Common.{◌≡◌, inl, inr, ℕ, List, [], ◌∷◌, ◌++◌, Option, Some, None}
-use Rattle.std.proofs.Common.{option_map, IsSome, Result, Ok, Err, OnOk, refl, sym, ◌∙◌, ap, ◌≢◌, IfOk}
-use Rattle.std.proofs.Common.{IsErrAnd}
+use Rattle.std.proofs.Common.{option_map, IsSome, Result, Ok, Err, OnOk, refl, sym, ◌∙◌, ap}
 use Rattle.std.proofs.Common.{subst}
 use Rattle.std.proofs.lemmas.List.{append-nil, append_assoc, map-append}
 use Rattle.std.specs.List.{AllByRecursion}
@@ -13,8 +12,6 @@ use Rattle.ferry_carry.specs.Grow.{IsBehind}
 use Rattle.ferry_carry.specs.Naming.{Draws, DrawsSalts, HasSalts, TaggedRecord, entry_for, record_ids, salts_of}
 use Rattle.ferry_carry.specs.Telling.{AcceptsNames}
 use Rattle.ferry_carry.specs.Time.{time_for}
-use Rattle.ferry_carry.specs.declared.flight.Turn.{Turn}
-use Rattle.ferry_carry.specs.declared.flight.Turn.TheVariants.{Named}
 use Rattle.ferry_mac.specs.declared.keys.Keys.{Keys}
 use Rattle.ferry_manifest.specs.Manifest.Text.{ManifestText}
 use Rattle.ferry_manifest.specs.declared.manifest.ArchiveRef.{ArchiveRef}
@@ -39,7 +36,7 @@ salts_both [] two p q = q
 salts_both (first ∷ one) two p q = (p.0, salts_both one two p.1 q)
 
 -- bytes that were drawn behind others
-drawn_both : (before middle now : Option (List ℕ)) (some more : List ℕ) → middle ≡ option_map (λ (bytes : List ℕ). bytes ++ some) before
+pub drawn_both : (before middle now : Option (List ℕ)) (some more : List ℕ) → middle ≡ option_map (λ (bytes : List ℕ). bytes ++ some) before
     → now ≡ option_map (λ (bytes : List ℕ). bytes ++ more) middle → now ≡ option_map (λ (bytes : List ℕ). bytes ++ (some ++ more)) before
 drawn_both before middle now some more p q = q ∙ (ap (option_map (λ (bytes : List ℕ). bytes ++ more)) p ∙ by before) where
   by : (o : Option (List ℕ)) → option_map (λ (bytes : List ℕ). bytes ++ more) (option_map (λ (bytes : List ℕ). bytes ++ some) o)
@@ -47,7 +44,7 @@ drawn_both before middle now some more p q = q ∙ (ap (option_map (λ (bytes : 
   by None = refl
   by (Some bytes) = ap Some (append_assoc bytes some more)
 
-drawn_none : (now : Option (List ℕ)) → now ≡ option_map (λ (bytes : List ℕ). bytes ++ []) now
+pub drawn_none : (now : Option (List ℕ)) → now ≡ option_map (λ (bytes : List ℕ). bytes ++ []) now
 drawn_none None = refl
 drawn_none (Some bytes) = ap Some (sym (append-nil bytes))
 
@@ -165,20 +162,3 @@ behind_named from source given store named id flown lacks settled =
       next_one from.time from.repo.manifest (accepted_in store) named.name (id ∷ []) (named_next given source store named id)
           (inr (record { named = named; named_is = named_is; lacks = lacks }, (id, (refl, is)))),
     )
-
--- ---- refusals
-
--- where a body was refused nothing is said of what it did
-pub on_err : {T : Type 0} (X : Type 0) (result : Result T CarryFault) (fault : CarryFault) → IsErrAnd result (λ other. other ≡ fault) → OnOk result X
-on_err {T} X (Ok value) fault is = absurd is
-on_err {T} X (Err other) fault is = tt
-
-pub unnamed_err : (X : Type 0) (result : Result Turn CarryFault) (fault : CarryFault) → IsErrAnd result (λ other. other ≡ fault)
-    → IfOk result (λ turn. turn ≡ Named → X)
-unnamed_err X (Ok turn) fault is = absurd is
-unnamed_err X (Err other) fault is = tt
-
--- and where no archive was named
-pub unnamed_all : (X : Type 0) (result : Result Turn CarryFault) → result ≢ Ok Named → IfOk result (λ turn. turn ≡ Named → X)
-unnamed_all X (Ok turn) apart = λ is. absurd (apart (ap Ok is))
-unnamed_all X (Err fault) apart = tt

@@ -478,6 +478,7 @@ ready_then most counts there from named store middle copy added last more before
       tagged = refl;
       text_is = is.adds.text_is;
       reads = is.adds.reads;
+      small = is.adds.small;
       spelled = writes.spelled;
     } in
     let behind : stream_pieces keys block wholes ++ text ∷ [] ≡ writes.taken ++ (left ++ text ∷ []) =

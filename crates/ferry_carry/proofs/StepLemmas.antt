@@ -1,6 +1,6 @@
 -- Lemmas on specs/Step.antt: a step, put together from what its parts did.
 use Rattle.std.proofs.Common.{◌≡◌, ◌+◌, ◌-◌, ◌^◌, ◌++◌, ℕ, inl, inr, Bool, true, false, List, min, Option, Some, None, Result, Ok, Err, IfErr, IfOk, IfSome}
-use Rattle.std.proofs.Common.{IsErrAnd, refl, sym, ◌∙◌, ap, subst, arith}
+use Rattle.std.proofs.Common.{IsErrAnd, MatchResult, [], refl, sym, ◌∙◌, ap, subst, arith}
 use Rattle.ferry_compare.proofs.StepLemmas.{at_first}
 use Rattle.ferry_disk.specs.Device.{Told, told_files, heard}
 use Rattle.ferry_item.specs.Item.{ItemText, is_healed}
@@ -20,6 +20,8 @@ use Rattle.ferry_carry.proofs.FillingLemmas.{copied_filled}
 use Rattle.ferry_carry.proofs.ListingLemmas.{bytes_apart, copied_begun, count_apart, step_begun}
 use Rattle.ferry_carry.proofs.ProgressLemmas.{steps_copied, steps_ended}
 use Rattle.ferry_piece.proofs.PutsLemmas.{bytes_append, count_append}
+use Rattle.ferry_carry.proofs.TagLemmas.{begun_apart}
+use Rattle.ferry_carry.specs.Naming.{records_in}
 use Rattle.ferry_carry.specs.Carrying.{origin}
 use Rattle.ferry_carry.specs.Copied.{IsRead}
 use Rattle.ferry_carry.specs.Copying.{BeginsContent, CopiesContent, IsReady, TakesItem, WritesItem}
@@ -221,7 +223,8 @@ CopiedIs time told source named added copy copy_now store now more a b n m resul
     → IfSome a (λ _. BeginsOne (origin told source copy.block copy.contents.checkpoint time) (repo_view store.repo).keys named.name (added ++ more)))
     × (IfErr result (λ fault. archive_named named.name source.manifest.archives ≡ Some named → WhereHeard a fault
     (λ refusal. FillsOne (origin told source copy.block copy.contents.checkpoint time) (repo_view store.repo).keys named.name refusal (added ++ more)))
-    × IfOk result (CopiesOn (origin told source copy.block copy.contents.checkpoint time) named b now copy_now added more)))
+    × MatchResult result (CopiesOn (origin told source copy.block copy.contents.checkpoint time) named b now copy_now added more)
+    (λ _. records_in more ≡ [])))
 
 module _ (time : Option (List ℕ)) (told a b : Option Told) (source : RepoState) (named : ArchiveRef) (store now : Store) (copy copy_now : Copy)
     (added more : List Addition) (n m : ℕ) (ready : IsReady copy)
@@ -238,7 +241,7 @@ module _ (time : Option (List ℕ)) (told a b : Option Told) (source : RepoState
           copied_begun told a source cached copy.block copy.contents.checkpoint time named store copy added more ready log_fits named_is p.1.0.0 so,
       (
         λ named_is. copied_filled told a source copy.block copy.contents.checkpoint time named store copy added more other named_is p.1.0.1 so,
-        tt,
+        begun_apart told source (repo_view store.repo).keys copy more p.1.0.0,
       ),
     ),
   )

@@ -51,13 +51,12 @@ AreNextOf given source manifest [] ids manifest_now = (ids ≡ []) × (manifest_
 AreNextOf given source manifest (name ∷ names) ids manifest_now = (own : List (List ℕ)) × ((others : List (List ℕ)) × ((ids ≡ own ++ others)
     × ((middle : ManifestText) × (IsNextOf given source manifest name own middle × AreNextOf given source middle names others manifest_now))))
 
--- With the archive of a name, whose record has some text, and some salt of 64 bytes a manifest is larger than the content of an object may be.
+-- With the archive of a name a manifest is larger than the content of an object may be, whatever the text of its record, and whatever salt of 64 bytes it is
+-- tagged with.
 pub record HasLargeNext (given : Option (List ℕ)) (source : ManifestText) (keys : Keys) (manifest : ManifestText) (name : List ℕ) : Type 0 where
   pub new : IsNewIn source manifest name
-  pub text : List ℕ
-  pub salt : List ℕ
-  pub salt_size : length salt ≡ 64
-  pub large : content_limit < length (manifest_text keys salt (next_named given source manifest new.named (content_id keys text)))
+  pub large : (text salt : List ℕ) → length salt ≡ 64
+      → content_limit < length (manifest_text keys salt (next_named given source manifest new.named (content_id keys text)))
 
 -- Behind a front of these names, of which this holds, the manifest with the next is too large.
 pub record LimitsNames (given : Option (List ℕ)) (source : ManifestText) (keys : Keys) (manifest : ManifestText) (names : List (List ℕ))

@@ -1,6 +1,7 @@
 -- What an archive is in a target: its items with the chunks of their contents as they are cut there, its stream, and its record.
 use Rattle.std.specs.Prelude.{◌≡◌, ◌≤◌, ℕ, true, List, [], ◌∷◌, ◌++◌, length, map, Option, Some, None, option_map, Ok}
 use Rattle.std.specs.List.{AllByRecursion, concat, flat_map}
+use Rattle.ferry_base.specs.Limits.{content_limit}
 use Rattle.ferry_blob.specs.Blob.{content_id}
 use Rattle.ferry_item.specs.Item.{ItemText}
 use Rattle.ferry_item.specs.Stream.{an_item, front_item}
@@ -52,7 +53,7 @@ abbrev pub adds_of : Keys → ℕ → List WholeItem → List ℕ → List (List
 adds_of keys block wholes text = contents_of block wholes ++ (stream_pieces keys block wholes ++ text ∷ [])
 
 -- A text is that of the record of an archive with these fields, whose stream is that of these items, and which was cut into pieces of this length. It is
--- tagged with this salt.
+-- tagged with this salt, and no larger than the content of an object may be.
 pub record IsCopyOf (keys : Keys) (block : ℕ) (wholes : List WholeItem) (fields : Tree) (salt text : List ℕ) : Type 0 where
   pub some : 1 ≤ block
   pub salt_size : length salt ≡ 64
@@ -63,4 +64,5 @@ pub record IsCopyOf (keys : Keys) (block : ℕ) (wholes : List WholeItem) (field
   pub tagged : copied.tagged ≡ true
   pub text_is : text ≡ archive_text keys salt copied
   pub reads : archive_of keys text ≡ Ok copied
+  pub small : length text ≤ content_limit
   pub spelled : AllByRecursion (λ (whole : WholeItem). IsRead (copied_item keys block whole)) wholes

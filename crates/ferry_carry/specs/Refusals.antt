@@ -1,15 +1,16 @@
 -- Why archives aren't carried: what a refusal says of the source's archive, of the target's archive of the same name, and of what would be written.
-use Rattle.std.specs.Prelude.{◌≡◌, ◌⊎◌, ◌<◌, ◌*◌, ℕ, Bool, true, false, List, [], ◌∷◌, ◌++◌, length, map, sum_by, slice_get, Option, Some, None}
+use Rattle.std.specs.Prelude.{◌≡◌, ◌⊎◌, ◌<◌, ◌≤◌, ◌*◌, ℕ, Bool, true, false, List, [], ◌∷◌, ◌++◌, length, map, sum_by, slice_get, Option, Some, None}
 use Rattle.std.specs.Prelude.{IfSome, IsSome}
 use Rattle.ferry_base.specs.Limits.{content_limit}
 use Rattle.ferry_blob.specs.Blob.{content_id}
+use Rattle.ferry_blob.specs.declared.fault.BlobFault.{BlobFault}
 use Rattle.ferry_disk.specs.Device.{Told, told_files}
 use Rattle.ferry_disk.specs.Files.{Files}
 use Rattle.ferry_item.specs.Item.{ItemText}
 use Rattle.ferry_item.specs.declared.item.ChunkRef.{ChunkRef}
 use Rattle.ferry_mac.specs.declared.keys.Keys.{Keys}
 use Rattle.ferry_manifest.specs.Manifest.Text.{ManifestText}
-use Rattle.ferry_manifest.specs.Manifest.Writing.{manifest_text}
+use Rattle.ferry_manifest.specs.Manifest.Writing.{IsPackable, manifest_text}
 use Rattle.ferry_manifest.specs.Record.Text.{ArchiveText}
 use Rattle.ferry_manifest.specs.Record.Writing.{archive_text}
 use Rattle.ferry_manifest.specs.declared.manifest.ArchiveRef.{ArchiveRef}
@@ -20,19 +21,22 @@ use Rattle.ferry_repo.specs.Walk.{Comes, IsToCome, WalkState}
 use Rattle.ferry_repo.specs.Whole.{RefusesJoined, RefusesWhole, WholeArchive, WholeItem, WholesCome}
 use Rattle.ferry_repo.specs.declared.fault.RepoFault.{RepoFault}
 use Rattle.ferry_store.specs.Commit.{accepted_in}
-use Rattle.ferry_store.specs.Store.{StoreFits}
-use Rattle.ferry_store.specs.declared.fault.StoreRefusal.TheVariants.{TooLarge, Write}
+use Rattle.ferry_store.specs.Store.{IsUnspent, StoreFits}
+use Rattle.ferry_repo.specs.declared.fault.RepoFault.TheVariants.{Blob}
+use Rattle.ferry_store.specs.declared.fault.StoreRefusal.TheVariants.{Repo, TooLarge, Write}
 use Rattle.ferry_store.specs.declared.store.Store.{Store}
 use Rattle.ferry_write.specs.declared.fault.WriteFault.TheVariants as Writes
 use Rattle.ferry_carry.specs.Accepting.{named_next}
 use Rattle.ferry_carry.specs.Carrying.{Origin, SaysIn}
 use Rattle.ferry_carry.specs.Chosen.{IsMissingName}
 use Rattle.ferry_carry.specs.Copied.{stream_pieces}
-use Rattle.ferry_carry.specs.Grow.{KeepsMost}
-use Rattle.ferry_carry.specs.Naming.{copied_archive}
+use Rattle.ferry_carry.specs.Grow.{AcceptsMore, KeepsMost}
+use Rattle.ferry_carry.specs.Listing.{BeginsName, ListsNames}
+use Rattle.ferry_carry.specs.Naming.{DrawsSalts, TaggedRecord, TagsDrawn, copied_archive}
 use Rattle.ferry_carry.specs.Telling.{TellsNames}
 use Rattle.ferry_piece.specs.declared.fault.CarryFault.{CarryFault}
 use Rattle.ferry_piece.specs.declared.fault.CarryFault.TheVariants.{Source, Target, Taken, NotFound, Pieces, Memory, Record}
+use Rattle.ferry_piece.specs.Puts.{Addition}
 use Rattle.ferry_piece.specs.Stops.{is_target, StopsTarget}
 
 -- ---- the target
@@ -116,16 +120,14 @@ pub record HasLongItem (there : Files) (from : Origin) (name : List ℕ) : Type 
   pub contents : WholesCome there from.repo.log from.repo.keys items None wholes None
   pub long : IsTooLong from.block item.chunks
 
--- The archive of a name is whole in a source, and with some salt of 64 bytes its record in a target with these secrets would be larger than the content
--- of an object may be.
+-- The archive of a name is whole in a source, and its record in a target with these secrets would be larger than the content of an object may be, whatever
+-- salt of 64 bytes it is tagged with.
 pub record HasLargeRecord (there : Files) (from : Origin) (keys : Keys) (name : List ℕ) : Type 0 where
   pub whole : WholeArchive
   pub source : SaysIn there from.repo name whole
   pub archive : ArchiveText
   pub fields : archive.fields ≡ whole.fields
-  pub salt : List ℕ
-  pub salt_size : length salt ≡ 64
-  pub large : content_limit < length (archive_text keys salt
+  pub large : (salt : List ℕ) → length salt ≡ 64 → content_limit < length (archive_text keys salt
       (copied_archive archive from.block (map (content_id keys) (stream_pieces keys from.block whole.items))))
 
 -- What holds of the files of a source, where it and the target tell theirs.
@@ -141,9 +143,9 @@ RefusesStep from heard name (Target refusal) = Unit {0}
 RefusesStep from heard name Memory = Unit {0}
 RefusesStep from heard name fault = ⊥
 
--- Why the record of an archive isn't put: with some salt of 64 bytes it would be larger than the content of an object may be.
+-- Why the record of an archive isn't put: it would be larger than the content of an object may be, whatever salt of 64 bytes it is tagged with.
 abbrev pub RefusesRecordText : Keys → ArchiveText → CarryFault → Type 0
-RefusesRecordText keys archive Record = (salt : List ℕ) × ((length salt ≡ 64) × (content_limit < length (archive_text keys salt archive)))
+RefusesRecordText keys archive Record = (salt : List ℕ) → length salt ≡ 64 → content_limit < length (archive_text keys salt archive)
 RefusesRecordText keys archive fault = is_target fault ≡ true
 
 -- Why an archive all of whose items were copied isn't named: its record is too large.
@@ -158,19 +160,48 @@ abbrev pub LimitsManifest : Keys → ManifestText → CarryFault → Type 0
 LimitsManifest keys manifest fault = fault ≡ Target TooLarge
     → (salt : List ℕ) × ((length salt ≡ 64) × (content_limit < length (manifest_text keys salt manifest)))
 
--- With an archive of the source that wasn't accepted, whose record has some text, and some salt of 64 bytes the manifest is larger than the content of an
--- object may be.
+-- With an archive of the source that wasn't accepted the manifest is larger than the content of an object may be, whatever the text of its record, and
+-- whatever salt of 64 bytes it is tagged with.
 pub record HasLargeManifest (given : Option (List ℕ)) (source : RepoState) (store : Store) (named : ArchiveRef) : Type 0 where
   pub lacks : archive_named named.name (accepted_in store).archives ≡ None
-  pub text : List ℕ
-  pub salt : List ℕ
-  pub salt_size : length salt ≡ 64
-  pub large : content_limit < length (manifest_text (repo_view store.repo).keys salt
+  pub large : (text salt : List ℕ) → length salt ≡ 64 → content_limit < length (manifest_text (repo_view store.repo).keys salt
       (named_next given source store named (content_id (repo_view store.repo).keys text)))
 
 -- Where the target tells its acts, a manifest is too large only with this archive.
 abbrev pub IsLimited : Option Told → Option (List ℕ) → RepoState → Store → ArchiveRef → CarryFault → Type 0
 IsLimited now given source store named fault = IfSome now (λ _. fault ≡ Target TooLarge → HasLargeManifest given source store named)
+
+-- ---- a chunk that was live in a target
+
+-- A fault is that of a live chunk of this id, which breaks a rule.
+abbrev pub IsChunk : List ℕ → CarryFault → Type 0
+IsChunk id fault = (cause : BlobFault) × (fault ≡ Target (Repo (Blob id cause)))
+
+-- What is added for a name behind others, as far as it came, ends with a content of this id. Its record, where it is among them, is tagged from what was
+-- drawn.
+pub record EndsAt (from : Origin) (keys : Keys) (accepted : ManifestText) (before : List (List ℕ)) (name : List ℕ) (drawn drawn_now : Option (List ℕ))
+    (id : List ℕ) : Type 0 where
+  pub front : List Addition
+  pub one : Addition
+  pub begins : BeginsName from keys accepted before name (front ++ one ∷ [])
+  pub tags : TagsDrawn keys (front ++ one ∷ []) drawn drawn_now
+  pub id_is : id ≡ content_id keys one.content
+
+-- Behind a front of these names, of which this holds, a content of this id was to be added for the next. All that is added for the front was, and its salts
+-- were drawn.
+pub record StopsAtChunk (from : Origin) (keys : Keys) (accepted : ManifestText) (names : List (List ℕ)) (Told : List (List ℕ) → Type 0)
+    (drawn drawn_now : Option (List ℕ)) (id : List ℕ) : Type 0 where
+  pub done : List (List ℕ)
+  pub name : List ℕ
+  pub rest : List (List ℕ)
+  pub split : names ≡ done ++ name ∷ rest
+  pub told : Told done
+  pub records : List TaggedRecord
+  pub added : List Addition
+  pub lists : ListsNames from keys accepted [] done records added
+  pub middle : Option (List ℕ)
+  pub drew : DrawsSalts records drawn middle
+  pub ends : EndsAt from keys accepted done name middle drawn_now id
 
 -- ---- the archive of the same name in a target
 
@@ -188,11 +219,16 @@ RefusesComparing told source name (Target refusal) = Unit {0}
 RefusesComparing told source name Memory = Unit {0}
 RefusesComparing told source name fault = ⊥
 
--- A store that keeps what another has fits, and has an archive of this name.
-pub record TakenAt (store : Store) (now : Option Told) (store_now : Store) (name : List ℕ) : Type 0 where
+-- A store that keeps what another has fits, and has an archive of this name. It can be used on: it isn't spent, no more is pending than may be, and what it
+-- accepted can be packed, and has each archive that it committed.
+pub record TakenAt (most : ℕ) (store : Store) (now : Option Told) (store_now : Store) (name : List ℕ) : Type 0 where
   pub fits : IfSome now (λ t. StoreFits false store_now t.history)
   pub there : IsSome (archive_named name (repo_view store_now.repo).manifest.archives)
-  pub most : KeepsMost store store_now
+  pub most_kept : KeepsMost store store_now
+  pub unspent : IsUnspent store_now
+  pub pending : store_now.pending ≤ most
+  pub packable : IsPackable (accepted_in store_now)
+  pub accepts : AcceptsMore store_now
 
 -- The target has no archive of this name.
 abbrev pub LacksName : Store → List ℕ → Type 0
@@ -207,7 +243,7 @@ abbrev pub RefusesName : Origin → Option Told → Store → Option Told → St
 RefusesName from heard store now store_now name (Source fault) = RefusesStep from heard name (Source fault)
 RefusesName from heard store now store_now name (Target refusal) = StopsTarget now (repo_view store.repo).keys (Target refusal)
 RefusesName from heard store now store_now name (Taken taken) =
-    (taken ≡ name) × (DiffersThere from now (repo_view store_now.repo) name × TakenAt store now store_now name)
+    (taken ≡ name) × (DiffersThere from now (repo_view store_now.repo) name × TakenAt from.most store now store_now name)
 RefusesName from heard store now store_now name (NotFound missing) = (missing ≡ name) × (archive_named name from.repo.manifest.archives ≡ None)
 RefusesName from heard store now store_now name Pieces = LacksName store name × RefusesStep from heard name Pieces
 RefusesName from heard store now store_now name Memory = Unit {0}

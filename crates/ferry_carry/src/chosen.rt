@@ -1,5 +1,6 @@
 //! The chosen archives, one after another.
-ghost use Rattle.std.specs.Prelude.{◌≡◌, ◌≤◌, ◌⊎◌, ℕ, List, [], ◌∷◌, None, Some, Err, true, false, slice_get, IfErr, IfOk, IfSome, IsSome, OnOk};
+ghost use Rattle.std.specs.Prelude.{◌≡◌, ◌≤◌, ◌⊎◌, ◌++◌, ℕ, List, [], ◌∷◌, None, Some};
+ghost use Rattle.std.specs.Prelude.{Err, true, false, slice_get, IfErr, IfOk, IfSome, IsSome, MatchResult, OnOk};
 ghost use Rattle.ferry_carry.specs.Accepting.{HasLargeNext, LimitsNames};
 ghost use Rattle.ferry_carry.specs.Chosen.{IsMissingName, TellsLine};
 ghost use Rattle.ferry_piece.specs.Fault.{IsOfWork, random_failed, shelf_failed};
@@ -7,9 +8,10 @@ ghost use Rattle.ferry_carry.specs.Counting.{TellsNew};
 ghost use Rattle.ferry_carry.specs.Flight.{AreRight, FlightFits, TakesAll, flown_from, origin_of};
 ghost use Rattle.ferry_carry.specs.Grow.{KeepsMost};
 ghost use Rattle.ferry_carry.specs.Lines.{name_line, told_of};
-ghost use Rattle.ferry_carry.specs.Naming.{TaggedRecord};
+ghost use Rattle.ferry_carry.specs.Naming.{TaggedRecord, TagsDrawn};
+ghost use Rattle.ferry_piece.specs.Adding.{IsNoChunk};
 ghost use Rattle.ferry_piece.specs.Puts.{Addition};
-ghost use Rattle.ferry_carry.specs.Refusals.{RefusesName, RefusesNames, RefusesOne, is_of_telling};
+ghost use Rattle.ferry_carry.specs.Refusals.{EndsAt, IsChunk, RefusesName, RefusesNames, RefusesOne, StopsAtChunk, WhereTold, is_of_telling};
 ghost use Rattle.ferry_piece.specs.Stops.{StopsTarget, is_target};
 ghost use Rattle.ferry_carry.specs.Telling.{AcceptsNames, Reports, ReportsWhole, StopsBehind, StopsUnnamed, TellsNames};
 ghost use Rattle.ferry_piece.specs.Work.{Works};
@@ -85,6 +87,11 @@ pub fn carry<S: Shelf, D: Depot, E: Entropy>(
     ensures limit { IfErr result (λ fault. fault ≡ CarryFault.Target StoreRefusal.TooLarge
         → IfSome (D.told depot.old) (λ b. IfSome (D.told depot.new) (λ t. LimitsNames options.now.timestamp (repo_view source.old).manifest
         (repo_view store.old.repo).keys (accepted_in store.old) names.now (λ done. TellsNames (accepted_in store.old) done b.history t.history)))) }
+    // A live chunk that stops it has the id of a content that was to be added for the name behind those that were told.
+    ensures chunk { IfErr result (λ fault. (id : List ℕ) → IsChunk id fault
+        → IfSome (D.told depot.old) (λ b. IfSome (D.told depot.new) (λ t. IfSome (S.told shelf.old) (λ _.
+        StopsAtChunk (origin_of (S.told shelf.old) (repo_view source.old) options.now) (repo_view store.old.repo).keys (accepted_in store.old) names.now
+        (λ done. TellsNames (accepted_in store.old) done b.history t.history) (E.drawn entropy.old) (E.drawn entropy.new) id)))) }
     ensures ended { OnOk result (store.old.pending ≡ 0 → store.new.pending ≡ 0) }
     // Where it is refused, but for a device that failed and want of memory, the archives came that were told, and no other.
     ensures stands { IfErr result (λ fault. IsOfWork fault
@@ -150,6 +157,11 @@ fn carry_all<S: Shelf, D: Depot, E: Entropy>(
     ensures limit { IfErr result (λ fault. fault ≡ CarryFault.Target StoreRefusal.TooLarge
         → IfSome (D.told depot.old) (λ b. IfSome (D.told depot.new) (λ t. LimitsNames options.now.timestamp (repo_view source.old).manifest
         (repo_view store.old.repo).keys (accepted_in store.old) names.now (λ done. TellsNames (accepted_in store.old) done b.history t.history)))) }
+    // A live chunk that stops it has the id of a content that was to be added for the name behind those that were told.
+    ensures chunk { IfErr result (λ fault. (id : List ℕ) → IsChunk id fault
+        → IfSome (D.told depot.old) (λ b. IfSome (D.told depot.new) (λ t. IfSome (S.told shelf.old) (λ _.
+        StopsAtChunk (origin_of (S.told shelf.old) (repo_view source.old) options.now) (repo_view store.old.repo).keys (accepted_in store.old) names.now
+        (λ done. TellsNames (accepted_in store.old) done b.history t.history) (E.drawn entropy.old) (E.drawn entropy.new) id)))) }
     ensures ended { OnOk result (store.old.pending ≡ 0 → store.new.pending ≡ 0) }
     ensures stands { IfErr result (λ fault. IsOfWork fault
         → StopsBehind (origin_of (S.told shelf.old) (repo_view source.old) options.now) names.now store.old
@@ -205,6 +217,10 @@ fn carry_one<S: Shelf, D: Depot, E: Entropy>(
     ensures untold { IfErr result (λ fault. is_of_telling fault ≡ false → Between (D.told depot.old) (D.told depot.new) TellsNothing) }
     ensures limit { IfErr result (λ fault. fault ≡ CarryFault.Target StoreRefusal.TooLarge → IfSome (D.told depot.new) (λ _.
         HasLargeNext options.now.timestamp (repo_view source.old).manifest (repo_view store.old.repo).keys (accepted_in store.old) name.now)) }
+    ensures chunk { IfErr result (λ fault. (id : List ℕ) → IsChunk id fault
+        → WhereTold (origin_of (S.told shelf.old) (repo_view source.old) options.now) (D.told depot.old) (λ _.
+        EndsAt (origin_of (S.told shelf.old) (repo_view source.old) options.now) (repo_view store.old.repo).keys (accepted_in store.old) [] name.now
+        (E.drawn entropy.old) (E.drawn entropy.new) id)) }
     ensures stands { IfErr result (λ fault. IsOfWork fault
         → StopsUnnamed (origin_of (S.told shelf.old) (repo_view source.old) options.now) name.now store.old
         (D.told depot.old) (D.told depot.new)) }
@@ -266,6 +282,10 @@ fn carry_flight<S: Shelf, D: Depot, E: Entropy>(
     ensures limit { IfErr result (λ fault. fault ≡ CarryFault.Target StoreRefusal.TooLarge → IfSome (D.told depot.new) (λ _.
         HasLargeNext flight.old.options.timestamp (repo_view source.old).manifest (repo_view store.old.repo).keys (accepted_in store.old)
         flight.old.named.name)) }
+    ensures chunk { IfErr result (λ fault. (id : List ℕ) → IsChunk id fault
+        → WhereTold (flown_from (S.told shelf.old) (repo_view source.old) flight.old) (D.told depot.old) (λ _.
+        EndsAt (flown_from (S.told shelf.old) (repo_view source.old) flight.old) (repo_view store.old.repo).keys (accepted_in store.old) []
+        flight.old.named.name (E.drawn entropy.old) (E.drawn entropy.new) id)) }
     ensures stands { IfErr result (λ fault. IsOfWork fault
         → StopsUnnamed (flown_from (S.told shelf.old) (repo_view source.old) flight.old) flight.old.named.name store.old
         (D.told depot.old) (D.told depot.new)) }
@@ -306,8 +326,10 @@ fn fly<S: Shelf, D: Depot, E: Entropy>(
     ensures works { (fits : FlightFits (S.told shelf.old) (repo_view source.old) (D.told depot.old) store.old flight.old) → (more : List Addition)
         × ((records : List TaggedRecord) × (TakesAll (flown_from (S.told shelf.old) (repo_view source.old) flight.old) flight.old.named.name fits.added more
         records store.old store.new flight.new (D.told depot.old) (D.told depot.new) (D.faults depot.old) (D.faults depot.new) result
-        × OnOk result (AcceptsNames (flown_from (S.told shelf.old) (repo_view source.old) flight.old) (flight.old.named.name ∷ []) records store.old store.new
-        (E.drawn entropy.old) (E.drawn entropy.new)))) }
+        × MatchResult result (λ _. AcceptsNames (flown_from (S.told shelf.old) (repo_view source.old) flight.old) (flight.old.named.name ∷ []) records
+        store.old store.new (E.drawn entropy.old) (E.drawn entropy.new))
+        (λ fault. IsNoChunk fault ⊎ WhereTold (flown_from (S.told shelf.old) (repo_view source.old) flight.old) (D.told depot.old) (λ _.
+        TagsDrawn (repo_view store.old.repo).keys (fits.added ++ more) (E.drawn entropy.old) (E.drawn entropy.new))))) }
     ensures word { IfOk result (λ copied. TellsNew (accepted_in store.old) [] flight.old.named.name copied) }
     ensures refused { IfErr result (RefusesName (flown_from (S.told shelf.old) (repo_view source.old) flight.old) (D.told depot.old) store.old
         (D.told depot.new) store.new flight.old.named.name) }

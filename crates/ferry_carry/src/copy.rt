@@ -1,5 +1,6 @@
 //! An archive that the target lacks.
-ghost use Rattle.std.specs.Prelude.{◌≡◌, ◌≤◌, ◌<◌, ◌^◌, ◌-◌, ◌++◌, [], List, Some, None, Ok, true, false, length, min, IfErr, IfOk, IfSome, OnOk, Option, ℕ};
+ghost use Rattle.std.specs.Prelude.{◌≡◌, ◌≤◌, ◌<◌, ◌^◌, ◌-◌, ◌++◌, [], List, Some, None, Ok};
+ghost use Rattle.std.specs.Prelude.{true, false, length, min, IfErr, IfOk, IfSome, MatchResult, OnOk, Option, ℕ};
 ghost use Rattle.ferry_disk.specs.Device.{HasCause, KeepsTold, told_files};
 ghost use Rattle.ferry_disk.specs.Files.{Files};
 ghost use Rattle.ferry_piece.specs.Adding.{AddsOn};
@@ -11,6 +12,7 @@ ghost use Rattle.ferry_piece.specs.Fault.{IsOfSource, random_failed, shelf_faile
 ghost use Rattle.ferry_carry.specs.Filling.{FillsChunks, FillsContent, FillsOne, FillsStep, WhereHeard, WhereSource};
 ghost use Rattle.ferry_piece.specs.Gather.{KeepsRest};
 ghost use Rattle.ferry_carry.specs.Listing.{BeginsOne};
+ghost use Rattle.ferry_carry.specs.Naming.{records_in};
 ghost use Rattle.ferry_carry.specs.Progress.{CopiesOn, IsCopiedSoFar};
 ghost use Rattle.ferry_piece.specs.Piece.{BeginsOn, CountsOn};
 ghost use Rattle.ferry_piece.specs.Puts.{Addition, AreOf, Content, IsCheckpoint, Stream, contents_in};
@@ -138,8 +140,8 @@ impl Copy {
             × (IfErr result (λ fault. archive_named named.name (repo_view source.old).manifest.archives ≡ Some named → WhereHeard (D.told depot.old) fault
             (λ refusal. FillsOne (origin (S.told shelf.old) (repo_view source.old) self.old.block self.old.contents.checkpoint time)
             (repo_view store.old.repo).keys named.name refusal (added ++ more)))
-            × IfOk result (CopiesOn (origin (S.told shelf.old) (repo_view source.old) self.old.block self.old.contents.checkpoint time) named
-            (D.told depot.new) store.new self.new added more)))) }
+            × MatchResult result (CopiesOn (origin (S.told shelf.old) (repo_view source.old) self.old.block self.old.contents.checkpoint time) named
+            (D.told depot.new) store.new self.new added more) (λ _. records_in more ≡ [])))) }
         ensures refused { (time : Option (List ℕ)) (named : ArchiveRef) (added : List Addition) → archive_named named.name (repo_view
             source.old).manifest.archives ≡ Some named
             → IsCopiedSoFar (origin (S.told shelf.old) (repo_view source.old) self.old.block self.old.contents.checkpoint time) named

@@ -1,5 +1,5 @@
 //! One archive, item by item.
-ghost use Rattle.std.specs.Prelude.{◌≡◌, ◌≢◌, ◌≤◌, ◌⊎◌, ℕ, List, Option, None, Ok, [], true, false, IfErr, IfOk, IfSome, IsSome, OnOk};
+ghost use Rattle.std.specs.Prelude.{◌≡◌, ◌≢◌, ◌≤◌, ◌⊎◌, ℕ, List, Option, None, Ok, [], true, false, IfErr, IfOk, IfSome, IsSome, MatchResult, OnOk};
 ghost use Rattle.ferry_piece.specs.Adding.{AddsOn, IsNoChunk};
 ghost use Rattle.ferry_piece.specs.Fault.{random_failed, shelf_failed};
 ghost use Rattle.ferry_carry.specs.Accepting.{NamesNew};
@@ -9,7 +9,7 @@ ghost use Rattle.ferry_carry.specs.Carrying.{origin};
 ghost use Rattle.ferry_carry.specs.Copying.{IsReady};
 ghost use Rattle.ferry_piece.specs.Gather.{GathersAt, KeepsRest, KeepsStandingAt};
 ghost use Rattle.ferry_carry.specs.Grow.{AcceptsMore, KeepsMost};
-ghost use Rattle.ferry_carry.specs.Naming.{TaggedRecord};
+ghost use Rattle.ferry_carry.specs.Naming.{TaggedRecord, TagsDrawn};
 ghost use Rattle.ferry_carry.specs.Progress.{IsCopiedSoFar};
 ghost use Rattle.ferry_piece.specs.Puts.{Addition, AtBegin};
 ghost use Rattle.ferry_carry.specs.Refusals.{DiffersThere, IsLimited, RefusesComparing, RefusesName};
@@ -143,8 +143,9 @@ impl Flight {
             × ((records : List TaggedRecord)
             × (TakesTurn (S.told shelf.new) (repo_view source.new) (flown_from (S.told shelf.old) (repo_view source.old) self.old) self.old.named.name
             fits.added more records store.old store.new self.new (D.told depot.old) (D.told depot.new) (D.faults depot.old) (D.faults depot.new) result
-            × IfOk result (λ turn. turn ≡ Turn.Named → NamesNew self.old.options.timestamp (repo_view source.old) store.old self.old.named records store.new
-            (E.drawn entropy.old) (E.drawn entropy.new)))) }
+            × MatchResult result (λ turn. turn ≡ Turn.Named → NamesNew self.old.options.timestamp (repo_view source.old) store.old self.old.named records
+            store.new (E.drawn entropy.old) (E.drawn entropy.new))
+            (λ fault. IsNoChunk fault ⊎ TagsDrawn (repo_view store.old.repo).keys more (E.drawn entropy.old) (E.drawn entropy.new)))) }
         ensures refused { IfErr result (RefusesName (flown_from (S.told shelf.old) (repo_view source.old) self.old) (D.told depot.old) store.old
             (D.told depot.new) store.new self.old.named.name) }
         ensures limit { IfErr result (IsLimited (D.told depot.new) self.old.options.timestamp (repo_view source.old) store.old self.old.named) }
@@ -199,8 +200,9 @@ impl Flight {
         ensures works { (more : List Addition) × ((records : List TaggedRecord)
             × (TakesTurn (S.told shelf.new) (repo_view source.new) (flown_from (S.told shelf.old) (repo_view source.old) self.old) self.old.named.name
             [] more records store.old store.new self.new (D.told depot.old) (D.told depot.new) (D.faults depot.old) (D.faults depot.new) result
-            × IfOk result (λ turn. turn ≡ Turn.Named → NamesNew self.old.options.timestamp (repo_view source.old) store.old self.old.named records store.new
-            (E.drawn entropy.old) (E.drawn entropy.new)))) }
+            × MatchResult result (λ turn. turn ≡ Turn.Named → NamesNew self.old.options.timestamp (repo_view source.old) store.old self.old.named records
+            store.new (E.drawn entropy.old) (E.drawn entropy.new))
+            (λ fault. IsNoChunk fault ⊎ TagsDrawn (repo_view store.old.repo).keys more (E.drawn entropy.old) (E.drawn entropy.new)))) }
         ensures refused { IfErr result (RefusesName (flown_from (S.told shelf.old) (repo_view source.old) self.old) (D.told depot.old) store.old
             (D.told depot.new) store.new self.old.named.name) }
         ensures limit { IfErr result (IsLimited (D.told depot.new) self.old.options.timestamp (repo_view source.old) store.old self.old.named) }
@@ -265,8 +267,9 @@ impl Flight {
             → (more : List Addition) × ((records : List TaggedRecord)
             × (TakesTurn (S.told shelf.new) (repo_view source.new) (flown_from (S.told shelf.old) (repo_view source.old) self.old) self.old.named.name
             added more records store.old store.new self.new (D.told depot.old) (D.told depot.new) (D.faults depot.old) (D.faults depot.new) result
-            × IfOk result (λ turn. turn ≡ Turn.Named → NamesNew self.old.options.timestamp (repo_view source.old) store.old self.old.named records store.new
-            (E.drawn entropy.old) (E.drawn entropy.new)))) }
+            × MatchResult result (λ turn. turn ≡ Turn.Named → NamesNew self.old.options.timestamp (repo_view source.old) store.old self.old.named records
+            store.new (E.drawn entropy.old) (E.drawn entropy.new))
+            (λ fault. IsNoChunk fault ⊎ TagsDrawn (repo_view store.old.repo).keys more (E.drawn entropy.old) (E.drawn entropy.new)))) }
         ensures refused { IfErr result (RefusesName (flown_from (S.told shelf.old) (repo_view source.old) self.old) (D.told depot.old) store.old
             (D.told depot.new) store.new self.old.named.name) }
         ensures limit { IfErr result (IsLimited (D.told depot.new) self.old.options.timestamp (repo_view source.old) store.old self.old.named) }
@@ -340,9 +343,9 @@ impl Flight {
         requires comparison { FitsTold (S.told shelf.old) (repo_view source.old) (D.told depot.old) (repo_view store.old.repo) (comparison_view comparison) }
         requires same_name { (comparison_view comparison).name ≡ self.old.named.name }
         requires there { IsSome (archive_named self.old.named.name (repo_view store.old.repo).manifest.archives) }
-        ensures works { (more : List Addition)
-            × TakesTurn (S.told shelf.new) (repo_view source.new) (flown_from (S.told shelf.old) (repo_view source.old) self.old) self.old.named.name
-            [] more [] store.old store.new self.new (D.told depot.old) (D.told depot.new) (D.faults depot.old) (D.faults depot.new) result }
+        ensures works { TakesTurn (S.told shelf.new) (repo_view source.new) (flown_from (S.told shelf.old) (repo_view source.old) self.old)
+            self.old.named.name [] [] [] store.old store.new self.new
+            (D.told depot.old) (D.told depot.new) (D.faults depot.old) (D.faults depot.new) result }
         ensures refused { IfErr result (RefusesName (flown_from (S.told shelf.old) (repo_view source.old) self.old) (D.told depot.old) store.old
             (D.told depot.new) store.new self.old.named.name) }
         ensures limit { IfErr result (IsLimited (D.told depot.new) self.old.options.timestamp (repo_view source.old) store.old self.old.named) }

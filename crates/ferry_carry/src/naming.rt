@@ -1,5 +1,6 @@
 //! The end of an archive: its record, its name in the manifest, and the commit of both.
-ghost use Rattle.std.specs.Prelude.{◌≡◌, ◌≤◌, ◌∷◌, ◌++◌, [], ℕ, Bool, List, Option, None, Ok, true, false, length, map, IfErr, IfOk, IfSome, OnOk};
+ghost use Rattle.std.specs.Prelude.{◌≡◌, ◌≤◌, ◌⊎◌, ◌∷◌, ◌++◌, [], ℕ, Bool, List, Option};
+ghost use Rattle.std.specs.Prelude.{None, Ok, true, false, length, map, IfErr, IfOk, IfSome, MatchResult, OnOk};
 ghost use Rattle.ferry_base.specs.Limits.{content_limit};
 ghost use Rattle.ferry_blob.specs.Blob.{content_id};
 ghost use Rattle.ferry_piece.specs.Adding.{AddsOn, IsNoChunk};
@@ -13,7 +14,7 @@ ghost use Rattle.ferry_carry.specs.Grow.{AcceptsMore, KeepsMost};
 ghost use Rattle.ferry_carry.specs.Progress.{IsAllCopied};
 ghost use Rattle.ferry_piece.specs.Piece.{CountsOn};
 ghost use Rattle.ferry_piece.specs.Puts.{Addition, ArePieces, IsCheckpoint, Record, Stream, addition};
-ghost use Rattle.ferry_carry.specs.Naming.{AddsUnder, BeginsRecord, Draws, TaggedRecord, copied_archive, copied_in, entry_for, fixed_params};
+ghost use Rattle.ferry_carry.specs.Naming.{BeginsRecord, Draws, PutsRecord, TaggedRecord, TagsDrawn, copied_archive, copied_in, entry_for, fixed_params};
 ghost use Rattle.ferry_carry.specs.Refusals.{IsLimited, LimitsManifest, RefusesEnd, RefusesRecordText};
 ghost use Rattle.ferry_piece.specs.Stops.{StopsPieces, StopsTarget, is_target};
 ghost use Rattle.ferry_msgpack.specs.View.{value_view};
@@ -184,8 +185,7 @@ fn put_record<D: Depot, E: Entropy>(
         → AddsOn most store.old more store.new
         (D.told depot.old) (D.told depot.new) (D.faults depot.old) (D.faults depot.new) result)
         × (BeginsRecord (repo_view store.old.repo).keys (archive_view archive.now) more
-        × IfOk result (AddsUnder (repo_view store.old.repo).keys (archive_view archive.now) more
-        (E.drawn entropy.old) (E.drawn entropy.new)))) }
+        × PutsRecord (repo_view store.old.repo).keys (archive_view archive.now) more (E.drawn entropy.old) (E.drawn entropy.new) result)) }
     ensures rest { OnOk result (KeepsRest store.old store.new) }
     ensures fits { OnOk result (IfSome (D.told depot.new) (λ t. StoreFits false store.new t.history)) }
     ensures stops { IfErr result (StopsPieces (D.told depot.new) (repo_view store.old.repo).keys) }
@@ -215,8 +215,8 @@ fn put_copied<D: Depot, E: Entropy>(
         → AddsOn most store.old more store.new
         (D.told depot.old) (D.told depot.new) (D.faults depot.old) (D.faults depot.new) result)
         × (BeginsRecord (repo_view store.old.repo).keys (copied_in (archive_view archive.old) block pieces.now) more
-        × IfOk result (AddsUnder (repo_view store.old.repo).keys (copied_in (archive_view archive.old) block pieces.now) more
-        (E.drawn entropy.old) (E.drawn entropy.new)))) }
+        × PutsRecord (repo_view store.old.repo).keys (copied_in (archive_view archive.old) block pieces.now) more
+        (E.drawn entropy.old) (E.drawn entropy.new) result)) }
     ensures rest { OnOk result (KeepsRest store.old store.new) }
     ensures fits { OnOk result (IfSome (D.told depot.new) (λ t. StoreFits false store.new t.history)) }
     ensures stops { IfErr result (StopsPieces (D.told depot.new) (repo_view store.old.repo).keys) }
@@ -253,9 +253,9 @@ fn end_stream<D: Depot, E: Entropy>(
         × (ArePieces Stream (cut stream.old.cutter.block stream.old.cutter.piece) last
         × (BeginsRecord (repo_view store.old.repo).keys (copied_in (archive_view archive.old) block (stream.old.chunks.items
         ++ chunks_of (repo_view store.old.repo).keys (cut stream.old.cutter.block stream.old.cutter.piece))) more
-        × (IfOk result (AddsUnder (repo_view store.old.repo).keys (copied_in (archive_view archive.old) block (stream.old.chunks.items
+        × (PutsRecord (repo_view store.old.repo).keys (copied_in (archive_view archive.old) block (stream.old.chunks.items
         ++ chunks_of (repo_view store.old.repo).keys (cut stream.old.cutter.block stream.old.cutter.piece))) more
-        (E.drawn entropy.old) (E.drawn entropy.new))
+        (E.drawn entropy.old) (E.drawn entropy.new) result
         × OnOk result (CountsOn Stream stream.old last stream.new)))))) }
     ensures rest { OnOk result (KeepsRest store.old store.new) }
     ensures fits { OnOk result (IfSome (D.told depot.new) (λ t. StoreFits false store.new t.history)) }
@@ -341,7 +341,9 @@ pub(crate) fn end_copy<D: Depot, E: Entropy>(
         → IsFlown from (repo_view source.now) timestamp.now named.now
         → (more : List Addition) × ((records : List TaggedRecord) × (EndsCopy from named.now.name added more records store.old store.new
         (D.told depot.old) (D.told depot.new) (D.faults depot.old) (D.faults depot.new) result
-        × OnOk result (NamesNew timestamp.now (repo_view source.now) store.old named.now records store.new (E.drawn entropy.old) (E.drawn entropy.new)))) }
+        × MatchResult result (λ _. NamesNew timestamp.now (repo_view source.now) store.old named.now records store.new
+        (E.drawn entropy.old) (E.drawn entropy.new))
+        (λ fault. IsNoChunk fault ⊎ TagsDrawn (repo_view store.old.repo).keys more (E.drawn entropy.old) (E.drawn entropy.new)))) }
     ensures most { OnOk result (KeepsMost store.old store.new) }
     ensures accepted { OnOk result (accepted_in store.new ≡ (repo_view store.new.repo).manifest) }
     ensures pending { OnOk result (store.new.pending ≡ 0) }

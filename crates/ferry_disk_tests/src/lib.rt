@@ -20,4 +20,6 @@ mod real;
 #[cfg(test)]
 mod stop;
 #[cfg(test)]
+mod worked;
+#[cfg(test)]
 mod write;

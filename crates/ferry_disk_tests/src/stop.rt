@@ -175,7 +175,7 @@ fn choice_of(alloc: Global, case: &Case) -> Result<Choice, AllocError> {
 }
 
 /// The depot that a stop leaves, where the choice describes one.
-fn stopped(depot: MemoryDepot, choice: Choice) -> Result<Option<MemoryDepot>, AllocError> {
+pub fn stopped(depot: MemoryDepot, choice: Choice) -> Result<Option<MemoryDepot>, AllocError> {
     if depot.allows(&choice) {
         let next = depot.crash(choice)?;
         Ok(Some(next))

@@ -3,3 +3,4 @@ pub mod SealLemmas
 pub mod OpensLemmas
 pub mod LawLemmas
 pub mod SampleLemmas
+pub mod MeaningLemmas

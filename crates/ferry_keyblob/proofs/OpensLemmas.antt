@@ -25,7 +25,7 @@ use Rattle.ferry_keyblob.proofs.SealLemmas.{packed_writable, envelope_writable}
 abbrev envelope_with : ℕ → List ℕ → List ℕ → List ℕ → Envelope
 envelope_with iterations salt hash sealed = record { iterations = iterations; salt = salt; hash = hash; sealed = sealed }
 
-said_envelope : (pairs : Pairs) (n : ℕ) (salt hash sealed : List ℕ) → has_version_1 pairs ≡ true → raw_in (codes "algorithm") pairs ≡ Some (codes "sha256")
+pub said_envelope : (pairs : Pairs) (n : ℕ) (salt hash sealed : List ℕ) → has_version_1 pairs ≡ true → raw_in (codes "algorithm") pairs ≡ Some (codes "sha256")
     → number_in (codes "iterations") pairs ≡ Some (pos n) → raw32_in (codes "salt") pairs ≡ Some salt → raw32_in (codes "hash") pairs ≡ Some hash
     → raw_in (codes "data") pairs ≡ Some sealed
     → 1 ≤ n → n ≤ 10000000 → fault_or (envelope_fault pairs) (envelope_in pairs) ≡ Ok (envelope_with n salt hash sealed)

@@ -1,4 +1,5 @@
 pub mod Fault
 pub mod Envelope
 pub mod Opening
+pub mod Meaning
 pub mod Sealing

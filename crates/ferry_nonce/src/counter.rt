@@ -99,6 +99,13 @@ impl Counter {
         Ok(first)
     }
 
+    /// The number that the next draw answers, where it isn't refused.
+    pub fn free(&self) -> u64
+        ensures { result ≡ self.now.free }
+    {
+        self.free
+    }
+
     /// Whether a draw has answered `Device` or `Memory`, after which the counter can't be used.
     pub fn is_spent(&self) -> bool
         ensures { result ≡ self.now.spent }

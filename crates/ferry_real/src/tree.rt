@@ -42,12 +42,20 @@ impl<R: Runtime> FolderTree<R> {
             alloc,
             place,
             current: None,
+            foreign: None,
         };
         Ok(FolderTree {
             maker,
             progress,
             faults: 0,
         })
+    }
+
+    /// The path that couldn't be made since it, or the target of the symbolic link there, isn't UTF-8: the last one, `None` where there was none, or memory was
+    /// refused for it.
+    pub fn foreign(&self) -> Option<&[u8]> {
+        let path = self.maker.foreign.as_ref()?;
+        Some(path.as_slice())
     }
 }
 
@@ -60,6 +68,8 @@ struct Maker<R: Runtime> {
     place: String,
     /// The file that was made last, which stays open until the next call that makes something.
     current: Option<Current<R>>,
+    /// The last path that the system can't be asked for, itself or the target of its link.
+    foreign: Option<Vec<u8>>,
 }
 
 /// An open file, and how many bytes it has.
@@ -91,16 +101,22 @@ impl<R: Runtime> Maker<R> {
     }
 
     /// Where a path of the tree lies.
-    fn path_of(&self, path: &[u8]) -> Result<String, TreeFault> {
+    fn path_of(&mut self, path: &[u8]) -> Result<String, TreeFault> {
         if self.place.is_empty() {
             return Err(TreeFault::Failed);
         }
         let Ok(text) = str::from_utf8(path) else {
-            return Err(TreeFault::Failed);
+            return Err(self.not_text(path));
         };
         let mut whole = String::from_str(self.alloc, self.place.as_str())?;
         whole.push_str(text)?;
         Ok(whole)
+    }
+
+    /// The fault of a path that isn't UTF-8, or that of a link whose target isn't, which is kept.
+    fn not_text(&mut self, path: &[u8]) -> TreeFault {
+        self.foreign = Vec::from_slice(self.alloc, path).ok();
+        TreeFault::Failed
     }
 
     /// Makes a folder.
@@ -129,10 +145,10 @@ impl<R: Runtime> Maker<R> {
     /// Makes a symbolic link.
     fn make_symlink(&mut self, path: &[u8], target: &[u8]) -> Result<(), TreeFault> {
         self.current = None;
-        let path = self.path_of(path)?;
+        let whole = self.path_of(path)?;
         match str::from_utf8(target) {
-            Ok(target) => symlink(&self.rt, target, path.as_str()).map_err(failed),
-            Err(_) => Err(TreeFault::Failed),
+            Ok(target) => symlink(&self.rt, target, whole.as_str()).map_err(failed),
+            Err(_) => Err(self.not_text(path)),
         }
     }
 

@@ -24,7 +24,7 @@ use std::alloc::{AllocError, Global};
 /// a stream.
 pub(crate) const AHEAD: usize = 12;
 
-/// How many bytes of blobs are read ahead at most, but for the first blob.
+/// How many bytes of blobs are read ahead at most, with those of the contents that are kept, but for the first blob.
 const ROOM: u64 = 25_165_824;
 
 /// Some blobs, with the ids of their contents in the same order, and how many bytes more may be read.
@@ -65,7 +65,7 @@ impl Batch {
         ensures same { KeepsTold repo_failed (S.told shelf.old) (S.told shelf.new) result }
         ensures cause { HasCause repo_failed (S.faults shelf.old) (S.faults shelf.new) result }
     {
-        let mut batch = Batch::new(alloc, ROOM);
+        let mut batch = Batch::new(alloc, ROOM.saturating_sub(cache.bytes()));
         for place in 0..ids.len() {
             batch.add(alloc, shelf, log, cache, &ids[place])?;
         }

@@ -1,5 +1,5 @@
 //! The contents that a repository keeps.
-ghost use Rattle.std.specs.Prelude.{◌≡◌, [], None, IfOk, IfSome, OnOk, OnErr, option_copied};
+ghost use Rattle.std.specs.Prelude.{◌≡◌, ◌≤◌, [], length, None, IfOk, IfSome, OnOk, OnErr, option_copied};
 ghost use Rattle.std.specs.List.{AllByRecursion};
 ghost use Rattle.ferry_disk.specs.Files.{Files};
 ghost use Rattle.ferry_log.specs.State.{LogState};
@@ -8,6 +8,7 @@ ghost use Rattle.ferry_repo.specs.Cached.{content_in, used};
 ghost use Rattle.ferry_repo.specs.Objects.{HoldsChunk};
 
 use ferry_base::{Bytes, Id};
+use ferry_item::ChunkRef;
 use lru::LruCache;
 use std::alloc::{AllocError, Global};
 use std::cmp::min;
@@ -15,7 +16,7 @@ use std::marker::Model;
 use std::num::NonZeroUsize;
 
 /// How many contents are kept at most. A content may have 20 MiB.
-const LIMIT: usize = 16;
+pub(crate) const LIMIT: usize = 16;
 
 /// The contents that were used last, with their ids. Contracts see them as a list, the latest first.
 #[derive(Drop)]
@@ -80,14 +81,51 @@ impl Cache {
         Ok(())
     }
 
-    /// Lets those go that were used longest ago, so that this many more have room beside the others.
-    pub(crate) fn make_room(&mut self, count: usize)
+    /// How many contents are kept.
+    pub(crate) fn count(&self) -> usize
+        ensures count { result ≡ length self.now }
+        ensures few { result ≤ 16 }
+    {
+        self.entries.len()
+    }
+
+    /// How many contents stand in front, the one that was used last first, up to the last that is of one of these chunks.
+    pub(crate) fn reach(&self, chunks: &[ChunkRef]) -> usize {
+        let mut reach = 0;
+        for (place, (id, _)) in self.entries.iter().enumerate() {
+            if names(chunks, id) {
+                reach = place + 1;
+            }
+        }
+        reach
+    }
+
+    /// How many bytes all contents have.
+    pub(crate) fn bytes(&self) -> u64 {
+        let mut bytes = 0u64;
+        for (_, content) in self.entries.iter() {
+            bytes = bytes.saturating_add(content.as_slice().len() as u64);
+        }
+        bytes
+    }
+
+    /// Lets all contents go but so many that were used last.
+    pub(crate) fn shorten(&mut self, staying: usize)
         ensures holds { (files : Files) (log : LogState) (keys : Keys)
             → AllByRecursion (λ c. HoldsChunk files log keys c.0 c.1) self.old
             → AllByRecursion (λ c. HoldsChunk files log keys c.0 c.1) self.new }
     {
-        let staying = LIMIT - min(count, LIMIT - 1);
-        self.entries.resize(NonZeroUsize::new(staying).unwrap());
-        self.entries.resize(NonZeroUsize::new(LIMIT).unwrap());
+        match NonZeroUsize::new(min(staying, LIMIT)) {
+            Some(count) => {
+                self.entries.resize(count);
+                self.entries.resize(NonZeroUsize::new(LIMIT).unwrap());
+            }
+            None => self.entries.clear(),
+        }
     }
+}
+
+/// Whether one of these chunks has an id.
+fn names(chunks: &[ChunkRef], id: &Id) -> bool {
+    chunks.iter().any(|chunk| chunk.id == *id)
 }

@@ -15,7 +15,7 @@ ghost use Rattle.ferry_repo.specs.Opening.{repo_view, cached_in, mode_of, IsOfMa
 ghost use Rattle.ferry_repo.specs.Walk.{walk_view, begin_walk, FitsWalk};
 
 use crate::batch::{AHEAD, Batch};
-use crate::cache::Cache;
+use crate::cache::{Cache, LIMIT as KEPT};
 use crate::fault::{RepoFault, of_archive};
 use crate::object::object;
 use crate::opening::{mode_of, root_or_none, settings, unlock};
@@ -137,6 +137,14 @@ impl Repo {
         ensures mode { result ≡ mode_of (repo_view self.now).config }
     {
         mode_of(&self.config)
+    }
+
+    /// How many contents are kept, which is never more than sixteen.
+    pub fn kept(&self) -> usize
+        ensures kept { result ≡ length (cached_in self.now) }
+        ensures few { length (cached_in self.now) ≤ 16 }
+    {
+        self.cache.count()
     }
 
     /// The secrets.
@@ -347,7 +355,8 @@ impl Repo {
         ensures cause { HasCause repo_failed (S.faults shelf.old) (S.faults shelf.new) result }
     {
         let ids = self.ids_ahead(chunks)?;
-        self.read_ahead(shelf, ids.as_slice())
+        let staying = self.cache.reach(chunks);
+        self.read_ahead(shelf, ids.as_slice(), staying)
     }
 
     /// The ids of the first of these chunks, where the first one isn't kept: those whose contents aren't kept.
@@ -364,12 +373,14 @@ impl Repo {
     }
 
     /// Reads the contents of chunks that aren't kept, as many as are read ahead at most, opens them side by side, and keeps them. One that
-    /// can't be read is left to the call that asks for it, as is one alone.
+    /// can't be read is left to the call that asks for it, as is one alone. Of the contents that are kept before, so many stay that were used
+    /// last, where there is room.
     #[tactic(auto, using(crate::proofs::FaultLemmas::conversions))]
     pub(crate) fn read_ahead<S: Shelf>(
         &mut self,
         shelf: &mut S,
         ids: &[Id],
+        staying: usize,
     ) -> Result<(), RepoFault>
         requires fits { IfSome (S.told shelf.old) (λ t. FitsRepo (told_files t) (repo_view self.old) (cached_in self.old)) }
         ensures refused { IfErr result (λ fault. IsOfFiles fault → ⊥) }
@@ -381,17 +392,17 @@ impl Repo {
         if ids.len() < 2 {
             return Ok(());
         }
-        self.make_room(shelf, min(ids.len(), AHEAD));
+        self.make_room(shelf, min(staying, KEPT - min(ids.len(), AHEAD)));
         self.read_batch(shelf, ids)
     }
 
-    /// Lets contents go that were used longest ago, before those are read that would push them out.
-    fn make_room<S: Shelf>(&mut self, shelf: &S, count: usize)
+    /// Lets all contents go but so many that were used last, before others are read.
+    fn make_room<S: Shelf>(&mut self, shelf: &S, staying: usize)
         requires fits { IfSome (S.told shelf.now) (λ t. FitsRepo (told_files t) (repo_view self.old) (cached_in self.old)) }
         ensures fits { IfSome (S.told shelf.now) (λ t. FitsRepo (told_files t) (repo_view self.new) (cached_in self.new)) }
         ensures kept { repo_view self.new ≡ repo_view self.old }
     {
-        self.cache.make_room(count);
+        self.cache.shorten(staying);
     }
 
     /// Reads the contents of chunks that aren't kept, opens them side by side, and keeps them.

@@ -205,7 +205,7 @@ impl Walk {
         ensures cause { HasCause repo_failed (S.faults shelf.old) (S.faults shelf.new) result }
     {
         let later = self.ids_ahead(repo, id);
-        repo.read_ahead(shelf, later)?;
+        repo.read_ahead(shelf, later, 0)?;
         repo.chunk(shelf, id)
     }
 

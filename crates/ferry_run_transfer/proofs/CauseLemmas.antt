@@ -7,14 +7,12 @@ use Rattle.ferry_blob.specs.Blob.{OpensTo}
 use Rattle.ferry_blob.specs.declared.fault.BlobFault.{BlobFault}
 use Rattle.ferry_carry.proofs.WholeLemmas.{whole_kept}
 use Rattle.ferry_carry.specs.Accepting.{AreNextOf, LimitsNames}
-use Rattle.ferry_piece.specs.Adding.{IsOfLast}
 use Rattle.ferry_carry.specs.Carrying.{SaysIn}
 use Rattle.ferry_carry.specs.Flight.{origin_of}
 use Rattle.ferry_carry.specs.Chosen.{IsMissingName}
-use Rattle.ferry_carry.specs.Listing.{BeginsNames}
-use Rattle.ferry_piece.specs.Puts.{Addition}
-use Rattle.ferry_carry.specs.Refusals.{HasLargeRecord, HasLongItem, RefusesBehind, RefusesName, RefusesNames, is_of_telling}
-use Rattle.ferry_carry.specs.Telling.{AreLines, BeginsAll, TellsNames}
+use Rattle.ferry_carry.specs.Listing.{ListsNames}
+use Rattle.ferry_carry.specs.Refusals.{EndsAt, HasLargeRecord, HasLongItem, IsChunk, RefusesBehind, RefusesName, RefusesNames, StopsAtChunk, is_of_telling}
+use Rattle.ferry_carry.specs.Telling.{AreLines, TellsNames}
 use Rattle.ferry_piece.specs.declared.fault.CarryFault.{CarryFault}
 use Rattle.ferry_piece.specs.declared.fault.CarryFault.TheVariants as Carry
 use Rattle.ferry_carry.specs.declared.options.Options.{Options}
@@ -45,8 +43,8 @@ use Rattle.ferry_store.specs.declared.fault.StoreRefusal.TheVariants as Store
 use Rattle.ferry_store.specs.declared.store.Store.{Store as TheStore}
 use Rattle.ferry_run_transfer.proofs.TransferLemmas.{untold_yet}
 use Rattle.ferry_run_transfer.specs.Rerun.{LacksName}
-use Rattle.ferry_run_transfer.specs.Transfer.{KeepsArchives, Request, TransferEach, asked, chosen_of, from_source}
-use Rattle.ferry_run_transfer.specs.TransferCauses.{HasLargeTarget, IsOfAdded, IsOfChosen, IsTaken}
+use Rattle.ferry_run_transfer.specs.Transfer.{Drawn, KeepsArchives, Request, TransferEach, asked, chosen_of, from_source}
+use Rattle.ferry_run_transfer.specs.TransferCauses.{HasLargeTarget, IsOfChosen, IsOfNext, IsTaken}
 use Rattle.ferry_run_transfer.specs.TransferCauses.{RefusesAsked, RefusesTransfer, StopsWriting}
 use Rattle.ferry_status.specs.declared.status.Secrets.{Secrets}
 use Rattle.ferry_write.proofs.LawLemmas.{fits_now}
@@ -102,18 +100,18 @@ module _ (secret : Secret) (now : TheStore) (h : History) (repo : RepoState) (fi
 
 -- ---- the target
 
--- a live chunk that breaks a rule at the end was live at the begin, and its id is that of a content that is added
-stops_writing : (request : Request) (source start image : Files) (before : RepoState) (lines : List (List ℕ))
+-- a live chunk that breaks a rule at the end was live at the begin, and its id is that of a content that was to be added
+stops_writing : (request : Request) (drawn : Drawn) (source start image : Files) (before : RepoState) (lines : List (List ℕ))
     → OpensFilesTo start request.secrets.target before → KeepsArchives request start before.manifest lines image → (refusal : StoreRefusal)
     → (refusal ≡ Store.TooLarge → HasLargeTarget request source start lines)
-    → ((id : List ℕ) (fault : BlobFault) → refusal ≡ Store.Repo (Repos.Blob id fault) → IsOfAdded request source start id)
-    → StopsAt start image before.keys refusal → StopsWriting request source start lines image refusal
-stops_writing request source start image before lines opens keeps (Store.Repo (Repos.Blob id fault)) large last breaks =
+    → ((id : List ℕ) (fault : BlobFault) → refusal ≡ Store.Repo (Repos.Blob id fault) → IsOfNext request drawn source start lines id)
+    → StopsAt start image before.keys refusal → StopsWriting request drawn source start lines image refusal
+stops_writing request drawn source start image before lines opens keeps (Store.Repo (Repos.Blob id fault)) large last breaks =
     so (keeps.opening before opens id breaks.blob breaks.chunk
     ((state_live image keeps.repo.log breaks.entries keeps.opens.opens.unlocks.reads breaks.shown id breaks.blob).1 breaks.live))
   where
     so : HasBlob start before.log id breaks.blob ⊎ ((content : List ℕ) × OpensTo before.keys id breaks.blob content)
-        → StopsWriting request source start lines image (Store.Repo (Repos.Blob id fault))
+        → StopsWriting request drawn source start lines image (Store.Repo (Repos.Blob id fault))
     so (inl has) = (
       record { repo = before; opens = opens; holds = (breaks.chunk, record { blob = breaks.blob; has = has; breaks = breaks.breaks }) },
       last id fault refl,
@@ -121,37 +119,38 @@ stops_writing request source start image before lines opens keeps (Store.Repo (R
     so (inr opens_to) =
         absurd (let e : None ≡ Some fault = sym (opens_no_fault before.keys id breaks.blob opens_to.0 opens_to.1) ∙ breaks.breaks in
         let no : ⊥ = cc in no)
-stops_writing request source start image before lines opens keeps (Store.Repo Repos.NoCommit) large last never = absurd never
-stops_writing request source start image before lines opens keeps (Store.Repo (Repos.Damaged segment at)) large last never = absurd never
-stops_writing request source start image before lines opens keeps (Store.Repo (Repos.Config fault)) large last never = absurd never
-stops_writing request source start image before lines opens keeps (Store.Repo (Repos.Key fault)) large last never = absurd never
-stops_writing request source start image before lines opens keeps (Store.Repo (Repos.Missing id)) large last never = absurd never
-stops_writing request source start image before lines opens keeps (Store.Repo (Repos.Manifest fault)) large last never = absurd never
-stops_writing request source start image before lines opens keeps (Store.Repo (Repos.Archive id fault)) large last never = absurd never
-stops_writing request source start image before lines opens keeps (Store.Repo (Repos.Item id fault)) large last never = absurd never
-stops_writing request source start image before lines opens keeps (Store.Repo (Repos.Size id)) large last never = absurd never
-stops_writing request source start image before lines opens keeps (Store.Repo (Repos.KeyFile fault)) large last never = absurd never
-stops_writing request source start image before lines opens keeps (Store.Repo (Repos.Other file config)) large last never = absurd never
-stops_writing request source start image before lines opens keeps (Store.Repo Repos.NoKey) large last never = absurd never
-stops_writing request source start image before lines opens keeps (Store.Repo Repos.Device) large last is = tt
-stops_writing request source start image before lines opens keeps (Store.Repo Repos.Memory) large last never = absurd never
-stops_writing request source start image before lines opens keeps (Store.Write Writes.Numbers) large last is = is
-stops_writing request source start image before lines opens keeps (Store.Write Writes.Device) large last is = tt
-stops_writing request source start image before lines opens keeps (Store.Write Writes.Memory) large last is = tt
-stops_writing request source start image before lines opens keeps (Store.Nonce Nonces.Exhausted) large last is = is
-stops_writing request source start image before lines opens keeps (Store.Nonce Nonces.Device) large last is = tt
-stops_writing request source start image before lines opens keeps (Store.Nonce Nonces.Missing) large last never = absurd never
-stops_writing request source start image before lines opens keeps (Store.Nonce Nonces.Text) large last never = absurd never
-stops_writing request source start image before lines opens keeps (Store.Nonce Nonces.Memory) large last never = absurd never
-stops_writing request source start image before lines opens keeps Store.Committed large last never = absurd never
-stops_writing request source start image before lines opens keeps Store.TooLarge large last is = large refl
-stops_writing request source start image before lines opens keeps Store.Entropy large last is = tt
-stops_writing request source start image before lines opens keeps Store.Memory large last is = tt
+stops_writing request drawn source start image before lines opens keeps (Store.Repo Repos.NoCommit) large last never = absurd never
+stops_writing request drawn source start image before lines opens keeps (Store.Repo (Repos.Damaged segment at)) large last never = absurd never
+stops_writing request drawn source start image before lines opens keeps (Store.Repo (Repos.Config fault)) large last never = absurd never
+stops_writing request drawn source start image before lines opens keeps (Store.Repo (Repos.Key fault)) large last never = absurd never
+stops_writing request drawn source start image before lines opens keeps (Store.Repo (Repos.Missing id)) large last never = absurd never
+stops_writing request drawn source start image before lines opens keeps (Store.Repo (Repos.Manifest fault)) large last never = absurd never
+stops_writing request drawn source start image before lines opens keeps (Store.Repo (Repos.Archive id fault)) large last never = absurd never
+stops_writing request drawn source start image before lines opens keeps (Store.Repo (Repos.Item id fault)) large last never = absurd never
+stops_writing request drawn source start image before lines opens keeps (Store.Repo (Repos.Size id)) large last never = absurd never
+stops_writing request drawn source start image before lines opens keeps (Store.Repo (Repos.KeyFile fault)) large last never = absurd never
+stops_writing request drawn source start image before lines opens keeps (Store.Repo (Repos.Other file config)) large last never = absurd never
+stops_writing request drawn source start image before lines opens keeps (Store.Repo Repos.NoKey) large last never = absurd never
+stops_writing request drawn source start image before lines opens keeps (Store.Repo Repos.Device) large last is = tt
+stops_writing request drawn source start image before lines opens keeps (Store.Repo Repos.Memory) large last never = absurd never
+stops_writing request drawn source start image before lines opens keeps (Store.Write Writes.Numbers) large last is = is
+stops_writing request drawn source start image before lines opens keeps (Store.Write Writes.Device) large last is = tt
+stops_writing request drawn source start image before lines opens keeps (Store.Write Writes.Memory) large last is = tt
+stops_writing request drawn source start image before lines opens keeps (Store.Nonce Nonces.Exhausted) large last is = is
+stops_writing request drawn source start image before lines opens keeps (Store.Nonce Nonces.Device) large last is = tt
+stops_writing request drawn source start image before lines opens keeps (Store.Nonce Nonces.Missing) large last never = absurd never
+stops_writing request drawn source start image before lines opens keeps (Store.Nonce Nonces.Text) large last never = absurd never
+stops_writing request drawn source start image before lines opens keeps (Store.Nonce Nonces.Memory) large last never = absurd never
+stops_writing request drawn source start image before lines opens keeps Store.Committed large last never = absurd never
+stops_writing request drawn source start image before lines opens keeps Store.TooLarge large last is = large refl
+stops_writing request drawn source start image before lines opens keeps Store.Entropy large last is = tt
+stops_writing request drawn source start image before lines opens keeps Store.Memory large last is = tt
 
 -- ---- causes
 
 -- what was asked, over a source that opened, and a target that opened to the repository of a store
-module _ (secrets : Secrets) (options : Options) (names : List (List ℕ)) (source : RepoState) (t a b d : Told) (chosen : List (List ℕ)) (store now : TheStore)
+module _ (drawn : Drawn) (secrets : Secrets) (options : Options) (names : List (List ℕ)) (source : RepoState) (t a b d : Told) (chosen : List (List ℕ))
+    (store now : TheStore)
     (source_opens : OpensFilesTo (told_files t) secrets.source source) (chosen_is : chosen ≡ chosen_of names source.manifest)
     (opens : OpensFilesTo (told_files a) secrets.target (repo_view store.repo)) (begun : a.history.acts ≡ []) (started : d.history.start ≡ told_files a)
     (untold : TellsNothing a.history b.history) (accepts : accepted_in store ≡ (repo_view store.repo).manifest) where
@@ -218,14 +217,13 @@ module _ (secrets : Secrets) (options : Options) (names : List (List ℕ)) (sour
     };
   }
 
-  -- what was added for the chosen names, as far as it came
-  abbrev Begins : List Addition → Type 0
-  Begins added = BeginsNames (origin_of (Some t) source options) (repo_view store.repo).keys (accepted_in store) [] chosen added
+  -- which content was to be added
+  abbrev Stopped : List ℕ → Type 0
+  Stopped id = StopsAtChunk (origin_of (Some t) source options) (repo_view store.repo).keys (accepted_in store) chosen
+      (λ done. TellsNames (accepted_in store) done b.history d.history) drawn.before drawn.now id
 
-  -- the last of it has this id
-  last_added : (added : List Addition) → Begins added → (id : List ℕ) (fault : BlobFault)
-      → IsOfLast (repo_view store.repo).keys added (Carry.Target (Store.Repo (Repos.Blob id fault))) → IsOfAdded asks (told_files t) (told_files a) id
-  last_added added begins id fault last =
+  next_there : (id : List ℕ) → Stopped id → IsOfNext asks drawn (told_files t) (told_files a) (lines_of d.history.acts) id
+  next_there id stopped =
       let from = origin_of (Some t) source options in
       let keys = (repo_view store.repo).keys in
       record {
@@ -233,24 +231,30 @@ module _ (secrets : Secrets) (options : Options) (names : List (List ℕ)) (sour
         opens = source_opens;
         target = repo_view store.repo;
         target_opens = opens;
-        front = last.0;
-        one = last.1.0;
-        begins = subst (BeginsNames from keys (repo_view store.repo).manifest [] (chosen_of names source.manifest)) last.1.1.0
-            (subst (λ (m : ManifestText). BeginsNames from keys m [] (chosen_of names source.manifest) added) accepts
-            (subst (λ (l : List (List ℕ)). BeginsNames from keys (accepted_in store) [] l added) chosen_is begins));
-        id_is = last.1.1.1;
+        stops = record {
+          done = stopped.done;
+          name = stopped.name;
+          rest = stopped.rest;
+          split = split_chosen stopped.done stopped.name stopped.rest stopped.split;
+          told = all_lines stopped.done stopped.told;
+          records = stopped.records;
+          added = stopped.added;
+          lists = subst (λ (m : ManifestText). ListsNames from keys m [] stopped.done stopped.records stopped.added) accepts stopped.lists;
+          middle = stopped.middle;
+          drew = stopped.drew;
+          ends = subst (λ (m : ManifestText). EndsAt from keys m stopped.done stopped.name stopped.middle drawn.now id) accepts stopped.ends;
+        };
       }
 
   -- the target isn't written
-  target_told : Keeps → (added : List Addition) → Begins added → (refusal : StoreRefusal)
-      → IsOfLast (repo_view store.repo).keys added (Carry.Target refusal) → (Carry.Target refusal ≡ Carry.Target Store.TooLarge → Limited)
+  target_told : Keeps → (refusal : StoreRefusal) → ((id : List ℕ) → IsChunk id (Carry.Target refusal) → Stopped id)
+      → (Carry.Target refusal ≡ Carry.Target Store.TooLarge → Limited)
       → StopsAt d.history.start (told_files d) (repo_view store.repo).keys refusal
-      → StopsWriting asks (told_files t) (told_files a) (lines_of d.history.acts) (told_files d) refusal
-  target_told keeps added begins refusal last limit stops =
-      stops_writing asks (told_files t) (told_files a) (told_files d) (repo_view store.repo) (lines_of d.history.acts) opens keeps refusal
+      → StopsWriting asks drawn (told_files t) (told_files a) (lines_of d.history.acts) (told_files d) refusal
+  target_told keeps refusal last limit stops =
+      stops_writing asks drawn (told_files t) (told_files a) (told_files d) (repo_view store.repo) (lines_of d.history.acts) opens keeps refusal
       (λ is. large_there (limit (ap Carry.Target is)))
-      (λ id fault is.
-      last_added added begins id fault (subst (λ (r : StoreRefusal). IsOfLast (repo_view store.repo).keys added (Carry.Target r)) is last))
+      (λ id fault is. next_there id (last id (fault, ap Carry.Target is)))
       (subst (λ (f : Files). StopsAt f (told_files d) (repo_view store.repo).keys refusal) started stops)
 
   -- a fault that isn't that of a line
@@ -268,7 +272,7 @@ module _ (secrets : Secrets) (options : Options) (names : List (List ℕ)) (sour
       let settings : (files_now d.history).config ≡ (told_files a).config = keeps.config in
       let opened = opened_unlocks (told_files a) secrets.target (repo_view store.repo) opens in
       let unlocks : UnlocksSettings secrets.target (files_now d.history).config (repo_view now.repo).config (repo_view now.repo).keys =
-      rw (settings, at.most.config, at.most.keys) opened in
+      rw (settings, at.most_kept.config, at.most_kept.keys) opened in
       record {
         from = source;
         source_opens = source_opens;
@@ -288,64 +292,66 @@ module _ (secrets : Secrets) (options : Options) (names : List (List ℕ)) (sour
         differs = λ had. differs.target_is (says_held secrets.target now d.history keeps.repo at.fits keeps.opens unlocks name differs.whole had);
       }
 
-  refused_told : Keeps → (added : List Addition) → Begins added → (fault : CarryFault) → IsOfLast (repo_view store.repo).keys added fault
+  refused_told : Keeps → (fault : CarryFault) → ((id : List ℕ) → IsChunk id fault → Stopped id)
       → (fault ≡ Carry.Target Store.TooLarge → Limited)
       → RefusesNames (origin_of (Some t) source options) (Some b) store (Some d) now chosen fault
-      → RefusesTransfer asks (told_files t) (told_files a) (lines_of d.history.acts) (told_files d) fault
-  refused_told keeps added begins (Carry.Source fault) last limit (inl refused) = λ of_files.
+      → RefusesTransfer asks drawn (told_files t) (told_files a) (lines_of d.history.acts) (told_files d) fault
+  refused_told keeps (Carry.Source fault) last limit (inl refused) = λ of_files.
       inr (of_chosen (Carry.Source fault) (λ repo target name. RefusesWhole (told_files t) repo.log repo.keys repo.manifest.archives name fault) refused
       (refused.refused of_files))
-  refused_told keeps added begins (Carry.Source fault) last limit (inr untold) = told_line _ (Carry.Source fault) refl untold.0
-  refused_told keeps added begins (Carry.Target refusal) last limit (inl refused) =
+  refused_told keeps (Carry.Source fault) last limit (inr untold) = told_line _ (Carry.Source fault) refl untold.0
+  refused_told keeps (Carry.Target refusal) last limit (inl refused) =
       inr (
-        target_told keeps added begins refusal last limit refused.refused,
+        target_told keeps refusal last limit refused.refused,
         λ still. of_chosen (Carry.Target refusal) (λ repo target name. Unit {0}) refused tt,
       )
-  refused_told keeps added begins (Carry.Target refusal) last limit (inr untold) =
-      inr (target_told keeps added begins refusal last limit untold.1, λ still. told_line _ (Carry.Target refusal) still untold.0)
-  refused_told keeps added begins (Carry.Taken name) last limit (inl refused) = taken_there name keeps refused (sym refused.refused.0)
-  refused_told keeps added begins (Carry.Taken name) last limit (inr untold) = told_line _ (Carry.Taken name) refl untold.0
-  refused_told keeps added begins (Carry.NotFound name) last limit refused = record {
+  refused_told keeps (Carry.Target refusal) last limit (inr untold) =
+      inr (target_told keeps refusal last limit untold.1, λ still. told_line _ (Carry.Target refusal) still untold.0)
+  refused_told keeps (Carry.Taken name) last limit (inl refused) = taken_there name keeps refused (sym refused.refused.0)
+  refused_told keeps (Carry.Taken name) last limit (inr untold) = told_line _ (Carry.Taken name) refl untold.0
+  refused_told keeps (Carry.NotFound name) last limit refused = record {
     repo = source;
     opens = source_opens;
     place = refused.0;
     missing = subst (λ (l : List (List ℕ)). IsMissingName source.manifest l refused.0) chosen_is refused.1.0;
     name_is = subst (λ (l : List (List ℕ)). slice_get l refused.0 ≡ Some name) chosen_is refused.1.1;
   }
-  refused_told keeps added begins Carry.Pieces last limit (inl refused) =
+  refused_told keeps Carry.Pieces last limit (inl refused) =
       of_chosen Carry.Pieces (λ repo target name. LacksName target.manifest name × HasLongItem (told_files t) (from_source asks (told_files t) repo) name)
       refused refused.refused
-  refused_told keeps added begins Carry.Pieces last limit (inr untold) = told_line _ Carry.Pieces refl untold.0
-  refused_told keeps added begins Carry.Memory last limit refused = tt
-  refused_told keeps added begins Carry.Record last limit (inl refused) =
+  refused_told keeps Carry.Pieces last limit (inr untold) = told_line _ Carry.Pieces refl untold.0
+  refused_told keeps Carry.Memory last limit refused = tt
+  refused_told keeps Carry.Record last limit (inl refused) =
       of_chosen Carry.Record (λ repo target name. LacksName target.manifest name
       × HasLargeRecord (told_files t) (from_source asks (told_files t) repo) target.keys name) refused refused.refused
-  refused_told keeps added begins Carry.Record last limit (inr untold) = told_line _ Carry.Record refl untold.0
+  refused_told keeps Carry.Record last limit (inr untold) = told_line _ Carry.Record refl untold.0
 
 files_begun : (h : History) → h.acts ≡ [] → files_now h ≡ h.start
 files_begun h e = ap (λ (acts : List Act). applied h.start acts) e
 
 -- a transfer that was refused while archives came
-pub names_refused : (secrets : Secrets) (options : Options) (names : List (List ℕ)) (source : RepoState) (told a b d : Option Told) (chosen : List (List ℕ))
+pub names_refused : (drawn : Drawn) (secrets : Secrets) (options : Options) (names : List (List ℕ)) (source : RepoState) (told a b d : Option Told)
+    (chosen : List (List ℕ))
     (store now : TheStore) → IfSome told (λ t. OpensFilesTo (told_files t) secrets.source source) → chosen ≡ chosen_of names source.manifest
     → IfSome a (λ t. OpensFilesTo (told_files t) secrets.target (repo_view store.repo)) → accepted_in store ≡ (repo_view store.repo).manifest
     → Between a b TellsNothing → Between a d (TransferEach (asked secrets options names told)) → (fault : CarryFault)
     → (fault ≡ Carry.Target Store.TooLarge → IfSome b (λ x. IfSome d (λ y. LimitsNames options.timestamp source.manifest (repo_view store.repo).keys
     (accepted_in store) chosen (λ done. TellsNames (accepted_in store) done x.history y.history))))
-    → (added : List Addition) × (BeginsAll b (origin_of told source options) store chosen added
-    × IfSome b (λ _. IsOfLast (repo_view store.repo).keys added fault))
-    → RefusesNames (origin_of told source options) b store d now chosen fault → RefusesAsked (asked secrets options names told) a d fault
-names_refused secrets options names source None a b d chosen store now from is opens accepts untold each fault limit last refused = tt
-names_refused secrets options names source (Some t) None b d chosen store now from is opens accepts untold each fault limit last refused = tt
-names_refused secrets options names source (Some t) (Some a) b None chosen store now from is opens accepts untold each fault limit last refused = tt
-names_refused secrets options names source (Some t) (Some a) None (Some d) chosen store now from is opens accepts untold each fault limit last refused =
+    → ((id : List ℕ) → IsChunk id fault → IfSome b (λ u. IfSome d (λ v. IfSome told (λ _. StopsAtChunk (origin_of told source options)
+    (repo_view store.repo).keys (accepted_in store) chosen (λ done. TellsNames (accepted_in store) done u.history v.history) drawn.before drawn.now id))))
+    → RefusesNames (origin_of told source options) b store d now chosen fault → RefusesAsked (asked secrets options names told) drawn a d fault
+names_refused drawn secrets options names source None a b d chosen store now from is opens accepts untold each fault limit last refused = tt
+names_refused drawn secrets options names source (Some t) None b d chosen store now from is opens accepts untold each fault limit last refused = tt
+names_refused drawn secrets options names source (Some t) (Some a) b None chosen store now from is opens accepts untold each fault limit last refused = tt
+names_refused drawn secrets options names source (Some t) (Some a) None (Some d) chosen store now from is opens accepts untold each fault limit last refused =
     absurd (let e : None ≡ Some untold.0 = untold.1 in let no : ⊥ = cc in no)
-names_refused secrets options names source (Some t) (Some a) (Some b) (Some d) chosen store now from is opens accepts untold each fault limit last refused =
+names_refused drawn secrets options names source (Some t) (Some a) (Some b) (Some d) chosen store now from is opens accepts untold each fault limit last
+    refused =
     λ begun.
     let same : each.0 ≡ d = (let e : Some d ≡ Some each.0 = each.1 in cc) in
     let first : untold.0 ≡ b = (let e : Some b ≡ Some untold.0 = untold.1 in cc) in
     let all = subst (λ (x : Told). TransferEach (asked secrets options names (Some t)) a.history x.history) same each.2 in
     let left = left_of (asked secrets options names (Some t)) a.history d.history all begun (repo_view store.repo) opens in
     let started = ap (λ (k : History). k.start) (moments_begin _ a.history d.history (all.1.1.0 begun)).last ∙ sym (files_begun a.history begun) in
-    refused_told secrets options names source t a b d chosen store now from is opens begun started
-    (subst (λ (x : Told). TellsNothing a.history x.history) first untold.2) accepts left last.0 last.1.0 fault last.1.1 limit refused
+    refused_told drawn secrets options names source t a b d chosen store now from is opens begun started
+    (subst (λ (x : Told). TellsNothing a.history x.history) first untold.2) accepts left fault last limit refused

@@ -28,7 +28,7 @@ use Rattle.ferry_store.specs.declared.fault.StoreRefusal.TheVariants as Store
 use Rattle.ferry_run_transfer.proofs.RerunLemmas.{chosen_again}
 use Rattle.ferry_run_transfer.specs.Rerun.{EachChosen, IsAbsentOrEqual}
 use Rattle.ferry_status.specs.Status.{carry_status, repo_status, store_status, target_status}
-use Rattle.ferry_run_transfer.specs.Transfer.{KeepsArchives, NoneCollide, Request, TransferEach, TransferLeaves, asked, chosen_of}
+use Rattle.ferry_run_transfer.specs.Transfer.{Drawn, KeepsArchives, NoneCollide, Request, TransferEach, TransferLeaves, asked, chosen_of, drawn_from}
 use Rattle.ferry_run_transfer.specs.TransferCauses.{EndsDone, IsDoneUnless, IsFirstMissing, IsReadyFor, IsRefusedSo, IsTaken}
 use Rattle.ferry_run_transfer.specs.TransferCauses.{RefusesAsked, RefusesSource, RefusesTransfer, StopsWriting}
 use Rattle.ferry_status.specs.declared.status.Status.{Status}
@@ -38,13 +38,14 @@ use Rattle.ferry_disk.proofs.MomentLemmas.{between_map}
 use Rattle.ferry_status.specs.Devices.{Devices}
 use Rattle.ferry_run_transfer.specs.Transferring.{Transfers}
 use Rattle.ferry_run_transfer.proofs.RefusedLemmas.{memory_refused}
+use Rattle.ferry_run_transfer.proofs.SaltLemmas.{next_added}
 use Rattle.ferry_run_transfer.proofs.TransferLemmas.{left_of}
 use Rattle.ferry_run_transfer.proofs.UntouchedLemmas.{each_untouched}
 
 -- ---- where a transfer is done
 
 -- what is asked for is there
-module _ (request : Request) (source start image : Files) (lines : List (List ℕ)) (ready : IsReadyFor request source start) where
+module _ (request : Request) (drawn : Drawn) (source start image : Files) (lines : List (List ℕ)) (ready : IsReadyFor request drawn source start) where
   -- the source isn't refused
   source_ready : (fault : RepoFault) → IsOfFiles fault → RefusesSource request source start lines fault → ⊥
   source_ready fault of_files (inl refuses) = repo_apart source request.secrets.source ready.from fault ready.source_opens of_files refuses
@@ -112,15 +113,15 @@ module _ (request : Request) (source start image : Files) (lines : List (List �
   begun_ends Store.Memory refused = tt
 
   -- what is live in it under the id of a content that is added opens
-  live_ready : (id : List ℕ) (fault : BlobFault) → StopsWriting request source start lines image (Store.Repo (Repos.Blob id fault)) → ⊥
+  live_ready : (id : List ℕ) (fault : BlobFault) → StopsWriting request drawn source start lines image (Store.Repo (Repos.Blob id fault)) → ⊥
   live_ready id fault stops =
       let same = one_repo start request.secrets.target stops.0.repo ready.repo stops.0.opens ready.opens in
       let breaks = subst (λ (r : RepoState). BreaksObject start r.log r.keys id fault) same stops.0.holds.1 in
-      let opens_to = ready.live id breaks.blob stops.0.holds.0 stops.1 breaks.has in
+      let opens_to = ready.live id breaks.blob stops.0.holds.0 (next_added request drawn source start lines id stops.1) breaks.has in
       let e : None ≡ Some fault = sym (opens_no_fault ready.repo.keys id breaks.blob opens_to.0 opens_to.1) ∙ breaks.breaks in
       let no : ⊥ = cc in no
 
-  stopped_ends : (refusal : StoreRefusal) → StopsWriting request source start lines image refusal
+  stopped_ends : (refusal : StoreRefusal) → StopsWriting request drawn source start lines image refusal
       → IsDoneUnless request source start lines image (store_status refusal)
   stopped_ends (Store.Repo (Repos.Blob id fault)) stops = absurd (live_ready id fault stops)
   stopped_ends (Store.Repo Repos.NoCommit) stops = absurd stops
@@ -206,7 +207,7 @@ module _ (request : Request) (source start image : Files) (lines : List (List �
 
   refused_ends : (keeps : KeepsArchives request start ready.repo.manifest lines image)
       → NoneCollide request start keeps.begun → request.source ≡ Some source → (fault : CarryFault)
-      → RefusesTransfer request source start lines image fault → IsDoneUnless request source start lines image (carry_status fault)
+      → RefusesTransfer request drawn source start lines image fault → IsDoneUnless request source start lines image (carry_status fault)
   refused_ends keeps apart told (Carry.Source fault) refused = source_ends fault refused
   refused_ends keeps apart told (Carry.Target refusal) (inl refused) = begun_ends refusal refused.1
   refused_ends keeps apart told (Carry.Target refusal) (inr stops) = stopped_ends refusal stops.0
@@ -222,9 +223,9 @@ if_some None P step = tt
 if_some (Some x) P step = step x refl
 
 -- a transfer is done where what is asked for is there, or a limit was met
-pub ends_done : (request : Request) (before now : Option Told) (status : Status) → (status ≡ Statuses.Done) ⊎ IsRefusedSo request before now status
-    → EndsDone request before now status
-ends_done request before now status (inl done) =
+pub ends_done : (request : Request) (drawn : Drawn) (before now : Option Told) (status : Status)
+    → (status ≡ Statuses.Done) ⊎ IsRefusedSo request drawn before now status → EndsDone request drawn before now status
+ends_done request drawn before now status (inl done) =
     if_some request.source _
     (λ source told.
     if_some before _
@@ -232,28 +233,28 @@ ends_done request before now status (inl done) =
     if_some now _
     (λ t at begun ready keeps apart.
     subst (IsDoneUnless request source (told_files b) (lines_of t.history.acts) (told_files t)) (sym done) tt)))
-ends_done request before now status (inr refused) =
+ends_done request drawn before now status (inr refused) =
     if_some request.source _
     (λ source told.
     if_some before _
     (λ b is.
     if_some now _
     (λ t at begun ready keeps apart.
-    let causes : RefusesTransfer request source (told_files b) (lines_of t.history.acts) (told_files t) refused.fault =
+    let causes : RefusesTransfer request drawn source (told_files b) (lines_of t.history.acts) (told_files t) refused.fault =
     all_three source b t told is at refused.refuses begun in
     subst (IsDoneUnless request source (told_files b) (lines_of t.history.acts) (told_files t)) (sym refused.status_is)
-    (refused_ends request source (told_files b) (told_files t) (lines_of t.history.acts) ready keeps apart told refused.fault causes))))
+    (refused_ends request drawn source (told_files b) (told_files t) (lines_of t.history.acts) ready keeps apart told refused.fault causes))))
   where
     all_three : (source : Files) (b t : Told) → request.source ≡ Some source → before ≡ Some b → now ≡ Some t
-        → RefusesAsked request before now refused.fault → b.history.acts ≡ []
-        → RefusesTransfer request source (told_files b) (lines_of t.history.acts) (told_files t) refused.fault
+        → RefusesAsked request drawn before now refused.fault → b.history.acts ≡ []
+        → RefusesTransfer request drawn source (told_files b) (lines_of t.history.acts) (told_files t) refused.fault
     all_three source b t told is at asked begun =
         subst (λ (o : Option Told). IfSome o (λ y. b.history.acts ≡ []
-        → RefusesTransfer request source (told_files b) (lines_of y.history.acts) (told_files y) refused.fault)) at
+        → RefusesTransfer request drawn source (told_files b) (lines_of y.history.acts) (told_files y) refused.fault)) at
         (subst (λ (o : Option Told). IfSome o (λ x. IfSome now
-        (λ y. x.history.acts ≡ [] → RefusesTransfer request source (told_files x) (lines_of y.history.acts) (told_files y) refused.fault))) is
+        (λ y. x.history.acts ≡ [] → RefusesTransfer request drawn source (told_files x) (lines_of y.history.acts) (told_files y) refused.fault))) is
         (subst (λ (o : Option Files). IfSome o (λ f. IfSome before (λ x. IfSome now
-        (λ y. x.history.acts ≡ [] → RefusesTransfer request f (told_files x) (lines_of y.history.acts) (told_files y) refused.fault)))) told asked)) begun
+        (λ y. x.history.acts ≡ [] → RefusesTransfer request drawn f (told_files x) (lines_of y.history.acts) (told_files y) refused.fault)))) told asked)) begun
 
 -- ---- a run that memory refused before its command
 
@@ -264,11 +265,12 @@ each_told request (Some t) = (t, refl, each_untouched request t.history)
 pub transfers_nothing : (request : Request) (all : Devices) → Transfers request all Statuses.Memory all
 transfers_nothing request all =
     let told = all.target.told in
-    let refused : IsRefusedSo request told told Statuses.Memory =
-    record { fault = Carry.Memory; status_is = refl; refuses = memory_refused request told told } in
+    let drawn = drawn_from all.entropy.bytes all.entropy.bytes in
+    let refused : IsRefusedSo request drawn told told Statuses.Memory =
+    record { fault = Carry.Memory; status_is = refl; refuses = memory_refused request drawn told told } in
     record {
       output = refl;
-      completes = ends_done request told told Statuses.Memory (inr refused);
+      completes = ends_done request drawn told told Statuses.Memory (inr refused);
       refused = inr refused;
       ended = λ e. absurd (let no : ⊥ = cc in no);
       untouched = if_some request.source _ (λ source told none. (refl, refl));

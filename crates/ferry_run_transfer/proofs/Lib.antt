@@ -11,3 +11,4 @@ pub mod DoneLemmas
 pub mod ReadyLemmas
 pub mod VerifyLemmas
 pub mod SaltLemmas
+pub mod LimitLemmas

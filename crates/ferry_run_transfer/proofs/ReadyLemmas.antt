@@ -17,7 +17,7 @@ use Rattle.ferry_store.specs.New.{OpensNew}
 use Rattle.ferry_store.specs.Standing.{UnlocksSettings}
 use Rattle.ferry_run_transfer.proofs.RerunLemmas.{number_again}
 use Rattle.ferry_run_transfer.specs.Rerun.{HasNumber, KeepsNonce}
-use Rattle.ferry_run_transfer.specs.Transfer.{KeepsArchives, NoneCollide, Request, chosen_of}
+use Rattle.ferry_run_transfer.specs.Transfer.{Drawn, KeepsArchives, NoneCollide, Request, chosen_of}
 use Rattle.ferry_run_transfer.specs.TransferCauses.{IsOfAdded, IsReadyFor}
 use Rattle.ferry_run_transfer.proofs.DoneLemmas.{chosen_left}
 
@@ -35,12 +35,12 @@ one_keys secret file a b p q =
 
 -- what a transfer asks, it finds again in what it left, where each chunk opens that was live at the start and whose id is that of a content that is added
 -- to what is left
-pub ready_again : (request : Request) (source start image : Files) (lines : List (List ℕ)) → request.source ≡ Some source
-    → (ready : IsReadyFor request source start) → (keeps : KeepsArchives request start ready.repo.manifest lines image)
+pub ready_again : (request : Request) (drawn next : Drawn) (source start image : Files) (lines : List (List ℕ)) → request.source ≡ Some source
+    → (ready : IsReadyFor request drawn source start) → (keeps : KeepsArchives request start ready.repo.manifest lines image)
     → NoneCollide request start keeps.begun → KeepsNonce start image
-    → ((id blob : List ℕ) → id ≢ zero_id → IsOfAdded request source image id → HasBlob start ready.repo.log id blob
-    → (content : List ℕ) × OpensTo ready.repo.keys id blob content) → IsReadyFor request source image
-ready_again request source start image lines told ready keeps apart nonce opened = record {
+    → ((id blob : List ℕ) → id ≢ zero_id → IsOfAdded request next source image id → HasBlob start ready.repo.log id blob
+    → (content : List ℕ) × OpensTo ready.repo.keys id blob content) → IsReadyFor request next source image
+ready_again request drawn next source start image lines told ready keeps apart nonce opened = record {
   from = ready.from;
   source_opens = ready.source_opens;
   whole = ready.whole;
@@ -51,7 +51,7 @@ ready_again request source start image lines told ready keeps apart nonce opened
   number = counted.number;
   spelled = counted.spelled;
   live = live;
-  chosen = λ name among. chosen_left request source start image lines ready told keeps apart ready.from ready.source_opens name among;
+  chosen = λ name among. chosen_left request drawn source start image lines ready told keeps apart ready.from ready.source_opens name among;
 } where
   counted : HasNumber image
   counted =
@@ -64,12 +64,12 @@ ready_again request source start image lines told ready keeps apart nonce opened
       (opened_unlocks start request.secrets.target ready.repo ready.opens)) (opened_unlocks image request.secrets.target keeps.repo keeps.opens)
 
   opens_there : (id blob : List ℕ) → HasBlob start ready.repo.log id blob ⊎ ((content : List ℕ) × OpensTo ready.repo.keys id blob content)
-      → id ≢ zero_id → IsOfAdded request source image id → (content : List ℕ) × OpensTo keeps.repo.keys id blob content
+      → id ≢ zero_id → IsOfAdded request next source image id → (content : List ℕ) × OpensTo keeps.repo.keys id blob content
   opens_there id blob (inl has) chunk added =
       let o = opened id blob chunk added has in (o.0, subst (λ k. OpensTo k id blob o.0) keys o.1)
   opens_there id blob (inr o) chunk added = (o.0, subst (λ k. OpensTo k id blob o.0) keys o.1)
 
-  live : (id blob : List ℕ) → id ≢ zero_id → IsOfAdded request source image id → HasBlob image keeps.repo.log id blob
+  live : (id blob : List ℕ) → id ≢ zero_id → IsOfAdded request next source image id → HasBlob image keeps.repo.log id blob
       → (content : List ℕ) × OpensTo keeps.repo.keys id blob content
   live id blob chunk added has = opens_there id blob (keeps.opening ready.repo ready.opens id blob chunk has) chunk added
 
@@ -80,11 +80,11 @@ unfolding archive_named
 none_named name = refl
 
 -- a new repository is ready for archives that are whole in the source
-pub ready_first : (request : Request) (source start : Files) (from : RepoState) → OpensFilesTo source request.secrets.source from
+pub ready_first : (request : Request) (drawn : Drawn) (source start : Files) (from : RepoState) → OpensFilesTo source request.secrets.source from
     → ((name : List ℕ) → IsAmong (chosen_of request.names from.manifest) name → (whole : WholeArchive) × HasWhole source request.secrets.source name whole)
     → OpensNew request.secrets.target start → (text : List ℕ) (number : ℕ) → file_at start NonceFile ≡ Some text → SpellsNumber text number
-    → IsReadyFor request source start
-ready_first request source start from source_opens whole new text number nonce spelled = record {
+    → IsReadyFor request drawn source start
+ready_first request drawn source start from source_opens whole new text number nonce spelled = record {
   from = from;
   source_opens = source_opens;
   whole = whole;

@@ -16,7 +16,7 @@ use Rattle.ferry_stops.specs.Tells.{lines_of}
 use Rattle.ferry_store.specs.Store.{RefusesOpen}
 use Rattle.ferry_store.specs.declared.fault.StoreRefusal.{StoreRefusal}
 use Rattle.ferry_store.specs.declared.fault.StoreRefusal.TheVariants as Store
-use Rattle.ferry_run_transfer.specs.Transfer.{Request, asked, chosen_of}
+use Rattle.ferry_run_transfer.specs.Transfer.{Drawn, Request, asked, chosen_of}
 use Rattle.ferry_run_transfer.specs.TransferCauses.{IsFound, RefusesAsked, RefusesTransfer, WhereRead}
 use Rattle.ferry_status.specs.declared.status.Secrets.{Secrets}
 
@@ -31,36 +31,36 @@ where_read (Some files) (Some b) None P step = tt
 where_read (Some files) (Some b) (Some t) P step = λ begun. step files b t refl refl refl begun
 
 -- why a transfer isn't done
-asked_refused : (request : Request) (before now : Option Told) (fault : CarryFault)
+asked_refused : (request : Request) (drawn : Drawn) (before now : Option Told) (fault : CarryFault)
     → ((files : Files) (b t : Told) → request.source ≡ Some files → before ≡ Some b → now ≡ Some t → b.history.acts ≡ []
-    → RefusesTransfer request files (told_files b) (lines_of t.history.acts) (told_files t) fault) → RefusesAsked request before now fault
-asked_refused request before now fault step =
-    where_read request.source before now (λ files start lines image. RefusesTransfer request files start lines image fault) step
+    → RefusesTransfer request drawn files (told_files b) (lines_of t.history.acts) (told_files t) fault) → RefusesAsked request drawn before now fault
+asked_refused request drawn before now fault step =
+    where_read request.source before now (λ files start lines image. RefusesTransfer request drawn files start lines image fault) step
 
 -- where memory was refused
-pub memory_refused : (request : Request) (before now : Option Told) → RefusesAsked request before now Carry.Memory
-memory_refused request before now = asked_refused request before now Carry.Memory (λ files b t e is k begun. tt)
+pub memory_refused : (request : Request) (drawn : Drawn) (before now : Option Told) → RefusesAsked request drawn before now Carry.Memory
+memory_refused request drawn before now = asked_refused request drawn before now Carry.Memory (λ files b t e is k begun. tt)
 
 -- where the target wasn't opened
-opened_not : (request : Request) (before now : Option Told) (refusal : StoreRefusal) → IfSome request.source (IsFound request)
-    → IfSome before (λ t. RefusesOpen request.secrets.target (told_files t) refusal) → RefusesAsked request before now (Carry.Target refusal)
-opened_not request before now refusal found refused =
-    asked_refused request before now (Carry.Target refusal)
+opened_not : (request : Request) (drawn : Drawn) (before now : Option Told) (refusal : StoreRefusal) → IfSome request.source (IsFound request)
+    → IfSome before (λ t. RefusesOpen request.secrets.target (told_files t) refusal) → RefusesAsked request drawn before now (Carry.Target refusal)
+opened_not request drawn before now refusal found refused =
+    asked_refused request drawn before now (Carry.Target refusal)
     (λ files b t e is k begun. inl (
       subst (λ (o : Option Files). IfSome o (IsFound request)) e found,
       subst (λ (o : Option Told). IfSome o (λ x. RefusesOpen
           request.secrets.target (told_files x) refusal)) is refused,
     ))
 
-pub unopened_refused : (request : Request) (before now : Option Told) (refusal : StoreRefusal) → IfSome request.source (IsFound request)
-    → IfSome before (λ t. RefusesOpen request.secrets.target (told_files t) refusal) → RefusesAsked request before now (target_fault refusal)
-unopened_refused request before now (Store.Repo fault) found refused = opened_not request before now (Store.Repo fault) found refused
-unopened_refused request before now (Store.Write fault) found refused = opened_not request before now (Store.Write fault) found refused
-unopened_refused request before now (Store.Nonce fault) found refused = opened_not request before now (Store.Nonce fault) found refused
-unopened_refused request before now Store.Committed found refused = opened_not request before now Store.Committed found refused
-unopened_refused request before now Store.TooLarge found refused = opened_not request before now Store.TooLarge found refused
-unopened_refused request before now Store.Entropy found refused = opened_not request before now Store.Entropy found refused
-unopened_refused request before now Store.Memory found refused = memory_refused request before now
+pub unopened_refused : (request : Request) (drawn : Drawn) (before now : Option Told) (refusal : StoreRefusal) → IfSome request.source (IsFound request)
+    → IfSome before (λ t. RefusesOpen request.secrets.target (told_files t) refusal) → RefusesAsked request drawn before now (target_fault refusal)
+unopened_refused request drawn before now (Store.Repo fault) found refused = opened_not request drawn before now (Store.Repo fault) found refused
+unopened_refused request drawn before now (Store.Write fault) found refused = opened_not request drawn before now (Store.Write fault) found refused
+unopened_refused request drawn before now (Store.Nonce fault) found refused = opened_not request drawn before now (Store.Nonce fault) found refused
+unopened_refused request drawn before now Store.Committed found refused = opened_not request drawn before now Store.Committed found refused
+unopened_refused request drawn before now Store.TooLarge found refused = opened_not request drawn before now Store.TooLarge found refused
+unopened_refused request drawn before now Store.Entropy found refused = opened_not request drawn before now Store.Entropy found refused
+unopened_refused request drawn before now Store.Memory found refused = memory_refused request drawn before now
 
 -- where the source wasn't opened
 source_or : (P : CarryFault → Type 0) (fault : RepoFault) → P Carry.Memory → P (Carry.Source fault) → P (source_fault fault)
@@ -80,11 +80,11 @@ source_or P Repos.NoKey memory other = other
 source_or P Repos.Device memory other = other
 source_or P Repos.Memory memory other = memory
 
-pub unread_refused : (request : Request) (before now : Option Told) (fault : RepoFault)
-    → IfSome request.source (λ files. RefusesRepo files request.secrets.source fault) → RefusesAsked request before now (source_fault fault)
-unread_refused request before now fault refused =
-    source_or (RefusesAsked request before now) fault (memory_refused request before now)
-    (asked_refused request before now (Carry.Source fault)
+pub unread_refused : (request : Request) (drawn : Drawn) (before now : Option Told) (fault : RepoFault)
+    → IfSome request.source (λ files. RefusesRepo files request.secrets.source fault) → RefusesAsked request drawn before now (source_fault fault)
+unread_refused request drawn before now fault refused =
+    source_or (RefusesAsked request drawn before now) fault (memory_refused request drawn before now)
+    (asked_refused request drawn before now (Carry.Source fault)
     (λ files b t e is k begun of_files.
     inl (subst (λ (o : Option Files). IfSome o (λ f. RefusesRepo f request.secrets.source fault)) e refused)))
 
@@ -95,17 +95,18 @@ asked_source secrets options names None fault refused = tt
 asked_source secrets options names (Some t) fault refused = refused
 
 -- where a name is missing
-pub missing_refused : (secrets : Secrets) (options : Options) (names : List (List ℕ)) (source : RepoState) (told a b : Option Told) (chosen : List (List ℕ))
+pub missing_refused : (drawn : Drawn) (secrets : Secrets) (options : Options) (names : List (List ℕ)) (source : RepoState) (told a b : Option Told)
+    (chosen : List (List ℕ))
     → IfSome told (λ t. OpensFilesTo (told_files t) secrets.source source) → chosen ≡ chosen_of names source.manifest → (fault : CarryFault)
     → (fault ≡ Carry.Memory) ⊎ ((place : ℕ) × ((name : List ℕ)
     × (IsMissingName source.manifest chosen place × ((slice_get chosen place ≡ Some name) × (fault ≡ Carry.NotFound name)))))
-    → RefusesAsked (asked secrets options names told) a b fault
-missing_refused secrets options names source None a b chosen source_opens chosen_is fault refused = tt
-missing_refused secrets options names source (Some t) a b chosen source_opens chosen_is fault (inl memory) =
-    subst (RefusesAsked (asked secrets options names (Some t)) a b) (sym memory) (memory_refused (asked secrets options names (Some t)) a b)
-missing_refused secrets options names source (Some t) a b chosen source_opens chosen_is fault (inr missing) =
-    subst (RefusesAsked (asked secrets options names (Some t)) a b) (sym missing.1.1.1.1)
-    (asked_refused (asked secrets options names (Some t)) a b (Carry.NotFound missing.1.0)
+    → RefusesAsked (asked secrets options names told) drawn a b fault
+missing_refused drawn secrets options names source None a b chosen source_opens chosen_is fault refused = tt
+missing_refused drawn secrets options names source (Some t) a b chosen source_opens chosen_is fault (inl memory) =
+    subst (RefusesAsked (asked secrets options names (Some t)) drawn a b) (sym memory) (memory_refused (asked secrets options names (Some t)) drawn a b)
+missing_refused drawn secrets options names source (Some t) a b chosen source_opens chosen_is fault (inr missing) =
+    subst (RefusesAsked (asked secrets options names (Some t)) drawn a b) (sym missing.1.1.1.1)
+    (asked_refused (asked secrets options names (Some t)) drawn a b (Carry.NotFound missing.1.0)
     (λ files x y e is k begun.
     let same : told_files t ≡ files = (let both : Some (told_files t) ≡ Some files = e in cc) in
     record {

@@ -1,7 +1,6 @@
 -- A transfer that is run again: what it asks of the archives of its target, and what the stops of earlier runs left.
-use Rattle.std.specs.Prelude.{◌≡◌, ◌⊎◌, ℕ, List, [], ◌∷◌, filter, map, Option, Some, None, IfSome, IsSome}
+use Rattle.std.specs.Prelude.{◌≡◌, ◌⊎◌, ℕ, List, [], ◌∷◌, Option, Some, None, IfSome, IsSome}
 use Rattle.ferry_piece.specs.Gather.{IsAmong}
-use Rattle.ferry_piece.specs.Puts.{Addition, Record, same_kind}
 use Rattle.ferry_disk.specs.Files.{Files, file_at}
 use Rattle.ferry_disk.specs.declared.name.Name.TheVariants.{Nonce as NonceFile}
 use Rattle.ferry_manifest.specs.Manifest.Text.{ManifestText}
@@ -73,9 +72,3 @@ pub record IsLeftBy (request : Request) (start image : Files) : Type 0 where
 abbrev pub AreLeftInTurn : Request → Files → List Files → Type 0
 AreLeftInTurn request start [] = Unit {0}
 AreLeftInTurn request start (image ∷ images) = IsLeftBy request start image × AreLeftInTurn request image images
-
--- ---- records
-
--- the texts of the records among these
-abbrev pub records_in : List Addition → List (List ℕ)
-records_in added = map (λ (one : Addition). one.content) (filter (λ (one : Addition). same_kind Record one.kind) added)

@@ -3,7 +3,7 @@ use Rattle.std.specs.Prelude.{◌≡◌, ◌⊎◌, true, IfSome}
 use Rattle.ferry_disk.specs.Moments.{Between}
 use Rattle.ferry_status.specs.Devices.{Devices}
 use Rattle.ferry_status.specs.Status.{is_of_work}
-use Rattle.ferry_run_transfer.specs.Transfer.{LeavesTold, Request, TransferEach, TransferEnds, TransferLeaves}
+use Rattle.ferry_run_transfer.specs.Transfer.{LeavesTold, Request, drawn_from, TransferEach, TransferEnds, TransferLeaves}
 use Rattle.ferry_run_transfer.specs.TransferCauses.{EndsDone, IsFound, IsRefusedSo}
 use Rattle.ferry_status.specs.declared.status.Status.{Status}
 use Rattle.ferry_status.specs.declared.status.Status.TheVariants.{Done}
@@ -16,8 +16,8 @@ use Rattle.ferry_status.specs.declared.status.Status.TheVariants.{Done}
 -- runs before stay apart, and none of this run's, and no number of the file `nonce`, is below the one that it began with. The output is not used.
 pub record Transfers (request : Request) (before : Devices) (status : Status) (after : Devices) : Type 0 where
   pub output : after.output ≡ before.output
-  pub completes : EndsDone request before.target.told after.target.told status
-  pub refused : (status ≡ Done) ⊎ IsRefusedSo request before.target.told after.target.told status
+  pub completes : EndsDone request (drawn_from before.entropy.bytes after.entropy.bytes) before.target.told after.target.told status
+  pub refused : (status ≡ Done) ⊎ IsRefusedSo request (drawn_from before.entropy.bytes after.entropy.bytes) before.target.told after.target.told status
   pub ended : status ≡ Done → Between before.target.told after.target.told
       (TransferEnds request before.entropy.bytes after.entropy.bytes)
   pub untouched : IfSome request.source (λ source. (IsFound request source → ⊥) → (after.target ≡ before.target) × (after.entropy ≡ before.entropy))

@@ -9,7 +9,7 @@ ghost use Rattle.ferry_disk.specs.Moments.{Between};
 ghost use Rattle.ferry_repo.specs.Opening.{FitsRepo, OpensFilesTo, cached_in, repo_view};
 ghost use Rattle.ferry_status.specs.Devices.{drawn, store};
 ghost use Rattle.ferry_status.specs.Status.{entropy_failed, is_of_work, output_failed, source_failed, target_failed};
-ghost use Rattle.ferry_run_transfer.specs.Transfer.{LeavesTold, TransferEach, TransferEnds, TransferLeaves, asked};
+ghost use Rattle.ferry_run_transfer.specs.Transfer.{LeavesTold, TransferEach, TransferEnds, TransferLeaves, asked, drawn_from};
 ghost use Rattle.ferry_run_transfer.specs.TransferCauses.{EndsDone, IsFound, IsRefusedSo, RefusesAsked};
 
 use crate::names::{chosen_names, find_names};
@@ -52,8 +52,9 @@ pub fn transfer<S: Shelf, D: Depot, E: Entropy>(
         → (store (D.told target.new) (D.faults target.new) ≡ store (D.told target.old) (D.faults target.old))
         × (drawn (E.drawn entropy.new) (E.faults entropy.new) ≡ drawn (E.drawn entropy.old) (E.faults entropy.old))) }
     ensures refused { (result ≡ Status.Done) ⊎ IsRefusedSo (asked secrets.now options.now names.now (S.told source.old))
-        (D.told target.old) (D.told target.new) result }
-    ensures completes { EndsDone (asked secrets.now options.now names.now (S.told source.old)) (D.told target.old) (D.told target.new) result }
+        (drawn_from (E.drawn entropy.old) (E.drawn entropy.new)) (D.told target.old) (D.told target.new) result }
+    ensures completes { EndsDone (asked secrets.now options.now names.now (S.told source.old))
+        (drawn_from (E.drawn entropy.old) (E.drawn entropy.new)) (D.told target.old) (D.told target.new) result }
     ensures left { Between (D.told target.old) (D.told target.new)
         (TransferLeaves (asked secrets.now options.now names.now (S.told source.old))) }
     ensures only_told { is_of_work result ≡ true → Between (D.told target.old) (D.told target.new)
@@ -93,7 +94,7 @@ fn copy<S: Shelf, D: Depot, E: Entropy>(
         → (store (D.told target.new) (D.faults target.new) ≡ store (D.told target.old) (D.faults target.old))
         × (drawn (E.drawn entropy.new) (E.faults entropy.new) ≡ drawn (E.drawn entropy.old) (E.faults entropy.old))) }
     ensures refused { IfErr result (RefusesAsked (asked secrets.now options.now names.now (S.told source.old))
-        (D.told target.old) (D.told target.new)) }
+        (drawn_from (E.drawn entropy.old) (E.drawn entropy.new)) (D.told target.old) (D.told target.new)) }
     ensures only_told { IfErr result (λ fault. IsOfWork fault → Between (D.told target.old) (D.told target.new)
         (LeavesTold (asked secrets.now options.now names.now (S.told source.old)))) }
     ensures same { KeepsTold shelf_failed (S.told source.old) (S.told source.new) result }
@@ -130,7 +131,7 @@ fn copy_into<S: Shelf, D: Depot, E: Entropy>(
         → (store (D.told target.new) (D.faults target.new) ≡ store (D.told target.old) (D.faults target.old))
         × (drawn (E.drawn entropy.new) (E.faults entropy.new) ≡ drawn (E.drawn entropy.old) (E.faults entropy.old))) }
     ensures refused { IfErr result (RefusesAsked (asked secrets.now options.now names.now (S.told source.old))
-        (D.told target.old) (D.told target.new)) }
+        (drawn_from (E.drawn entropy.old) (E.drawn entropy.new)) (D.told target.old) (D.told target.new)) }
     ensures only_told { IfErr result (λ fault. IsOfWork fault → Between (D.told target.old) (D.told target.new)
         (LeavesTold (asked secrets.now options.now names.now (S.told source.old)))) }
     ensures same { KeepsTold shelf_failed (S.told source.old) (S.told source.new) result }

@@ -6,7 +6,8 @@ ghost use Rattle.ferry_blob.specs.Blob.{OpensTo, content_id};
 ghost use Rattle.ferry_piece.specs.Gather.{IsAmong, NoCollision};
 ghost use Rattle.ferry_piece.specs.Puts.{Addition, contents_in};
 ghost use Rattle.ferry_carry.specs.Listing.{ListsNames};
-ghost use Rattle.ferry_carry.specs.Naming.{DrawsSalts, TaggedRecord, salts_of};
+ghost use Rattle.ferry_carry.specs.Naming.{DrawsSalts, TaggedRecord, records_in, salts_of};
+ghost use Rattle.ferry_carry.specs.Refusals.{HasLargeRecord};
 ghost use Rattle.ferry_check.specs.Verify.{FilesVerify};
 ghost use Rattle.ferry_disk.specs.Act.{History};
 ghost use Rattle.ferry_disk.specs.Files.{Files, file_at};
@@ -19,8 +20,7 @@ ghost use Rattle.ferry_repo.specs.Whole.{HasWhole, WholeArchive};
 ghost use Rattle.ferry_stops.specs.Counters.{SpellsNumber};
 ghost use Rattle.ferry_store.specs.New.{OpensNew};
 ghost use Rattle.ferry_run_transfer.specs.Rerun.{AreLeftInTurn, EachChosen, HasNumber, IsNamedOrChosen, KeepsNonce, LacksName, MeetsConditions};
-ghost use Rattle.ferry_run_transfer.specs.Rerun.{records_in};
-ghost use Rattle.ferry_run_transfer.specs.Transfer.{KeepsArchives, NoneCollide, Request, chosen_of, from_source};
+ghost use Rattle.ferry_run_transfer.specs.Transfer.{Drawn, HasTransferred, KeepsArchives, NoneCollide, Request, chosen_of, from_source};
 ghost use Rattle.ferry_run_transfer.specs.TransferCauses.{IsOfAdded, IsReadyFor};
 
 /// What a transfer asks of its target, it finds again in what it left at a stop, with the same words and the same source: the files open, the file
@@ -41,13 +41,13 @@ pub fn transfer_laws()
         → request.source ≡ Some source → OpensFilesTo source request.secrets.source from
         → (keeps : KeepsArchives request start before.manifest lines image) (name : List ℕ)
         → IsNamedOrChosen request from.manifest keeps.repo.manifest name ↔ IsNamedOrChosen request from.manifest before.manifest name }
-    // The same of all that a transfer asks so that it is done, where each chunk opens that was live at the start and whose id is that of a content that is
-    // added to what is left.
-    ensures ready { (request : Request) (source start image : Files) (lines : List (List ℕ)) → request.source ≡ Some source
-        → (ready : IsReadyFor request source start) → (keeps : KeepsArchives request start ready.repo.manifest lines image)
+    // The same of all that a transfer asks so that it is done, whatever each of both runs drew, where each chunk opens that was live at the start and whose id
+    // is that of a content that the next run adds to what is left.
+    ensures ready { (request : Request) (drawn next : Drawn) (source start image : Files) (lines : List (List ℕ)) → request.source ≡ Some source
+        → (ready : IsReadyFor request drawn source start) → (keeps : KeepsArchives request start ready.repo.manifest lines image)
         → NoneCollide request start keeps.begun → KeepsNonce start image
-        → ((id blob : List ℕ) → id ≢ zero_id → IsOfAdded request source image id → HasBlob start ready.repo.log id blob
-        → (content : List ℕ) × OpensTo ready.repo.keys id blob content) → IsReadyFor request source image }
+        → ((id blob : List ℕ) → id ≢ zero_id → IsOfAdded request next source image id → HasBlob start ready.repo.log id blob
+        → (content : List ℕ) × OpensTo ready.repo.keys id blob content) → IsReadyFor request next source image }
     // Where the source tells its files, what is left verifies where the start did.
     ensures verifies { (request : Request) (source start image : Files) (before : RepoState) (lines : List (List ℕ)) → request.source ≡ Some source
         → OpensFilesTo start request.secrets.target before → FilesVerify start request.secrets.target
@@ -57,11 +57,11 @@ pub fn transfer_laws()
     ensures first { (request : Request) (start : Files) (repo : RepoState) → OpensFilesTo start request.secrets.target repo → HasNumber start
         → EachChosen request request.source (λ source name. LacksName repo.manifest name) → MeetsConditions request start }
     // A new repository is ready for archives that are whole in the source.
-    ensures fresh { (request : Request) (source start : Files) (from : RepoState) → OpensFilesTo source request.secrets.source from
+    ensures fresh { (request : Request) (drawn : Drawn) (source start : Files) (from : RepoState) → OpensFilesTo source request.secrets.source from
         → ((name : List ℕ) → IsAmong (chosen_of request.names from.manifest) name
         → (whole : WholeArchive) × HasWhole source request.secrets.source name whole)
         → OpensNew request.secrets.target start → (text : List ℕ) (number : ℕ) → file_at start Nonce ≡ Some text → SpellsNumber text number
-        → IsReadyFor request source start }
+        → IsReadyFor request drawn source start }
     // Over a new repository no contents collide where none of those that are added do.
     ensures apart { (request : Request) (start : Files) (new : OpensNew request.secrets.target start) (added : List Addition)
         → NoCollision new.repo.keys (contents_in added) → NoneCollide request start added }
@@ -73,6 +73,11 @@ pub fn transfer_laws()
         (records : List TaggedRecord) (added : List Addition)
         → ListsNames (from_source request files source) target.keys target.manifest [] names records added
         → records_in added ≡ map (λ (one : TaggedRecord). one.text) records }
+    // Where a transfer is done, no chosen archive that the target lacked had a record that is too large.
+    ensures small { (request : Request) (source : Files) (from : RepoState) (drawn drawn_now : Option (List ℕ)) (before now : History) (name : List ℕ)
+        → request.source ≡ Some source → OpensFilesTo source request.secrets.source from
+        → (did : HasTransferred request drawn drawn_now before now) → IsAmong (chosen_of request.names from.manifest) name
+        → LacksName did.repo.manifest name → HasLargeRecord source (from_source request source from) did.repo.keys name → ⊥ }
     // For each 128 bytes are drawn.
     ensures salts { (records : List TaggedRecord) (before now : Option (List ℕ)) → DrawsSalts records before now
         → length (salts_of records) ≡ 128 * length records }

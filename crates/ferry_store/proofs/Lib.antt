@@ -25,3 +25,4 @@ pub mod UseLemmas
 pub mod RenewLemmas
 pub mod DropLemmas
 pub mod ReadLemmas
+pub mod PieceLemmas

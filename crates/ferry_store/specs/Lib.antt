@@ -6,6 +6,7 @@ pub mod Standing
 pub mod New
 pub mod Init
 pub mod Content
+pub mod Piece
 pub mod Store
 pub mod Adding
 pub mod Commit

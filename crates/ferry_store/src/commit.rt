@@ -68,6 +68,7 @@ pub(crate) fn commit_manifest<D: Depot, E: Entropy>(
         session,
         counter,
         &ZERO_ID,
+        false,
         &mut buffer,
     )?;
     commit(depot, session)

@@ -1,8 +1,8 @@
 //! Contents that are added: put where they are new, and opened where they are live.
-ghost use Rattle.std.specs.Prelude.{◌≡◌, ◌≢◌, ◌≤◌, ◌+◌, length, true, false, IfErr, IfSome, OnOk, OnErr};
+ghost use Rattle.std.specs.Prelude.{◌≡◌, ◌≢◌, ◌+◌, length, true, false, IfErr, IfSome, OnOk, OnErr};
 ghost use Rattle.std.specs.BTreeSet.{IsUnchanged, Updates};
-ghost use Rattle.ferry_base.specs.Limits.{content_limit, zero_id};
-ghost use Rattle.ferry_blob.specs.Blob.{OpensTo, blocks, content_id};
+ghost use Rattle.ferry_base.specs.Limits.{zero_id};
+ghost use Rattle.ferry_blob.specs.Blob.{OpensTo, blocks};
 ghost use Rattle.ferry_disk.specs.Device.{HasCause, KeepsTold, told_files};
 ghost use Rattle.ferry_disk.specs.Image.{settled};
 ghost use Rattle.ferry_disk.specs.Moments.{Between};
@@ -14,16 +14,17 @@ ghost use Rattle.ferry_store.specs.Causes.{Stops};
 ghost use Rattle.ferry_store.specs.Content.{blob_for, HasPut, IsThere, Learns, RefusesNew, RefusesOld};
 ghost use Rattle.ferry_store.specs.Fault.{depot_failed, source_failed, spends};
 ghost use Rattle.ferry_store.specs.Limits.{LeavesBoth, LimitsPut};
+ghost use Rattle.ferry_store.specs.Piece.{IsPrepared, content_in};
 ghost use Rattle.ferry_store.specs.State.{Did, KeepsSound};
 
 use crate::fault::StoreRefusal;
-use crate::put::{behind_head, put_object};
+use crate::put::put_object;
 use ferry_base::Id;
 use ferry_disk::Depot;
 use ferry_nonce::Counter;
 use ferry_repo::Repo;
 use ferry_write::Session;
-use std::alloc::{AllocError, Global};
+use std::alloc::AllocError;
 use std::collections::BTreeSet;
 
 /// What adding a content answers: the id of the content, and whether it was put.
@@ -33,43 +34,53 @@ pub struct Added {
     pub new: bool,
 }
 
-/// Puts a content that isn't live under its id, and learns where its blob lies.
+/// Puts the content of a buffer that isn't live under its id, and learns where its blob lies.
 pub(crate) fn put_content<D: Depot>(
-    alloc: Global,
     depot: &mut D,
     repo: &mut Repo,
     session: &mut Session,
     counter: &mut Counter,
     id: &Id,
-    content: &[u8],
+    is_blob: bool,
+    buffer: &mut [u8],
 ) -> Result<(), StoreRefusal>
     requires session { session.old.spent ≡ false }
     requires counter { counter.old.spent ≡ false }
-    requires size { length content.now ≤ content_limit }
     requires new { IsMissing (repo_view repo.old).log id.now }
-    requires named { id.now ≡ content_id (repo_view repo.old).keys content.now }
+    requires prepared { IsPrepared (repo_view repo.old) id.now is_blob buffer.old }
     requires settled { IfSome (D.told depot.old) (λ t. settled t.history.acts ≡ true) }
     ensures did { Did (KeepsSound session.old counter.old)
-        (λ _. HasPut (repo_view repo.old) session.old counter.old id.now content.now (repo_view repo.new) session.new counter.new)
+        (λ _. HasPut (repo_view repo.old) session.old counter.old id.now (content_in (repo_view repo.old).keys is_blob buffer.old)
+        (repo_view repo.new) session.new counter.new)
         (D.told depot.old) (D.told depot.new) (D.faults depot.old) (D.faults depot.new) result }
     ensures untold { Between (D.told depot.old) (D.told depot.new) TellsNothing }
     ensures cached { cached_in repo.new ≡ cached_in repo.old }
     ensures learns { OnOk result (Learns (repo_view repo.old) id.now true (repo_view repo.new)) }
-    ensures opens { OnOk result (OpensTo (repo_view repo.old).keys id.now (blob_for (repo_view repo.old) counter.old content.now) content.now) }
+    ensures opens { OnOk result (OpensTo (repo_view repo.old).keys id.now (blob_for (repo_view repo.old) counter.old
+        (content_in (repo_view repo.old).keys is_blob buffer.old)) (content_in (repo_view repo.old).keys is_blob buffer.old)) }
     ensures session { OnOk result (session.new.spent ≡ false) }
     ensures after { OnOk result (session.new.after ≡ session.old.after) }
     ensures counter { OnOk result (counter.new.spent ≡ false) }
-    ensures refused { IfErr result (RefusesNew session.old counter.old content.now) }
-    ensures limits { LimitsPut result session.old counter.old (84 + length content.now) (blocks (length content.now)) }
+    ensures refused { IfErr result (RefusesNew session.old counter.old (content_in (repo_view repo.old).keys is_blob buffer.old)) }
+    ensures limits { LimitsPut result session.old counter.old (84 + length (content_in (repo_view repo.old).keys is_blob buffer.old))
+        (blocks (length (content_in (repo_view repo.old).keys is_blob buffer.old))) }
     ensures limit { session.new.limit ≡ session.old.limit }
     ensures config { (repo_view repo.new).config ≡ (repo_view repo.old).config }
     ensures leaves { IfErr result (LeavesBoth session.old counter.old session.new counter.new (D.told depot.old) (D.told depot.new)) }
     ensures unlearnt { IfErr result (λ refusal. spends refusal ≡ false → repo.new ≡ repo.old) }
     ensures stops { IfErr result (λ refusal. Between (D.told depot.old) (D.told depot.new) (Stops session.old counter.old refusal)) }
 {
-    let mut buffer = behind_head(alloc, content)?;
     let mode = repo.mode();
-    let place = put_object(depot, repo.keys(), mode, session, counter, id, &mut buffer)?;
+    let place = put_object(
+        depot,
+        repo.keys(),
+        mode,
+        session,
+        counter,
+        id,
+        is_blob,
+        buffer,
+    )?;
     repo.learn(id, place)?;
     Ok(())
 }

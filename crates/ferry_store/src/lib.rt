@@ -11,6 +11,7 @@ mod fault;
 mod init;
 mod key;
 mod laws;
+mod piece;
 mod put;
 mod state;
 mod store;

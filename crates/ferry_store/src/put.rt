@@ -1,12 +1,12 @@
 //! Objects sealed and put.
 ghost use Rattle.std.specs.Prelude.{◌≡◌, ◌⊎◌, ◌<◌, ◌≤◌, ◌+◌, ◌-◌, ◌++◌, ◌↔◌, ℕ, List, true, false, drop, length, option_map};
 ghost use Rattle.std.specs.Prelude.{Ok, IfOk, IfErr, IfSome, OnOk, IsErrOf, IsTrue};
-ghost use Rattle.ferry_base.specs.Limits.{blob_limit, content_limit, zero_id};
+ghost use Rattle.ferry_base.specs.Limits.{blob_limit, zero_id};
 ghost use Rattle.ferry_blob.specs.Blob.{OpensTo, blocks, content_id, sealed};
 ghost use Rattle.ferry_disk.specs.Device.{HasCause};
 ghost use Rattle.ferry_disk.specs.Image.{settled};
 ghost use Rattle.ferry_disk.specs.Moments.{Between};
-ghost use Rattle.ferry_manifest.specs.Manifest.Text.{manifest_of, manifest_view};
+ghost use Rattle.ferry_manifest.specs.Manifest.Text.{manifest_view};
 ghost use Rattle.ferry_manifest.specs.Manifest.Writing.{IsPackable, manifest_text};
 ghost use Rattle.ferry_nonce.specs.Counter.{IsExhausted};
 ghost use Rattle.ferry_nonce.specs.declared.counter.Counter.{Counter};
@@ -19,6 +19,7 @@ ghost use Rattle.ferry_store.specs.Dropping.{RefusesDrop};
 ghost use Rattle.ferry_store.specs.Fault.{source_failed};
 ghost use Rattle.ferry_store.specs.Limits.{LeavesBoth, LimitsPut};
 ghost use Rattle.ferry_store.specs.New.{IsPacked, PutsManifest, first_manifest};
+ghost use Rattle.ferry_store.specs.Piece.{IsReady, content_in};
 ghost use Rattle.ferry_store.specs.State.{Did, IsPlaced, KeepsSound, RefusesManifest, RefusesPut, TakesEntry};
 ghost use Rattle.ferry_store.specs.declared.fault.StoreRefusal.TheVariants as Refusal;
 ghost use Rattle.ferry_write.specs.Room.{AreUsedUp, after_entry, must_begin};
@@ -27,8 +28,9 @@ ghost use Rattle.ferry_write.specs.declared.fault.WriteFault.TheVariants as Writ
 
 use crate::fault::StoreRefusal;
 use crate::key::Basis;
+use crate::piece::seal_again;
 use ferry_base::{Bytes, Id, ZERO_ID};
-use ferry_blob::{Mode, blocks_of, seal};
+use ferry_blob::{Mode, blocks_of};
 use ferry_config::Config;
 use ferry_disk::{Depot, Entropy};
 use ferry_log::Place;
@@ -40,9 +42,10 @@ use ferry_write::Session;
 use std::alloc::Global;
 
 /// How many bytes of a blob stand before its content.
-const HEAD: usize = 43;
+pub(crate) const HEAD: usize = 43;
 
-/// Seals the content at `buffer[43..]` with the next counter blocks, puts the blob under an id, and answers where the blob lies.
+/// Seals the content of a buffer with the next counter blocks, puts the blob under an id, and answers where the blob lies. The content stands behind byte
+/// 43, or the buffer is its blob already, of other counter blocks perhaps.
 pub(crate) fn put_object<D: Depot>(
     depot: &mut D,
     keys: &Keys,
@@ -50,21 +53,24 @@ pub(crate) fn put_object<D: Depot>(
     session: &mut Session,
     counter: &mut Counter,
     id: &Id,
+    is_blob: bool,
     buffer: &mut [u8],
 ) -> Result<Place, StoreRefusal>
     requires session { session.old.spent ≡ false }
     requires counter { counter.old.spent ≡ false }
     requires head { 43 ≤ length buffer.old }
     requires size { length buffer.old ≤ blob_limit }
+    requires ready { IsReady keys.now mode is_blob buffer.old }
     requires settled { IfSome (D.told depot.old) (λ t. settled t.history.acts ≡ true) }
     ensures did { Did (KeepsSound session.old counter.old)
-        (λ _. TakesEntry session.old counter.old (PutEntry id.now (sealed keys.now mode counter.old.free (drop 43 buffer.old))) session.new counter.new)
+        (λ _. TakesEntry session.old counter.old (PutEntry id.now (sealed keys.now mode counter.old.free (content_in keys.now is_blob buffer.old)))
+        session.new counter.new)
         (D.told depot.old) (D.told depot.new) (D.faults depot.old) (D.faults depot.new) result }
     ensures untold { Between (D.told depot.old) (D.told depot.new) TellsNothing }
     ensures placed { IfOk result (λ place. Between (D.told depot.old) (D.told depot.new)
-        (IsPlaced session.old counter.old (sealed keys.now mode counter.old.free (drop 43 buffer.old)) place)) }
-    ensures opens { OnOk result ((name : List ℕ) → (name ≡ zero_id) ⊎ (name ≡ content_id keys.now (drop 43 buffer.old))
-        → OpensTo keys.now name (sealed keys.now mode counter.old.free (drop 43 buffer.old)) (drop 43 buffer.old)) }
+        (IsPlaced session.old counter.old (sealed keys.now mode counter.old.free (content_in keys.now is_blob buffer.old)) place)) }
+    ensures opens { OnOk result ((name : List ℕ) → (name ≡ zero_id) ⊎ (name ≡ content_id keys.now (content_in keys.now is_blob buffer.old))
+        → OpensTo keys.now name (sealed keys.now mode counter.old.free (content_in keys.now is_blob buffer.old)) (content_in keys.now is_blob buffer.old)) }
     ensures session { OnOk result (session.new ≡ after_entry session.old (41 + length buffer.old)) }
     ensures counter { OnOk result (counter.new.spent ≡ false) }
     ensures refused { IfErr result (RefusesPut session.old (41 + length buffer.old)) }
@@ -76,7 +82,7 @@ pub(crate) fn put_object<D: Depot>(
 {
     let blocks = blocks_of((buffer.len() - HEAD) as u64);
     let first = counter.draw(depot, blocks)?;
-    seal(keys, mode, first, buffer);
+    seal_again(keys, mode, first, is_blob, buffer);
     let place = session.put(depot, id, buffer)?;
     Ok(place)
 }
@@ -183,6 +189,7 @@ pub(crate) fn put_manifest<D: Depot, E: Entropy>(
         session,
         counter,
         &ZERO_ID,
+        false,
         &mut buffer,
     )?;
     Ok(())

@@ -1,5 +1,6 @@
 //! A repository that is written.
-ghost use Rattle.std.specs.Prelude.{◌≡◌, ◌≢◌, ◌↔◌, ◌≤◌, ◌+◌, ◌++◌, ◌||◌, ℕ, List, [], true, false, None, length, is_some, map, option_map, IsSome};
+ghost use Rattle.std.specs.Prelude.{◌≡◌, ◌≢◌, ◌↔◌, ◌<◌, ◌≤◌, nat_lt, slice_index, ◌+◌, ◌++◌, ◌||◌};
+ghost use Rattle.std.specs.Prelude.{ℕ, List, [], true, false, None, length, is_some, map, option_map, IsSome};
 ghost use Rattle.std.specs.Prelude.{Ok, IfOk, IfErr, IfSome, IsErrOf, OnOk, OnErr, IsTrue};
 ghost use Rattle.std.specs.Borrow.{Lends, sem};
 ghost use Rattle.ferry_base.specs.Limits.{content_limit, zero_id};
@@ -18,12 +19,14 @@ ghost use Rattle.ferry_stops.specs.Tells.{TellsNothing};
 ghost use Rattle.ferry_store.specs.Adding.{Adds, Checkpoints, RefusesAdd, id_under, pending_after};
 ghost use Rattle.ferry_store.specs.Causes.{Stops, StopsAt};
 ghost use Rattle.ferry_store.specs.Commit.{Commits, CommitsEntry, HasCommitted, IsUnspentBy, RefusesManifestOf, accepted_in, manifest_entry};
+ghost use Rattle.ferry_blob.specs.Batch.{IsSealable, bytes_at, id_at};
 ghost use Rattle.ferry_blob.specs.Blob.{OpensTo, blocks};
 ghost use Rattle.ferry_store.specs.Content.{IsNew, Learns, RefusesNew, RefusesOld, blob_for};
 ghost use Rattle.ferry_store.specs.Dropping.{CommitsWithout, Drops, IsWriting, OpenBareFits, RefusesDrop};
 ghost use Rattle.ferry_store.specs.Fault.{depot_failed, source_failed, spends};
 ghost use Rattle.ferry_store.specs.Limits.{LeavesBoth, LimitsManifest, LimitsPut};
 ghost use Rattle.ferry_store.specs.Standing.{with_manifest};
+ghost use Rattle.ferry_store.specs.Piece.{HasSize, IsPrepared, Prepares, content_in};
 ghost use Rattle.ferry_store.specs.State.{CommitsSound, Did, KeepsSound, RefusesCommit};
 ghost use Rattle.ferry_store.specs.Store.{HasLimit, InitEach, InitFits, InitMakes, IsKnown, IsUnspent, OpenEach, OpenFits, RefusesInit, RefusesOpen, StoreFits};
 ghost use Rattle.ferry_store.specs.Store.{RefusesOpenBare};
@@ -37,10 +40,11 @@ use crate::content::{Added, open_content, put_content};
 use crate::fault::StoreRefusal;
 use crate::init::make_repository;
 use crate::key::given_basis;
-use crate::put::put_delete;
+use crate::piece::{behind_blocks, bytes_at, is_among, name_each};
+use crate::put::{behind_head, put_delete};
 use crate::state::{begin_at, commit, expect_no_commit};
 use ferry_base::{Bytes, Id, ZERO_ID};
-use ferry_blob::id_of;
+use ferry_blob::{id_of, seal_many};
 use ferry_disk::{Depot, Entropy};
 use ferry_mac::Keys;
 use ferry_manifest::{ArchiveRef, Manifest};
@@ -245,6 +249,62 @@ impl Store {
         self.is_new(&id_of(self.repo.keys(), content))
     }
 
+    /// Whether a content of this id would be put, as `would_put` says it of a content.
+    pub fn would_put_id(&self, id: &Id) -> bool
+        ensures new { IsTrue result ↔ IsNew (repo_view self.now.repo) id.now }
+    {
+        self.is_new(id)
+    }
+
+    /// Prepares up to 64 contents, each of which stands behind byte 43 of its buffer: their ids are worked out side by side, and the first of them that are
+    /// new are sealed side by side, with the counter blocks that they will have where they are added next, one after another. It answers how many are
+    /// blobs then. No device is called, and nothing is allocated.
+    ///
+    /// Source: BorgBackup 1.2, Internals, "Data structures and file formats", Encryption.
+    pub fn prepare(&self, buffers: &mut [Vec<u8>], ids: &mut [Id]) -> usize
+        requires places { length buffers.old ≤ 64 }
+        requires ids { length ids.old ≡ length buffers.old }
+        requires sizes { (k : ℕ) → k < length buffers.old → HasSize (bytes_at buffers.old k) }
+        ensures within { result ≤ length buffers.old }
+        // Each is prepared, and has the content that it had.
+        ensures prepared { (k : ℕ) → k < length buffers.old
+            → Prepares (repo_view self.now.repo) (bytes_at buffers.old k) (id_at ids.new k) (nat_lt k result) (bytes_at buffers.new k) }
+    {
+        let keys = self.repo.keys();
+        name_each(keys, buffers, ids);
+        let mut nonces = [0u64; 64];
+        let count = self.foresee(ids, buffers, &mut nonces);
+        seal_many(
+            keys,
+            self.repo.mode(),
+            &nonces[..count],
+            &mut buffers[..count],
+        );
+        count
+    }
+
+    /// How many of the first contents would be put, each under an id of its own, and from which counter blocks on.
+    fn foresee(&self, ids: &[Id], buffers: &[Vec<u8>], nonces: &mut [u64; 64]) -> usize
+        requires places { length buffers.now ≤ 64 }
+        requires ids { length ids.now ≡ length buffers.now }
+        requires sizes { (k : ℕ) → k < length buffers.now → HasSize (bytes_at buffers.now k) }
+        ensures within { result ≤ length buffers.now }
+        ensures sealable { (k : ℕ) → k < result → IsSealable (slice_index nonces.new k) (bytes_at buffers.now k) }
+    {
+        let mut free = self.counter.free();
+        for place in 0..buffers.len() {
+            let Some(behind) = behind_blocks(free, bytes_at(buffers, place)) else {
+                return place;
+            };
+            if !self.is_new(&ids[place]) || is_among(&ids[..place], &ids[place]) {
+                return place;
+            }
+            nonces[place] = free;
+            free = behind;
+        }
+        buffers.len()
+    }
+
     /// Adds a content of at most 20971436 bytes: it is sealed and put where its id isn't live, and else it is opened, once for a store. A
     /// content that the store knows is answered without a call of the depot.
     pub fn add<D: Depot>(&mut self, depot: &mut D, content: &[u8]) -> Result<Added, StoreRefusal>
@@ -295,7 +355,10 @@ impl Store {
     {
         let id = id_of(self.repo.keys(), content);
         if self.is_new(&id) {
-            return self.add_new(depot, id, content);
+            return match behind_head(self.alloc, content) {
+                Ok(mut buffer) => self.add_new(depot, id, false, &mut buffer),
+                Err(refusal) => Err(self.spend(refusal)),
+            };
         }
         if self.is_known(&id) {
             return Ok(Added { id, new: false });
@@ -303,29 +366,100 @@ impl Store {
         self.add_old(depot, id)
     }
 
-    /// Adds a content whose id isn't live.
+    /// Adds the content of a buffer that `prepare` has prepared, as `add` does. Where the buffer is a blob already, and of the counter blocks
+    /// that are free now, it is put as it is; and else it is sealed, in place. What stands in the buffer behind the call isn't said.
+    pub fn add_piece<D: Depot>(
+        &mut self,
+        depot: &mut D,
+        id: Id,
+        is_blob: bool,
+        buffer: &mut [u8],
+    ) -> Result<Added, StoreRefusal>
+        requires prepared { IsPrepared (repo_view self.old.repo) id is_blob buffer.old }
+        requires unspent { IsUnspent self.old }
+        requires fits { IfSome (D.told depot.old) (λ t. StoreFits false self.old t.history) }
+        // Each stop shows what was committed, and counter blocks are kept; a store that fits fits with what was put.
+        ensures did { Did (KeepsSound self.old.session self.old.counter) (Adds self.old (content_in (repo_view self.old.repo).keys is_blob buffer.old) self.new)
+            (D.told depot.old) (D.told depot.new) (D.faults depot.old) (D.faults depot.new) result }
+        // No line is told, also by a call that fails.
+        ensures untold { Between (D.told depot.old) (D.told depot.new) TellsNothing }
+        // The id is that of the content under the keys of the repository.
+        ensures id { IfOk result (λ added. added.id ≡ id_under self.old (content_in (repo_view self.old.repo).keys is_blob buffer.old)) }
+        // The content was put exactly where it was new.
+        ensures new { IfOk result (λ added. IsTrue added.new ↔ IsNew (repo_view self.old.repo) (id_under self.old (content_in (repo_view
+            self.old.repo).keys is_blob buffer.old))) }
+        // The store knows the id from then on.
+        ensures known { OnOk result (IsKnown self.new (id_under self.old (content_in (repo_view self.old.repo).keys is_blob buffer.old))) }
+        // What the store knows is answered without a call of the depot.
+        ensures answered { IsKnown self.old (id_under self.old (content_in (repo_view self.old.repo).keys is_blob buffer.old)) → IfSome (D.told depot.old)
+            (λ t. (depot.new ≡ depot.old)
+            × (result ≡ Ok (record { id = id_under self.old (content_in (repo_view self.old.repo).keys is_blob buffer.old); new = false }))) }
+        // The repository is the same, but that it has learnt the place of a content that was put.
+        ensures repo { IfOk result (λ added. Learns (repo_view self.old.repo) added.id added.new (repo_view self.new.repo)) }
+        // What is put opens to the content.
+        ensures opens { IfOk result (λ added. IsTrue added.new → OpensTo (repo_view self.old.repo).keys (id_under self.old (content_in (repo_view
+            self.old.repo).keys is_blob buffer.old))
+            (blob_for (repo_view self.old.repo) self.old.counter (content_in (repo_view self.old.repo).keys is_blob buffer.old)) (content_in (repo_view
+            self.old.repo).keys is_blob buffer.old)) }
+        // What was accepted is the same.
+        ensures accepted { self.new.accepted ≡ self.old.accepted }
+        // One more entry counts as put where the content was put.
+        ensures pending { IfOk result (λ added. self.new.pending ≡ pending_after self.old.pending added.new) }
+        // The depot failed, the blob of a live id breaks a rule, or a new content has no counter blocks or no segment left.
+        ensures refused { IfErr result (λ refusal. IfSome (D.told depot.old) (λ t. RefusesAdd self.old (content_in (repo_view self.old.repo).keys is_blob
+            buffer.old) (told_files t) refusal)) }
+        // A new content is refused exactly where no blocks, or else no segment, are left for it.
+        ensures limits { IsNew (repo_view self.old.repo) (id_under self.old (content_in (repo_view self.old.repo).keys is_blob buffer.old))
+            → LimitsPut result self.old.session self.old.counter (84 + length (content_in (repo_view self.old.repo).keys is_blob buffer.old)) (blocks
+            (length (content_in (repo_view self.old.repo).keys is_blob buffer.old))) }
+        // What a refusal says of the depot's files as they are read behind the call.
+        ensures stops { IfErr result (λ refusal. IfSome (D.told depot.new)
+            (λ t. StopsAt t.history.start (told_files t) (repo_view self.old.repo).keys refusal)) }
+        // A refusal isn't one of the source of random bytes.
+        ensures drawn { IfErr result (λ refusal. source_failed refusal ≡ false) }
+        // After an answer the store isn't spent.
+        ensures unspent { OnOk result (IsUnspent self.new) }
+        // A refusal that doesn't spend the store leaves it and the files as they were.
+        ensures kept { IfErr result (IsUnspentBy self.old self.new (D.told depot.old) (D.told depot.new)) }
+        // The limit of the settings is the session's.
+        ensures limit { HasLimit self.old → HasLimit self.new }
+        // After a refusal it is exactly where that is memory, a failed target or used up numbers.
+        ensures spent { IfErr result (λ refusal. self.new.spent ≡ spends refusal) }
+    {
+        if self.is_new(&id) {
+            return self.add_new(depot, id, is_blob, buffer);
+        }
+        if self.is_known(&id) {
+            return Ok(Added { id, new: false });
+        }
+        self.add_old(depot, id)
+    }
+
+    /// Adds the content of a buffer, whose id isn't live.
     fn add_new<D: Depot>(
         &mut self,
         depot: &mut D,
         id: Id,
-        content: &[u8],
+        is_blob: bool,
+        buffer: &mut [u8],
     ) -> Result<Added, StoreRefusal>
-        requires size { length content.now ≤ content_limit }
         requires unspent { IsUnspent self.old }
-        requires named { id ≡ id_under self.old content.now }
+        requires prepared { IsPrepared (repo_view self.old.repo) id is_blob buffer.old }
         requires new { IsNew (repo_view self.old.repo) id }
         requires fits { IfSome (D.told depot.old) (λ t. StoreFits false self.old t.history) }
-        ensures did { Did (KeepsSound self.old.session self.old.counter) (Adds self.old content.now self.new)
+        ensures did { Did (KeepsSound self.old.session self.old.counter) (Adds self.old (content_in (repo_view self.old.repo).keys is_blob buffer.old) self.new)
             (D.told depot.old) (D.told depot.new) (D.faults depot.old) (D.faults depot.new) result }
         ensures untold { Between (D.told depot.old) (D.told depot.new) TellsNothing }
         ensures added { IfOk result (λ added. added ≡ record { id = id; new = true }) }
         ensures known { OnOk result (IsKnown self.new id) }
         ensures repo { OnOk result (Learns (repo_view self.old.repo) id true (repo_view self.new.repo)) }
-        ensures opens { OnOk result (OpensTo (repo_view self.old.repo).keys id (blob_for (repo_view self.old.repo) self.old.counter content.now) content.now) }
+        ensures opens { OnOk result (OpensTo (repo_view self.old.repo).keys id (blob_for (repo_view self.old.repo) self.old.counter (content_in (repo_view
+            self.old.repo).keys is_blob buffer.old)) (content_in (repo_view self.old.repo).keys is_blob buffer.old)) }
         ensures accepted { self.new.accepted ≡ self.old.accepted }
         ensures pending { OnOk result (self.new.pending ≡ pending_after self.old.pending true) }
-        ensures refused { IfErr result (RefusesNew self.old.session self.old.counter content.now) }
-        ensures limits { LimitsPut result self.old.session self.old.counter (84 + length content.now) (blocks (length content.now)) }
+        ensures refused { IfErr result (RefusesNew self.old.session self.old.counter (content_in (repo_view self.old.repo).keys is_blob buffer.old)) }
+        ensures limits { LimitsPut result self.old.session self.old.counter (84 + length (content_in (repo_view self.old.repo).keys is_blob buffer.old))
+            (blocks (length (content_in (repo_view self.old.repo).keys is_blob buffer.old))) }
         ensures stops { IfErr result (λ refusal. IfSome (D.told depot.new)
             (λ t. StopsAt t.history.start (told_files t) (repo_view self.old.repo).keys refusal)) }
         ensures unspent { OnOk result (IsUnspent self.new) }
@@ -336,13 +470,13 @@ impl Store {
         ensures spent { IfErr result (λ refusal. self.new.spent ≡ spends refusal) }
     {
         let put = put_content(
-            self.alloc,
             depot,
             &mut self.repo,
             &mut self.session,
             &mut self.counter,
             &id,
-            content,
+            is_blob,
+            buffer,
         );
         match put {
             Ok(()) => {

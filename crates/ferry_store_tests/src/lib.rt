@@ -8,6 +8,8 @@ mod fixture;
 #[cfg(test)]
 mod next;
 #[cfg(test)]
+mod piece;
+#[cfg(test)]
 mod putting;
 #[cfg(test)]
 mod refs;

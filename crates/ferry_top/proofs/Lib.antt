@@ -5,3 +5,4 @@ pub mod CheckLemmas
 pub mod InitLemmas
 pub mod RunLemmas
 pub mod ReadyLemmas
+pub mod FollowingLemmas

@@ -19,7 +19,7 @@ use Rattle.ferry_run_delete.specs.Delete.{DeletesDone, Deletion, IsDeletedUnless
 use Rattle.ferry_run_plan.proofs.PlanCauseLemmas.{plan_completes}
 use Rattle.ferry_run_plan.specs.Planning.{CanBePlanned, IsPlannedUnless, PrintsPlan, Sends, planned_for}
 use Rattle.ferry_run_tag.specs.Tag.{IsTaggedUnless, LimitsTagging, OpensNew, Tagging, TagsDone, tagging}
-use Rattle.ferry_run_transfer.specs.Transfer.{Request, asked}
+use Rattle.ferry_run_transfer.specs.Transfer.{Drawn, drawn_from, Request, asked}
 use Rattle.ferry_run_transfer.specs.TransferCauses.{EndsDone, IsDoneUnless, MeetsLimit}
 use Rattle.ferry_status.specs.Devices.{Devices, Written}
 use Rattle.ferry_status.specs.Output.{Prints, PrintsAsRead}
@@ -353,7 +353,7 @@ compacted_done b t status IsMet met ready (inr refused) =
 
 -- ---- all commands
 
-module _ (secrets : Secrets) (output output_now : Written) (status : Status) where
+module _ (secrets : Secrets) (drawn : Drawn) (output output_now : Written) (status : Status) where
   -- a command of the source
   shown : (command : Command) (source : Option Told) (IsMet : LimitKind → Type 0) → Tells source (λ s. HasShown command secrets.source (told_files s))
       → Shows command secrets.source source output status output_now → IsDoneOr IsMet status
@@ -387,7 +387,7 @@ module _ (secrets : Secrets) (output output_now : Written) (status : Status) whe
   shown (TagArchives timestamp) (Some s) IsMet ready shows = absurd ready
 
   made : (iterations : ℕ) (timestamp : Option (List ℕ)) (source before now : Option Told) → IfSome before (λ b. b.history.acts ≡ [])
-      → IsReadyTo (Init iterations timestamp) secrets source before now
+      → IsReadyTo (Init iterations timestamp) secrets drawn source before now
       → (status ≡ Done) ⊎ IsRefused secrets.target (time_or timestamp) before status
       → IsDoneOr (Meets (Init iterations timestamp) secrets source before now) status
   made iterations timestamp source None now begun ready refused = absurd ready
@@ -395,8 +395,8 @@ module _ (secrets : Secrets) (output output_now : Written) (status : Status) whe
       init_done secrets.target (time_or timestamp) b status (Meets (Init iterations timestamp) secrets source (Some b) now) begun ready refused
 
   copied : (block checkpoint : ℕ) (timestamp : Option (List ℕ)) (names : List (List ℕ)) (source before now : Option Told)
-      → IfSome before (λ b. b.history.acts ≡ []) → IsReadyTo (Transfer block checkpoint timestamp names) secrets source before now
-      → EndsDone (asked secrets (record { block = block; checkpoint = checkpoint; timestamp = timestamp }) names source) before now status
+      → IfSome before (λ b. b.history.acts ≡ []) → IsReadyTo (Transfer block checkpoint timestamp names) secrets drawn source before now
+      → EndsDone (asked secrets (record { block = block; checkpoint = checkpoint; timestamp = timestamp }) names source) drawn before now status
       → IsDoneOr (Meets (Transfer block checkpoint timestamp names) secrets source before now) status
   copied block checkpoint timestamp names None before now begun ready ends = absurd ready
   copied block checkpoint timestamp names (Some s) None now begun ready ends = absurd ready
@@ -406,7 +406,7 @@ module _ (secrets : Secrets) (output output_now : Written) (status : Status) whe
       (lines_of t.history.acts) (told_files t) (Meets (Transfer block checkpoint timestamp names) secrets (Some s) (Some b) (Some t)) (λ limit m. m) status
       (ends begun ready.0 ready.1.0 ready.1.1)
 
-  planned : (block : ℕ) (names : List (List ℕ)) (source before now : Option Told) → IsReadyTo (Plan block names) secrets source before now
+  planned : (block : ℕ) (names : List (List ℕ)) (source before now : Option Told) → IsReadyTo (Plan block names) secrets drawn source before now
       → PrintsPlan (planned_for secrets block names source) source before output status output_now
       → IsDoneOr (Meets (Plan block names) secrets source before now) status
   planned block names None before now ready prints = absurd ready
@@ -415,7 +415,7 @@ module _ (secrets : Secrets) (output output_now : Written) (status : Status) whe
       planned_done (planned_for secrets block names (Some s)) s b output output_now status (Meets (Plan block names) secrets (Some s) (Some b) now) ready prints
 
   deleted : (timestamp : Option (List ℕ)) (name : List ℕ) (source before now : Option Told) → IfSome before (λ b. b.history.acts ≡ [])
-      → IsReadyTo (Delete timestamp name) secrets source before now → DeletesDone (deletion secrets.target name timestamp) before now status
+      → IsReadyTo (Delete timestamp name) secrets drawn source before now → DeletesDone (deletion secrets.target name timestamp) before now status
       → IsDoneOr (Meets (Delete timestamp name) secrets source before now) status
   deleted timestamp name source None now begun ready done = absurd ready
   deleted timestamp name source (Some b) None begun ready done = absurd ready
@@ -423,7 +423,7 @@ module _ (secrets : Secrets) (output output_now : Written) (status : Status) whe
       delete_done (deletion secrets.target name timestamp) ready.repo t.history.start (told_files t)
       (Meets (Delete timestamp name) secrets source (Some b) (Some t)) (λ limit m. (ready.repo, (ready.opens, m))) status (done begun ready)
 
-  compacted : (threshold : ℕ) (source before now : Option Told) → IsReadyTo (Compact threshold) secrets source before now
+  compacted : (threshold : ℕ) (source before now : Option Told) → IsReadyTo (Compact threshold) secrets drawn source before now
       → (status ≡ Done) ⊎ IsCompactingRefused before now status → IsDoneOr (Meets (Compact threshold) secrets source before now) status
   compacted threshold source None now ready refused = absurd ready
   compacted threshold source (Some b) None ready refused = absurd ready
@@ -431,7 +431,7 @@ module _ (secrets : Secrets) (output output_now : Written) (status : Status) whe
       compacted_done b t status (Meets (Compact threshold) secrets source (Some b) (Some t)) (λ limit m. m) ready refused
 
   tagged : (timestamp : Option (List ℕ)) (source before now : Option Told) → IfSome before (λ b. b.history.acts ≡ [])
-      → IsReadyTo (TagArchives timestamp) secrets source before now → TagsDone (tagging secrets.target timestamp) before now status
+      → IsReadyTo (TagArchives timestamp) secrets drawn source before now → TagsDone (tagging secrets.target timestamp) before now status
       → IsDoneOr (Meets (TagArchives timestamp) secrets source before now) status
   tagged timestamp source None now begun ready done = absurd ready
   tagged timestamp source (Some b) None begun ready done = absurd ready
@@ -439,31 +439,44 @@ module _ (secrets : Secrets) (output output_now : Written) (status : Status) whe
       tag_done (tagging secrets.target timestamp) ready.0.repo (told_files b) t.history.start (told_files t) ready.1
       (Meets (TagArchives timestamp) secrets source (Some b) (Some t)) (λ limit m. (ready.0.repo, (ready.0.opens, m))) status (done begun ready.0)
 
+abbrev drawn_in : Devices → Devices → Drawn
+drawn_in before after = drawn_from before.entropy.bytes after.entropy.bytes
+
 pub completes : (command : Command) (secrets : Secrets) (before after : Devices) (status : Status)
-    → IfSome before.target.told (λ b. b.history.acts ≡ []) → IsReadyTo command secrets before.source.told before.target.told after.target.told
+    → IfSome before.target.told (λ b. b.history.acts ≡ [])
+    → IsReadyTo command secrets (drawn_in before after) before.source.told before.target.told after.target.told
     → DoesCommand (Ok command) secrets before status after
     → IsDoneOr (Meets command secrets before.source.told before.target.told after.target.told) status
-completes Keys secrets before after status begun ready does = shown secrets before.output after.output status Keys before.source.told _ ready does.shows
-completes Key secrets before after status begun ready does = shown secrets before.output after.output status Key before.source.told _ ready does.shows
+completes Keys secrets before after status begun ready does =
+    shown secrets (drawn_in before after) before.output after.output status Keys before.source.told _ ready does.shows
+completes Key secrets before after status begun ready does =
+    shown secrets (drawn_in before after) before.output after.output status Key before.source.told _ ready does.shows
 completes ListArchives secrets before after status begun ready does =
-    shown secrets before.output after.output status ListArchives before.source.told _ ready does.shows
+    shown secrets (drawn_in before after) before.output after.output status ListArchives before.source.told _ ready does.shows
 completes (ListItems name) secrets before after status begun ready does =
-    shown secrets before.output after.output status (ListItems name) before.source.told _ ready does.shows
+    shown secrets (drawn_in before after) before.output after.output status (ListItems name) before.source.told _ ready does.shows
 completes (Extract name path) secrets before after status begun ready does =
-    shown secrets before.output after.output status (Extract name path) before.source.told _ ready does.shows
-completes Check secrets before after status begun ready does = shown secrets before.output after.output status Check before.source.told _ ready does.shows
+    shown secrets (drawn_in before after) before.output after.output status (Extract name path) before.source.told _ ready does.shows
+completes Check secrets before after status begun ready does =
+    shown secrets (drawn_in before after) before.output after.output status Check before.source.told _ ready does.shows
 completes (Init iterations timestamp) secrets before after status begun ready does =
-    made secrets before.output after.output status iterations timestamp before.source.told before.target.told after.target.told begun ready does.refused
+    made secrets (drawn_in before after) before.output after.output status iterations timestamp
+    before.source.told before.target.told after.target.told begun ready does.refused
 completes (MakeKey iterations) secrets before after status begun ready does =
     key_done (IsDrawnKey secrets.target.passphrase iterations before.entropy.bytes after.entropy.bytes) before.output after.output status _ does.prints
 completes (Transfer block checkpoint timestamp names) secrets before after status begun ready does =
-    copied secrets before.output after.output status block checkpoint timestamp names before.source.told before.target.told after.target.told begun ready
+    copied secrets (drawn_in before after) before.output after.output status block checkpoint timestamp names
+    before.source.told before.target.told after.target.told begun ready
     does.completes
 completes (Plan block names) secrets before after status begun ready does =
-    planned secrets before.output after.output status block names before.source.told before.target.told after.target.told ready does.prints
+    planned secrets (drawn_in before after) before.output after.output status block names
+    before.source.told before.target.told after.target.told ready does.prints
 completes (Delete timestamp name) secrets before after status begun ready does =
-    deleted secrets before.output after.output status timestamp name before.source.told before.target.told after.target.told begun ready does.completes
+    deleted secrets (drawn_in before after) before.output after.output status timestamp name
+    before.source.told before.target.told after.target.told begun ready does.completes
 completes (Compact threshold) secrets before after status begun ready does =
-    compacted secrets before.output after.output status threshold before.source.told before.target.told after.target.told ready does.refused
+    compacted secrets (drawn_in before after) before.output after.output status threshold
+    before.source.told before.target.told after.target.told ready does.refused
 completes (TagArchives timestamp) secrets before after status begun ready does =
-    tagged secrets before.output after.output status timestamp before.source.told before.target.told after.target.told begun ready does.completes
+    tagged secrets (drawn_in before after) before.output after.output status timestamp
+    before.source.told before.target.told after.target.told begun ready does.completes

@@ -8,3 +8,4 @@ pub mod Items
 pub mod Run
 pub mod Ready
 pub mod Words
+pub mod Following

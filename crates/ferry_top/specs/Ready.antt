@@ -13,7 +13,7 @@ use Rattle.ferry_run_compact.specs.Compact.{IsCompactedUnless}
 use Rattle.ferry_run_delete.specs.Delete.{IsReadyToDelete, LimitsDeletion, deletion}
 use Rattle.ferry_run_plan.specs.Planning.{CanBePlanned, planned_for}
 use Rattle.ferry_run_tag.specs.Tag.{IsReadyToTag, LimitsTagging, OpensNew, tagging}
-use Rattle.ferry_run_transfer.specs.Transfer.{KeepsArchives, NoneCollide, Request, asked}
+use Rattle.ferry_run_transfer.specs.Transfer.{Drawn, KeepsArchives, NoneCollide, Request, asked}
 use Rattle.ferry_run_transfer.specs.TransferCauses.{IsReadyFor, MeetsLimit}
 use Rattle.ferry_status.specs.declared.status.Limit.{Limit as LimitKind}
 use Rattle.ferry_status.specs.declared.status.Secrets.{Secrets}
@@ -45,8 +45,8 @@ HasShown Check secret files = OpensWith secret Verifies files
 HasShown command secret files = ⊥
 
 -- what a transfer asks, with what it kept at its end: no contents collide among those that it added and those that were live at its begin
-abbrev pub IsReadyToCopy : Request → Files → Told → Told → Type 0
-IsReadyToCopy request source start now = (ready : IsReadyFor request source (told_files start))
+abbrev pub IsReadyToCopy : Request → Drawn → Files → Told → Told → Type 0
+IsReadyToCopy request drawn source start now = (ready : IsReadyFor request drawn source (told_files start))
     × ((keeps : KeepsArchives request (told_files start) ready.repo.manifest (lines_of now.history.acts) (told_files now))
     × NoneCollide request (told_files start) keeps.begun)
 
@@ -54,20 +54,21 @@ IsReadyToCopy request source start now = (ready : IsReadyFor request source (tol
 abbrev pub IsReadyToCompact : Files → Type 0
 IsReadyToCompact files = (state : LogState) × (IsStateOf files state × ((config : Settings) × (config_of (contents_at files Config) ≡ Ok config)))
 
--- what each command asks of what the source and the target tell before it, and `transfer` and `tag-archives` also of what the target tells behind it
-abbrev pub IsReadyTo : Command → Secrets → (source before now : Option Told) → Type 0
-IsReadyTo (Init iterations timestamp) secrets source before now = Tells before (λ b. IsReady secrets.target (time_or timestamp) (told_files b))
-IsReadyTo (MakeKey iterations) secrets source before now = Unit {0}
-IsReadyTo (Transfer block checkpoint timestamp names) secrets source before now = Tells source (λ s. Tells before (λ b. Tells now (λ t.
-    IsReadyToCopy (asked secrets (record { block = block; checkpoint = checkpoint; timestamp = timestamp }) names (Some s)) (told_files s) b t)))
-IsReadyTo (Plan block names) secrets source before now =
+-- what each command asks of what the source and the target tell before it, and `transfer` and `tag-archives` also of what the target tells behind it,
+-- `transfer` of what was drawn too
+abbrev pub IsReadyTo : Command → Secrets → Drawn → (source before now : Option Told) → Type 0
+IsReadyTo (Init iterations timestamp) secrets drawn source before now = Tells before (λ b. IsReady secrets.target (time_or timestamp) (told_files b))
+IsReadyTo (MakeKey iterations) secrets drawn source before now = Unit {0}
+IsReadyTo (Transfer block checkpoint timestamp names) secrets drawn source before now = Tells source (λ s. Tells before (λ b. Tells now (λ t.
+    IsReadyToCopy (asked secrets (record { block = block; checkpoint = checkpoint; timestamp = timestamp }) names (Some s)) drawn (told_files s) b t)))
+IsReadyTo (Plan block names) secrets drawn source before now =
     Tells source (λ s. Tells before (λ b. CanBePlanned (planned_for secrets block names (Some s)) (told_files s) (told_files b)))
-IsReadyTo (Delete timestamp name) secrets source before now =
+IsReadyTo (Delete timestamp name) secrets drawn source before now =
     Tells before (λ b. Tells now (λ t. IsReadyToDelete (deletion secrets.target name timestamp) (told_files b)))
-IsReadyTo (Compact threshold) secrets source before now = Tells before (λ b. Tells now (λ t. IsReadyToCompact (told_files b)))
-IsReadyTo (TagArchives timestamp) secrets source before now = Tells before (λ b. Tells now (λ t.
+IsReadyTo (Compact threshold) secrets drawn source before now = Tells before (λ b. Tells now (λ t. IsReadyToCompact (told_files b)))
+IsReadyTo (TagArchives timestamp) secrets drawn source before now = Tells before (λ b. Tells now (λ t.
     (ready : IsReadyToTag (tagging secrets.target timestamp) (told_files b)) × OpensNew (told_files b) ready.repo (told_files t)))
-IsReadyTo command secrets source before now = Tells source (λ s. HasShown command secrets.source (told_files s))
+IsReadyTo command secrets drawn source before now = Tells source (λ s. HasShown command secrets.source (told_files s))
 
 -- the limits that a command can meet, each with what it says then
 abbrev pub Meets : Command → Secrets → (source before now : Option Told) → LimitKind → Type 0

@@ -21,6 +21,6 @@ pub use ferry_run_compact::compact_laws;
 pub use ferry_run_plan::plan_laws;
 pub use ferry_run_transfer::transfer_laws;
 pub use ferry_status::{Limit, Refusal, Secrets, Status};
-pub use laws::{complete_laws, stop_laws};
+pub use laws::{complete_laws, following_laws, stop_laws};
 pub use top::run;
 pub use words::places_fit;

@@ -4,6 +4,7 @@ pub mod Planning
 pub mod Index
 pub mod Plans
 pub mod Growth
+pub mod Runs
 pub mod Making
 pub mod Placing
 pub mod Shapes

@@ -4,6 +4,7 @@ ghost use Rattle.ferry_disk.specs.Device.{HasCause};
 ghost use Rattle.ferry_tree.specs.Growth.{Holds, WritesFront, with_folder, with_parents, with_content};
 ghost use Rattle.ferry_tree.specs.Index.{known_in};
 ghost use Rattle.ferry_tree.specs.Making.{HasRoom, CanBeMade};
+ghost use Rattle.ferry_tree.specs.Runs.{IsKind, IsRun};
 ghost use Rattle.ferry_tree.specs.Nodes.{HasCurrent, Planted, node_view, tree_failed, with_node};
 ghost use Rattle.ferry_tree.specs.Planning.{has_bad_front};
 
@@ -95,7 +96,7 @@ pub(crate) fn make_node<T: Tree>(
     }
 }
 
-/// Appends a content to the current file, in blocks of 4096 bytes.
+/// Appends a content to the current file, in blocks of 4096 bytes: each run of blocks of one kind at once.
 pub(crate) fn write_content<T: Tree>(tree: &mut T, content: &[u8]) -> Result<(), TreeFault>
     requires current { IfSome (T.told tree.old) (λ t. HasCurrent t.nodes) }
     ensures ok { OnOk result (T.told tree.new ≡ option_map (λ t. with_content content.now t) (T.told tree.old)) }
@@ -104,11 +105,29 @@ pub(crate) fn write_content<T: Tree>(tree: &mut T, content: &[u8]) -> Result<(),
 {
     let mut from = 0usize;
     while from < content.len() {
-        let end = block_end(from, content.len());
-        write_block(tree, &content[from..end])?;
+        let first = block_end(from, content.len());
+        let is_hole = has_zeros(&content[from..first]);
+        let end = run_end(content, from, first, is_hole);
+        write_run(tree, &content[from..end], is_hole)?;
         from = end;
     }
     Ok(())
+}
+
+/// Where the blocks end that follow the block from `from` to `first` and are of its kind: `is_hole` says whether they have zeros alone.
+fn run_end(content: &[u8], from: usize, first: usize, is_hole: bool) -> usize
+    requires first { IsRun is_hole content.now from first }
+    ensures run { IsRun is_hole content.now from result }
+{
+    let mut end = first;
+    while end < content.len() {
+        let next = block_end(end, content.len());
+        if has_zeros(&content[end..next]) != is_hole {
+            return end;
+        }
+        end = next;
+    }
+    end
 }
 
 /// Where the block ends that begins at byte `from` of a content of `total` bytes.
@@ -125,17 +144,25 @@ fn block_end(from: usize, total: usize) -> usize
     from + BLOCK
 }
 
-/// Appends a block to the current file, as a hole where it has zeros alone.
-fn write_block<T: Tree>(tree: &mut T, block: &[u8]) -> Result<(), TreeFault>
+/// Whether a block has zeros alone.
+fn has_zeros(block: &[u8]) -> bool
     requires some { 1 ≤ length block.now }
     requires fits { length block.now ≤ 4096 }
+    ensures { IsKind result block.now }
+{
+    zero_prefix(block) == block.len()
+}
+
+/// Appends blocks of one kind to the current file, as a hole where they have zeros alone.
+fn write_run<T: Tree>(tree: &mut T, run: &[u8], is_hole: bool) -> Result<(), TreeFault>
+    requires kind { IsKind is_hole run.now }
     requires current { IfSome (T.told tree.old) (λ t. HasCurrent t.nodes) }
-    ensures ok { OnOk result (T.told tree.new ≡ option_map (λ t. with_content block.now t) (T.told tree.old)) }
-    ensures err { OnErr result (WritesFront block.now (T.told tree.old) (T.told tree.new)) }
+    ensures ok { OnOk result (T.told tree.new ≡ option_map (λ t. with_content run.now t) (T.told tree.old)) }
+    ensures err { OnErr result (WritesFront run.now (T.told tree.old) (T.told tree.new)) }
     ensures cause { HasCause tree_failed (T.faults tree.old) (T.faults tree.new) result }
 {
-    if zero_prefix(block) == block.len() {
-        return tree.hole(block.len() as u64);
+    if is_hole {
+        return tree.hole(run.len() as u64);
     }
-    tree.write(block)
+    tree.write(run)
 }

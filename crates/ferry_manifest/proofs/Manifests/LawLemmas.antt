@@ -1,7 +1,9 @@
 -- What packed bytes mean, by the conditions of each answer.
-use Rattle.std.proofs.Common.{◌≡◌, ◌≢◌, ℕ, ◌<◌, ◌^◌, [], get_or, Bool, true, false, cond, ◌||◌, List, codes, Option, Some, None, is_none, unwrap_or}
+use Rattle.std.proofs.Common.{◌≡◌, ◌≢◌, ◌⊎◌, inl, inr, sym, ℕ, ◌<◌, ◌^◌, [], get_or, Bool, true, false, cond}
+use Rattle.std.proofs.Common.{◌||◌, List, codes, Option, Some, None, is_none, unwrap_or}
 use Rattle.std.proofs.Common.{Result, Ok, Err, refl, ap, subst, ◌∙◌}
 use Rattle.std.specs.Str.{bytes_eq}
+use Rattle.std.proofs.lemmas.Slice.Eq.{bytes_eq-Decides}
 use Rattle.ferry_mac.specs.declared.keys.Keys.{Keys}
 use Rattle.ferry_msgpack.specs.Tree.{table, Pairs, no_pairs}
 use Rattle.ferry_msgpack.specs.Writable.{IsWritable}
@@ -10,6 +12,7 @@ use Rattle.ferry_fields.specs.Fields.{map_of, value_of}
 use Rattle.ferry_fields.proofs.MapLemmas.{spelled-map_of}
 use Rattle.ferry_manifest.specs.Manifest.Text.{ManifestText, archives_in, config_in, item_keys_in, lacks_field, manifest_from, manifest_of, text_in}
 use Rattle.ferry_manifest.specs.Manifest.Text.{timestamp_in, with_tag}
+use Rattle.ferry_manifest.specs.Manifest.Laws.{IsRead}
 use Rattle.ferry_manifest.specs.Manifest.Writing.{IsPackable}
 use Rattle.ferry_manifest.specs.Stated.{IsTagged, StatesTag, is_right, tag_in}
 use Rattle.ferry_manifest.specs.Tag.{manifest_info, tag_of}
@@ -239,6 +242,55 @@ text_at : (b : Bool) (keys : Keys) (bytes : List ℕ) (text manifest : ManifestT
 text_at true keys bytes text manifest tag e = absurd cc
 text_at false keys bytes text manifest None e = absurd cc
 text_at false keys bytes text manifest (Some t) e = same_text (is_right manifest_info keys bytes t) text manifest e
+
+-- ---- when a text is read
+
+read_from : (keys : Keys) (bytes : List ℕ) (manifest : ManifestText) (found : Option Pairs) → map_of bytes ≡ found
+    → manifest_from keys bytes found ≡ Ok manifest → IsRead keys bytes manifest
+read_from keys bytes manifest None is e = absurd cc
+read_from keys bytes manifest (Some all) is e =
+    let both = read_at (lacks_field all) keys bytes (text_in all) manifest (unwrap_or (tag_in all) None) e in
+    let tag = both.1.0 in
+    record {
+      pairs = all;
+      hmac = tag.hmac;
+      salt = tag.salt;
+      map_is = is;
+      whole = both.0;
+      states = states all tag (is_some_tag (tag_in all) (Some tag) (tag_read all both.0) both.1.1);
+      tag = (bytes_eq-Decides (tag_of manifest_info keys tag.salt bytes) tag.hmac).0 both.1.2;
+      text = sym (text_at (lacks_field all) keys bytes (text_in all) manifest (unwrap_or (tag_in all) None) e);
+    }
+
+pub read_says : (keys : Keys) (bytes : List ℕ) (manifest : ManifestText) → manifest_of keys bytes ≡ Ok manifest → IsRead keys bytes manifest
+unfolding manifest_of
+read_says keys bytes manifest e = read_from keys bytes manifest (map_of bytes) refl e
+
+read_pairs : (keys : Keys) (bytes : List ℕ) (all : Pairs) (hmac salt : List ℕ) → lacks_field all ≡ false
+    → tag_in all ≡ Some (Some (record { hmac = hmac; salt = salt })) → bytes_eq (tag_of manifest_info keys salt bytes) hmac ≡ true
+    → manifest_from keys bytes (Some all) ≡ Ok (text_in all)
+read_pairs keys bytes all hmac salt whole tag same = rw (whole, tag, same) refl
+
+pub says_read : (keys : Keys) (bytes : List ℕ) (manifest : ManifestText) → IsRead keys bytes manifest → manifest_of keys bytes ≡ Ok manifest
+unfolding manifest_of
+says_read keys bytes manifest read =
+    ap (manifest_from keys bytes) read.map_is
+    ∙ read_pairs keys bytes read.pairs read.hmac read.salt read.whole
+    (stated read.pairs read.hmac read.salt read.states (tag_read read.pairs read.whole))
+    ((bytes_eq-Decides (tag_of manifest_info keys read.salt bytes) read.hmac).1 read.tag)
+    ∙ ap Ok (sym read.text)
+
+answer_either : (answer : Result ManifestText MetaFault) → ((manifest : ManifestText) × (answer ≡ Ok manifest)) ⊎ ((fault : MetaFault) × (answer ≡ Err fault))
+answer_either (Ok manifest) = inl (manifest, refl)
+answer_either (Err fault) = inr (fault, refl)
+
+pub either : (keys : Keys) (bytes : List ℕ)
+    → ((manifest : ManifestText) × (manifest_of keys bytes ≡ Ok manifest)) ⊎ ((fault : MetaFault) × (manifest_of keys bytes ≡ Err fault))
+either keys bytes = answer_either (manifest_of keys bytes)
+
+pub apart : (keys : Keys) (bytes : List ℕ) (manifest : ManifestText) (fault : MetaFault) → manifest_of keys bytes ≡ Ok manifest
+    → manifest_of keys bytes ≡ Err fault → ⊥
+apart keys bytes manifest fault read refused = let both : Ok manifest ≡ Err fault = sym read ∙ refused in cc
 
 -- a part that isn't missing is there
 pub there : {A : Type 0} → (o : Option A) (or : A) → is_none o ≡ false → o ≡ Some (unwrap_or o or)

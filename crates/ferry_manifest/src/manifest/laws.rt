@@ -1,6 +1,6 @@
 //! Laws on what packed manifests mean.
 
-ghost use Rattle.std.specs.Prelude.{◌≡◌, ◌≢◌, ◌↔◌, ◌≤◌, ◌<◌, ◌^◌, ℕ, get_or, true, false, List, ◌++◌, length, codes, replicate, Some, None, Ok, Err};
+ghost use Rattle.std.specs.Prelude.{◌≡◌, ◌≢◌, ◌⊎◌, ◌↔◌, ◌≤◌, ◌<◌, ◌^◌, ℕ, get_or, true, false, List, ◌++◌, length, codes, replicate, Some, None, Ok, Err};
 ghost use Rattle.std.specs.List.{list_any};
 ghost use Rattle.std.specs.Str.{bytes_eq};
 ghost use Rattle.ferry_mac.specs.declared.keys.Keys.{Keys};
@@ -8,6 +8,7 @@ ghost use Rattle.ferry_msgpack.specs.Tree.{Pairs, raw, table, put};
 ghost use Rattle.ferry_msgpack.specs.Spelling.{Spells};
 ghost use Rattle.ferry_fields.specs.Fields.{map_of, value_of};
 ghost use Rattle.ferry_manifest.specs.Manifest.Text.{ManifestText, in_order, lacks_field, manifest_of};
+ghost use Rattle.ferry_manifest.specs.Manifest.Laws.{IsRead};
 ghost use Rattle.ferry_manifest.specs.Place.{TagStands, first_place};
 ghost use Rattle.ferry_manifest.specs.Stated.{IsTagged, StatesTag};
 ghost use Rattle.ferry_manifest.specs.Tag.{manifest_info, tag_of};
@@ -51,6 +52,14 @@ pub fn manifest_laws()
     ensures tagged { (keys : Keys) (bytes : List ℕ) (manifest : ManifestText)
         → manifest_of keys bytes ≡ Ok manifest
         → (pairs : Pairs) × (map_of bytes ≡ Some pairs) × IsTagged manifest_info keys bytes pairs }
+    // A text is read exactly where the map has all fields and states the tag that the bytes have to have.
+    ensures ok { (keys : Keys) (bytes : List ℕ) (manifest : ManifestText)
+        → (manifest_of keys bytes ≡ Ok manifest) ↔ IsRead keys bytes manifest }
+    // A text is read or refused for one cause, and never both.
+    ensures either { (keys : Keys) (bytes : List ℕ) → ((manifest : ManifestText) × (manifest_of keys bytes ≡ Ok manifest))
+        ⊎ ((fault : MetaFault) × (manifest_of keys bytes ≡ Err fault)) }
+    ensures apart { (keys : Keys) (bytes : List ℕ) (manifest : ManifestText) (fault : MetaFault)
+        → manifest_of keys bytes ≡ Ok manifest → manifest_of keys bytes ≡ Err fault → ⊥ }
     // Bytes are refused as no map exactly where they spell none, with nothing behind it.
     ensures pack { (keys : Keys) (bytes : List ℕ)
         → (manifest_of keys bytes ≡ Err MetaFault.Pack) ↔ (map_of bytes ≡ None) }

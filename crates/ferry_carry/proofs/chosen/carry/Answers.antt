@@ -1,4 +1,4 @@
-use Rattle.std.proofs.Common.{rules, ◌≡◌, None, Ok, Result, IfErr, IfSome, refl, subst}
+use Rattle.std.proofs.Common.{rules, ◌≡◌, ℕ, List, None, Ok, Result, IfErr, IfSome, refl, subst}
 use Rattle.ferry_carry.proofs.AcceptingLemmas.{telling_small}
 use Rattle.ferry_carry.proofs.CauseLemmas.{line_refused, names_refused, none_missing, not_there}
 use Rattle.ferry_carry.proofs.GrowLemmas.{accepts_on}
@@ -9,7 +9,8 @@ use Rattle.ferry_carry.proofs.chosen.carry.Goals as goal
 use Rattle.ferry_carry.specs.Accepting.{LimitsNames}
 use Rattle.ferry_carry.specs.Flight.{origin_of}
 use Rattle.ferry_carry.specs.Lines.{total_line}
-use Rattle.ferry_carry.specs.Refusals.{RefusesNames}
+use Rattle.ferry_carry.specs.Refusals.{IsChunk, RefusesNames, StopsAtChunk}
+use Rattle.ferry_carry.proofs.ChunkLemmas.{no_chunk}
 use Rattle.ferry_carry.specs.Counting.{nothing_carried}
 use Rattle.ferry_carry.specs.Telling.{Reports, ReportsWhole, StopsBehind, TellsNames}
 use Rattle.ferry_piece.specs.declared.fault.CarryFault.{CarryFault}
@@ -231,3 +232,19 @@ returns-in_err-tell-clause-stands g c =
     err_is c.from_residual-in_err-tell.result fault
     (λ (r : Result Carried CarryFault). IfErr r (λ (f : CarryFault). IsOfWork f → StopsBehind from c.args.names.now c.args.store.now a d))
     c.from_residual-in_err-tell.ensures.1 (λ work. telling_apart fault c.in_err-tell.ensures.telling work)
+
+pub returns-in_err-tell-clause-chunk : goal.returns-in_err-tell-clause-chunk
+returns-in_err-tell-clause-chunk g c =
+    let store = c.args.store.now in
+    let a = g.D.Shelf.told c.args.depot.now in
+    let d = g.D.Shelf.told c.tell.new.depot in
+    let told = g.S.Shelf.told c.args.shelf.now in
+    let from = origin_of told (repo_view c.args.source.now) c.args.options.now in
+    let x = g.E.Entropy.drawn c.args.entropy.now in
+    let z = g.E.Entropy.drawn c.carry_all.new.entropy in
+    let fault = c.in_err-tell.field-0.0 in
+    err_is c.from_residual-in_err-tell.result fault
+    (λ (r : Result Carried CarryFault). IfErr r (λ (f : CarryFault). (id : List ℕ) → IsChunk id f
+    → IfSome a (λ u. IfSome d (λ v. IfSome told (λ _. StopsAtChunk from (repo_view store.repo).keys (accepted_in store) c.args.names.now
+    (λ l. TellsNames (accepted_in store) l u.history v.history) x z id))))) c.from_residual-in_err-tell.ensures.1
+    (λ id is. no_chunk _ fault id (telling_unbroken fault c.in_err-tell.ensures.telling) is)

@@ -1,4 +1,4 @@
-use Rattle.std.proofs.Common.{◌≡◌, ◌<◌, ◌≤◌, ◌+◌, Result, Ok, Err, length, take, drop, get_or, refl, ◌∙◌, ap, arith, IfErr, IfSome, inr}
+use Rattle.std.proofs.Common.{◌≡◌, ℕ, List, ◌<◌, ◌≤◌, ◌+◌, Result, Ok, Err, length, take, drop, get_or, refl, ◌∙◌, ap, arith, IfErr, IfSome, inr}
 use Rattle.ferry_carry.proofs.AcceptingLemmas.{one_large}
 use Rattle.ferry_carry.proofs.FlyLemmas.{origin_kept}
 use Rattle.ferry_carry.proofs.GrowLemmas.{accepts_on, most_here, most_then}
@@ -13,7 +13,10 @@ use Rattle.ferry_piece.specs.declared.fault.CarryFault.{CarryFault}
 use Rattle.ferry_piece.specs.declared.fault.CarryFault.TheVariants.{Target}
 use Rattle.ferry_repo.specs.Opening.{RepoState, repo_view}
 use Rattle.ferry_carry.proofs.CauseLemmas.{name_refused, one_refused, split_at, told_still}
-use Rattle.ferry_carry.specs.Refusals.{RefusesOne, is_of_telling}
+use Rattle.ferry_carry.specs.Refusals.{IsChunk, RefusesOne, StopsAtChunk, is_of_telling}
+use Rattle.ferry_carry.specs.Naming.{record_ids}
+use Rattle.ferry_carry.proofs.ChunkLemmas.{chunk_then}
+use Rattle.ferry_carry.proofs.ThereLemmas.{extends_next}
 use Rattle.ferry_disk.proofs.MomentLemmas.{between_map}
 use Rattle.ferry_store.specs.Commit.{accepted_in}
 use Rattle.ferry_store.specs.declared.fault.StoreRefusal.TheVariants.{TooLarge}
@@ -228,3 +231,45 @@ returns-in_err-carry_one-clause-stands g c =
     (origin_kept told later source after block block most most time time invariant.alike invariant.repo refl refl refl) (split_at names place name _ lt named)
     c.requires.settled (accepts_on middle middle invariant.settled) invariant.most.keys invariant.works.0
     invariant.works.1 (c.in_err-carry_one.ensures.stands work))
+
+pub returns-in_err-carry_one-clause-chunk : goal.returns-in_err-carry_one-clause-chunk
+returns-in_err-carry_one-clause-chunk g c =
+    let invariant = c.loop-place.invariant in
+    let store = c.args.store.now in
+    let middle = c.loop-place.store in
+    let a = g.D.Shelf.told c.args.depot.now in
+    let b = g.D.Shelf.told c.loop-place.depot in
+    let d = g.D.Shelf.told c.carry_one.new.depot in
+    let fault = c.in_err-carry_one.field-0.0 in
+    let block = c.args.options.now.block in
+    let most = c.args.options.now.checkpoint in
+    let time = c.args.options.now.timestamp in
+    let names = c.args.names.now in
+    let place = c.loop-place.place in
+    let lt : place < length names = omega arith in
+    let name = c.as_slice-name.result.now in
+    let named : name ≡ get_or names place _ = c.as_slice-name.ensures ∙ c.index-names-place.is in
+    let told = g.S.Shelf.told c.args.shelf.now in
+    let later = g.S.Shelf.told c.loop-place.shelf in
+    let source = repo_view c.args.source.now in
+    let after = repo_view c.loop-place.source in
+    let from = origin told source block most time in
+    let keys = (repo_view store.repo).keys in
+    let accepted = accepted_in store in
+    let done = take place names in
+    let x = g.E.Entropy.drawn c.args.entropy.now in
+    let y = g.E.Entropy.drawn c.loop-place.entropy in
+    let z = g.E.Entropy.drawn c.carry_one.new.entropy in
+    let works = invariant.works.0 in
+    let told_all = between_map a b (λ h g. AllDone h g × (CarriesNames from done works.records works.added store middle h g
+    × TellsNames accepted done h g)) (TellsNames accepted done) (λ h g e. e.1.1) works.works.end in
+    err_is c.from_residual.result fault
+    (λ (r : Result (Unit {0}) CarryFault). IfErr r (λ (f : CarryFault). (id : List ℕ) → IsChunk id f
+    → IfSome a (λ u. IfSome d (λ v. IfSome told (λ _. StopsAtChunk from keys accepted names (λ l. TellsNames accepted l u.history v.history) x z id)))))
+    c.from_residual.ensures.1
+    (λ id is.
+    chunk_then told source block most time (origin later after block most time) store middle names done (drop (place + 1) names) name id works.records
+    works.added a b d x y z (origin_kept told later source after block block most most time time invariant.alike invariant.repo refl refl refl)
+    invariant.most.keys (split_at names place name _ lt named)
+    (extends_next time source.manifest accepted (accepted_in middle) done (record_ids keys works.records) works.accepts.0) works.accepts.1 works.works.end
+    (told_still accepted done a b d told_all (c.in_err-carry_one.ensures.untold (ap is_of_telling is.1))) (c.in_err-carry_one.ensures.chunk id is))

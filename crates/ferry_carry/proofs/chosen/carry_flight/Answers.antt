@@ -1,4 +1,4 @@
-use Rattle.std.proofs.Common.{◌≡◌, [], ◌∷◌, Bool, false, Result, Ok, Err, IfErr, subst, sym, IfSome}
+use Rattle.std.proofs.Common.{◌≡◌, ◌⊎◌, ◌++◌, ℕ, List, [], ◌∷◌, Bool, false, Result, Ok, Err, IfErr, subst, sym, IfSome}
 use Rattle.ferry_carry.proofs.AcceptingLemmas.{telling_small}
 use Rattle.ferry_carry.proofs.FlyLemmas.{takes_begin}
 use Rattle.ferry_carry.proofs.GrowLemmas.{accepts_on}
@@ -10,7 +10,11 @@ use Rattle.ferry_piece.proofs.WorkLemmas.{err_is}
 use Rattle.ferry_carry.proofs.chosen.carry_flight.Goals as goal
 use Rattle.ferry_carry.specs.Flight.{flown_from}
 use Rattle.ferry_carry.specs.Grow.{KeepsGrowing}
-use Rattle.ferry_carry.specs.Refusals.{is_of_telling}
+use Rattle.ferry_carry.specs.Refusals.{EndsAt, IsChunk, WhereTold, is_of_telling}
+use Rattle.ferry_carry.specs.Naming.{TagsDrawn}
+use Rattle.ferry_carry.proofs.ChunkLemmas.{ends_at, no_chunk}
+use Rattle.ferry_piece.specs.Adding.{IsNoChunk}
+use Rattle.ferry_piece.specs.Puts.{Addition}
 use Rattle.ferry_carry.specs.Accepting.{HasLargeNext}
 use Rattle.ferry_carry.specs.Telling.{Reports, StopsUnnamed}
 use Rattle.ferry_piece.specs.declared.fault.CarryFault.{CarryFault}
@@ -164,3 +168,41 @@ returns-in_err-tell_name-clause-stands g c =
     (λ (r : Result (Unit {0}) CarryFault). IfErr r (λ (f : CarryFault). IsOfWork f
     → StopsUnnamed from c.args.flight.now.named.name c.args.store.now a d)) c.from_residual-in_err-tell_name.ensures.1
     (λ work. telling_apart fault c.in_err-tell_name.ensures.telling work)
+
+pub returns-in_err-named-clause-chunk : goal.returns-in_err-named-clause-chunk
+returns-in_err-named-clause-chunk g c =
+    let store = c.args.store.now in
+    let now = c.fly.new.store in
+    let a = g.D.Shelf.told c.args.depot.now in
+    let b = g.D.Shelf.told c.fly.new.depot in
+    let n = g.D.Shelf.faults c.args.depot.now in
+    let m = g.D.Shelf.faults c.fly.new.depot in
+    let from = flown_from (g.S.Shelf.told c.args.shelf.now) (repo_view c.args.source.now) c.args.flight.now in
+    let name = c.args.flight.now.named.name in
+    let x = g.E.Entropy.drawn c.args.entropy.now in
+    let z = g.E.Entropy.drawn c.fly.new.entropy in
+    let keys = (repo_view store.repo).keys in
+    let fault = c.in_err-named.field-0.0 in
+    let flown = c.in_err-named.ensures.works c.requires.flight.0 in
+    let all = takes_begin from name _ flown.0 flown.1.0 store now c.fly.new.flight a b n m (Err fault) c.requires.flight.1 flown.1.1.0 in
+    let tags : IsNoChunk fault ⊎ WhereTold from a (λ _. TagsDrawn keys flown.0 x z) =
+    subst (λ (l : List Addition). IsNoChunk fault ⊎ WhereTold from a (λ _. TagsDrawn keys (l ++ flown.0) x z)) c.requires.flight.1 flown.1.1.1 in
+    err_is c.from_residual.result fault
+    (λ (r : Result (Unit {0}) CarryFault). IfErr r (λ (f : CarryFault). (id : List ℕ) → IsChunk id f
+    → WhereTold from a (λ _. EndsAt from keys (accepted_in store) [] name x z id))) c.from_residual.ensures.1
+    (λ id is. ends_at from keys (accepted_in store) name flown.0 a x z fault id all.begins all.last tags is)
+
+pub returns-in_err-tell_name-clause-chunk : goal.returns-in_err-tell_name-clause-chunk
+returns-in_err-tell_name-clause-chunk g c =
+    let store = c.args.store.now in
+    let a = g.D.Shelf.told c.args.depot.now in
+    let from = flown_from (g.S.Shelf.told c.args.shelf.now) (repo_view c.args.source.now) c.args.flight.now in
+    let name = c.args.flight.now.named.name in
+    let x = g.E.Entropy.drawn c.args.entropy.now in
+    let z = g.E.Entropy.drawn c.fly.new.entropy in
+    let keys = (repo_view store.repo).keys in
+    let fault = c.in_err-tell_name.field-0.0 in
+    err_is c.from_residual-in_err-tell_name.result fault
+    (λ (r : Result (Unit {0}) CarryFault). IfErr r (λ (f : CarryFault). (id : List ℕ) → IsChunk id f
+    → WhereTold from a (λ _. EndsAt from keys (accepted_in store) [] name x z id))) c.from_residual-in_err-tell_name.ensures.1
+    (λ id is. no_chunk _ fault id (telling_unbroken fault c.in_err-tell_name.ensures.telling) is)

@@ -20,7 +20,8 @@ use Rattle.ferry_stops.specs.Tells.{TellsNothing}
 use Rattle.ferry_store.proofs.StepLemmas.{here_each}
 use Rattle.ferry_store.specs.Commit.{accepted_in}
 use Rattle.ferry_store.specs.declared.fault.StoreRefusal.TheVariants.{TooLarge}
-use Rattle.ferry_carry.specs.Refusals.{RefusesName, is_of_telling}
+use Rattle.ferry_carry.specs.Refusals.{EndsAt, IsChunk, RefusesName, WhereTold, is_of_telling}
+use Rattle.ferry_carry.proofs.ChunkLemmas.{no_chunk}
 use Rattle.ferry_carry.proofs.StandLemmas.{unnamed_here}
 
 pub returns-in_err-flight-clause-works : goal.returns-in_err-flight-clause-works
@@ -126,3 +127,32 @@ returns-clause-stands g c =
     → StopsUnnamed (origin_of told source o) c.args.name.now store a b)) c.in_ok-flight.ensures.options
     (subst (λ (n : List ℕ). IfErr c.carry_flight-done.result (λ (f : CarryFault). IsOfWork f → StopsUnnamed (flown_from told source flight) n store a b))
     c.in_ok-flight.ensures.name c.carry_flight-done.ensures.stands)
+
+pub returns-in_err-flight-clause-chunk : goal.returns-in_err-flight-clause-chunk
+returns-in_err-flight-clause-chunk g c =
+    let a = g.D.Shelf.told c.args.depot.now in
+    let store = c.args.store.now in
+    let from = origin_of (g.S.Shelf.told c.args.shelf.now) (repo_view c.args.source.now) c.args.options.now in
+    let x = g.E.Entropy.drawn c.args.entropy.now in
+    let fault = c.in_err-flight.field-0.0 in
+    err_is c.from_residual.result fault
+    (λ (r : Result (Unit {0}) CarryFault). IfErr r (λ (f : CarryFault). (id : List ℕ) → IsChunk id f
+    → WhereTold from a (λ _. EndsAt from (repo_view store.repo).keys (accepted_in store) [] c.args.name.now x x id))) c.from_residual.ensures.1
+    (λ id is. no_chunk _ fault id (begin_unbroken fault c.args.name.now _ c.in_err-flight.ensures.refused) is)
+
+pub returns-clause-chunk : goal.returns-clause-chunk
+returns-clause-chunk g c =
+    let told = g.S.Shelf.told c.args.shelf.now in
+    let source = repo_view c.args.source.now in
+    let flight = c.in_ok-flight.flight in
+    let a = g.D.Shelf.told c.args.depot.now in
+    let store = c.args.store.now in
+    let keys = (repo_view store.repo).keys in
+    let x = g.E.Entropy.drawn c.args.entropy.now in
+    let z = g.E.Entropy.drawn c.carry_flight-done.new.entropy in
+    subst (λ (o : Options). IfErr c.carry_flight-done.result (λ (f : CarryFault). (id : List ℕ) → IsChunk id f
+    → WhereTold (origin_of told source o) a (λ _. EndsAt (origin_of told source o) keys (accepted_in store) [] c.args.name.now x z id)))
+    c.in_ok-flight.ensures.options
+    (subst (λ (n : List ℕ). IfErr c.carry_flight-done.result (λ (f : CarryFault). (id : List ℕ) → IsChunk id f
+    → WhereTold (flown_from told source flight) a (λ _. EndsAt (flown_from told source flight) keys (accepted_in store) [] n x z id)))
+    c.in_ok-flight.ensures.name c.carry_flight-done.ensures.chunk)

@@ -1,7 +1,11 @@
-use Rattle.std.proofs.Common.{◌≡◌, ◌≢◌, ◌≤◌, List, [], ◌++◌, Bool, true, false, None, Result, Ok, Err, IsSome, refl, ◌∙◌, ap, subst, sym, IfErr, IfSome}
+use Rattle.std.proofs.Common.{◌≡◌, ◌≢◌, ◌⊎◌, inl, ◌≤◌, List, [], ◌++◌, Bool, true, false}
+use Rattle.std.proofs.Common.{None, Result, Ok, Err, IsSome, refl, ◌∙◌, ap, subst, sym, IfErr, IfSome}
 use Rattle.ferry_carry.proofs.FlyLemmas.{TakesOn, origin_same, taken_err, takes_end, takes_last, takes_more, takes_none, takes_refused}
 use Rattle.ferry_carry.proofs.AcceptingLemmas.{flown_large, flown_named, flown_present}
-use Rattle.ferry_carry.proofs.NextLemmas.{on_err}
+use Rattle.ferry_carry.proofs.ChunkLemmas.{flown_tags}
+use Rattle.ferry_carry.proofs.TagLemmas.{match_err}
+use Rattle.ferry_carry.specs.Naming.{TagsDrawn}
+use Rattle.ferry_piece.specs.Adding.{IsNoChunk}
 use Rattle.ferry_carry.proofs.GrowLemmas.{accepts_on, most_here, most_then}
 use Rattle.ferry_carry.proofs.FlightLemmas.{settled_committed}
 use Rattle.ferry_carry.proofs.ThereLemmas.{tells_named, tells_present}
@@ -22,7 +26,7 @@ use Rattle.ferry_repo.specs.Opening.{cached_in, repo_view}
 use Rattle.ferry_store.specs.Commit.{accepted_in}
 use Rattle.ferry_store.specs.declared.fault.StoreRefusal.TheVariants.{TooLarge}
 use Rattle.ferry_carry.proofs.CauseLemmas.{name_refused}
-use Rattle.ferry_carry.specs.Refusals.{RefusesName}
+use Rattle.ferry_carry.specs.Refusals.{RefusesName, WhereTold}
 
 pub loop-init : goal.loop-init
 loop-init g c = record {
@@ -95,7 +99,13 @@ returns-in_err-step-clause-works g c =
               (takes_refused later (g.S.Shelf.told c.step.new.shelf) after (repo_view c.step.new.source) from other name called fits.added stepped.0
               stepped.1.0 store middle now c.loop.flight _ a b d n m k fault same names invariant.accepted invariant.most.keys
               (accepts_on middle middle invariant.settled) before stepped.1.1.0),
-          on_err {T = Bool} _ c.from_residual.result fault c.from_residual.ensures.1,
+          match_err {T = Bool} _
+              (λ (f : CarryFault). IsNoChunk f ⊎ WhereTold from a (λ _. TagsDrawn (repo_view store.repo).keys (fits.added ++ (before.more ++ stepped.0))
+              (g.E.Entropy.drawn c.args.entropy.now) (g.E.Entropy.drawn c.step.new.entropy)))
+              c.from_residual.result fault c.from_residual.ensures.1
+              (flown_tags later after from name fits.added stepped.0 store middle c.loop.flight a b n m (g.E.Entropy.drawn c.args.entropy.now)
+              (g.E.Entropy.drawn c.loop.entropy) (g.E.Entropy.drawn c.step.new.entropy) fault same invariant.most.keys invariant.undrawn before
+              stepped.1.1.1),
         ),
       ),
     )
@@ -305,7 +315,7 @@ returns-clause-works g c =
               (origin_same told later source after flight.options c.loop.flight.options invariant.alike invariant.repo invariant.options)
               (ap (λ (e : ArchiveRef). e.name) invariant.named) invariant.accepted invariant.most.keys invariant.source_fits
               (accepts_on c.loop.store c.loop.store invariant.settled) before,
-          tt,
+          inl tt,
         ),
       ),
     )

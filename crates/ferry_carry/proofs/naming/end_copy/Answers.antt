@@ -1,4 +1,4 @@
-use Rattle.std.proofs.Common.{◌≡◌, ℕ, List, [], ◌∷◌, ◌++◌, Result, Ok, Err, IfErr, sym, ◌∙◌, subst, ap}
+use Rattle.std.proofs.Common.{◌≡◌, inl, ℕ, List, [], ◌∷◌, ◌++◌, Result, Ok, Err, IfErr, sym, ◌∙◌, subst, ap}
 use Rattle.std.proofs.lemmas.List.{append-nil}
 use Rattle.ferry_piece.proofs.AddingLemmas.{stops_unbroken}
 use Rattle.ferry_carry.proofs.AcceptingLemmas.{record_named}
@@ -6,9 +6,10 @@ use Rattle.ferry_carry.proofs.GrowLemmas.{most_from, most_then}
 use Rattle.ferry_carry.proofs.FlightLemmas.{rest_accepts, rest_packable}
 use Rattle.ferry_piece.proofs.FaultLemmas.{stops_of_pieces}
 use Rattle.ferry_carry.proofs.NamingLemmas.{begins_done, behind_record, counts_done, lists_done, pieces_limit, record_limit, tagged_as, unnamed_rest}
-use Rattle.ferry_carry.proofs.NextLemmas.{behind_named, on_err}
+use Rattle.ferry_carry.proofs.NextLemmas.{behind_named}
 use Rattle.ferry_piece.proofs.PieceLemmas.{pieces_at}
 use Rattle.ferry_carry.proofs.ProgressLemmas.{readies}
+use Rattle.ferry_carry.proofs.TagLemmas.{TagsOr, match_err, tags_last}
 use Rattle.ferry_piece.proofs.PutsLemmas.{front_all}
 use Rattle.ferry_carry.proofs.WorkLemmas.{carried_as, carried_err, carried_from, carried_from_err, carried_then}
 use Rattle.ferry_piece.proofs.WorkLemmas.{err_is}
@@ -58,7 +59,10 @@ returns-in_err-id-clause-works g c =
                 last = works.last;
                 lists = tt;
               }),
-          on_err {T = Carried} _ c.from_residual.result fault c.from_residual.ensures.1,
+          match_err {T = Carried} _ (TagsOr (repo_view store.repo).keys more (g.E.Entropy.drawn c.args.entropy.now)
+              (g.E.Entropy.drawn c.end_stream.new.entropy)) c.from_residual.result fault c.from_residual.ensures.1
+              (tags_last (repo_view store.repo).keys (cut copy.stream.cutter.block copy.stream.cutter.piece) ended.0 ended.1.0 _ _ fault ended.1.1.1.0
+              ended.1.1.1.1.1.0),
         ),
       ),
     )
@@ -123,7 +127,9 @@ returns-in_err-name_record-clause-works g c =
                 last = stops_unbroken a (repo_view store.repo).keys more fault c.in_err-name_record.ensures.unbroken;
                 lists = tt;
               }),
-          on_err {T = Carried} _ c.from_residual-in_err-name_record.result fault c.from_residual-in_err-name_record.ensures.1,
+          match_err {T = Carried} _ (TagsOr (repo_view store.repo).keys more (g.E.Entropy.drawn c.args.entropy.now)
+              (g.E.Entropy.drawn c.name_record.new.entropy)) c.from_residual-in_err-name_record.result fault c.from_residual-in_err-name_record.ensures.1
+              (inl c.in_err-name_record.ensures.unbroken),
         ),
       ),
     )

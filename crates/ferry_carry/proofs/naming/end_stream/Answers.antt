@@ -1,11 +1,12 @@
-use Rattle.std.proofs.Common.{ℕ, inl, List, [], ◌++◌, Result, Err, IfOk, OnOk, Vec, Global, refl, sym, ◌∙◌, subst}
+use Rattle.std.proofs.Common.{ℕ, inl, inr, List, [], ◌++◌, Result, Err, OnOk, Vec, Global, refl, sym, ◌∙◌, subst}
 use Rattle.std.proofs.lemmas.List.{append-nil}
 use Rattle.ferry_carry.proofs.NamingLemmas.{on_any, record_as}
+use Rattle.ferry_carry.proofs.TagLemmas.{tags_none}
 use Rattle.ferry_piece.proofs.WorkLemmas.{err_is, gathered_err, gathered_then}
 use Rattle.ferry_carry.proofs.naming.end_stream.Goals as goal
 use Rattle.ferry_piece.specs.Adding.{AddsOn}
 use Rattle.ferry_piece.specs.Gather.{chunks_of}
-use Rattle.ferry_carry.specs.Naming.{AddsUnder, BeginsRecord, copied_in}
+use Rattle.ferry_carry.specs.Naming.{BeginsRecord, PutsRecord, copied_in}
 use Rattle.ferry_piece.specs.Piece.{CountsOn}
 use Rattle.ferry_piece.specs.Puts.{Addition, ArePieces, Stream}
 use Rattle.ferry_piece.specs.declared.fault.CarryFault.{CarryFault}
@@ -36,12 +37,12 @@ returns-in_err-pieces-clause-ended g c =
         err_is c.from_residual.result fault
             (λ (r : Result (List ℕ) CarryFault). AddsOn most store (last ++ []) now a b n m r
             × (ArePieces Stream left last × (BeginsRecord keys archive []
-            × (IfOk r (AddsUnder keys archive [] (g.E.Entropy.drawn c.args.entropy.now) (g.E.Entropy.drawn c.args.entropy.now)) × OnOk r (CountsOn Stream
+            × (PutsRecord keys archive [] (g.E.Entropy.drawn c.args.entropy.now) (g.E.Entropy.drawn c.args.entropy.now) r × OnOk r (CountsOn Stream
             stream last c.finish.new.self)))))
             c.from_residual.ensures.1 (
               subst (λ (l : List Addition). AddsOn {T = List ℕ} most store l now a b n m (Err fault)) (sym (append-nil last))
                   (gathered_err {T = Vec ChunkRef Global} {U = List ℕ} most store now last a b n m fault finished.1.0),
-              (finished.1.1.0, (inl refl, (tt, tt))),
+              (finished.1.1.0, (inl refl, (inr (tags_none keys [] _ _ refl refl), tt))),
             ),
       ),
     )

@@ -1,9 +1,9 @@
-use Rattle.std.proofs.Common.{ℕ, inl, List, [], Result, IfOk, refl, subst}
+use Rattle.std.proofs.Common.{ℕ, inl, List, [], Result, refl, subst}
 use Rattle.ferry_carry.proofs.NamingLemmas.{RecordIs}
 use Rattle.ferry_piece.proofs.WorkLemmas.{err_is, gathered_nothing}
 use Rattle.ferry_carry.proofs.naming.put_copied.Goals as goal
 use Rattle.ferry_piece.specs.Adding.{AddsOn}
-use Rattle.ferry_carry.specs.Naming.{AddsUnder, copied_in}
+use Rattle.ferry_carry.specs.Naming.{PutsRecord, copied_in}
 use Rattle.ferry_piece.specs.declared.fault.CarryFault.{CarryFault}
 use Rattle.ferry_piece.specs.declared.fault.CarryFault.TheVariants.{Memory}
 use Rattle.ferry_manifest.specs.Record.Text.{ArchiveText, archive_view}
@@ -23,9 +23,8 @@ returns-in_err-copied_archive-clause-put g c =
             (gathered_nothing {T = List ℕ} most store a n Memory refl tt),
         (
           inl refl,
-          err_is c.from_residual.result Memory (λ (r : Result (List ℕ) CarryFault). IfOk r (AddsUnder (repo_view store.repo).keys archive []
-              (g.E.Entropy.drawn c.args.entropy.now) (g.E.Entropy.drawn c.args.entropy.now)))
-              c.from_residual.ensures.1 tt,
+          err_is c.from_residual.result Memory (PutsRecord (repo_view store.repo).keys archive [] (g.E.Entropy.drawn c.args.entropy.now)
+              (g.E.Entropy.drawn c.args.entropy.now)) c.from_residual.ensures.1 (inl tt),
         ),
       ),
     )

@@ -1,9 +1,9 @@
-use Rattle.std.proofs.Common.{ℕ, inl, List, [], ◌∷◌, Result, IfErr, IfOk, refl}
+use Rattle.std.proofs.Common.{ℕ, inl, List, [], ◌∷◌, Result, IfErr, refl}
 use Rattle.ferry_carry.proofs.NamingLemmas.{record_put}
 use Rattle.ferry_piece.proofs.WorkLemmas.{err_is, gathered_nothing}
 use Rattle.ferry_carry.proofs.naming.put_record.Goals as goal
 use Rattle.ferry_piece.specs.Adding.{AddsOn}
-use Rattle.ferry_carry.specs.Naming.{AddsUnder}
+use Rattle.ferry_carry.specs.Naming.{PutsRecord}
 use Rattle.ferry_piece.specs.Puts.{Record, addition}
 use Rattle.ferry_piece.specs.Stops.{StopsPieces}
 use Rattle.ferry_piece.specs.declared.fault.CarryFault.{CarryFault}
@@ -24,9 +24,8 @@ returns-in_err-text-clause-put g c =
             (gathered_nothing {T = List ℕ} most store a n fault c.in_err-text.ensures.still c.in_err-text.ensures.unbroken),
         (
           inl refl,
-          err_is c.from_residual.result fault (λ (r : Result (List ℕ) CarryFault). IfOk r (AddsUnder keys (archive_view c.args.archive.now) []
-              (g.E.Entropy.drawn c.args.entropy.now) (g.E.Entropy.drawn c.tagged_record.new.entropy)))
-              c.from_residual.ensures.1 tt,
+          err_is c.from_residual.result fault (PutsRecord keys (archive_view c.args.archive.now) [] (g.E.Entropy.drawn c.args.entropy.now)
+              (g.E.Entropy.drawn c.tagged_record.new.entropy)) c.from_residual.ensures.1 (inl c.in_err-text.ensures.unbroken),
         ),
       ),
     )
@@ -44,7 +43,7 @@ returns-clause-put g c =
         works.1,
         record_put c.add_record.result keys c.keys.result.now made.0 text c.in_ok-text.text.items works.0 archive (g.E.Entropy.drawn c.args.entropy.now)
             (g.E.Entropy.drawn c.tagged_record.new.entropy) c.keys.ensures.keys c.deref.ensures.value made.1.0 made.1.1 c.in_ok-text.ensures.reads
-            c.add_record.ensures.id,
+            c.in_ok-text.ensures.small c.add_record.ensures.id,
       ),
     )
 

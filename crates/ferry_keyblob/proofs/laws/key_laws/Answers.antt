@@ -1,6 +1,10 @@
 use Rattle.ferry_fields.proofs.MapLemmas.{map_of-spelled, spelled-map_of}
 use Rattle.ferry_msgpack.specs.Tree.{table}
 use Rattle.ferry_keyblob.proofs.LawLemmas.{wrong_passphrase, passphrase_wrong, no_passphrase, no_memory}
+use Rattle.ferry_keyblob.specs.declared.fault.KeyFault.TheVariants.{Pack, Field, Algorithm, Iterations}
+use Rattle.std.proofs.Common.{Ok, Err}
+use Rattle.ferry_keyblob.proofs.MeaningLemmas.{envelope_says, says_envelope, key_says, says_key, says_no_map}
+use Rattle.ferry_keyblob.proofs.MeaningLemmas.{says_no_field, says_other_algorithm, says_other_iterations}
 use Rattle.ferry_keyblob.proofs.laws.key_laws.Goals as goal
 
 pub returns-clause-map : goal.returns-clause-map
@@ -14,3 +18,21 @@ returns-clause-envelope c blob = no_passphrase blob
 
 pub returns-clause-memory : goal.returns-clause-memory
 returns-clause-memory c passphrase blob = no_memory passphrase blob
+
+pub returns-clause-key : goal.returns-clause-key
+returns-clause-key c passphrase blob key = (key_says passphrase blob (Ok key), says_key passphrase blob key)
+
+pub returns-clause-opens : goal.returns-clause-opens
+returns-clause-opens c blob envelope = (envelope_says blob envelope, says_envelope blob envelope)
+
+pub returns-clause-pack : goal.returns-clause-pack
+returns-clause-pack c passphrase blob = (key_says passphrase blob (Err Pack), says_no_map passphrase blob)
+
+pub returns-clause-field : goal.returns-clause-field
+returns-clause-field c passphrase blob = (key_says passphrase blob (Err Field), says_no_field passphrase blob)
+
+pub returns-clause-algorithm : goal.returns-clause-algorithm
+returns-clause-algorithm c passphrase blob = (key_says passphrase blob (Err Algorithm), says_other_algorithm passphrase blob)
+
+pub returns-clause-iterations : goal.returns-clause-iterations
+returns-clause-iterations c passphrase blob = (key_says passphrase blob (Err Iterations), says_other_iterations passphrase blob)

@@ -12,11 +12,11 @@ use Rattle.ferry_run_transfer.proofs.ToldLemmas.{untouched_told}
 use Rattle.ferry_run_transfer.proofs.SourceLemmas.{asked_kept, source_fits, source_opens}
 use Rattle.ferry_run_transfer.proofs.UntouchedLemmas.{untouched}
 use Rattle.ferry_run_transfer.proofs.command.copy.Goals as goal
-use Rattle.ferry_run_transfer.specs.Transfer.{LeavesTold, Request, TransferEach, TransferEnds, asked}
+use Rattle.ferry_run_transfer.specs.Transfer.{LeavesTold, Request, TransferEach, TransferEnds, asked, drawn_from}
 use Rattle.std.proofs.Common.{IfErr}
 use Rattle.ferry_run_transfer.proofs.RefusedLemmas.{asked_source, unread_refused, unused}
 use Rattle.ferry_run_transfer.specs.TransferCauses.{IsFound, RefusesAsked}
-use Rattle.ferry_status.specs.Devices.{drawn, store}
+use Rattle.ferry_status.specs.Devices.{drawn as drawn_of, store}
 
 pub returns-in_err-repo-clause-works : goal.returns-in_err-repo-clause-works
 returns-in_err-repo-clause-works g c =
@@ -54,13 +54,17 @@ returns-in_err-repo-clause-refused g c =
     let a = g.D.Shelf.told c.args.target.now in
     let told = g.S.Shelf.told c.args.source.now in
     let request = asked c.args.secrets.now c.args.options.now c.args.names.now told in
+    let drawn = drawn_from (g.E.Entropy.drawn c.args.entropy.now) (g.E.Entropy.drawn c.args.entropy.now) in
     let fault = c.in_err-repo.field-0.0 in
-    err_is c.from_residual.result (source_fault fault) (λ (r : Result (Unit {0}) CarryFault). IfErr r (RefusesAsked request a a)) c.from_residual.ensures.1
-    (unread_refused request a a fault (asked_source c.args.secrets.now c.args.options.now c.args.names.now told fault c.in_err-repo.ensures.refused))
+    err_is c.from_residual.result (source_fault fault) (λ (r : Result (Unit {0}) CarryFault). IfErr r (RefusesAsked request drawn a a))
+    c.from_residual.ensures.1
+    (unread_refused request drawn a a fault (asked_source c.args.secrets.now c.args.options.now c.args.names.now told fault c.in_err-repo.ensures.refused))
 
 pub returns-clause-refused : goal.returns-clause-refused
 returns-clause-refused g c =
-    subst (λ (request : Request). IfErr c.copy_into.result (RefusesAsked request (g.D.Shelf.told c.args.target.now) (g.D.Shelf.told c.copy_into.new.target)))
+    subst (λ (request : Request). IfErr c.copy_into.result (RefusesAsked request
+    (drawn_from (g.E.Entropy.drawn c.args.entropy.now) (g.E.Entropy.drawn c.copy_into.new.entropy)) (g.D.Shelf.told c.args.target.now)
+    (g.D.Shelf.told c.copy_into.new.target)))
     (asked_kept {T = Repo} {F = RepoFault} c.args.secrets.now c.args.options.now c.args.names.now repo_failed (g.S.Shelf.told c.args.source.now)
     (g.S.Shelf.told c.open.new.shelf) c.in_ok-repo.repo c.in_ok-repo.ensures.same) c.copy_into.ensures.refused
 
@@ -88,7 +92,7 @@ returns-clause-untouched g c =
     subst (λ (request : Request). IfSome request.source (λ files. (IsFound request files → ⊥)
     → (store (g.D.Shelf.told c.copy_into.new.target) (g.D.Shelf.faults c.copy_into.new.target)
     ≡ store (g.D.Shelf.told c.args.target.now) (g.D.Shelf.faults c.args.target.now))
-    × (drawn (g.E.Entropy.drawn c.copy_into.new.entropy) (g.E.Entropy.faults c.copy_into.new.entropy)
-    ≡ drawn (g.E.Entropy.drawn c.args.entropy.now) (g.E.Entropy.faults c.args.entropy.now))))
+    × (drawn_of (g.E.Entropy.drawn c.copy_into.new.entropy) (g.E.Entropy.faults c.copy_into.new.entropy)
+    ≡ drawn_of (g.E.Entropy.drawn c.args.entropy.now) (g.E.Entropy.faults c.args.entropy.now))))
     (asked_kept {T = Repo} {F = RepoFault} c.args.secrets.now c.args.options.now c.args.names.now repo_failed (g.S.Shelf.told c.args.source.now)
     (g.S.Shelf.told c.open.new.shelf) c.in_ok-repo.repo c.in_ok-repo.ensures.same) c.copy_into.ensures.untouched

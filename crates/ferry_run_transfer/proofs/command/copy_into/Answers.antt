@@ -12,7 +12,7 @@ use Rattle.ferry_run_transfer.proofs.ToldLemmas.{stopped_told, unopened_told, un
 use Rattle.ferry_run_transfer.proofs.TransferLemmas.{copied_all, copied_some}
 use Rattle.ferry_run_transfer.proofs.UntouchedLemmas.{unopened, untouched}
 use Rattle.ferry_run_transfer.proofs.command.copy_into.Goals as goal
-use Rattle.ferry_run_transfer.specs.Transfer.{LeavesTold, TransferEach, TransferEnds, asked}
+use Rattle.ferry_run_transfer.specs.Transfer.{LeavesTold, TransferEach, TransferEnds, asked, drawn_from}
 use Rattle.ferry_run_transfer.proofs.RefusedLemmas.{found_apart, memory_refused, missing_refused, names_found, unopened_refused, unused}
 use Rattle.ferry_run_transfer.proofs.CauseLemmas.{names_refused}
 use Rattle.ferry_run_transfer.specs.TransferCauses.{RefusesAsked}
@@ -95,29 +95,33 @@ returns-clause-works g c =
 pub returns-in_err-chosen-clause-refused : goal.returns-in_err-chosen-clause-refused
 returns-in_err-chosen-clause-refused g c =
     let a = g.D.Shelf.told c.args.target.now in
+    let drawn = drawn_from (g.E.Entropy.drawn c.args.entropy.now) (g.E.Entropy.drawn c.args.entropy.now) in
     let request = asked c.args.secrets.now c.args.options.now c.args.names.now (g.S.Shelf.told c.args.source.now) in
-    err_is c.from_residual.result Memory (λ (r : Result (Unit {0}) CarryFault). IfErr r (RefusesAsked request a a)) c.from_residual.ensures.1
-    (memory_refused request a a)
+    err_is c.from_residual.result Memory (λ (r : Result (Unit {0}) CarryFault). IfErr r (RefusesAsked request drawn a a)) c.from_residual.ensures.1
+    (memory_refused request drawn a a)
 
 pub returns-in_err-find_names-clause-refused : goal.returns-in_err-find_names-clause-refused
 returns-in_err-find_names-clause-refused g c =
     let a = g.D.Shelf.told c.args.target.now in
     let told = g.S.Shelf.told c.args.source.now in
+    let drawn = drawn_from (g.E.Entropy.drawn c.args.entropy.now) (g.E.Entropy.drawn c.args.entropy.now) in
     let request = asked c.args.secrets.now c.args.options.now c.args.names.now told in
     let fault = c.in_err-find_names.field-0.0 in
-    err_is c.from_residual-in_err-find_names.result fault (λ (r : Result (Unit {0}) CarryFault). IfErr r (RefusesAsked request a a))
+    err_is c.from_residual-in_err-find_names.result fault (λ (r : Result (Unit {0}) CarryFault). IfErr r (RefusesAsked request drawn a a))
     c.from_residual-in_err-find_names.ensures.1
-    (missing_refused c.args.secrets.now c.args.options.now c.args.names.now (repo_view c.args.repo.now) told a a c.deref.result.now
+    (missing_refused drawn c.args.secrets.now c.args.options.now c.args.names.now (repo_view c.args.repo.now) told a a c.deref.result.now
     c.requires.source_opens (c.deref.ensures.value ∙ c.in_ok-chosen.ensures.chosen) fault c.in_err-find_names.ensures.refused)
 
 pub returns-in_err-store-clause-refused : goal.returns-in_err-store-clause-refused
 returns-in_err-store-clause-refused g c =
     let a = g.D.Shelf.told c.args.target.now in
     let b = g.D.Shelf.told c.open.new.depot in
+    let drawn = drawn_from (g.E.Entropy.drawn c.args.entropy.now) (g.E.Entropy.drawn c.args.entropy.now) in
     let request = asked c.args.secrets.now c.args.options.now c.args.names.now (g.S.Shelf.told c.args.source.now) in
     let refusal = c.in_err-store.field-0.0 in
-    err_is c.from_residual-in_err-store.result (target_fault refusal) (λ (r : Result (Unit {0}) CarryFault). IfErr r (RefusesAsked request a b))
-    c.from_residual-in_err-store.ensures.1 (unopened_refused request a b refusal (names_found c.args.secrets.now c.args.options.now c.args.names.now (repo_view
+    err_is c.from_residual-in_err-store.result (target_fault refusal) (λ (r : Result (Unit {0}) CarryFault). IfErr r (RefusesAsked request drawn a b))
+    c.from_residual-in_err-store.ensures.1
+    (unopened_refused request drawn a b refusal (names_found c.args.secrets.now c.args.options.now c.args.names.now (repo_view
     c.args.repo.now)
     (g.S.Shelf.told c.args.source.now) c.deref.result.now c.requires.source_opens (c.deref.ensures.value ∙ c.in_ok-chosen.ensures.chosen)
     c.in_ok-find_names.ensures.found) c.in_err-store.ensures.refused)
@@ -131,6 +135,7 @@ returns-in_err-carry-clause-refused g c =
     let m = g.D.Shelf.faults c.open.new.depot in
     let k = g.D.Shelf.faults c.carry.new.depot in
     let told = g.S.Shelf.told c.args.source.now in
+    let drawn = drawn_from (g.E.Entropy.drawn c.args.entropy.now) (g.E.Entropy.drawn c.carry.new.entropy) in
     let request = asked c.args.secrets.now c.args.options.now c.args.names.now told in
     let store = c.in_ok-store.store in
     let fault = c.in_err-carry.field-0.0 in
@@ -140,12 +145,11 @@ returns-in_err-carry-clause-refused g c =
     c.requires.source_opens chosen_is {U = Unit {0}} store c.carry.new.store a b d n m k
     (g.E.Entropy.drawn c.args.entropy.now) (g.E.Entropy.drawn c.carry.new.entropy) fault accepts
     c.in_ok-store.ensures.opened c.open.ensures.untold c.in_ok-store.ensures.did c.in_err-carry.ensures.works in
-    err_is c.from_residual-in_err-carry.result fault (λ (r : Result (Unit {0}) CarryFault). IfErr r (RefusesAsked request a d))
+    err_is c.from_residual-in_err-carry.result fault (λ (r : Result (Unit {0}) CarryFault). IfErr r (RefusesAsked request drawn a d))
     c.from_residual-in_err-carry.ensures.1
-    (names_refused c.args.secrets.now c.args.options.now c.args.names.now (repo_view c.args.repo.now) told a b d c.deref-2.result.now store
+    (names_refused drawn c.args.secrets.now c.args.options.now c.args.names.now (repo_view c.args.repo.now) told a b d c.deref-2.result.now store
     c.carry.new.store c.requires.source_opens chosen_is c.in_ok-store.ensures.opened accepts c.open.ensures.untold works.each fault
-    c.in_err-carry.ensures.limit
-    (c.in_err-carry.ensures.works.added, (c.in_err-carry.ensures.works.begins, c.in_err-carry.ensures.works.last)) c.in_err-carry.ensures.refused)
+    c.in_err-carry.ensures.limit c.in_err-carry.ensures.chunk c.in_err-carry.ensures.refused)
 
 pub returns-in_err-chosen-clause-only_told : goal.returns-in_err-chosen-clause-only_told
 returns-in_err-chosen-clause-only_told g c =

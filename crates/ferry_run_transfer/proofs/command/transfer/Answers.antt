@@ -2,7 +2,7 @@ use Rattle.ferry_run_transfer.proofs.ToldLemmas.{of_work}
 use Rattle.ferry_run_transfer.proofs.UntouchedLemmas.{transfer_ended}
 use Rattle.ferry_run_transfer.proofs.command.transfer.Goals as goal
 use Rattle.ferry_status.specs.Status.{is_of_work}
-use Rattle.ferry_run_transfer.specs.Transfer.{asked}
+use Rattle.ferry_run_transfer.specs.Transfer.{asked, drawn_from}
 use Rattle.std.proofs.Common.{◌≡◌, false, true, inl, inr, refl, subst}
 use Rattle.ferry_disk.proofs.MomentLemmas.{between_map}
 use Rattle.ferry_run_transfer.proofs.DoneLemmas.{ends_done}
@@ -25,7 +25,8 @@ returns-in-Ok-clause-left g c =
 
 pub returns-in-Ok-clause-completes : goal.returns-in-Ok-clause-completes
 returns-in-Ok-clause-completes g c =
-    ends_done (asked c.args.secrets.now c.args.options.now c.args.names.now (g.S.Shelf.told c.args.source.now)) (g.D.Shelf.told c.args.target.now)
+    ends_done (asked c.args.secrets.now c.args.options.now c.args.names.now (g.S.Shelf.told c.args.source.now))
+    (drawn_from (g.E.Entropy.drawn c.args.entropy.now) (g.E.Entropy.drawn c.copy.new.entropy)) (g.D.Shelf.told c.args.target.now)
     (g.D.Shelf.told c.copy.new.target) _ (inl refl)
 
 pub returns-in-Err-clause-left : goal.returns-in-Err-clause-left
@@ -39,7 +40,8 @@ returns-in-Err-clause-refused g c = inr (record { fault = c.in-Err.fault; status
 
 pub returns-in-Err-clause-completes : goal.returns-in-Err-clause-completes
 returns-in-Err-clause-completes g c =
-    ends_done (asked c.args.secrets.now c.args.options.now c.args.names.now (g.S.Shelf.told c.args.source.now)) (g.D.Shelf.told c.args.target.now)
+    ends_done (asked c.args.secrets.now c.args.options.now c.args.names.now (g.S.Shelf.told c.args.source.now))
+    (drawn_from (g.E.Entropy.drawn c.args.entropy.now) (g.E.Entropy.drawn c.copy.new.entropy)) (g.D.Shelf.told c.args.target.now)
     (g.D.Shelf.told c.copy.new.target) _
     (inr (record { fault = c.in-Err.fault; status_is = c.of_carry.ensures; refuses = c.in-Err.ensures.refused }))
 

@@ -1,7 +1,7 @@
-use Rattle.std.proofs.Common.{[]}
+use Rattle.ferry_run_transfer.proofs.LimitLemmas.{none_large}
 use Rattle.ferry_run_transfer.proofs.RerunLemmas.{keeps_nonce, meets_again, meets_first, meets_in_turn, new_apart, one_apart, same_names}
 use Rattle.ferry_run_transfer.proofs.ReadyLemmas.{ready_again, ready_first}
-use Rattle.ferry_run_transfer.proofs.SaltLemmas.{drawn_size, names_records}
+use Rattle.ferry_run_transfer.proofs.SaltLemmas.{drawn_size, records_of}
 use Rattle.ferry_run_transfer.proofs.VerifyLemmas.{verifies_again}
 use Rattle.ferry_run_transfer.proofs.laws.transfer_laws.Goals as goal
 
@@ -17,7 +17,7 @@ returns c = record {
   fresh = ready_first;
   apart = new_apart;
   one = one_apart;
-  records = λ request files source target names taken added lists.
-      names_records files request source target target.manifest [] names taken added lists;
+  records = λ request files source target names taken added lists. records_of files request source target names taken added lists;
+  small = none_large;
   salts = drawn_size;
 }

@@ -1,4 +1,4 @@
-use Rattle.std.proofs.Common.{rules, List, ◌≡◌, ◌+◌, ◌-◌, ◌≤◌, ◌<◌, ◌^◌, ℕ, Ok, Err, Result, drop, length, sym, ap, ◌∙◌, subst, arith, IfErr}
+use Rattle.std.proofs.Common.{rules, List, ◌≡◌, ◌+◌, ◌-◌, ◌≤◌, ◌<◌, ◌^◌, ℕ, Ok, Err, Result, length, sym, ap, ◌∙◌, subst, arith, IfErr}
 use Rattle.ferry_blob.proofs.CallerLemmas.{blocks_from, blocks_most}
 use Rattle.ferry_blob.specs.Blob.{OpensTo, sealed}
 use Rattle.ferry_disk.specs.Moments.{Between}
@@ -8,10 +8,12 @@ use Rattle.ferry_segment.specs.Entry.{PutEntry}
 use Rattle.ferry_stops.proofs.TellLemmas.{told_both}
 use Rattle.ferry_store.proofs.CallLemmas.{HasPut, draw_err, draw_ok, entry_ends, object_blocks, object_both, object_grows, object_placed, put_err, put_ok}
 use Rattle.ferry_store.proofs.CauseLemmas.{draw_stops, fault_of, write_stops}
+use Rattle.ferry_store.proofs.PieceLemmas.{opened_blocks}
 use Rattle.ferry_store.proofs.StepLemmas.{err_is}
 use Rattle.ferry_store.proofs.put.put_object.Goals as goal
 use Rattle.ferry_store.specs.Causes.{Stops}
 use Rattle.ferry_store.specs.Fault.{nonce_refusal, write_refusal}
+use Rattle.ferry_store.specs.Piece.{content_in, opened_in}
 use Rattle.ferry_store.specs.State.{Did, IsPlaced, KeepsSound, TakesEntry}
 use Rattle.ferry_store.specs.declared.fault.StoreRefusal.{StoreRefusal}
 use Rattle.ferry_store.proofs.LimitLemmas.{undrawn_leaves}
@@ -35,7 +37,7 @@ returns-in_err-first-clause-did g c =
     let fault = c.in_err-first.field-0.0 in
     let session = c.args.session.now in
     let counter = c.args.counter.now in
-    let entry = PutEntry c.args.id.now (sealed c.args.keys.now c.args.mode counter.free (drop 43 c.args.buffer.now)) in
+    let entry = PutEntry c.args.id.now (sealed c.args.keys.now c.args.mode counter.free (content_in c.args.keys.now c.args.is_blob c.args.buffer.now)) in
     err_is c.from_residual.result (nonce_refusal fault)
     (λ (r : Result Place StoreRefusal). Did (KeepsSound session counter) (λ _. TakesEntry session counter entry session c.draw.new.self) a b n m r)
     c.from_residual.ensures.1
@@ -43,8 +45,8 @@ returns-in_err-first-clause-did g c =
     (λ fit. ap g.D.Shelf.told (c.in_err-first.ensures.kept fit).1) c.in_err-first.ensures.replaced c.in_err-first.ensures.moments
     c.in_err-first.ensures.cause c.in_err-first.ensures.ends)
 
-pub seal-requires-clause-blocks : goal.seal-requires-clause-blocks
-seal-requires-clause-blocks g c =
+pub seal_again-requires-clause-blocks : goal.seal_again-requires-clause-blocks
+seal_again-requires-clause-blocks g c =
     subst (λ (n : ℕ). c.in_ok-first.first + n ≤ 18446744073709551615) c.blocks_of-blocks.ensures.blocks c.in_ok-first.ensures.within
 
 pub returns-in_err-place-clause-did : goal.returns-in_err-place-clause-did
@@ -61,14 +63,18 @@ returns-in_err-place-clause-did g c =
     let id = c.args.id.now in
     let now = c.put.new.self in
     let drawn = c.draw.new.self in
-    let blob = c.seal.new.buffer in
+    let blob = c.seal_again.new.buffer in
     let blocks = c.blocks_of-blocks.result in
-    let whole = sealed c.args.keys.now c.args.mode counter.free (drop 43 c.args.buffer.now) in
+    let whole = sealed c.args.keys.now c.args.mode counter.free (content_in c.args.keys.now c.args.is_blob c.args.buffer.now) in
     let same : blob ≡ whole =
-    c.seal.ensures.blob ∙ ap (λ (f : ℕ). sealed c.args.keys.now c.args.mode f (drop 43 c.args.buffer.now)) c.in_ok-first.ensures.drawn.0 in
+    c.seal_again.ensures.blob ∙ ap (λ (f : ℕ). sealed c.args.keys.now c.args.mode f (content_in c.args.keys.now c.args.is_blob c.args.buffer.now))
+    c.in_ok-first.ensures.drawn.0 in
     let fits : first < 2 ^ 64 = search rules in
-    let taken = object_blocks c.args.keys.now c.args.mode counter drawn blocks first id c.args.buffer.now blob c.in_ok-first.ensures.drawn.0 fits
-    c.seal.ensures.blob c.blocks_of-blocks.ensures.blocks c.in_ok-first.ensures.drawn.1 in
+    let taken = object_blocks c.args.keys.now c.args.mode counter drawn blocks first id (opened_in c.args.keys.now c.args.is_blob c.args.buffer.now) blob
+    c.in_ok-first.ensures.drawn.0 fits
+    c.seal_again.ensures.blob
+    (opened_blocks c.args.keys.now c.args.is_blob c.args.buffer.now c.blocks_of-blocks.result c.requires.head c.blocks_of-blocks.ensures.blocks)
+    c.in_ok-first.ensures.drawn.1 in
     let fault = c.in_err-place.field-0.0 in
     err_is c.from_residual-in_err-place.result (write_refusal fault)
     (λ (r : Result Place StoreRefusal). Did (KeepsSound session counter) (λ _. TakesEntry session counter (PutEntry id whole) now drawn) a d n k r)
@@ -96,14 +102,18 @@ returns-clause-did g c =
     let place = c.in_ok-place.place in
     let now = c.put.new.self in
     let drawn = c.draw.new.self in
-    let blob = c.seal.new.buffer in
+    let blob = c.seal_again.new.buffer in
     let blocks = c.blocks_of-blocks.result in
-    let whole = sealed c.args.keys.now c.args.mode counter.free (drop 43 c.args.buffer.now) in
+    let whole = sealed c.args.keys.now c.args.mode counter.free (content_in c.args.keys.now c.args.is_blob c.args.buffer.now) in
     let same : blob ≡ whole =
-    c.seal.ensures.blob ∙ ap (λ (f : ℕ). sealed c.args.keys.now c.args.mode f (drop 43 c.args.buffer.now)) c.in_ok-first.ensures.drawn.0 in
+    c.seal_again.ensures.blob ∙ ap (λ (f : ℕ). sealed c.args.keys.now c.args.mode f (content_in c.args.keys.now c.args.is_blob c.args.buffer.now))
+    c.in_ok-first.ensures.drawn.0 in
     let fits : first < 2 ^ 64 = search rules in
-    let taken = object_blocks c.args.keys.now c.args.mode counter drawn blocks first id c.args.buffer.now blob c.in_ok-first.ensures.drawn.0 fits
-    c.seal.ensures.blob c.blocks_of-blocks.ensures.blocks c.in_ok-first.ensures.drawn.1 in
+    let taken = object_blocks c.args.keys.now c.args.mode counter drawn blocks first id (opened_in c.args.keys.now c.args.is_blob c.args.buffer.now) blob
+    c.in_ok-first.ensures.drawn.0 fits
+    c.seal_again.ensures.blob
+    (opened_blocks c.args.keys.now c.args.is_blob c.args.buffer.now c.blocks_of-blocks.result c.requires.head c.blocks_of-blocks.ensures.blocks)
+    c.in_ok-first.ensures.drawn.1 in
     subst (λ (x : List ℕ). Did {T = Place} (KeepsSound session counter) (λ _. TakesEntry session counter (PutEntry id x) now drawn) a d n k (Ok place)) same
     (object_both session now counter drawn (PutEntry id blob) (reserved_for counter blocks) first a b d n m k (Ok place) taken.0 taken.1
     (draw_ok counter drawn blocks first a b n m (λ fit. ap g.D.Shelf.told (c.in_ok-first.ensures.kept fit).1) c.in_ok-first.ensures.replaced
@@ -124,14 +134,18 @@ returns-clause-placed g c =
     let drawn = c.draw.new.self in
     let first = c.in_ok-first.first in
     let place = c.in_ok-place.place in
-    let blob = c.seal.new.buffer in
+    let blob = c.seal_again.new.buffer in
     let blocks = c.blocks_of-blocks.result in
-    let whole = sealed c.args.keys.now c.args.mode counter.free (drop 43 c.args.buffer.now) in
+    let whole = sealed c.args.keys.now c.args.mode counter.free (content_in c.args.keys.now c.args.is_blob c.args.buffer.now) in
     let same : blob ≡ whole =
-    c.seal.ensures.blob ∙ ap (λ (f : ℕ). sealed c.args.keys.now c.args.mode f (drop 43 c.args.buffer.now)) c.in_ok-first.ensures.drawn.0 in
+    c.seal_again.ensures.blob ∙ ap (λ (f : ℕ). sealed c.args.keys.now c.args.mode f (content_in c.args.keys.now c.args.is_blob c.args.buffer.now))
+    c.in_ok-first.ensures.drawn.0 in
     let fits : first < 2 ^ 64 = search rules in
-    let taken = object_blocks c.args.keys.now c.args.mode counter drawn blocks first c.args.id.now c.args.buffer.now blob c.in_ok-first.ensures.drawn.0 fits
-    c.seal.ensures.blob c.blocks_of-blocks.ensures.blocks c.in_ok-first.ensures.drawn.1 in
+    let taken = object_blocks c.args.keys.now c.args.mode counter drawn blocks first c.args.id.now (opened_in c.args.keys.now c.args.is_blob
+    c.args.buffer.now) blob c.in_ok-first.ensures.drawn.0 fits
+    c.seal_again.ensures.blob
+    (opened_blocks c.args.keys.now c.args.is_blob c.args.buffer.now c.blocks_of-blocks.result c.requires.head c.blocks_of-blocks.ensures.blocks)
+    c.in_ok-first.ensures.drawn.1 in
     subst (λ (x : List ℕ). Between a d (IsPlaced session counter x place)) same
     (object_placed session counter drawn (reserved_for counter blocks) blob place first a b d n m taken.1
     (draw_ok counter drawn blocks first a b n m (λ fit. ap g.D.Shelf.told (c.in_ok-first.ensures.kept fit).1) c.in_ok-first.ensures.replaced
@@ -140,10 +154,10 @@ returns-clause-placed g c =
 
 pub returns-clause-opens : goal.returns-clause-opens
 returns-clause-opens g c = λ name named.
-    let content = drop 43 c.args.buffer.now in
-    let same : c.seal.new.buffer ≡ sealed c.args.keys.now c.args.mode c.args.counter.now.free content =
-    c.seal.ensures.blob ∙ ap (λ (f : ℕ). sealed c.args.keys.now c.args.mode f content) c.in_ok-first.ensures.drawn.0 in
-    subst (λ (x : List ℕ). OpensTo c.args.keys.now name x content) same (c.seal.ensures.opens name named)
+    let content = content_in c.args.keys.now c.args.is_blob c.args.buffer.now in
+    let same : c.seal_again.new.buffer ≡ sealed c.args.keys.now c.args.mode c.args.counter.now.free content =
+    c.seal_again.ensures.blob ∙ ap (λ (f : ℕ). sealed c.args.keys.now c.args.mode f content) c.in_ok-first.ensures.drawn.0 in
+    subst (λ (x : List ℕ). OpensTo c.args.keys.now name x content) same (c.seal_again.ensures.opens name named)
 
 pub returns-in_err-place-clause-untold : goal.returns-in_err-place-clause-untold
 returns-in_err-place-clause-untold g c =
@@ -197,8 +211,11 @@ returns-in_err-place-clause-stops g c =
     let first = c.in_ok-first.first in
     let blocks = c.blocks_of-blocks.result in
     let fits : first < 2 ^ 64 = search rules in
-    let taken = object_blocks c.args.keys.now c.args.mode counter drawn blocks first c.args.id.now c.args.buffer.now c.seal.new.buffer
-    c.in_ok-first.ensures.drawn.0 fits c.seal.ensures.blob c.blocks_of-blocks.ensures.blocks c.in_ok-first.ensures.drawn.1 in
+    let taken = object_blocks c.args.keys.now c.args.mode counter drawn blocks first c.args.id.now (opened_in c.args.keys.now c.args.is_blob
+    c.args.buffer.now) c.seal_again.new.buffer
+    c.in_ok-first.ensures.drawn.0 fits c.seal_again.ensures.blob
+    (opened_blocks c.args.keys.now c.args.is_blob c.args.buffer.now c.blocks_of-blocks.result c.requires.head c.blocks_of-blocks.ensures.blocks)
+    c.in_ok-first.ensures.drawn.1 in
     let fault = c.in_err-place.field-0.0 in
     err_is c.from_residual-in_err-place.result (write_refusal fault)
     (λ (r : Result Place StoreRefusal). IfErr r (λ f. Between a d (Stops session counter f))) c.from_residual-in_err-place.ensures.1

@@ -1,7 +1,7 @@
-use Rattle.std.proofs.Common.{◌≡◌, [], ◌∷◌, ℕ, List, Some, Result, Ok, Err, refl, sym, ◌∙◌, ap, subst, IfErr, IsSome}
+use Rattle.std.proofs.Common.{◌≡◌, ◌≤◌, [], ◌∷◌, ℕ, List, Some, Result, Ok, Err, refl, sym, ◌∙◌, ap, subst, IfErr, IsSome}
 use Rattle.std.proofs.lemmas.Result.{on_ok_weaker}
 use Rattle.ferry_carry.proofs.AcceptingLemmas.{still_rest}
-use Rattle.ferry_carry.proofs.FlightLemmas.{read_rest, rest_accepts, rest_there, there_accepted}
+use Rattle.ferry_carry.proofs.FlightLemmas.{read_rest, read_unspent, rest_accepts, rest_packable, rest_there, there_accepted}
 use Rattle.ferry_carry.proofs.FlyLemmas.{begins_there, filled_apart, fills_there, flies_as, flies_fault, present_flies, present_stands, stands_within}
 use Rattle.ferry_carry.proofs.FlyLemmas.{taken_still, taken_unbroken, turn_present, turned_err}
 use Rattle.ferry_carry.proofs.GrowLemmas.{most_from}
@@ -27,6 +27,7 @@ use Rattle.ferry_carry.specs.Refusals.{DiffersThere, IsLimited, RefusesComparing
 use Rattle.ferry_piece.specs.Stops.{StopsPieces}
 use Rattle.std.proofs.lemmas.Result.{IfErr-weaker}
 use Rattle.ferry_store.specs.Commit.{accepted_in}
+use Rattle.ferry_store.specs.declared.store.Store.{Store}
 
 pub returns-in-More-clause-works : goal.returns-in-More-clause-works
 returns-in-More-clause-works g c =
@@ -41,39 +42,37 @@ returns-in-More-clause-works g c =
     let compared = c.in_ok-compared.field-0 in
     let read = c.compare_item-compared.ensures.read in
     let at = border_behind AtBegin [] in
-    let works = c.in_ok-compared.ensures.works from.most in (
-      [],
-      record {
-        flies = flies_as {T = Compared} [] from name [] [] store now a b n m compared More refl
-            (carried_from {T = Compared} {U = Compared} [] from (name ∷ []) store now [] a b n m compared compared c.requires.accepts
-            (read_rest store now read) works);
-        begins = begins_there a from (repo_view store.repo).keys (accepted_in store) name
-            (there_accepted store name c.requires.accepts c.requires.there);
-        stands = stands_within at from.most store [] a b works.works.each;
-        last = tt;
-        held = tt;
-        fills = tt;
-        lists = (
-          record {
-            stands = record {
-              options = c.requires.flight.options;
-              named = subst (λ (r : RepoState). archive_named name r.manifest.archives ≡ Some c.args.self.now.named) (sym c.compare_item-compared.ensures.kept)
-                  c.requires.flight.named;
-            };
-            added = [];
-            work = subst (WorkFits (g.S.Shelf.told c.compare_item-compared.new.shelf) (repo_view c.compare_item-compared.new.source) b now
-                c.args.self.now.named c.args.self.now.options []) (sym c.renew.ensures) (
-                  c.in_ok-compared.ensures.comparison (ap Ok c.in-More.is),
-                  c.compare_item-compared.ensures.name ∙ c.requires.same_name,
-                  subst (λ (r : RepoState). IsSome (archive_named name r.manifest.archives)) (sym read.repo) c.requires.there,
-                  refl,
-                );
-            uncounted = c.requires.uncounted;
-          },
-          refl,
-        );
-      },
-    )
+    let works = c.in_ok-compared.ensures.works from.most in
+    record {
+      flies = flies_as {T = Compared} [] from name [] [] store now a b n m compared More refl
+          (carried_from {T = Compared} {U = Compared} [] from (name ∷ []) store now [] a b n m compared compared c.requires.accepts
+          (read_rest store now read) works);
+      begins = begins_there a from (repo_view store.repo).keys (accepted_in store) name
+          (there_accepted store name c.requires.accepts c.requires.there);
+      stands = stands_within at from.most store [] a b works.works.each;
+      last = tt;
+      held = tt;
+      fills = tt;
+      lists = (
+        record {
+          stands = record {
+            options = c.requires.flight.options;
+            named = subst (λ (r : RepoState). archive_named name r.manifest.archives ≡ Some c.args.self.now.named) (sym c.compare_item-compared.ensures.kept)
+                c.requires.flight.named;
+          };
+          added = [];
+          work = subst (WorkFits (g.S.Shelf.told c.compare_item-compared.new.shelf) (repo_view c.compare_item-compared.new.source) b now
+              c.args.self.now.named c.args.self.now.options []) (sym c.renew.ensures) (
+                c.in_ok-compared.ensures.comparison (ap Ok c.in-More.is),
+                c.compare_item-compared.ensures.name ∙ c.requires.same_name,
+                subst (λ (r : RepoState). IsSome (archive_named name r.manifest.archives)) (sym read.repo) c.requires.there,
+                refl,
+              );
+          uncounted = c.requires.uncounted;
+        },
+        refl,
+      );
+    }
 
 pub returns-in-More-clause-accepts : goal.returns-in-More-clause-accepts
 returns-in-More-clause-accepts g c =
@@ -101,22 +100,20 @@ returns-in-Equal-clause-works g c =
     let compared = c.in_ok-compared.field-0 in
     let works = c.in_ok-compared.ensures.works from.most in
     let ends = c.present.ensures.works from.most in
-    let apart = targets_apart {T = Turn} c.present.result c.present.ensures.target in (
-      [],
-      record {
-        flies = present_flies {T = Compared} from name store middle now a b d n m k compared c.present.result c.requires.accepts
-            (rest_accepts store middle rest c.requires.accepts) rest c.present.ensures.rest c.present.ensures.pending c.present.ensures.present
-            (rest_there store middle name rest c.requires.there) same works ends;
-        begins = begins_there a from (repo_view store.repo).keys (accepted_in store) name
-            (there_accepted store name c.requires.accepts c.requires.there);
-        stands = present_stands {T = Compared} from.most store middle a b d n m compared c.present.result rest.keys works ends.each;
-        last = told_unbroken {T = Turn} a (repo_view store.repo).keys [] c.present.result c.present.ensures.unbroken;
-        held = held_apart {T = Turn} (border_behind AtBegin []) from.most store now [] a d c.present.result apart;
-        fills = filled_apart {T = Turn} a from (repo_view store.repo).keys (accepted_in store) name [] c.present.result apart;
-        lists = turn_present (g.S.Shelf.told c.compare_item-compared.new.shelf) (repo_view c.compare_item-compared.new.source) d now _ a from
-            (repo_view store.repo).keys c.present.result c.requires.uncounted c.present.ensures.present;
-      },
-    )
+    let apart = targets_apart {T = Turn} c.present.result c.present.ensures.target in
+    record {
+      flies = present_flies {T = Compared} from name store middle now a b d n m k compared c.present.result c.requires.accepts
+          (rest_accepts store middle rest c.requires.accepts) rest c.present.ensures.rest c.present.ensures.pending c.present.ensures.present
+          (rest_there store middle name rest c.requires.there) same works ends;
+      begins = begins_there a from (repo_view store.repo).keys (accepted_in store) name
+          (there_accepted store name c.requires.accepts c.requires.there);
+      stands = present_stands {T = Compared} from.most store middle a b d n m compared c.present.result rest.keys works ends.each;
+      last = told_unbroken {T = Turn} a (repo_view store.repo).keys [] c.present.result c.present.ensures.unbroken;
+      held = held_apart {T = Turn} (border_behind AtBegin []) from.most store now [] a d c.present.result apart;
+      fills = filled_apart {T = Turn} a from (repo_view store.repo).keys (accepted_in store) name [] c.present.result apart;
+      lists = turn_present (g.S.Shelf.told c.compare_item-compared.new.shelf) (repo_view c.compare_item-compared.new.source) d now _ a from
+          (repo_view store.repo).keys c.present.result c.requires.uncounted c.present.ensures.present;
+    }
 
 pub returns-in-Equal-clause-accepts : goal.returns-in-Equal-clause-accepts
 returns-in-Equal-clause-accepts g c =
@@ -139,20 +136,18 @@ returns-in_err-compared-clause-works g c =
     let m = g.D.Shelf.faults c.compare_item-compared.new.depot in
     let fault = c.in_err-compared.field-0.0 in
     let at = border_behind AtBegin [] in
-    let works = c.in_err-compared.ensures.works from.most in (
-      [],
-      turned_err _ _ from name [] [] [] store now _ a b n m c.from_residual.result fault c.from_residual.ensures.1 (record {
-        flies = flies_fault {T = Compared} [] from name store now [] a b n m fault c.requires.accepts works;
-        begins = begins_there a from (repo_view store.repo).keys (accepted_in store) name
-            (there_accepted store name c.requires.accepts c.requires.there);
-        stands = λ _. stands_within at from.most store [] a b works.works.each;
-        last = works.last;
-        held = held_within {T = Turn} at from.most store now [] a b (Err fault) works.held;
-        fills = fills_there a from (repo_view store.repo).keys (accepted_in store) name fault
-            (there_accepted store name c.requires.accepts c.requires.there);
-        lists = tt;
-      }),
-    )
+    let works = c.in_err-compared.ensures.works from.most in
+    turned_err _ _ from name [] [] [] store now _ a b n m c.from_residual.result fault c.from_residual.ensures.1 (record {
+      flies = flies_fault {T = Compared} [] from name store now [] a b n m fault c.requires.accepts works;
+      begins = begins_there a from (repo_view store.repo).keys (accepted_in store) name
+          (there_accepted store name c.requires.accepts c.requires.there);
+      stands = λ _. stands_within at from.most store [] a b works.works.each;
+      last = works.last;
+      held = held_within {T = Turn} at from.most store now [] a b (Err fault) works.held;
+      fills = fills_there a from (repo_view store.repo).keys (accepted_in store) name fault
+          (there_accepted store name c.requires.accepts c.requires.there);
+      lists = tt;
+    })
 
 pub returns-in-Differs-clause-works : goal.returns-in-Differs-clause-works
 returns-in-Differs-clause-works g c =
@@ -168,20 +163,18 @@ returns-in-Differs-clause-works g c =
     let works = c.in_ok-compared.ensures.works from.most in
     let refused = gathered_fault {T = Compared} {U = Compared} from.most store now [] a b n m c.in_ok-compared.field-0 c.taken.result
     (taken_still c.taken.result c.as_slice.result.now c.taken.ensures.taken)
-    (taken_unbroken c.taken.result c.as_slice.result.now c.taken.ensures.taken) works in (
-      [],
-      record {
-        flies = flies_fault {T = Compared} [] from name store now [] a b n m c.taken.result c.requires.accepts refused;
-        begins = begins_there a from (repo_view store.repo).keys (accepted_in store) name
-            (there_accepted store name c.requires.accepts c.requires.there);
-        stands = λ _. stands_within at from.most store [] a b works.works.each;
-        last = refused.last;
-        held = held_within {T = Turn} at from.most store now [] a b (Err c.taken.result) refused.held;
-        fills = fills_there a from (repo_view store.repo).keys (accepted_in store) name c.taken.result
-            (there_accepted store name c.requires.accepts c.requires.there);
-        lists = tt;
-      },
-    )
+    (taken_unbroken c.taken.result c.as_slice.result.now c.taken.ensures.taken) works in
+    record {
+      flies = flies_fault {T = Compared} [] from name store now [] a b n m c.taken.result c.requires.accepts refused;
+      begins = begins_there a from (repo_view store.repo).keys (accepted_in store) name
+          (there_accepted store name c.requires.accepts c.requires.there);
+      stands = λ _. stands_within at from.most store [] a b works.works.each;
+      last = refused.last;
+      held = held_within {T = Turn} at from.most store now [] a b (Err c.taken.result) refused.held;
+      fills = fills_there a from (repo_view store.repo).keys (accepted_in store) name c.taken.result
+          (there_accepted store name c.requires.accepts c.requires.there);
+      lists = tt;
+    }
 
 pub returns-in_err-compared-clause-refused : goal.returns-in_err-compared-clause-refused
 returns-in_err-compared-clause-refused g c =
@@ -210,13 +203,18 @@ returns-in-Differs-clause-refused g c =
     let a = g.D.Shelf.told c.args.depot.now in
     let b = g.D.Shelf.told c.compare_item-compared.new.depot in
     let read = c.compare_item-compared.ensures.read in
+    let rest = read_rest store now read in
     let differs : DiffersThere from b (repo_view now.repo) name =
     subst (DiffersThere from b (repo_view now.repo)) c.requires.same_name
     (c.in_ok-compared.ensures.differs_now (ap Ok c.in-Differs.is) from.block from.most from.time) in
     taken_refused from a b store now name c.as_slice.result.now c.taken.result c.taken.ensures.taken c.as_slice.ensures differs (record {
       fits = c.compare_item-compared.ensures.fits;
       there = subst (λ (r : RepoState). IsSome (archive_named name r.manifest.archives)) (sym read.repo) c.requires.there;
-      most = most_from store now (read_rest store now read);
+      most_kept = most_from store now rest;
+      unspent = read_unspent store now read c.requires.unspent;
+      pending = subst (λ (n : ℕ). n ≤ from.most) (sym (ap (λ (s : Store). s.pending) read.rest)) c.requires.pending;
+      packable = rest_packable store now rest c.requires.packable;
+      accepts = rest_accepts store now rest c.requires.accepts;
     })
 
 pub returns-in-More-clause-more : goal.returns-in-More-clause-more

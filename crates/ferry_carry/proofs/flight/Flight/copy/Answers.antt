@@ -1,4 +1,4 @@
-use Rattle.std.proofs.Common.{rules, ◌≡◌, [], ◌∷◌, ◌++◌, false, true, Some, None, Bool, List, Result, Ok, Err, refl, sym, subst, IfErr, ℕ}
+use Rattle.std.proofs.Common.{rules, ◌≡◌, inr, [], ◌∷◌, ◌++◌, false, true, Some, None, Bool, List, Result, Ok, Err, refl, sym, subst, IfErr, ℕ}
 use Rattle.ferry_carry.proofs.CauseLemmas.{end_refused, lacks_by, step_refused}
 use Rattle.ferry_carry.proofs.AcceptingLemmas.{next_rest}
 use Rattle.ferry_carry.proofs.FlightLemmas.{rest_accepts}
@@ -7,7 +7,7 @@ use Rattle.ferry_carry.proofs.FlyLemmas.{stands_within, stepped_as, turn_ended, 
 use Rattle.ferry_carry.proofs.GrowLemmas.{most_from, most_then}
 use Rattle.ferry_carry.proofs.HeldLemmas.{held_within}
 use Rattle.ferry_carry.proofs.NamingLemmas.{pieces_limit, rest_limit}
-use Rattle.ferry_carry.proofs.NextLemmas.{unnamed_err}
+use Rattle.ferry_carry.proofs.TagLemmas.{TagsOr, match_err, tags_as, tags_none}
 use Rattle.ferry_carry.proofs.WorkLemmas.{carried_from}
 use Rattle.ferry_piece.proofs.WorkLemmas.{err_is}
 use Rattle.ferry_carry.proofs.flight.Flight.copy.Goals as goal
@@ -64,7 +64,7 @@ returns-in-Err-clause-works g c =
                 (works.1.1.0 c.requires.flight.named);
             lists = tt;
           },
-          tt,
+          inr (tags_none (repo_view store.repo).keys stepped.0 _ _ works.1.1.1 refl),
         ),
       ),
     )
@@ -189,7 +189,9 @@ returns-in_err-self-in-Ok-false-clause-works g c =
               (flies_err {T = Carried} added from name (name ∷ []) ends.0 middle now now b d m k fault does.carries) does.begins does.stands does.last
               (end_apart from b (repo_view middle.repo).keys name fault
               (c.in_err-self-in-Ok-false.ensures.refused from added (ended.1 c.requires.flight.named))) tt),
-          unnamed_err _ c.from_residual.result fault c.from_residual.ensures.1,
+          match_err {T = Turn} _ (TagsOr (repo_view store.repo).keys ends.0 (g.E.Entropy.drawn c.args.entropy.now)
+              (g.E.Entropy.drawn c.end_copy-put.new.entropy)) c.from_residual.result fault c.from_residual.ensures.1
+              (tags_as (repo_view store.repo).keys (repo_view middle.repo).keys ends.0 _ _ fault rest.keys ends.1.1.1),
         ),
       ),
     )

@@ -1,5 +1,5 @@
 use Rattle.std.proofs.Common.{rules, ◌≡◌, [], List, sym, subst}
-use Rattle.ferry_carry.proofs.NextLemmas.{unnamed_all}
+use Rattle.ferry_carry.proofs.TagLemmas.{unnamed_all}
 use Rattle.ferry_carry.proofs.flight.Flight.step.Goals as goal
 use Rattle.ferry_carry.specs.Flight.{TakesTurn, WorkFits, flown_from}
 use Rattle.ferry_piece.specs.Puts.{Addition}
@@ -58,17 +58,16 @@ returns-in-Comparing-clause-works g c =
     let a = g.D.Shelf.told c.args.depot.now in
     let store = c.args.store.now in
     let flight = c.args.self.now in
-    let compared = c.compare.ensures.works in
     let is : flight.work ≡ Comparing c.in-Comparing.comparison = search rules in
     let work = subst (WorkFits told source a store flight.named flight.options fits.added) is fits.work in (
-      compared.0,
+      [],
       (
         [],
         (
           subst (λ (l : List Addition). TakesTurn (g.S.Shelf.told c.compare.new.shelf) (repo_view c.compare.new.source) (flown_from told source flight)
-              flight.named.name l compared.0 [] store c.compare.new.store c.compare.new.self a (g.D.Shelf.told c.compare.new.depot)
-              (g.D.Shelf.faults c.args.depot.now) (g.D.Shelf.faults c.compare.new.depot) c.compare.result) (sym work.3) compared.1,
-          unnamed_all _ c.compare.result c.compare.ensures.unnamed,
+              flight.named.name l [] [] store c.compare.new.store c.compare.new.self a (g.D.Shelf.told c.compare.new.depot)
+              (g.D.Shelf.faults c.args.depot.now) (g.D.Shelf.faults c.compare.new.depot) c.compare.result) (sym work.3) c.compare.ensures.works,
+          unnamed_all _ (repo_view store.repo).keys (g.E.Entropy.drawn c.args.entropy.now) c.compare.result c.compare.ensures.unnamed,
         ),
       ),
     )

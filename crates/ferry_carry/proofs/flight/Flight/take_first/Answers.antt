@@ -1,4 +1,4 @@
-use Rattle.std.proofs.Common.{rules, ◌≡◌, [], ◌∷◌, Result, Err, refl, sym, IfErr, IfOk, IsSome, subst, ◌∙◌}
+use Rattle.std.proofs.Common.{rules, ◌≡◌, inr, MatchResult, [], ◌∷◌, Result, Err, refl, sym, IfErr, IsSome, subst, ◌∙◌}
 use Rattle.std.proofs.lemmas.Result.{on_ok_weaker}
 use Rattle.ferry_piece.proofs.AddingLemmas.{stops_unbroken}
 use Rattle.ferry_carry.proofs.FlightLemmas.{read_rest}
@@ -22,7 +22,7 @@ use Rattle.ferry_repo.specs.Archives.{archive_named}
 use Rattle.ferry_repo.specs.Opening.{RepoState, repo_view}
 use Rattle.ferry_store.specs.Commit.{accepted_in}
 use Rattle.ferry_carry.proofs.CauseLemmas.{begin_refused, comparing_refused, name_refused}
-use Rattle.ferry_carry.proofs.NextLemmas.{unnamed_all, unnamed_err}
+use Rattle.ferry_carry.proofs.TagLemmas.{TagsOr, match_err, tags_none, unnamed_all}
 use Rattle.ferry_carry.specs.Accepting.{NamesNew}
 use Rattle.ferry_carry.specs.Carrying.{Origin, origin}
 use Rattle.ferry_piece.specs.Gather.{KeepsStanding}
@@ -57,7 +57,9 @@ returns-in_err-copy-clause-works g c =
                 (accepted_in store) c.args.self.now.named fault c.requires.flight.named c.in_err-copy.ensures.refused;
             lists = tt;
           }),
-          unnamed_err _ c.from_residual-in_err-copy.result fault c.from_residual-in_err-copy.ensures.1,
+          match_err {T = Turn} _ (TagsOr (repo_view store.repo).keys [] (g.E.Entropy.drawn c.args.entropy.now) (g.E.Entropy.drawn c.args.entropy.now))
+              c.from_residual-in_err-copy.result fault c.from_residual-in_err-copy.ensures.1
+              (inr (tags_none (repo_view store.repo).keys [] _ _ refl refl)),
         ),
       ),
     )
@@ -70,20 +72,19 @@ returns-in_ok-comparison-clause-works g c =
     let after = repo_view c.begin_comparing.new.source in
     let store = c.args.store.now in
     let middle = c.begin_comparing.new.store in
-    let flight = c.args.self.now in
-    let compared = c.compare.ensures.works in (
-      compared.0,
+    let flight = c.args.self.now in (
+      [],
       (
         [],
         (
           turned_behind {T = Comparison} told later (g.S.Shelf.told c.compare.new.shelf) source after (repo_view c.compare.new.source) flight.options.block
-              flight.options.checkpoint flight.options.timestamp flight.named.name store middle c.compare.new.store c.compare.new.self compared.0 []
+              flight.options.checkpoint flight.options.timestamp flight.named.name store middle c.compare.new.store c.compare.new.self [] []
               (g.D.Shelf.told c.args.depot.now)
               (g.D.Shelf.told c.begin_comparing.new.depot) (g.D.Shelf.told c.compare.new.depot) (g.D.Shelf.faults c.args.depot.now)
               (g.D.Shelf.faults c.begin_comparing.new.depot) (g.D.Shelf.faults c.compare.new.depot) c.in_ok-comparison.comparison c.compare.result
               c.in_ok-comparison.ensures.same c.begin_comparing.ensures.kept c.requires.accepts (read_rest store middle c.begin_comparing.ensures.read)
-              (c.in_ok-comparison.ensures.works flight.options.checkpoint) compared.1,
-          unnamed_all _ c.compare.result c.compare.ensures.unnamed,
+              (c.in_ok-comparison.ensures.works flight.options.checkpoint) c.compare.ensures.works,
+          unnamed_all _ (repo_view store.repo).keys (g.E.Entropy.drawn c.args.entropy.now) c.compare.result c.compare.ensures.unnamed,
         ),
       ),
     )
@@ -123,7 +124,8 @@ returns-in_err-comparison-clause-works g c =
             fills = fills_there a from (repo_view store.repo).keys (accepted_in store) name fault there;
             lists = tt;
           }),
-          unnamed_err _ c.from_residual.result fault c.from_residual.ensures.1,
+          match_err {T = Turn} _ (TagsOr (repo_view store.repo).keys [] (g.E.Entropy.drawn c.args.entropy.now) (g.E.Entropy.drawn c.args.entropy.now))
+              c.from_residual.result fault c.from_residual.ensures.1 (inr (tags_none (repo_view store.repo).keys [] _ _ refl refl)),
         ),
       ),
     )
@@ -163,8 +165,10 @@ returns-in_ok-copy-clause-works g c =
           subst (λ (f : Origin). TakesTurn (g.S.Shelf.told c.copy.new.shelf) (repo_view c.copy.new.source) f flight.named.name [] copied.0 copied.1.0 store
               c.copy.new.store c.copy.new.self a (g.D.Shelf.told c.copy.new.depot) (g.D.Shelf.faults c.args.depot.now) (g.D.Shelf.faults c.copy.new.depot)
               c.copy.result) (origin_kept told later source after block block most most time time ensures.same kept refl refl refl) copied.1.1.0,
-          subst (λ (r : RepoState). IfOk c.copy.result (λ (turn : Turn). turn ≡ Named → NamesNew time r store flight.named copied.1.0 c.copy.new.store
-              (g.E.Entropy.drawn c.args.entropy.now) (g.E.Entropy.drawn c.copy.new.entropy))) kept copied.1.1.1,
+          subst (λ (r : RepoState). MatchResult c.copy.result (λ (turn : Turn). turn ≡ Named → NamesNew time r store flight.named copied.1.0
+              c.copy.new.store (g.E.Entropy.drawn c.args.entropy.now) (g.E.Entropy.drawn c.copy.new.entropy))
+              (TagsOr (repo_view store.repo).keys copied.0 (g.E.Entropy.drawn c.args.entropy.now) (g.E.Entropy.drawn c.copy.new.entropy))) kept
+              copied.1.1.1,
         ),
       ),
     )

@@ -2,7 +2,7 @@ use Rattle.ferry_manifest.proofs.PlaceLemmas.{one_place, tag_first, zeroed-is}
 use Rattle.ferry_manifest.proofs.TagLemmas.{tag_stands, tag_replaced}
 use Rattle.ferry_manifest.proofs.Manifests.OrderLemmas.{in_order-increasing, in_order-same}
 use Rattle.ferry_manifest.proofs.Manifests.LawLemmas.{tagged, pack_says, says_pack, field_says, says_field, missing_says, says_missing, other_says, says_other}
-use Rattle.ferry_manifest.proofs.Manifests.LawLemmas.{read_packable, no_large, no_memory}
+use Rattle.ferry_manifest.proofs.Manifests.LawLemmas.{read_packable, read_says, says_read, either, apart, no_large, no_memory}
 use Rattle.ferry_manifest.proofs.manifest.laws.manifest_laws.Goals as goal
 
 pub returns-clause-place : goal.returns-clause-place
@@ -50,3 +50,12 @@ returns-clause-pack c = λ keys bytes. (pack_says keys bytes, says_pack keys byt
 
 pub returns-clause-field : goal.returns-clause-field
 returns-clause-field c = λ keys bytes. (field_says keys bytes, λ (all, is, lacks). says_field keys bytes all is lacks)
+
+pub returns-clause-ok : goal.returns-clause-ok
+returns-clause-ok c = λ keys bytes manifest. (read_says keys bytes manifest, says_read keys bytes manifest)
+
+pub returns-clause-either : goal.returns-clause-either
+returns-clause-either c = either
+
+pub returns-clause-apart : goal.returns-clause-apart
+returns-clause-apart c = apart

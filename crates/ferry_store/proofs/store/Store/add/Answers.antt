@@ -1,11 +1,12 @@
-use Rattle.std.proofs.Common.{false}
+use Rattle.std.proofs.Common.{false, ℕ, List, drop, ap, ◌∙◌, subst}
 use Rattle.ferry_stops.proofs.TellLemmas.{told_none}
 use Rattle.ferry_store.proofs.AddLemmas.{same_added}
 use Rattle.ferry_store.proofs.PutLemmas.{keeps_here}
-use Rattle.ferry_store.proofs.StepLemmas.{did_none}
+use Rattle.ferry_store.proofs.StepLemmas.{did_none, did_nothing}
 use Rattle.ferry_store.proofs.store.Store.add.Goals as goal
 use Rattle.ferry_store.specs.Adding.{Adds}
-use Rattle.ferry_store.specs.State.{KeepsSound}
+use Rattle.ferry_store.specs.Fault.{depot_failed}
+use Rattle.ferry_store.specs.State.{Did, KeepsSound}
 use Rattle.ferry_store.specs.declared.content.Added.{Added}
 
 pub returns-then-is_known-clause-did : goal.returns-then-is_known-clause-did
@@ -15,6 +16,27 @@ returns-then-is_known-clause-did g c =
     let added : Added = record { id = id; new = false } in
     did_none (KeepsSound store.session store.counter) (Adds store c.args.content.now store) (g.D.Shelf.told c.args.depot.now)
     (g.D.Shelf.faults c.args.depot.now) added (keeps_here store.session store.counter) (λ h. same_added store c.args.content.now id h)
+
+pub returns-in-Ok-clause-did : goal.returns-in-Ok-clause-did
+returns-in-Ok-clause-did g c =
+    let store = c.args.self.now in
+    let now = c.add_new.new.self in
+    let a = g.D.Shelf.told c.args.depot.now in
+    let b = g.D.Shelf.told c.add_new.new.depot in
+    let n = g.D.Shelf.faults c.args.depot.now in
+    let m = g.D.Shelf.faults c.add_new.new.depot in
+    subst (λ (content : List ℕ). Did {T = Added} (KeepsSound store.session store.counter) (Adds store content now) a b n m c.add_new.result)
+    (ap (drop 43) c.deref_mut.ensures.value ∙ c.in-Ok.ensures.buffer.0) c.add_new.ensures.did
+
+pub returns-in-Err-clause-did : goal.returns-in-Err-clause-did
+returns-in-Err-clause-did g c =
+    let store = c.args.self.now in
+    did_nothing {T = Added} (KeepsSound store.session store.counter) (Adds store c.args.content.now c.spend.new.self) (g.D.Shelf.told c.args.depot.now)
+    (g.D.Shelf.faults c.args.depot.now) c.spend.result (ap depot_failed (c.spend.ensures.same ∙ c.in-Err.ensures.refused))
+    (keeps_here store.session store.counter)
+
+pub returns-in-Err-clause-untold : goal.returns-in-Err-clause-untold
+returns-in-Err-clause-untold g c = told_none (g.D.Shelf.told c.args.depot.now)
 
 pub returns-clause-did : goal.returns-clause-did
 returns-clause-did g c = c.add_old.ensures.did c.args.content.now

@@ -7,6 +7,7 @@ use Rattle.ferry_store.proofs.CauseLemmas.{store_stops}
 use Rattle.ferry_store.proofs.store.Store.add_new.Goals as goal
 use Rattle.ferry_store.specs.Causes.{Stops, StopsAt}
 use Rattle.ferry_store.specs.Content.{HasPut, Learns}
+use Rattle.ferry_store.specs.Piece.{content_in}
 use Rattle.ferry_store.specs.State.{Did, KeepsSound}
 use Rattle.ferry_store.specs.declared.fault.StoreRefusal.{StoreRefusal}
 
@@ -20,8 +21,8 @@ returns-in-Ok-clause-did g c =
     let repo = c.put_content-put.new.repo in
     let session = c.put_content-put.new.session in
     let counter = c.put_content-put.new.counter in
-    let content = c.args.content.now in
-    put_did store repo session counter c.saturating_add-self.result content c.args.id a b n m c.in-Ok.field-0 c.requires.named c.requires.new
+    let content = content_in (repo_view store.repo).keys c.args.is_blob c.args.buffer.now in
+    put_did store repo session counter c.saturating_add-self.result content c.args.id a b n m c.in-Ok.field-0 c.requires.prepared.named c.requires.new
     c.put_content-put.ensures.cached
     (subst (λ (r : Result (Unit {0}) StoreRefusal). OnOk r (session.after ≡ store.session.after)) c.in-Ok.is c.put_content-put.ensures.after)
     c.saturating_add-self.ensures
@@ -49,7 +50,8 @@ returns-in-Err-clause-stops g c =
     let counter = c.put_content-put.new.counter in
     let refusal = c.in-Err.refusal in
     let did = subst (λ (r : Result (Unit {0}) StoreRefusal). Did (KeepsSound store.session store.counter)
-    (λ _. HasPut (repo_view store.repo) store.session store.counter c.args.id c.args.content.now (repo_view repo) session counter) a b n m r) c.in-Err.is
+    (λ _. HasPut (repo_view store.repo) store.session store.counter c.args.id (content_in (repo_view store.repo).keys c.args.is_blob c.args.buffer.now)
+    (repo_view repo) session counter) a b n m r) c.in-Err.is
     c.put_content-put.ensures.did in
     let stops = subst (λ (r : Result (Unit {0}) StoreRefusal). IfErr r (λ f. Between a b (Stops store.session store.counter f))) c.in-Err.is
     c.put_content-put.ensures.stops in
