@@ -1517,6 +1517,37 @@ def written():
         judge("transfer: it is bad after that", run(("target", "-", "check"), root, variables), (1, b"bad " + reason))
 
 
+def foreseen():
+    """Contents whose pieces are prepared side by side before they come: several of an item, equal ones, of items behind one another, behind small ones."""
+    keys, numbers, block = Keys(), random.Random(9), 8192
+    variables = {**OPEN, b"BORG_PASSPHRASE": PASSPHRASE}
+    several, large = [numbers.randbytes(size) for size in (20000, 30000, 17000)], numbers.randbytes(300000)
+    contents = {
+        b"several": several,
+        b"one": [numbers.randbytes(40000)],
+        b"again": several,
+        b"tiny": [b"tiny"],
+        b"empty": [],
+        b"whole": [numbers.randbytes(2 * block)],
+        b"zeros": [bytes(50000)],
+        b"large": [large],
+        b"large again": [large[:block], large[block:]],
+        **{b"small %d" % number: [numbers.randbytes(20000 + number)] for number in range(12)},
+    }
+    archive = Archive(keys, b"a", [Item(path, chunks) for path, chunks in contents.items()])
+    manifest = keys.blob(keys.tagged(fields(archive.named(b"a"))))
+    whole = {path: b"".join(chunks) for path, chunks in contents.items()}
+    pieces = {content[at : at + block] for content in whole.values() for at in range(0, len(content), block)}
+    total = b"transferred a\ntotal 1 transferred 0 present %d chunks %d bytes 1 meta\n" % (len(pieces), sum(map(len, pieces)))
+    with tempfile.TemporaryDirectory() as root:
+        make(root, inside("source", repository(keys, PASSPHRASE, manifest, *archive.chunks())))
+        judge("foreseen: a target is made", run(("-", "target", "init", "--iterations", "1"), root, variables)[0:1] + (b"",), (0, b""))
+        judge("foreseen: transfer", run(("source", "target", "transfer", "--block", str(block), "a"), root, variables), (0, total))
+        judge("foreseen: the target verifies", run(("target", "-", "check"), root, variables)[0:1] + (b"",), (0, b""))
+        for path, content in whole.items():
+            judge(f"foreseen: {path.decode()}", run(("target", "-", "extract", "a", path.decode()), root, variables), (0, content))
+
+
 def variables():
     good = log(segment(put(K, b"abc")), COMMIT_SEGMENT)
     bad, text = b"\xff\xfe", "gr\u00fc\u00df e".encode()
@@ -1710,7 +1741,7 @@ def rows():
 
 
 READING = (folders, logs, damage, memory, names, words, keys_of_configs, listings, archives, checked, every_byte)
-CASES = (*READING, key_files, targets, refused_targets, transfers, plans, restores, deletions, taggings, compactions, locks, written, limits, entropy, variables, of_borg, outputs, progress)
+CASES = (*READING, key_files, targets, refused_targets, transfers, foreseen, plans, restores, deletions, taggings, compactions, locks, written, limits, entropy, variables, of_borg, outputs, progress)
 
 
 def main(chosen):

@@ -96,25 +96,16 @@ fn push_escaped(alloc: Global, bytes: &[u8], line: &mut String) -> Result<(), Al
     write_text(bytes, &mut escaped)?;
     for chunk in escaped.as_slice().utf8_chunks() {
         line.push_str(chunk.valid())?;
-        push_digits(chunk.invalid(), line)?;
+        push_digits(alloc, chunk.invalid(), line)?;
     }
     Ok(())
 }
 
 /// Appends `\x` and two hex digits for each byte.
-fn push_digits(bytes: &[u8], line: &mut String) -> Result<(), AllocError> {
+fn push_digits(alloc: Global, bytes: &[u8], line: &mut String) -> Result<(), AllocError> {
     for byte in bytes {
         line.push_str("\\x")?;
-        line.push(digit(*byte / 16))?;
-        line.push(digit(*byte % 16))?;
+        line.push_str(&hex::encode(alloc, [*byte])?)?;
     }
     Ok(())
-}
-
-/// The hex digit of a number below 16.
-fn digit(number: u8) -> char {
-    match number {
-        0..=9 => char::from(b'0' + number),
-        _ => char::from(b'a' + (number % 16) - 10),
-    }
 }

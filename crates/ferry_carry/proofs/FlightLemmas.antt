@@ -36,18 +36,19 @@ use Rattle.ferry_store.proofs.StepLemmas.{done_here, same_told}
 use Rattle.ferry_store.specs.Commit.{accepted_in, IsSettled, ReadsStore}
 use Rattle.ferry_store.specs.Fault.{depot_failed}
 use Rattle.ferry_store.specs.Standing.{CommitsManifest, HoldsLive, committed_of, entries_of, live_in}
-use Rattle.ferry_store.specs.Store.{IsUnspent, StoreFits}
+use Rattle.ferry_store.specs.Store.{StoreFits}
 use Rattle.ferry_store.specs.declared.fault.StoreRefusal.TheVariants as Stores
 use Rattle.ferry_store.specs.declared.store.Store.{Store}
 use Rattle.ferry_write.specs.Script.{AllDone}
-use Rattle.ferry_piece.proofs.AddingLemmas.{gathers_all, stops_unbroken}
+use Rattle.ferry_piece.proofs.AddingLemmas.{HoldsAll, gathers_all, held_until, stops_unbroken}
 use Rattle.ferry_carry.proofs.NextLemmas.{behind_present}
 use Rattle.ferry_carry.proofs.CarryLemmas.{same_over}
 use Rattle.ferry_carry.proofs.CutLemmas.{cut_same}
 use Rattle.ferry_piece.proofs.GatherLemmas.{moved_here, stands_here}
 use Rattle.ferry_carry.proofs.GrowLemmas.{growing_by, has_kept, most_from}
 use Rattle.ferry_piece.proofs.PutsLemmas.{adds_here, goes_same}
-use Rattle.ferry_piece.specs.Adding.{AddsOn, HoldsAll, IsNoChunk}
+use Rattle.ferry_piece.specs.Adding.{AddsOn, IsNoChunk}
+use Rattle.ferry_piece.specs.Stops.{is_target}
 use Rattle.ferry_piece.specs.Fault.{compare_fault, target_failed}
 use Rattle.ferry_carry.specs.Carrying.{IsCarried, Origin, SaysIn, origin}
 use Rattle.ferry_carry.specs.Flight.{IsCommitted, IsSame}
@@ -166,6 +167,7 @@ works_read {T} {U} most store repo a b n m x y same kept caused repo_fits =
         ends = keeps_end {T = T} {F = CompareFault} other_failed a b (Ok x) kept;
         cause = caused;
       };
+      unspent = λ was. record { session = was.session; counter = was.counter; itself = was.itself };
       last = tt;
       held = tt;
     }
@@ -187,10 +189,14 @@ works_unread {U} T most store repo a b n m fault same kept caused refused repo_f
         cause = subst (λ (d : Bool). RoseWhere d n m) (sym (compared_target fault)) caused;
       };
       last = stops_unbroken a (repo_view store.repo).keys [] (compare_fault fault) (compared_unbroken fault refused);
-      held = λ _.
-          between_map a b (λ h g. (g ≡ h) × FitsRepo (files_now g) (repo_view repo) (cached_in repo)) (HoldsAll Within most store [] now)
-          (λ h g e. gathers_all most store now [] h g (read_gathers most store repo h g same e))
-          (between_end (λ h. FitsRepo (files_now h) (repo_view repo) (cached_in repo)) (λ h g. g ≡ h) a b repo_fits reads);
+      unspent = tt;
+      held = λ _. (
+        λ was. record { session = was.session; counter = was.counter; itself = was.itself },
+        held_until (is_target (compare_fault fault)) Within most store now [] a b
+            (between_map a b (λ h g. (g ≡ h) × FitsRepo (files_now g) (repo_view repo) (cached_in repo)) (HoldsAll Within most store [] now)
+            (λ h g e. gathers_all most store now [] h g (read_gathers most store repo h g same e))
+            (between_end (λ h. FitsRepo (files_now h) (repo_view repo) (cached_in repo)) (λ h g. g ≡ h) a b repo_fits reads)),
+      );
     }
 
 -- what was compared is the same still
@@ -215,14 +221,6 @@ read_rest store now reads = record {
   config = ap (λ (r : RepoState). r.config) reads.repo;
   manifest = ap (λ (r : RepoState). r.manifest) reads.repo;
   accepted = ap (λ (s : Store). accepted_in s) reads.rest;
-}
-
--- a store of which nothing changed but what its repository keeps in memory isn't spent where it wasn't
-pub read_unspent : (store now : Store) → ReadsStore store now → IsUnspent store → IsUnspent now
-read_unspent store now reads unspent = record {
-  session = ap (λ (s : Store). s.session.spent) reads.rest ∙ unspent.session;
-  counter = ap (λ (s : Store). s.counter.spent) reads.rest ∙ unspent.counter;
-  itself = ap (λ (s : Store). s.spent) reads.rest ∙ unspent.itself;
 }
 
 pub rest_packable : (store now : Store) → KeepsRest store now → IsPackable (accepted_in store) → IsPackable (accepted_in now)

@@ -17,7 +17,7 @@ use Rattle.ferry_repo.specs.Opening.{FitsRepo, RepoState, repo_view}
 use Rattle.ferry_repo.specs.declared.fault.RepoFault.{RepoFault}
 use Rattle.ferry_store.specs.Commit.{accepted_in}
 use Rattle.ferry_store.specs.declared.store.Store.{Store}
-use Rattle.ferry_piece.proofs.AddingLemmas.{held_gathered, stops_then, stops_unbroken}
+use Rattle.ferry_piece.proofs.AddingLemmas.{HoldsAll, held_gathered, stops_then, stops_unbroken}
 use Rattle.ferry_carry.proofs.FlightLemmas.{same_carried}
 use Rattle.ferry_piece.proofs.GatherLemmas.{checkpoint_gathers, checkpoint_stands, moved_here, sound_moments, standing_wider, stands_at, stands_here}
 use Rattle.ferry_piece.proofs.GatherLemmas.{stands_then}
@@ -28,10 +28,10 @@ use Rattle.ferry_carry.proofs.WorkLemmas.{carried_by_then, carried_from, carried
 use Rattle.ferry_piece.proofs.WorkLemmas.{err_is}
 use Rattle.ferry_piece.proofs.WorkLemmas.{works_as, works_front, works_none}
 use Rattle.ferry_carry.proofs.GrowLemmas.{growing_here}
-use Rattle.ferry_carry.proofs.HeldLemmas.{grows_all, heard_apart, heard_back, heard_each, heard_map, held_apart, held_then, holds_within}
+use Rattle.ferry_carry.proofs.HeldLemmas.{grows_all, heard_apart, heard_back, heard_each, heard_map, held_then, holds_within}
 use Rattle.ferry_carry.proofs.HeldLemmas.{known_back}
 use Rattle.ferry_piece.proofs.PutsLemmas.{adds_at, adds_here, allows_within, border_append, front_all, goes_at, goes_same}
-use Rattle.ferry_piece.specs.Adding.{AddsOn, HoldsAll, HoldsRefused, IsNoChunk, StopsLast}
+use Rattle.ferry_piece.specs.Adding.{AddsOn, HoldsRefused, IsNoChunk, StopsLast}
 use Rattle.ferry_carry.specs.Naming.{TaggedRecord, records_in}
 use Rattle.ferry_carry.specs.declared.options.Options.{Options}
 use Rattle.ferry_carry.specs.Carrying.{Origin, origin}
@@ -61,6 +61,7 @@ use Rattle.ferry_store.specs.Standing.{committed_of, entries_of}
 use Rattle.ferry_store.specs.State.{CommitsSound, IsSound}
 use Rattle.ferry_stops.specs.Tells.{TellsNothing}
 use Rattle.ferry_store.specs.Adding.{Checkpoints}
+use Rattle.ferry_store.specs.Store.{IsUnspent}
 use Rattle.ferry_write.specs.Script.{AllDone}
 
 -- ---- a source
@@ -584,7 +585,7 @@ turned_behind {T} told later seen source after given block most time name store 
           same rest.keys rest.accepted refl refl q.begins;
       stands = turn_stands_behind {T = T} AtBegin most store middle more a b c n m x result rest.keys p q.stands;
       last = stops_then {T = Turn} a b keys others [] more result p.works.ends rest.keys q.last;
-      held = held_then {T = Turn} AtBegin most store middle now [] more a b c result rest.keys
+      held = held_then {T = Turn} AtBegin most store middle now [] more a b c result rest.keys p.unspent
           (added_all {T = T} AtBegin most store middle [] a b n m x p) q.held;
       fills = filled_before {T = Turn} from other keys others (accepted_in store) (accepted_in middle) name name more more result
           (KeepsStanding most store []) a b p.works.each same rest.keys rest.accepted refl refl q.fills;
@@ -600,11 +601,12 @@ pub turn_ended : {T : Type 0} (from : Origin) (name : List ℕ) (added more : Li
     → AddsOn {T = T} from.most store [] middle a b n m (Ok x)
     → Flies added from name more middle now b c m k result → IfSome b (λ _. BeginsOne from (repo_view middle.repo).keys name (added ++ more))
     → IfErr result (λ fault. IsOfWork fault → Between b c (KeepsStanding from.most middle more))
-    → StopsLast b (repo_view middle.repo).keys more result → IfErr result (λ fault. IsOfSource fault → ⊥)
+    → StopsLast b (repo_view middle.repo).keys more result → HoldsRefused (border_behind AtBegin added) from.most middle more now b c result
+    → IfErr result (λ fault. IsOfSource fault → ⊥)
     → IfOk result (λ turn. (turn ≡ Named) × TurnLists told source c now flight a from (repo_view store.repo).keys added more records Named)
     → TakesTurn told source from name added more records store now flight a c n k result
 unfolding border_behind
-turn_ended {T} from name added more records store middle now told source flight a b c n m k x result accepts rest unnamed p flies begun stands last apart
+turn_ended {T} from name added more records store middle now told source flight a b c n m k x result accepts rest unnamed p flies begun stands last held apart
     lists = record {
       flies = carried_by_then {T = T} {U = Turn} added from [] (name ∷ []) (λ turn. carried_by turn name) [] more store middle now a b c n m k x result
           (carried_from {T = T} {U = T} added from (name ∷ []) store middle [] a b n m x x accepts rest p)
@@ -614,7 +616,8 @@ turn_ended {T} from name added more records store middle now told source flight 
           (known_back (BeginsOne from (repo_view middle.repo).keys name (added ++ more)) (KeepsStanding from.most store []) a b p.works.each begun));
       stands = standing result stands lists;
       last = stops_then {T = Turn} a b (repo_view store.repo).keys (repo_view middle.repo).keys [] more result p.works.ends rest.keys last;
-      held = held_apart {T = Turn} at from.most store now more a c result apart;
+      held = held_then {T = Turn} at from.most store middle now [] more a b c result rest.keys p.unspent
+          (added_all {T = T} at from.most store middle [] a b n m x p) held;
       fills = filled_apart {T = Turn} a from (repo_view store.repo).keys (accepted_in store) name (added ++ more) result apart;
       lists = listed result lists;
     } where
@@ -758,12 +761,12 @@ turns_all start from store now added a b end =
 pub takes_refused : (told later : Option Told) (source after : RepoState) (from other : Origin) (name called : List ℕ) (start more : List Addition)
     (records : List TaggedRecord)
     (store middle now : Store) (flight flight_now : Flight) (a b c : Option Told) (n m k : ℕ) (fault : CarryFault) → other ≡ from → called ≡ name
-    → accepted_in middle ≡ accepted_in store → (repo_view middle.repo).keys ≡ (repo_view store.repo).keys → AcceptsMore middle
+    → accepted_in middle ≡ accepted_in store → (repo_view middle.repo).keys ≡ (repo_view store.repo).keys → AcceptsMore middle → IsUnspent middle
     → (before : TakesOn told source from name start store middle flight a b n m)
     → TakesTurn later after other called before.fits.added more records middle now flight_now b c m k (Err fault)
     → TakesAll from name start (before.more ++ more) records store now flight_now a c n k (Err fault)
 takes_refused told later source after from other name called start more records store middle now flight flight_now a b c n m k fault is names accepted keys
-    accepts
+    accepts unspent
     before turn =
     let at : border_behind AtBegin before.fits.added ≡ border_behind (border_behind AtBegin start) before.more =
     ap (border_behind AtBegin) before.added ∙ border_append AtBegin start before.more in
@@ -781,7 +784,7 @@ takes_refused told later source after from other name called start more records 
           (subst (λ (f : Origin). Between b c (KeepsStandingAt (border_behind AtBegin (start ++ before.more)) f.most middle more)) is
           (subst (λ (l : List Addition). Between b c (KeepsStandingAt (border_behind AtBegin l) other.most middle more)) before.added (turn.stands work)));
       last = stops_then {T = Bool} a b (repo_view store.repo).keys (repo_view middle.repo).keys before.more more (Err fault) before.works.ends keys turn.last;
-      held = held_then {T = Bool} (border_behind AtBegin start) from.most store middle now before.more more a b c (Err fault) keys
+      held = held_then {T = Bool} (border_behind AtBegin start) from.most store middle now before.more more a b c (Err fault) keys (λ _. unspent)
           (turns_all start from store middle before.more a b before.works.end) held;
       fills = fills_before from other (repo_view store.repo).keys (repo_view middle.repo).keys (accepted_in store) (accepted_in middle) name called
           (start ++ (before.more ++ more)) (before.fits.added ++ more) fault (KeepsGrowing start from [] store before.more) a b before.stands is keys accepted
@@ -819,7 +822,7 @@ takes_end told source cached from name start store now flight a b n m is named a
       (fits_begins told source cached b now flight before.fits log_fits accepts);
   stands = λ _. before.stands;
   last = stops_unbroken a (repo_view store.repo).keys before.more Memory tt;
-  held = λ source. absurd source;
+  held = λ spares. absurd spares;
   fills = tt;
   lists = tt;
 }

@@ -622,7 +622,7 @@ accepts_on store now is = subst (KeepsNames (repo_view now.repo).manifest) (sym 
 -- ---- an archive is accepted
 
 -- a store with an archive accepted fits
-abbrev accepted_as : (counts : Bool) (store : Store) (accepted : Manifest) (h : History) → StoreFits counts store h
+abbrev pub accepted_as : (counts : Bool) (store : Store) (accepted : Manifest) (h : History) → StoreFits counts store h
     → StoreFits counts (record store { accepted = accepted }) h
 accepted_as counts store accepted h fits = record {
   written = fits.written;

@@ -11,14 +11,14 @@ use Rattle.ferry_manifest.specs.Manifest.Text.{ManifestText}
 use Rattle.ferry_repo.specs.Opening.{repo_view}
 use Rattle.ferry_store.specs.Commit.{accepted_in, IsSettled}
 use Rattle.ferry_store.specs.State.{IsStep}
-use Rattle.ferry_store.specs.Store.{StoreFits}
+use Rattle.ferry_store.specs.Store.{IsUnspent, StoreFits}
 use Rattle.ferry_store.specs.declared.fault.StoreRefusal.TheVariants as Stores
 use Rattle.ferry_store.specs.declared.store.Store.{Store}
 use Rattle.ferry_write.specs.Script.{AllDone}
-use Rattle.ferry_piece.proofs.AddingLemmas.{stops_then, stops_unbroken}
+use Rattle.ferry_piece.proofs.AddingLemmas.{HoldsAll, held_spent, spent_unbroken, stops_then, stops_unbroken}
 use Rattle.ferry_carry.proofs.GrowLemmas.{Follows, follows_allows, grows_follows, grows_here, grows_then}
 use Rattle.ferry_piece.proofs.PutsLemmas.{front_all}
-use Rattle.ferry_carry.proofs.HeldLemmas.{grows_all, heard_apart, held_apart, held_at, held_then}
+use Rattle.ferry_carry.proofs.HeldLemmas.{grows_all, heard_apart, held_at, held_nothing, held_then, spent_chunk}
 use Rattle.ferry_piece.proofs.WorkLemmas.{works_as, works_both, works_from, works_front, works_none, works_nothing, works_then}
 use Rattle.ferry_carry.proofs.ThereLemmas.{Extends, extends_next}
 use Rattle.ferry_carry.proofs.NamesLemmas.{lists_then, all_nothing, all_one, all_wider, all_then, filled_apart, filled_one, filled_wider, filled_then}
@@ -27,7 +27,7 @@ use Rattle.ferry_carry.proofs.CountingLemmas.{counts_then, counts_none}
 use Rattle.ferry_carry.proofs.MomentLemmas.{reported_growing, reported_here, names_here, reported_wider, reported_then, names_then, reported_name, told_name}
 use Rattle.ferry_carry.proofs.MomentLemmas.{grows_told, carries_told, reported_whole, told_whole}
 use Rattle.ferry_carry.proofs.NextLemmas.{accepts_both, accepts_none}
-use Rattle.ferry_piece.specs.Adding.{HoldsAll, IsNoChunk, StopsLast}
+use Rattle.ferry_piece.specs.Adding.{IsNoChunk, SparesStore, StopsLast}
 use Rattle.ferry_carry.specs.Carrying.{Origin}
 use Rattle.ferry_carry.specs.Chosen.{TellsLine}
 use Rattle.ferry_carry.specs.Counting.{CountsMore, TellsNew, nothing_carried}
@@ -101,34 +101,34 @@ unfolding reports_none
 reports_begin from store carried a n x accepts transferred present chunks bytes meta =
     (reports_none from store carried a n x accepts transferred present chunks bytes meta, inl refl)
 
-pub reports_nothing : (from : Origin) (names : List (List ℕ)) (store now : Store) (carried after : Carried) (a : Option Told) (n : ℕ) (x y : Option (List ℕ))
+pub reports_nothing : (from : Origin) (names : List (List ℕ)) (store : Store) (carried after : Carried) (a : Option Told) (n : ℕ) (x y : Option (List ℕ))
     (fault : CarryFault) → AcceptsMore store → target_failed fault ≡ false → IsNoChunk fault → (IsOfSource fault → ⊥)
-    → Reports from names store now carried after a a n n x y (Err fault)
-reports_nothing from names store now carried after a n x y fault accepts still unbroken apart = record {
+    → Reports from names store store carried after a a n n x y (Err fault)
+reports_nothing from names store carried after a n x y fault accepts still unbroken apart = record {
   added = [];
   records = [];
   begins = all_nothing a from store names;
-  works = works_nothing (KeepsReported from names store []) (EndsNames {T = Unit {0}} from names [] [] store now) a n fault still
+  works = works_nothing (KeepsReported from names store []) (EndsNames {T = Unit {0}} from names [] [] store store) a n fault still
       (λ h. reported_here from names store [] h accepts);
   accepts = tt;
   counted = tt;
   last = stops_unbroken a (repo_view store.repo).keys [] fault unbroken;
-  held = λ source. absurd (apart source);
+  held = held_nothing AtBegin from.most store a fault;
   fills = heard_apart a fault (λ refusal. FillsNames from (repo_view store.repo).keys (accepted_in store) [] names refusal []) apart;
 }
 
-pub whole_nothing : (from : Origin) (names : List (List ℕ)) (store now : Store) (a : Option Told) (n : ℕ) (x y : Option (List ℕ)) (fault : CarryFault)
+pub whole_nothing : (from : Origin) (names : List (List ℕ)) (store : Store) (a : Option Told) (n : ℕ) (x y : Option (List ℕ)) (fault : CarryFault)
     → AcceptsMore store → target_failed fault ≡ false → IsNoChunk fault → (IsOfSource fault → ⊥)
-    → ReportsWhole from names store now a a n n x y (Err fault)
-whole_nothing from names store now a n x y fault accepts still unbroken apart = record {
+    → ReportsWhole from names store store a a n n x y (Err fault)
+whole_nothing from names store a n x y fault accepts still unbroken apart = record {
   added = [];
   records = [];
   begins = all_nothing a from store names;
-  works = works_nothing (KeepsReported from names store []) (EndsWhole from names [] [] store now) a n fault still
+  works = works_nothing (KeepsReported from names store []) (EndsWhole from names [] [] store store) a n fault still
       (λ h. reported_here from names store [] h accepts);
   accepts = tt;
   last = stops_unbroken a (repo_view store.repo).keys [] fault unbroken;
-  held = λ source. absurd (apart source);
+  held = held_nothing AtBegin from.most store a fault;
   fills = heard_apart a fault (λ refusal. FillsNames from (repo_view store.repo).keys (accepted_in store) [] names refusal []) apart;
 }
 
@@ -208,11 +208,12 @@ pub reports_name : {T : Type 0} (from : Origin) (copied : Bool) (name given : Li
     → TellsNew (accepted_in store) [] name copied → ListsDone a from (repo_view store.repo).keys name records added copied
     → BeginsDone a from (repo_view store.repo).keys (accepted_in store) name added
     → OnOk result (AcceptsNames from (name ∷ []) records store middle y z)
-    → OnOk result (CountsMore (accepted_in store) (name ∷ []) added carried after) → IfErr result IsNoChunk → IfErr result (λ fault. IsOfSource fault → ⊥)
+    → OnOk result (CountsMore (accepted_in store) (name ∷ []) added carried after) → IfErr result (λ fault. SparesStore fault → ⊥)
+    → IfErr result (λ fault. IsOfSource fault → ⊥)
     → Carries {T = T} [] from (name ∷ []) added store middle a b n m (Ok x)
     → Works (IsStep (TellOf (name_line (told_of copied) given))) (λ (_ : Unit {0}). TellsLine (name_line (told_of copied) given)) b c m k result
     → Reports from (name ∷ []) store middle carried after a c n k y z result
-reports_name {T} from copied name given records added store middle carried after a b c n m k y z x result is accepts new done begins taken counted unbroken
+reports_name {T} from copied name given records added store middle carried after a b c n m k y z x result is accepts new done begins taken counted spent
     apart p q = record {
       added = added;
       records = records;
@@ -220,8 +221,8 @@ reports_name {T} from copied name given records added store middle carried after
       works = named_works {T = T} {U = Unit {0}} from copied name given records added store middle a b c n m k x result is accepts new done p q;
       accepts = taken;
       counted = counted;
-      last = told_unbroken a (repo_view store.repo).keys added result unbroken;
-      held = held_apart {T = Unit {0}} AtBegin from.most store middle added a c result apart;
+      last = told_unbroken a (repo_view store.repo).keys added result (spent_chunk {T = Unit {0}} result spent);
+      held = held_spent {T = Unit {0}} AtBegin from.most store middle added a c result spent;
       fills = filled_apart {T = Unit {0}} a from store (name ∷ []) added result apart;
     }
 
@@ -259,9 +260,9 @@ reports_whole from carried names line store middle a b c n m k x y is settled ac
 pub whole_untold : (from : Origin) (before carried : Carried) (names : List (List ℕ)) (line : List ℕ) (store middle : Store)
     (a b c : Option Told) (n m k : ℕ) (x y z : Option (List ℕ)) (fault : CarryFault) → line ≡ total_line carried → IsSettled store → AcceptsMore middle
     → Reports from names store middle before carried a b n m x y (Ok tt)
-    → IsNoChunk fault → (IsOfSource fault → ⊥) → Works (IsStep (TellOf line)) (λ (_ : Unit {0}). TellsLine line) b c m k (Err fault)
+    → (SparesStore fault → ⊥) → (IsOfSource fault → ⊥) → Works (IsStep (TellOf line)) (λ (_ : Unit {0}). TellsLine line) b c m k (Err fault)
     → ReportsWhole from names store middle a c n k x z (Err fault)
-whole_untold from before carried names line store middle a b c n m k x y z fault is settled accepts p unbroken apart q =
+whole_untold from before carried names line store middle a b c n m k x y z fault is settled accepts p spent apart q =
     let total = total_line carried in
     let added = p.added in
     let behind = subst (λ (l : List ℕ). Works (IsStep (TellOf l)) (λ (_ : Unit {0}). TellsLine l) b c m k (Err fault)) is q in
@@ -275,8 +276,8 @@ whole_untold from before carried names line store middle a b c n m k x y z fault
       begins = p.begins;
       works = record { each = first.each; end = tt; ends = first.ends; cause = first.cause };
       accepts = tt;
-      last = stops_unbroken a (repo_view store.repo).keys added fault unbroken;
-      held = λ source. absurd (apart source);
+      last = stops_unbroken a (repo_view store.repo).keys added fault (spent_unbroken fault spent);
+      held = λ spares. absurd (spent spares);
       fills = heard_apart a fault (λ refusal. FillsNames from (repo_view store.repo).keys (accepted_in store) [] names refusal added) apart;
     }
 
@@ -291,7 +292,7 @@ whole_unwritten from before carried names store middle a b n m x y p = record {
   works = record { each = p.works.each; end = tt; ends = p.works.ends; cause = p.works.cause };
   accepts = tt;
   last = stops_unbroken a (repo_view store.repo).keys p.added Carry.Memory tt;
-  held = λ source. absurd source;
+  held = λ spares. absurd spares;
   fills = heard_apart a Carry.Memory (λ refusal. FillsNames from (repo_view store.repo).keys (accepted_in store) [] names refusal p.added)
       (λ source. source);
 }
@@ -336,10 +337,10 @@ filled_all from store middle some others records added begun a b (Err fault) ext
 pub reports_then : (from : Origin) (some more : List (List ℕ)) (store middle now : Store) (carried between after : Carried) (a b c : Option Told)
     (n m k : ℕ) (x y z : Option (List ℕ)) (result : Result (Unit {0}) CarryFault) → IsSettled store → AcceptsMore middle → IfSome a (λ t. StoreFits false store
     t.history)
-    → Extends (accepted_in store) some (accepted_in middle) → (repo_view middle.repo).keys ≡ (repo_view store.repo).keys
+    → Extends (accepted_in store) some (accepted_in middle) → (repo_view middle.repo).keys ≡ (repo_view store.repo).keys → IsUnspent middle
     → (p : Reports from some store middle carried between a b n m x y (Ok tt)) → Follows p.added middle
     → Reports from more middle now between after b c m k y z result → Reports from (some ++ more) store now carried after a c n k x z result
-reports_then from some more store middle now carried between after a b c n m k x y z result settled accepts fits extends same p follows q =
+reports_then from some more store middle now carried between after a b c n m k x y z result settled accepts fits extends same unspent p follows q =
     let keys = (repo_view store.repo).keys in
     let accepted = accepted_in store in
     let first = accepted_in middle in
@@ -366,7 +367,7 @@ reports_then from some more store middle now carried between after a b c n m k x
       accepts = accepts_both {T = Unit {0}} from some more p.records q.records store middle now x y z result same p.accepts q.accepts;
       counted = counted_then accepted first some more added others carried between after result extends p.counted q.counted;
       last = stops_then {T = Unit {0}} a b keys (repo_view middle.repo).keys added others result p.works.ends same q.last;
-      held = held_then {T = Unit {0}} AtBegin from.most store middle now added others a b c result same
+      held = held_then {T = Unit {0}} AtBegin from.most store middle now added others a b c result same (λ _. unspent)
           (names_all from some p.records added store middle a b n m p.works)
           (held_at {T = Unit {0}} AtBegin (border_behind AtBegin added) from.most middle now others b c result
           (λ h counts fits. follows_allows added counts middle h fits follows) q.held);
@@ -378,18 +379,19 @@ pub reports_more : (from other : Origin) (names : List (List ℕ)) (place : ℕ)
     (store middle now : Store) (carried between after : Carried) (a b c : Option Told) (n m k : ℕ) (x y z : Option (List ℕ)) (result : Result (Unit {0})
     CarryFault) → other ≡ from
     → place < length names → name ≡ get_or names place d → IsSettled store → AcceptsMore middle → IfSome a (λ t. StoreFits false store t.history)
-    → (repo_view middle.repo).keys ≡ (repo_view store.repo).keys
+    → (repo_view middle.repo).keys ≡ (repo_view store.repo).keys → IsUnspent middle
     → (p : Reports from (take place names) store middle carried between a b n m x y (Ok tt)) → Follows p.added middle
     → Reports other (name ∷ []) middle now between after b c m k y z result
     → Reports from (take (place + 1) names) store now carried after a c n k x z result
-reports_more from other names place name d store middle now carried between after a b c n m k x y z result is lt named settled accepts fits same p follows q =
+reports_more from other names place name d store middle now carried between after a b c n m k x y z result is lt named settled accepts fits same unspent
+    p follows q =
     let some = take place names in
     let more : some ++ name ∷ [] ≡ take (place + 1) names =
     ap (λ (x : List ℕ). some ++ x ∷ []) named ∙ sym (take_more names place d lt) in
     reports_as from from (take (place + 1) names) (some ++ name ∷ []) store now carried after a c n k x z result refl more
     (reports_then from some (name ∷ []) store middle now carried between after a b c n m k x y z result settled accepts fits
     (extends_next from.time from.repo.manifest (accepted_in store) (accepted_in middle) some (record_ids (repo_view store.repo).keys p.records) p.accepts.0)
-    same p follows
+    same unspent p follows
     (subst (λ (f : Origin). Reports f (name ∷ []) middle now between after b c m k y z result) is q))
 
 -- those that were told before a fault are a front of all

@@ -144,6 +144,7 @@ pub record EndsCopy (from : Origin) (name : List ℕ) (added more : List Additio
   pub begins : IfSome before (λ _. BeginsOne from (repo_view store.repo).keys name (added ++ more))
   pub stands : IfErr result (λ fault. IsOfWork fault → Between before now (KeepsStanding from.most store more))
   pub last : StopsLast before (repo_view store.repo).keys more result
+  pub held : HoldsRefused (border_behind AtBegin added) from.most store more store_now before now result
   pub lists : IfOk result (λ put. ListsDone before from (repo_view store.repo).keys name records (added ++ more) true × CountsOf (added ++ more) put)
 
 -- The archive of a name is whole in the source and in the target, and says the same in both, where they tell their files.

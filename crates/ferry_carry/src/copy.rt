@@ -461,7 +461,23 @@ fn write_content<S: Shelf, D: Depot>(
     ensures drawn { IfErr result (λ fault. random_failed fault ≡ false) }
 {
     let content = content_of(walk, source, shelf, chunk, later)?;
+    foresee(writer, walk, source, store, later);
     writer.write(store, depot, &content)
+}
+
+/// Prepares the pieces that come next, where none is prepared: of these chunks, and of the items that follow. Only time depends on it.
+fn foresee(writer: &mut PieceWriter, walk: &Walk, source: &Repo, store: &Store, chunks: &[ChunkRef])
+    ensures same { writer.new ≡ writer.old }
+{
+    let Some(chunk) = chunks.first() else {
+        return;
+    };
+    if !writer.looks_ahead(chunk) {
+        return;
+    }
+    if let Ok(lists) = walk.lists_ahead() {
+        writer.foresee(source, store, chunks, lists.as_slice());
+    }
 }
 
 /// The content of a chunk of the source, which is the first of `later`. Where it isn't kept, those that follow are read with it.

@@ -16,4 +16,5 @@ mod time;
 pub use chosen::{carry, missing_name};
 pub use ferry_piece::CarryFault;
 pub use flight::{Flight, Turn};
+pub use naming::end_stream;
 pub use options::{Carried, Options};

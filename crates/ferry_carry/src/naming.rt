@@ -3,7 +3,7 @@ ghost use Rattle.std.specs.Prelude.{◌≡◌, ◌≤◌, ◌⊎◌, ◌∷◌, 
 ghost use Rattle.std.specs.Prelude.{None, Ok, true, false, length, map, IfErr, IfOk, IfSome, MatchResult, OnOk};
 ghost use Rattle.ferry_base.specs.Limits.{content_limit};
 ghost use Rattle.ferry_blob.specs.Blob.{content_id};
-ghost use Rattle.ferry_piece.specs.Adding.{AddsOn, IsNoChunk};
+ghost use Rattle.ferry_piece.specs.Adding.{AddsOn, HoldsRefused, IsNoChunk};
 ghost use Rattle.ferry_carry.specs.Copying.{IsReady};
 ghost use Rattle.ferry_piece.specs.Fault.{IsOfWork, random_failed, shelf_failed, target_failed};
 ghost use Rattle.ferry_piece.specs.Gather.{KeepsRest, KeepsStanding, chunks_of};
@@ -13,7 +13,7 @@ ghost use Rattle.ferry_carry.specs.Flight.{AcceptsOne, EndsCopy, IsFlown, NamesA
 ghost use Rattle.ferry_carry.specs.Grow.{AcceptsMore, KeepsMost};
 ghost use Rattle.ferry_carry.specs.Progress.{IsAllCopied};
 ghost use Rattle.ferry_piece.specs.Piece.{CountsOn};
-ghost use Rattle.ferry_piece.specs.Puts.{Addition, ArePieces, IsCheckpoint, Record, Stream, addition};
+ghost use Rattle.ferry_piece.specs.Puts.{Addition, ArePieces, Border, IsCheckpoint, Record, Stream, addition};
 ghost use Rattle.ferry_carry.specs.Naming.{BeginsRecord, Draws, PutsRecord, TaggedRecord, TagsDrawn, copied_archive, copied_in, entry_for, fixed_params};
 ghost use Rattle.ferry_carry.specs.Refusals.{IsLimited, LimitsManifest, RefusesEnd, RefusesRecordText};
 ghost use Rattle.ferry_piece.specs.Stops.{StopsPieces, StopsTarget, is_target};
@@ -230,8 +230,9 @@ fn put_copied<D: Depot, E: Entropy>(
     put_record(alloc, store, depot, entropy, archive)
 }
 
-/// Adds what is left of an archive's stream, and its record.
-fn end_stream<D: Depot, E: Entropy>(
+/// Adds what is left of an archive's stream and its record, which has the stream's pieces, cut at `block`, as its items, and a tag over 64
+/// random bytes. It answers the record's id; the archive isn't named by that. After a refusal `archive` may have the items all the same.
+pub fn end_stream<D: Depot, E: Entropy>(
     alloc: Global,
     store: &mut Store,
     depot: &mut D,
@@ -293,6 +294,8 @@ fn name_record<D: Depot, E: Entropy>(
     // Where it is refused, but for a device that failed and want of memory, nothing is named.
     ensures stands { IfErr result (λ fault. IsOfWork fault
         → (most : ℕ) → Between (D.told depot.old) (D.told depot.new) (KeepsStanding most store.old [])) }
+    // A refusal that doesn't spend the store leaves what is written as it was.
+    ensures held { (at : Border) (most : ℕ) → HoldsRefused at most store.old [] store.new (D.told depot.old) (D.told depot.new) result }
     ensures most { OnOk result (KeepsMost store.old store.new) }
     ensures named { OnOk result (repo_view store.new.repo ≡ with_manifest (repo_view store.old.repo)
         (named_next timestamp.now (repo_view source.now) store.old named.now id)) }
@@ -392,6 +395,8 @@ fn commit_named<D: Depot, E: Entropy>(
     // Where it is refused, but for a device that failed and want of memory, nothing is named.
     ensures stands { IfErr result (λ fault. IsOfWork fault
         → (most : ℕ) → Between (D.told depot.old) (D.told depot.new) (KeepsStanding most store.old [])) }
+    // A refusal that doesn't spend the store leaves what is written as it was.
+    ensures held { (at : Border) (most : ℕ) → HoldsRefused at most store.old [] store.new (D.told depot.old) (D.told depot.new) result }
     ensures most { OnOk result (KeepsMost store.old store.new) }
     ensures named { OnOk result (repo_view store.new.repo ≡ with_manifest (repo_view store.old.repo)
         (written_at (next_manifest (accepted_in store.old) entry (repo_view source.now).manifest.item_keys) timestamp.now)) }
@@ -431,6 +436,8 @@ fn commit<D: Depot, E: Entropy>(
     // Where it is refused, but for a device that failed and want of memory, nothing is named.
     ensures stands { IfErr result (λ fault. IsOfWork fault
         → (most : ℕ) → Between (D.told depot.old) (D.told depot.new) (KeepsStanding most store.old [])) }
+    // A refusal that doesn't spend the store leaves what is written as it was.
+    ensures held { (at : Border) (most : ℕ) → HoldsRefused at most store.old [] store.new (D.told depot.old) (D.told depot.new) result }
     ensures most { OnOk result (KeepsMost store.old store.new) }
     ensures committed { OnOk result (repo_view store.new.repo ≡ with_manifest (repo_view store.old.repo) (written_at (accepted_in store.old) timestamp.now)) }
     ensures accepted { OnOk result (accepted_in store.new ≡ (repo_view store.new.repo).manifest) }

@@ -126,6 +126,25 @@ impl ItemReader {
         Ok(())
     }
 
+    /// The chunks of the items with content that `next` answers next, so far as these stand whole in the bytes that were fed: a list for
+    /// each item. At most eight items are looked at, and a malformed one ends the look. The reader stays where it is.
+    pub fn lists_ahead(&self) -> Result<Vec<ChunkRefs>, AllocError> {
+        let alloc = *self.bytes.allocator();
+        let mut lists = Vec::new(alloc);
+        let mut at = self.at;
+        for _ in 0..ITEMS_AHEAD {
+            let Ok(Some((item, stop))) = item_at(alloc, self.bytes.as_slice(), at) else {
+                break;
+            };
+            let Item { fields: _, chunks } = item;
+            if let Some(chunks) = chunks {
+                lists.push(chunks)?;
+            }
+            at = stop;
+        }
+        Ok(lists)
+    }
+
     /// Ends the reading, once the stream has no more pieces and `next` answered none: no bytes may be left.
     pub fn finish(self) -> Result<(), ItemFault>
         requires ended { front_item self ≡ nothing_yet }

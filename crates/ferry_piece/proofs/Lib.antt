@@ -5,3 +5,4 @@ pub mod AddingLemmas
 pub mod FaultLemmas
 pub mod WorkLemmas
 pub mod PieceLemmas
+pub mod ForeseenLemmas

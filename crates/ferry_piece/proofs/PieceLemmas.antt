@@ -12,25 +12,31 @@ use Rattle.ferry_rechunk.proofs.CutLemmas.{cut_nothing}
 use Rattle.ferry_rechunk.proofs.FeedLemmas.{FedSoFar, next_round, none_yet, one_more}
 use Rattle.ferry_rechunk.specs.Cut.{cut}
 use Rattle.ferry_rechunk.specs.Cutting.{Cutting, IsFed}
-use Rattle.ferry_piece.proofs.AddingLemmas.{held_target, stops_then, stops_unbroken}
+use Rattle.ferry_piece.proofs.AddingLemmas.{held_spent, spent_unbroken, stops_then, stops_unbroken, unspent_then}
 use Rattle.ferry_piece.proofs.GatherLemmas.{each_room, room_makes, room_stands, room_then}
-use Rattle.ferry_piece.proofs.PutsLemmas.{bytes_append, count_append}
+use Rattle.ferry_piece.proofs.PutsLemmas.{adds_room, bytes_append, count_append, first_room}
 use Rattle.ferry_piece.proofs.WorkLemmas.{gathered_then, works_as, works_front, works_then}
-use Rattle.ferry_piece.specs.Adding.{AddsOn, IsNoChunk}
+use Rattle.ferry_piece.specs.Adding.{AddsOn, HoldsRefused, HoldsUntil, SparesStore}
 use Rattle.ferry_piece.specs.Gather.{Gathers, KeepsRest, KeepsStanding, MakesRoom, chunk_of, chunks_of}
 use Rattle.ferry_piece.specs.Piece.{BeginsOn, CountsOn, WritesOn}
-use Rattle.ferry_piece.specs.Puts.{Addition, Content, IsCheckpoint, Kind, Record, Stream, Within, addition, is_piece, put_bytes, put_count}
+use Rattle.ferry_piece.specs.Puts.{Addition, AddsAll, AddsFirst, Content, IsCheckpoint, Kind, Record, Stream, Within, addition, is_piece, put_bytes, put_count}
 use Rattle.ferry_piece.specs.Stops.{is_target}
 use Rattle.ferry_piece.specs.Work.{Works}
 use Rattle.ferry_piece.specs.declared.fault.CarryFault.{CarryFault}
 use Rattle.ferry_piece.specs.declared.piece.PieceWriter.{PieceWriter}
+use Rattle.ferry_disk.proofs.MomentLemmas.{between_then}
+use Rattle.ferry_disk.specs.Act.{History}
 use Rattle.ferry_disk.specs.Device.{Told}
+use Rattle.ferry_disk.specs.Moments.{Between}
 use Rattle.ferry_repo.specs.Opening.{repo_view}
 use Rattle.ferry_stops.specs.Tells.{TellsNothing}
 use Rattle.ferry_store.specs.Adding.{Checkpoints, id_under}
 use Rattle.ferry_store.specs.Content.{IsNew}
+use Rattle.ferry_store.specs.Standing.{entries_of}
 use Rattle.ferry_store.specs.State.{CommitsSound}
+use Rattle.ferry_store.specs.Store.{IsUnspent}
 use Rattle.ferry_store.specs.declared.store.Store.{Store}
+use Rattle.ferry_write.specs.Script.{AllDone}
 
 -- ---- the last piece
 
@@ -221,30 +227,72 @@ room_works {T} most store now one a b n m (Err fault) checkpoint piece full new 
     (KeepsStanding most store (one ∷ [])) (λ (_ : T). MakesRoom most store one now) a b n m fault
     (λ h g e. room_stands most store one h g checkpoint piece full new e.0 e.1) p
 
+-- how far a piece was added behind what came before it
+until_room : (target : Bool) (most : ℕ) (store middle now : Store) (one : Addition) (h g i : History) → IsCheckpoint most
+    → (repo_view middle.repo).keys ≡ (repo_view store.repo).keys → MakesRoom most store one middle h g
+    → HoldsUntil target Within most middle (one ∷ []) now g i → HoldsUntil target Within most store (one ∷ []) now h i
+until_room true most store middle now one h g i checkpoint same p q = λ counts fits.
+    let first = p counts fits in
+    let second = q counts first.fits_now in
+    let from = entries_of first.fits_now.written in
+    let end = entries_of second.0 in (
+      second.0,
+      (
+        second.1.0,
+        first_room (repo_view store.repo).keys most (entries_of fits.written) from one end checkpoint first.comes
+            (subst (λ (k : Keys). AddsFirst Within k most from (one ∷ []) end) same second.1.1),
+      ),
+    )
+until_room false most store middle now one h g i checkpoint same p q = λ counts fits.
+    let first = p counts fits in
+    let second = q counts first.fits_now in
+    let from = entries_of first.fits_now.written in
+    let end = entries_of second.0.written in (
+      second.0,
+      adds_room (repo_view store.repo).keys most (entries_of fits.written) from one [] end checkpoint first.comes
+          (subst (λ (k : Keys). AddsAll Within k most from (one ∷ []) end) same second.1),
+    )
+
+held_room : {U : Type 0} (most : ℕ) (store middle now : Store) (one : Addition) (a b c : Option Told) (result : Result U CarryFault) → IsCheckpoint most
+    → (repo_view middle.repo).keys ≡ (repo_view store.repo).keys → (IsUnspent store → IsUnspent middle)
+    → Between a b (λ h g. AllDone h g × MakesRoom most store one middle h g)
+    → HoldsRefused Within most middle (one ∷ []) now b c result → HoldsRefused Within most store (one ∷ []) now a c result
+held_room {U} most store middle now one a b c (Ok x) checkpoint same unspent makes held = tt
+held_room {U} most store middle now one a b c (Err fault) checkpoint same unspent makes held = λ spares.
+    let target = is_target fault in
+    let left = held spares in (
+      λ was. left.0 (unspent was),
+      between_then a b c (λ h g. AllDone h g × MakesRoom most store one middle h g) (HoldsUntil target Within most middle (one ∷ []) now)
+          (HoldsUntil target Within most store (one ∷ []) now)
+          (λ h g i e f. until_room target most store middle now one h g i checkpoint same e.1 f) makes left.1,
+    )
+
 -- a piece that was added behind what came before it
 pub room_added : {T U : Type 0} (most : ℕ) (store middle now : Store) (one : Addition) (a b c : Option Told) (n m k : ℕ) (x : T)
-    (result : Result U CarryFault) → IsCheckpoint most → KeepsRest store middle → IfErr result (λ fault. is_target fault ≡ true)
+    (result : Result U CarryFault) → IsCheckpoint most → KeepsRest store middle → IsUnspent middle
     → Works (KeepsStanding most store (one ∷ [])) (λ (_ : T). MakesRoom most store one middle) a b n m (Ok x)
     → AddsOn most middle (one ∷ []) now b c m k result → AddsOn most store (one ∷ []) now a c n k result
-room_added {T} {U} most store middle now one a b c n m k x result checkpoint rest target p q = record {
+room_added {T} {U} most store middle now one a b c n m k x result checkpoint rest unspent p q = record {
   works = works_then (KeepsStanding most store (one ∷ [])) (λ (_ : T). MakesRoom most store one middle) (KeepsStanding most middle (one ∷ []))
       (λ (_ : U). Gathers most middle (one ∷ []) now) (KeepsStanding most store (one ∷ [])) (λ (_ : U). Gathers most store (one ∷ []) now) a b c n m k x
       result (λ h g i e d f r. each_room most store middle one h g i checkpoint rest.keys e d f r)
       (λ _ h g i e f. room_then most store middle now one h g i checkpoint rest e f) p q.works;
   last = stops_then {T = U} a b (repo_view store.repo).keys (repo_view middle.repo).keys [] (one ∷ []) result p.ends rest.keys q.last;
-  held = held_target {T = U} Within most store now (one ∷ []) a c result target;
+  unspent = unspent_then {T = U} store middle now result (λ _. unspent) q.unspent;
+  held = held_room {U = U} most store middle now one a b c result checkpoint rest.keys (λ _. unspent) p.end q.held;
 }
 
 -- where there was no room for it
 pub room_refused : {T U : Type 0} (most : ℕ) (store middle now : Store) (one : Addition) (a b : Option Told) (n m : ℕ) (fault : CarryFault)
-    → IsNoChunk fault → is_target fault ≡ true
+    → (SparesStore fault → ⊥)
     → Works (KeepsStanding most store (one ∷ [])) (λ (_ : T). MakesRoom most store one middle) a b n m (Err fault)
     → AddsOn {T = U} most store (one ∷ []) now a b n m (Err fault)
-room_refused {T} {U} most store middle now one a b n m fault unbroken target p = record {
+room_refused {T} {U} most store middle now one a b n m fault spent p = record {
   works = works_front (KeepsStanding most store (one ∷ [])) (λ (_ : T). MakesRoom most store one middle) (KeepsStanding most store (one ∷ []))
       (λ (_ : U). Gathers most store (one ∷ []) now) a b n m fault (λ h g e. e) p;
-  last = stops_unbroken a (repo_view store.repo).keys (one ∷ []) fault unbroken;
-  held = held_target {T = U} Within most store now (one ∷ []) a b (Err fault) target;
+  last = stops_unbroken a (repo_view store.repo).keys (one ∷ []) fault (spent_unbroken fault spent);
+  unspent = tt;
+  held = held_spent {T = U} Within most store now (one ∷ []) a b (Err fault) spent;
 }
 
 -- ---- pieces that were added

@@ -11,13 +11,14 @@ use Rattle.ferry_store.specs.declared.fault.StoreRefusal.{StoreRefusal}
 use Rattle.ferry_repo.specs.Opening.{repo_view}
 use Rattle.ferry_stops.specs.Tells.{TellsNothing}
 use Rattle.ferry_write.specs.Script.{AllDone}
-use Rattle.ferry_piece.proofs.AddingLemmas.{held_gathered, held_here, held_then, stops_then, stops_unbroken}
+use Rattle.ferry_piece.proofs.AddingLemmas.{held_gathered, held_here, held_then, held_until, stops_then, stops_unbroken}
 use Rattle.ferry_piece.proofs.FaultLemmas.{failed_target}
 use Rattle.ferry_piece.specs.Fault.{target_failed, target_fault}
 use Rattle.ferry_piece.proofs.GatherLemmas.{each_then, gathers_here, gathers_then, stands_here}
 use Rattle.ferry_piece.specs.Adding.{AddsOn, IsNoChunk}
 use Rattle.ferry_piece.specs.Gather.{Gathers, KeepsRest, KeepsStanding}
-use Rattle.ferry_piece.specs.Puts.{Addition}
+use Rattle.ferry_piece.specs.Puts.{Addition, Within}
+use Rattle.ferry_piece.specs.Stops.{is_target}
 use Rattle.ferry_piece.specs.Work.{Works}
 use Rattle.ferry_store.specs.Store.{StoreFits}
 use Rattle.ferry_store.specs.declared.store.Store.{Store}
@@ -155,6 +156,7 @@ gathered_then {T} {U} most store middle now some more a b c n m k x (Ok y) rest 
       (Ok y) (λ h g i e d f r. each_then most store middle some more h g i rest.keys e d f r)
       (λ _ h g i e f. gathers_then most store middle now some more rest rest_now h g i e f) p.works q.works;
   last = tt;
+  unspent = λ was. q.unspent (p.unspent was);
   held = tt;
 }
 gathered_then {T} {U} most store middle now some more a b c n m k x (Err fault) rest rest_now p q =
@@ -166,7 +168,8 @@ gathered_then {T} {U} most store middle now some more a b c n m k x (Err fault) 
     record {
       works = record { each = first.each; end = tt; ends = first.ends; cause = first.cause };
       last = stops_then {T = U} a b (repo_view store.repo).keys (repo_view middle.repo).keys some more (Err fault) p.works.ends rest.keys q.last;
-      held = held_then {T = U} most store middle now some more a b c (Err fault) rest.keys p.works.end q.held;
+      unspent = tt;
+      held = held_then {T = U} most store middle now some more a b c (Err fault) rest.keys p.unspent p.works.end q.held;
     }
 
 pub gathered_none : {T : Type 0} (most : ℕ) (store : Store) (a : Option Told) (n : ℕ) (x : T) → AddsOn {T = T} most store [] store a a n n (Ok x)
@@ -174,6 +177,7 @@ gathered_none {T} most store a n x = record {
   works = works_none (KeepsStanding most store []) (λ (_ : T). Gathers most store [] store) a n x (λ h. stands_here most store [] h)
       (λ h. gathers_here most store h);
   last = tt;
+  unspent = λ was. was;
   held = tt;
 }
 
@@ -182,7 +186,8 @@ pub gathered_nothing : {T : Type 0} (most : ℕ) (store : Store) (a : Option Tol
 gathered_nothing {T} most store a n fault still unbroken = record {
   works = works_nothing (KeepsStanding most store []) (λ (_ : T). Gathers most store [] store) a n fault still (λ h. stands_here most store [] h);
   last = stops_unbroken a (repo_view store.repo).keys [] fault unbroken;
-  held = λ of. held_here most store a;
+  unspent = tt;
+  held = λ spares. (λ was. was, held_until (is_target fault) Within most store store [] a a (held_here most store a));
 }
 
 -- the same of another value, and of a fault that is handed on
@@ -192,6 +197,7 @@ gathered_as {T} {U} most store now added a b n m x y p = record {
   works = works_as (KeepsStanding most store added) (λ (_ : T). Gathers most store added now) (KeepsStanding most store added)
       (λ (_ : U). Gathers most store added now) a b n m x y (λ h g e. e) (λ h g e. e) p.works;
   last = tt;
+  unspent = p.unspent;
   held = tt;
 }
 
@@ -200,6 +206,7 @@ pub gathered_err : {T U : Type 0} (most : ℕ) (store now : Store) (added : List
 gathered_err {T} {U} most store now added a b n m fault p = record {
   works = works_front (KeepsStanding most store added) (λ (_ : T). Gathers most store added now) (KeepsStanding most store added)
       (λ (_ : U). Gathers most store added now) a b n m fault (λ h g e. e) p.works;
+  unspent = tt;
   last = p.last;
   held = p.held;
 }
@@ -216,7 +223,8 @@ gathered_fault {T} {U} most store now added a b n m x fault still unbroken p = r
     cause = subst (λ (d : Bool). RoseWhere d n m) (sym still) p.works.cause;
   };
   last = stops_unbroken a (repo_view store.repo).keys added fault unbroken;
-  held = λ of. held_gathered most store now added a b p.works.end;
+  unspent = tt;
+  held = λ spares. (p.unspent, held_until (is_target fault) Within most store now added a b (held_gathered most store now added a b p.works.end));
 }
 
 -- a store fits from body to body

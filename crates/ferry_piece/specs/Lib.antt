@@ -5,3 +5,4 @@ pub mod Work
 pub mod Stops
 pub mod Adding
 pub mod Piece
+pub mod Foreseen

@@ -6,6 +6,8 @@
 #![tactic(auto)]
 
 mod fault;
+mod forecast;
+mod foreseen;
 mod piece;
 
 pub use fault::CarryFault;

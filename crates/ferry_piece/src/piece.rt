@@ -3,7 +3,7 @@ ghost use Rattle.std.specs.Prelude.{◌≡◌, ◌≤◌, ◌<◌, ◌↔◌, �
 ghost use Rattle.std.specs.Prelude.{IfErr, IfOk, IfSome, IsTrue, OnOk};
 ghost use Rattle.ferry_base.specs.Limits.{content_limit};
 ghost use Rattle.ferry_blob.specs.Blob.{content_id};
-ghost use Rattle.ferry_piece.specs.Adding.{AddsOn, IsNoChunk};
+ghost use Rattle.ferry_piece.specs.Adding.{AddsOn, SparesStore};
 ghost use Rattle.ferry_piece.specs.Fault.{random_failed, shelf_failed};
 ghost use Rattle.ferry_piece.specs.Gather.{KeepsRest, KeepsStanding, MakesRoom, chunk_of, chunks_of};
 ghost use Rattle.ferry_piece.specs.Piece.{BeginsOn, CountsOn, HasRoom, WritesOn};
@@ -19,9 +19,12 @@ ghost use Rattle.ferry_store.specs.State.{CommitsSound};
 ghost use Rattle.ferry_store.specs.Store.{IsUnspent, StoreFits};
 
 use crate::fault::CarryFault;
+use crate::forecast::foresee;
+use crate::foreseen::{Ahead, add_foreseen};
 use ferry_disk::Depot;
-use ferry_item::ChunkRef;
+use ferry_item::{ChunkRef, ChunkRefs};
 use ferry_rechunk::Cutter;
+use ferry_repo::Repo;
 use ferry_store::{Added, Store};
 use std::alloc::{AllocError, Global};
 use std::mem;
@@ -29,8 +32,11 @@ use std::mem;
 /// How many bytes of a blob stand before its content.
 const HEAD: u64 = 43;
 
+/// The size in bytes of a chunk from which it is worth its time to prepare what follows.
+const LARGE: u64 = 16_384;
+
 /// Adds a piece, behind a checkpoint where so many are pending that none more may be put before.
-fn add_piece<D: Depot>(
+pub(crate) fn add_piece<D: Depot>(
     store: &mut Store,
     depot: &mut D,
     checkpoint: u64,
@@ -72,7 +78,7 @@ fn make_room<D: Depot>(
     ensures works { (one : Addition) → one.content ≡ piece.now → is_piece one.kind ≡ true
         → Works (KeepsStanding checkpoint store.old (one ∷ [])) (λ _. MakesRoom checkpoint store.old one store.new)
         (D.told depot.old) (D.told depot.new) (D.faults depot.old) (D.faults depot.new) result }
-    ensures unbroken { IfErr result (IsNoChunk) }
+    ensures spent { IfErr result (λ fault. SparesStore fault → ⊥) }
     ensures pending { OnOk result (store.new.pending ≤ checkpoint) }
     ensures room { OnOk result (IsNew (repo_view store.new.repo) (id_under store.new piece.now) → store.new.pending < checkpoint) }
     ensures rest { OnOk result (KeepsRest store.old store.new) }
@@ -96,7 +102,7 @@ pub fn commit_pieces<D: Depot>(store: &mut Store, depot: &mut D) -> Result<(), C
     requires fits { IfSome (D.told depot.old) (λ t. StoreFits false store.old t.history) }
     ensures works { Works (λ h g. TellsNothing h g × CommitsSound store.old.session store.old.counter h g) (λ _. Checkpoints store.old store.new)
         (D.told depot.old) (D.told depot.new) (D.faults depot.old) (D.faults depot.new) result }
-    ensures unbroken { IfErr result (IsNoChunk) }
+    ensures spent { IfErr result (λ fault. SparesStore fault → ⊥) }
     ensures repo { OnOk result (store.new.repo ≡ store.old.repo) }
     ensures rest { OnOk result (KeepsRest store.old store.new) }
     ensures pending { OnOk result (store.new.pending ≡ 0) }
@@ -144,6 +150,7 @@ pub struct PieceWriter {
     chunks: Vec<ChunkRef>,
     put: u64,
     bytes: u128,
+    ahead: Ahead,
 }
 
 impl PieceWriter {
@@ -164,6 +171,7 @@ impl PieceWriter {
             chunks: Vec::new(alloc),
             put: 0,
             bytes: 0,
+            ahead: Ahead::none(),
         })
     }
 
@@ -173,6 +181,26 @@ impl PieceWriter {
     {
         let (put, bytes) = (self.put, self.bytes);
         (put, bytes)
+    }
+
+    /// Whether `foresee` would look at what comes next, where this chunk comes: nothing is prepared yet, and the chunk is large enough.
+    pub fn looks_ahead(&self, chunk: &ChunkRef) -> bool {
+        self.ahead.is_none() && chunk.size >= LARGE
+    }
+
+    /// Prepares the pieces that come next side by side: of the bytes in hand and the contents of `chunks`, and then of each of `lists`, the
+    /// chunks of a content each, as far as `source` keeps the contents, up to sixteen pieces and about 24 MiB. Only time depends on it: each
+    /// piece that comes is compared with the one that was foreseen, and where memory is refused nothing is prepared.
+    pub fn foresee(
+        &mut self,
+        source: &Repo,
+        store: &Store,
+        chunks: &[ChunkRef],
+        lists: &[ChunkRefs],
+    )
+        ensures same { self.new ≡ self.old }
+    {
+        self.ahead = foresee(self.alloc, &self.cutter, source, store, chunks, lists);
     }
 
     /// Takes bytes, and adds each piece that becomes whole.
@@ -315,7 +343,7 @@ impl PieceWriter {
             return Ok(());
         };
         let size = piece.len() as u64;
-        let added = add_piece(store, depot, self.checkpoint, piece)?;
+        let added = add_foreseen(&mut self.ahead, store, depot, self.checkpoint, piece)?;
         self.note(added, size)?;
         self.cutter.clear();
         Ok(())

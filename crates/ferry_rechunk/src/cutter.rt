@@ -72,6 +72,14 @@ impl Cutter {
         taken
     }
 
+    /// The block size.
+    pub fn block(&self) -> usize
+        ensures block { result ≡ self.now.block }
+        ensures range { (64 ≤ result) × (result ≤ 8388608) }
+    {
+        self.block
+    }
+
     /// The piece in hand, where it is whole.
     pub fn full(&self) -> Option<&[u8]>
         ensures full { IsSome result ↔ (length self.now.piece ≡ self.now.block) }

@@ -1,5 +1,6 @@
 //! An opened repository.
-ghost use Rattle.std.specs.Prelude.{◌≡◌, ◌⊎◌, ◌<◌, ◌≤◌, [], length, IfOk, IfErr, IfSome, OnOk, OnErr, MatchResult, option_map, is_some, Ok, false};
+ghost use Rattle.std.specs.Prelude.{◌≡◌, ◌⊎◌, ◌<◌, ◌≤◌, [], length, IfOk, IfErr, IfSome, OnOk, OnErr, MatchResult, Ok, false};
+ghost use Rattle.std.specs.Prelude.{is_some, option_copied, option_map};
 ghost use Rattle.ferry_disk.specs.Files.{Files};
 ghost use Rattle.ferry_disk.specs.Device.{KeepsTold, HasCause, told_files};
 ghost use Rattle.ferry_log.specs.State.{with_learnt};
@@ -137,6 +138,13 @@ impl Repo {
         ensures mode { result ≡ mode_of (repo_view self.now).config }
     {
         mode_of(&self.config)
+    }
+
+    /// The content of a chunk, where it is kept.
+    pub fn kept_content(&self, id: &Id) -> Option<&[u8]>
+        ensures content { option_copied result ≡ content_in id.now (cached_in self.now) }
+    {
+        self.cache.get(id)
     }
 
     /// How many contents are kept, which is never more than sixteen.

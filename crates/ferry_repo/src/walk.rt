@@ -15,7 +15,7 @@ use crate::fault::{RepoFault, of_item};
 use crate::repo::Repo;
 use ferry_base::Id;
 use ferry_disk::Shelf;
-use ferry_item::{ChunkRef, Item, ItemFault, ItemReader};
+use ferry_item::{ChunkRef, ChunkRefs, Item, ItemFault, ItemReader};
 use ferry_manifest::Ids;
 use std::alloc::{AllocError, Global};
 use std::cmp::min;
@@ -144,6 +144,12 @@ impl Walk {
         }
         let wanted = self.chunks_ahead(chunks)?;
         repo.read_contents(shelf, wanted.as_slice())
+    }
+
+    /// The chunks of the items with content that come next, so far as they stand whole in what was read: a list for each item, of the next eight at
+    /// most. The walk stays where it is.
+    pub fn lists_ahead(&self) -> Result<Vec<ChunkRefs>, AllocError> {
+        self.reader.lists_ahead()
     }
 
     /// The content of an item's chunk, which is the first of `later`, as the repository answers it. Where it isn't kept, those that follow

@@ -135,7 +135,7 @@ module _ (secrets : Secrets) (options : Options) (names : List (List ℕ)) (sour
       )
 
   -- what is added for the names that were chosen, as far as it came
-  begun_of : (told : Option Told) (chosen : List (List ℕ)) (accepted : ManifestText) (start : Files) (repo : RepoState) (within : List Addition)
+  pub begun_of : (told : Option Told) (chosen : List (List ℕ)) (accepted : ManifestText) (start : Files) (repo : RepoState) (within : List Addition)
       → SourceOpens told → chosen ≡ chosen_of names source.manifest → accepted ≡ repo.manifest → OpensFilesTo start secrets.target repo
       → BeginsNames (origin_of told source options) repo.keys accepted [] chosen within
       → IsBegun (asked secrets options names told) start within

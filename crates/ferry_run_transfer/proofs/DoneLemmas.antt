@@ -276,5 +276,6 @@ transfers_nothing request all =
       untouched = if_some request.source _ (λ source told none. (refl, refl));
       left = between_map told told (TransferEach request) (TransferLeaves request) (left_of request) (each_told request told);
       only_told = λ e. absurd (let no : ⊥ = cc in no);
+      put = λ e. absurd (let no : ⊥ = cc in no);
       each = each_told request told;
     }

@@ -12,3 +12,4 @@ pub mod ReadyLemmas
 pub mod VerifyLemmas
 pub mod SaltLemmas
 pub mod LimitLemmas
+pub mod PuttingLemmas

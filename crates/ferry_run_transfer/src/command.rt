@@ -8,7 +8,8 @@ ghost use Rattle.ferry_disk.specs.Faults.{FailedWhere};
 ghost use Rattle.ferry_disk.specs.Moments.{Between};
 ghost use Rattle.ferry_repo.specs.Opening.{FitsRepo, OpensFilesTo, cached_in, repo_view};
 ghost use Rattle.ferry_status.specs.Devices.{drawn, store};
-ghost use Rattle.ferry_status.specs.Status.{entropy_failed, is_of_work, output_failed, source_failed, target_failed};
+ghost use Rattle.ferry_run_transfer.specs.Putting.{LeavesFirst, is_spared};
+ghost use Rattle.ferry_status.specs.Status.{carry_status, entropy_failed, is_of_work, output_failed, source_failed, target_failed};
 ghost use Rattle.ferry_run_transfer.specs.Transfer.{LeavesTold, TransferEach, TransferEnds, TransferLeaves, asked, drawn_from};
 ghost use Rattle.ferry_run_transfer.specs.TransferCauses.{EndsDone, IsFound, IsRefusedSo, RefusesAsked};
 
@@ -59,6 +60,9 @@ pub fn transfer<S: Shelf, D: Depot, E: Entropy>(
         (TransferLeaves (asked secrets.now options.now names.now (S.told source.old))) }
     ensures only_told { is_of_work result ≡ true → Between (D.told target.old) (D.told target.new)
         (LeavesTold (asked secrets.now options.now names.now (S.told source.old))) }
+    // All that it put, also behind the last commit, is the first of what is added for the chosen names, and nothing else.
+    ensures put { is_spared result ≡ true → Between (D.told target.old) (D.told target.new)
+        (LeavesFirst (asked secrets.now options.now names.now (S.told source.old))) }
     ensures same { KeptWhere (source_failed result) (heard (S.told source.old)) (S.told source.new) }
     ensures cause { RoseWhere (source_failed result) (S.faults source.old) (S.faults source.new) }
     ensures ends { FailedWhere (target_failed result) (D.told target.old) (D.told target.new) }
@@ -97,6 +101,8 @@ fn copy<S: Shelf, D: Depot, E: Entropy>(
         (drawn_from (E.drawn entropy.old) (E.drawn entropy.new)) (D.told target.old) (D.told target.new)) }
     ensures only_told { IfErr result (λ fault. IsOfWork fault → Between (D.told target.old) (D.told target.new)
         (LeavesTold (asked secrets.now options.now names.now (S.told source.old)))) }
+    ensures put { IfErr result (λ fault. is_spared (carry_status fault) ≡ true → Between (D.told target.old) (D.told target.new)
+        (LeavesFirst (asked secrets.now options.now names.now (S.told source.old)))) }
     ensures same { KeepsTold shelf_failed (S.told source.old) (S.told source.new) result }
     ensures cause { HasCause shelf_failed (S.faults source.old) (S.faults source.new) result }
     ensures entropy { HasCause random_failed (E.faults entropy.old) (E.faults entropy.new) result }
@@ -134,6 +140,8 @@ fn copy_into<S: Shelf, D: Depot, E: Entropy>(
         (drawn_from (E.drawn entropy.old) (E.drawn entropy.new)) (D.told target.old) (D.told target.new)) }
     ensures only_told { IfErr result (λ fault. IsOfWork fault → Between (D.told target.old) (D.told target.new)
         (LeavesTold (asked secrets.now options.now names.now (S.told source.old)))) }
+    ensures put { IfErr result (λ fault. is_spared (carry_status fault) ≡ true → Between (D.told target.old) (D.told target.new)
+        (LeavesFirst (asked secrets.now options.now names.now (S.told source.old)))) }
     ensures same { KeepsTold shelf_failed (S.told source.old) (S.told source.new) result }
     ensures cause { HasCause shelf_failed (S.faults source.old) (S.faults source.new) result }
     ensures entropy { HasCause random_failed (E.faults entropy.old) (E.faults entropy.new) result }

@@ -13,7 +13,7 @@ ghost use Rattle.ferry_manifest.specs.Manifest.Writing.{IsPackable, manifest_tex
 ghost use Rattle.ferry_next.specs.Next.{next_manifest, without_entry, written_at};
 ghost use Rattle.ferry_repo.specs.Archives.{archive_named};
 ghost use Rattle.ferry_repo.specs.Objects.{IsMissing};
-ghost use Rattle.ferry_repo.specs.Opening.{OpensBare, OpensFilesTo, cached_in, repo_view};
+ghost use Rattle.ferry_repo.specs.Opening.{OpensBare, OpensFilesTo, cached_in, mode_of, repo_view};
 ghost use Rattle.ferry_repo.specs.contracts.repo.Repo.{the_row as row_of_repo};
 ghost use Rattle.ferry_stops.specs.Tells.{TellsNothing};
 ghost use Rattle.ferry_store.specs.Adding.{Adds, Checkpoints, RefusesAdd, id_under, pending_after};
@@ -44,7 +44,7 @@ use crate::piece::{behind_blocks, bytes_at, is_among, name_each};
 use crate::put::{behind_head, put_delete};
 use crate::state::{begin_at, commit, expect_no_commit};
 use ferry_base::{Bytes, Id, ZERO_ID};
-use ferry_blob::{id_of, seal_many};
+use ferry_blob::{Mode, id_of, seal_many};
 use ferry_disk::{Depot, Entropy};
 use ferry_mac::Keys;
 use ferry_manifest::{ArchiveRef, Manifest};
@@ -97,6 +97,8 @@ impl Store {
             × OnOk result (Between (D.told depot.old) (D.told depot.new) (InitMakes secret.now iterations timestamp.now bytes))) }
         // Each stop leaves nothing committed or the new repository, and counter blocks are kept; where a segment is committed, nothing is done.
         ensures did { Did (InitEach secret.now) InitFits (D.told depot.old) (D.told depot.new) (D.faults depot.old) (D.faults depot.new) result }
+        // The files open under the secret to the repository of the store.
+        ensures opened { IfOk result (λ store. IfSome (D.told depot.new) (λ t. OpensFilesTo (told_files t) secret.now (repo_view store.repo))) }
         // Each refusal says why, and each but `Committed`, the devices and memory says as well that nothing is committed.
         ensures refused { IfErr result (λ refusal. IfSome (D.told depot.old) (λ t. RefusesInit secret.now timestamp.now t.history refusal)) }
         // The source of random bytes counted a fault exactly where it is the answer.
@@ -233,6 +235,13 @@ impl Store {
         ensures keys { result.now ≡ (repo_view self.now.repo).keys }
     {
         self.repo.keys()
+    }
+
+    /// Where the key of the repository is.
+    pub fn mode(&self) -> Mode
+        ensures mode { result ≡ mode_of (repo_view self.now.repo).config }
+    {
+        self.repo.mode()
     }
 
     /// The manifest that was committed last.

@@ -1,5 +1,5 @@
 -- Lemmas on specs/Init.antt: a line that is told behind a store that was made, and what stands then.
-use Rattle.std.proofs.Common.{◌≡◌, inl, inr, ℕ, true, false, List, [], Option, Some, None, Result, Ok, Err, IfSome, OnOk}
+use Rattle.std.proofs.Common.{◌≡◌, inl, inr, ℕ, true, false, List, [], Option, Some, None, Result, Ok, Err, IfErr, IfSome, OnOk}
 use Rattle.std.proofs.Common.{refl, sym, ◌∙◌, ap, subst}
 use Rattle.ferry_config.specs.declared.config.Config.{Config}
 use Rattle.ferry_disk.proofs.MomentLemmas.{between_map, between_both}
@@ -186,6 +186,11 @@ pub refuses_line : (secret : Secret) (timestamp : List ℕ) (told : Option Told)
     → IfSome told (λ t. RefusesInit secret timestamp t.history refusal)
 refuses_line secret timestamp None refusal r = tt
 refuses_line secret timestamp (Some t) refusal r = λ e. telling_init secret timestamp (told_files t) refusal r
+
+pub line_refused : (secret : Secret) (timestamp : List ℕ) (told : Option Told) (r : Result (Unit {0}) StoreRefusal) → IfErr r RefusesTelling
+    → IfErr r (λ refusal. IfSome told (λ t. RefusesInit secret timestamp t.history refusal))
+line_refused secret timestamp told (Ok done) is = tt
+line_refused secret timestamp told (Err refusal) is = refuses_line secret timestamp told refusal is
 
 -- a new repository unlocks, so only a device and memory refuse that
 unread_init : (secret : Secret) (timestamp : List ℕ) (files : Files) (fault : RepoFault) → (IsOfFiles fault → ⊥)

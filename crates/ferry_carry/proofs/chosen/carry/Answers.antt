@@ -3,6 +3,7 @@ use Rattle.ferry_carry.proofs.AcceptingLemmas.{telling_small}
 use Rattle.ferry_carry.proofs.CauseLemmas.{line_refused, names_refused, none_missing, not_there}
 use Rattle.ferry_carry.proofs.GrowLemmas.{accepts_on}
 use Rattle.ferry_piece.proofs.AddingLemmas.{target_apart}
+use Rattle.ferry_carry.proofs.HeldLemmas.{telling_spent}
 use Rattle.ferry_carry.proofs.ReportLemmas.{reports_whole, telling_unbroken, whole_err, whole_nothing, whole_untold, whole_unwritten}
 use Rattle.ferry_piece.proofs.WorkLemmas.{err_is}
 use Rattle.ferry_carry.proofs.chosen.carry.Goals as goal
@@ -31,14 +32,14 @@ returns-in_err-name-clause-works g c =
     let n = g.D.Shelf.faults c.args.depot.now in
     let from = origin_of (g.S.Shelf.told c.args.shelf.now) (repo_view c.args.source.now) c.args.options.now in
     err_is c.from_residual.result Memory (λ (r : Result Carried CarryFault). ReportsWhole from names store store a a n n x x r) c.from_residual.ensures.1
-    (whole_nothing from names store store a n x x Memory (accepts_on store store c.requires.settled) refl tt (λ source. source))
+    (whole_nothing from names store a n x x Memory (accepts_on store store c.requires.settled) refl tt (λ source. source))
 
 pub returns-in-Some-clause-works : goal.returns-in-Some-clause-works
 returns-in-Some-clause-works g c =
     let store = c.args.store.now in
     let names = c.args.names.now in
     whole_nothing
-    (origin_of (g.S.Shelf.told c.args.shelf.now) (repo_view c.args.source.now) c.args.options.now) names store store
+    (origin_of (g.S.Shelf.told c.args.shelf.now) (repo_view c.args.source.now) c.args.options.now) names store
     (g.D.Shelf.told c.args.depot.now) (g.D.Shelf.faults c.args.depot.now) (g.E.Entropy.drawn c.args.entropy.now) (g.E.Entropy.drawn c.args.entropy.now)
     (NotFound c.new.result) (accepts_on store store c.requires.settled) refl
     tt (λ source. source)
@@ -99,7 +100,7 @@ returns-in_err-tell-clause-works g c =
     (whole_untold from c.nothing-carried.result carried names line store now a b d n m k (g.E.Entropy.drawn c.args.entropy.now) (g.E.Entropy.drawn
     c.carry_all.new.entropy)
     (g.E.Entropy.drawn c.carry_all.new.entropy) fault is c.requires.settled (accepts_on now now ensures.settled)
-    ensures.works (telling_unbroken fault c.in_err-tell.ensures.telling) (target_apart fault c.in_err-tell.ensures.target) c.in_err-tell.ensures.works)
+    ensures.works (telling_spent fault c.in_err-tell.ensures.telling) (target_apart fault c.in_err-tell.ensures.target) c.in_err-tell.ensures.works)
 
 pub returns-clause-works : goal.returns-clause-works
 returns-clause-works g c =

@@ -80,8 +80,8 @@ loop-place-preserved g c =
             (g.D.Shelf.faults c.args.depot.now) (g.D.Shelf.faults c.loop-place.depot) (g.D.Shelf.faults c.carry_one.new.depot)
             (g.E.Entropy.drawn c.args.entropy.now) (g.E.Entropy.drawn c.loop-place.entropy) (g.E.Entropy.drawn c.carry_one.new.entropy) (Ok tt)
             (origin_kept told later source after block block most most time time invariant.alike invariant.repo refl refl refl) lt named c.requires.settled
-            (accepts_on c.loop-place.store c.loop-place.store invariant.settled) c.requires.fits invariant.most.keys invariant.works.0
-            invariant.works.1 ensures.works,
+            (accepts_on c.loop-place.store c.loop-place.store invariant.settled) c.requires.fits invariant.most.keys invariant.unspent
+            invariant.works.0 invariant.works.1 ensures.works,
         inr ensures.pending,
       );
     }
@@ -120,7 +120,7 @@ returns-in_err-carry_one-clause-works g c =
     (g.E.Entropy.drawn c.loop-place.entropy) z (Err fault)
     (origin_kept told later source after block block most most time time invariant.alike invariant.repo refl refl refl) lt
     named c.requires.settled (accepts_on c.loop-place.store c.loop-place.store invariant.settled) c.requires.fits invariant.most.keys
-    invariant.works.0 invariant.works.1 c.in_err-carry_one.ensures.works))
+    invariant.unspent invariant.works.0 invariant.works.1 c.in_err-carry_one.ensures.works))
 
 pub returns-clause-works : goal.returns-clause-works
 returns-clause-works g c =

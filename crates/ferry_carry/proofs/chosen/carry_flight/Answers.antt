@@ -4,6 +4,7 @@ use Rattle.ferry_carry.proofs.FlyLemmas.{takes_begin}
 use Rattle.ferry_carry.proofs.GrowLemmas.{accepts_on}
 use Rattle.ferry_piece.proofs.AddingLemmas.{target_apart}
 use Rattle.ferry_carry.proofs.CountingLemmas.{counts_one}
+use Rattle.ferry_carry.proofs.HeldLemmas.{telling_spent}
 use Rattle.ferry_carry.proofs.NamesLemmas.{all_one}
 use Rattle.ferry_carry.proofs.ReportLemmas.{reports_name, reports_silent, telling_unbroken}
 use Rattle.ferry_piece.proofs.WorkLemmas.{err_is}
@@ -71,7 +72,7 @@ returns-in_err-tell_name-clause-works g c =
     err_is c.from_residual-in_err-tell_name.result fault
     (λ (r : Result (Unit {0}) CarryFault). Reports from (name ∷ []) store now carried carried a d n k x z r) c.from_residual-in_err-tell_name.ensures.1
     (reports_name {T = Bool} from named name c.args.name.now flown.1.0 flown.0 store now carried carried a b d n m k x z named (Err fault) c.requires.called
-    (accepts_on now now ensures.settled) ensures.word all.lists.0 all.begins tt tt (telling_unbroken fault c.in_err-tell_name.ensures.telling)
+    (accepts_on now now ensures.settled) ensures.word all.lists.0 all.begins tt tt (telling_spent fault c.in_err-tell_name.ensures.telling)
     (target_apart fault c.in_err-tell_name.ensures.target) all.carries c.in_err-tell_name.ensures.works)
 
 pub returns-clause-works : goal.returns-clause-works

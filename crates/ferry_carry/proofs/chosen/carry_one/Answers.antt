@@ -35,7 +35,7 @@ returns-in_err-flight-clause-works g c =
     let x = g.E.Entropy.drawn c.args.entropy.now in
     let fault = c.in_err-flight.field-0.0 in
     err_is c.from_residual.result fault (λ (r : Result (Unit {0}) CarryFault). Reports from names store store carried carried a a n n x x r)
-    c.from_residual.ensures.1 (reports_nothing from names store store carried carried a n x x fault (accepts_on store store c.requires.settled)
+    c.from_residual.ensures.1 (reports_nothing from names store carried carried a n x x fault (accepts_on store store c.requires.settled)
     (begin_still fault c.args.name.now _ c.in_err-flight.ensures.refused) (begin_unbroken fault c.args.name.now _ c.in_err-flight.ensures.refused)
     (begin_apart fault c.args.name.now _ c.in_err-flight.ensures.refused))
 

@@ -98,7 +98,7 @@ returns-in_err-step-clause-works g c =
           taken_err from name fits.added (before.more ++ stepped.0) stepped.1.0 store now _ a d n k c.from_residual.result fault c.from_residual.ensures.1
               (takes_refused later (g.S.Shelf.told c.step.new.shelf) after (repo_view c.step.new.source) from other name called fits.added stepped.0
               stepped.1.0 store middle now c.loop.flight _ a b d n m k fault same names invariant.accepted invariant.most.keys
-              (accepts_on middle middle invariant.settled) before stepped.1.1.0),
+              (accepts_on middle middle invariant.settled) invariant.unspent before stepped.1.1.0),
           match_err {T = Bool} _
               (λ (f : CarryFault). IsNoChunk f ⊎ WhereTold from a (λ _. TagsDrawn (repo_view store.repo).keys (fits.added ++ (before.more ++ stepped.0))
               (g.E.Entropy.drawn c.args.entropy.now) (g.E.Entropy.drawn c.step.new.entropy)))

@@ -10,6 +10,7 @@ use Rattle.ferry_piece.specs.Fault.{IsOfSource, source_fault}
 use Rattle.ferry_piece.specs.Piece.{CountsOn, WritesOn}
 use Rattle.ferry_piece.specs.Puts.{Addition, AreOf, Content, contents_in}
 use Rattle.ferry_piece.specs.declared.fault.CarryFault.{CarryFault}
+use Rattle.ferry_piece.specs.declared.piece.PieceWriter.{PieceWriter}
 use Rattle.ferry_disk.specs.Device.{told_files}
 use Rattle.ferry_repo.specs.Archives.{HoldsContent}
 use Rattle.ferry_repo.specs.Opening.{repo_view}
@@ -40,16 +41,23 @@ pub returns-clause-written : goal.returns-clause-written
 returns-clause-written g c =
     let wrote = c.write.ensures.written Content refl in
     let more = wrote.0 in
-    let writer = c.args.writer.now in
+    let writer = c.foresee.new.writer in
     let writer_now = c.write.new.self in
     let told = g.S.Shelf.told c.args.shelf.now in
     let source = repo_view c.args.source.now in
-    let keys = (repo_view c.args.store.now.repo).keys in
+    let store = c.args.store.now in
+    let keys = (repo_view store.repo).keys in
     let ref = c.args.chunk.now in
     let content = c.deref.result.now in
+    let r = c.write.result in
     let comes : IfSome told (λ t. HoldsContent (told_files t) source.log source.keys ref content) =
     subst (λ (bytes : List ℕ). IfSome told (λ t. HoldsContent (told_files t) source.log source.keys ref bytes)) (sym c.deref.ensures.value)
-    c.in_ok-content.ensures.content in (
+    c.in_ok-content.ensures.content in
+    subst (λ (w : PieceWriter). (some : List Addition) × (AddsOn w.checkpoint store some c.write.new.store (g.D.Shelf.told c.args.depot.now)
+    (g.D.Shelf.told c.write.new.depot) (g.D.Shelf.faults c.args.depot.now) (g.D.Shelf.faults c.write.new.depot) r
+    × (AreOf Content some × (BeginsChunk told source ref w.cutter (contents_in some) × ((IfErr r (λ f. IsOfSource f → some ≡ []))
+    × OnOk r (WritesContent told source keys ref w.cutter w.chunks.items (contents_in some) writer_now.cutter writer_now.chunks.items
+    × CountsOn Content w some writer_now)))))) c.foresee.ensures.same (
       more,
       (
         wrote.1.0,

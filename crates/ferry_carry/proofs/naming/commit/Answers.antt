@@ -1,4 +1,4 @@
-use Rattle.std.proofs.Common.{◌≡◌, Result, IfErr, refl, sym, ◌∙◌, ap}
+use Rattle.std.proofs.Common.{◌≡◌, [], Result, IfErr, refl, sym, ◌∙◌, ap}
 use Rattle.ferry_piece.proofs.FaultLemmas.{target_stops}
 use Rattle.ferry_carry.proofs.GrowLemmas.{commit_fits}
 use Rattle.ferry_carry.proofs.NamingLemmas.{commit_limit, commit_most, commit_works, commit_works_err}
@@ -17,8 +17,8 @@ use Rattle.ferry_store.specs.Commit.{CommitsEntry, accepted_in, manifest_entry}
 use Rattle.ferry_store.specs.Content.{blob_for}
 use Rattle.ferry_store.specs.Standing.{with_manifest}
 use Rattle.ferry_carry.proofs.StandLemmas.{StandsAll, commit_stands}
-use Rattle.ferry_piece.proofs.AddingLemmas.{manifest_unbroken}
-use Rattle.ferry_piece.specs.Adding.{IsNoChunk}
+use Rattle.ferry_piece.proofs.AddingLemmas.{held_unspent, manifest_unbroken}
+use Rattle.ferry_piece.specs.Adding.{HoldsRefused, IsNoChunk}
 
 pub commit-requires-clause-fits : goal.commit-requires-clause-fits
 commit-requires-clause-fits g c = told_writing c.args.store.now (g.D.Shelf.told c.args.depot.now) c.requires.fits
@@ -103,3 +103,13 @@ returns-in_err-commit-clause-unbroken g c =
 pub returns-clause-salt : goal.returns-clause-salt
 returns-clause-salt g c =
     let made = c.in_ok-commit.ensures.committed in (made.0, (made.1.0, made.1.1))
+
+pub returns-in_err-commit-clause-held : goal.returns-in_err-commit-clause-held
+returns-in_err-commit-clause-held g c at most =
+    let a = g.D.Shelf.told c.args.depot.now in
+    let b = g.D.Shelf.told c.commit.new.depot in
+    let store = c.args.store.now in
+    let now = c.commit.new.self in
+    let refusal = c.in_err-commit.field-0.0 in
+    err_is c.from_residual.result (target_fault refusal) (λ (r : Result (Unit {0}) CarryFault). HoldsRefused at most store [] now a b r)
+    c.from_residual.ensures.1 (held_unspent (Unit {0}) at most store now [] a b refusal c.in_err-commit.ensures.kept)

@@ -3,11 +3,13 @@ use Rattle.ferry_carry.specs.Refusals.{LimitsManifest}
 use Rattle.ferry_mac.specs.declared.keys.Keys.{Keys}
 use Rattle.ferry_next.specs.Next.{next_manifest, written_at}
 use Rattle.ferry_carry.proofs.GrowLemmas.{accepts_one, names_next}
+use Rattle.ferry_carry.proofs.HeldLemmas.{held_accepted}
 use Rattle.ferry_carry.proofs.NamingLemmas.{named_behind, names_nothing}
 use Rattle.ferry_piece.proofs.WorkLemmas.{err_is}
 use Rattle.ferry_carry.proofs.naming.commit_named.Goals as goal
 use Rattle.ferry_carry.specs.Flight.{NamesArchive}
 use Rattle.ferry_carry.specs.Grow.{KeepsNames}
+use Rattle.ferry_piece.specs.Adding.{HoldsRefused}
 use Rattle.ferry_piece.specs.declared.fault.CarryFault.{CarryFault}
 use Rattle.ferry_piece.specs.declared.fault.CarryFault.TheVariants.{Memory}
 use Rattle.ferry_manifest.specs.Manifest.Text.{ManifestText}
@@ -90,3 +92,17 @@ returns-clause-stands g c =
     let middle = c.name_archive.new.self in
     IfErr-weaker c.commit.result (StandsAll middle a b) (StandsAll store a b)
     (λ fault stands work most. accepted_stands most store middle [] a b c.in_ok-name_archive.ensures.rest (stands work most)) c.commit.ensures.stands
+
+pub returns-in_err-name_archive-clause-held : goal.returns-in_err-name_archive-clause-held
+returns-in_err-name_archive-clause-held g c at most =
+    let a = g.D.Shelf.told c.args.depot.now in
+    let store = c.args.store.now in
+    let now = c.name_archive.new.self in
+    let is : c.in_err-name_archive.field-0.0 ≡ _ = c.in_err-name_archive.ensures.refused in
+    err_is c.from_residual.result Memory (λ (r : Result (Unit {0}) CarryFault). HoldsRefused at most store [] now a a r) (search rules)
+    (λ spares. absurd spares)
+
+pub returns-clause-held : goal.returns-clause-held
+returns-clause-held g c at most =
+    held_accepted {T = Unit {0}} at most c.args.store.now c.name_archive.new.self c.commit.new.store [] (g.D.Shelf.told c.args.depot.now)
+    (g.D.Shelf.told c.commit.new.depot) c.commit.result c.in_ok-name_archive.ensures.rest (c.commit.ensures.held at most)

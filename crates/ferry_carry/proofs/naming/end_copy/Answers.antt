@@ -4,6 +4,8 @@ use Rattle.ferry_piece.proofs.AddingLemmas.{stops_unbroken}
 use Rattle.ferry_carry.proofs.AcceptingLemmas.{record_named}
 use Rattle.ferry_carry.proofs.GrowLemmas.{most_from, most_then}
 use Rattle.ferry_carry.proofs.FlightLemmas.{rest_accepts, rest_packable}
+use Rattle.ferry_carry.proofs.FlyLemmas.{added_all}
+use Rattle.ferry_carry.proofs.HeldLemmas.{held_then, held_within}
 use Rattle.ferry_piece.proofs.FaultLemmas.{stops_of_pieces}
 use Rattle.ferry_carry.proofs.NamingLemmas.{begins_done, behind_record, counts_done, lists_done, pieces_limit, record_limit, tagged_as, unnamed_rest}
 use Rattle.ferry_carry.proofs.NextLemmas.{behind_named}
@@ -15,6 +17,7 @@ use Rattle.ferry_carry.proofs.WorkLemmas.{carried_as, carried_err, carried_from,
 use Rattle.ferry_piece.proofs.WorkLemmas.{err_is}
 use Rattle.ferry_carry.proofs.naming.end_copy.Goals as goal
 use Rattle.ferry_carry.specs.Flight.{Carries, EndsCopy}
+use Rattle.ferry_piece.specs.Adding.{HoldsRefused}
 use Rattle.ferry_carry.specs.Naming.{copied_in}
 use Rattle.ferry_piece.specs.Puts.{Addition, AtBegin, AtEnd, border_behind}
 use Rattle.ferry_piece.specs.declared.fault.CarryFault.{CarryFault}
@@ -57,6 +60,7 @@ returns-in_err-id-clause-works g c =
                 begins = begins_done from named a store copy added ended.0 ended.1.0 c.requires.ready ended.1.1.1.0 ended.1.1.1.1.0 all;
                 stands = λ _. works.works.each;
                 last = works.last;
+                held = held_within {T = Carried} (border_behind AtBegin added) from.most store now more a b (Err fault) works.held;
                 lists = tt;
               }),
           match_err {T = Carried} _ (TagsOr (repo_view store.repo).keys more (g.E.Entropy.drawn c.args.entropy.now)
@@ -98,6 +102,7 @@ returns-in_err-name_record-clause-works g c =
     let under = ended.1.1.1.1.1.0 in
     let rest = c.in_ok-id.ensures.rest in
     let more = ended.0 ++ ended.1.0 in
+    let at = border_behind AtBegin added in
     let works = pieces_at {T = List ℕ} from.most copy.stream.checkpoint store middle more a b n m (Ok id) (c.requires.ready.same ∙ sym all.0.most)
     ended.1.1.0 in
     let ready = readies {T = List ℕ} from a b named store middle copy added ended.0 ended.1.0 (g.E.Entropy.drawn c.args.entropy.now) (g.E.Entropy.drawn
@@ -125,6 +130,10 @@ returns-in_err-name_record-clause-works g c =
                     (stands_behind {T = List ℕ} from.most store middle more [] a b z n m id rest.keys works.works
                     (c.in_err-name_record.ensures.stands work from.most));
                 last = stops_unbroken a (repo_view store.repo).keys more fault c.in_err-name_record.ensures.unbroken;
+                held = subst (λ (l : List Addition). HoldsRefused {T = Carried} at from.most store l now a z (Err fault)) (append-nil more)
+                    (held_then {T = Carried} at from.most store middle now more [] a b z (Err fault) rest.keys works.unspent
+                    (added_all {T = List ℕ} at from.most store middle more a b n m id works)
+                    (c.in_err-name_record.ensures.held (border_behind at more) from.most));
                 lists = tt;
               }),
           match_err {T = Carried} _ (TagsOr (repo_view store.repo).keys more (g.E.Entropy.drawn c.args.entropy.now)
@@ -182,6 +191,7 @@ returns-clause-works g c =
             begins = begins_done from named a store copy added last ended.1.0 c.requires.ready ended.1.1.1.0 ended.1.1.1.1.0 all;
             stands = tt;
             last = tt;
+            held = tt;
             lists = (
               lists_done from named a store copy added last ended.1.0 salt.0 c.requires.ready ended.1.1.1.0 under.adds all,
               counts_done from copy c.end_stream.new.stream added last ended.1.0 keys archive put all.0 ended.1.1.1.0.1 ended.1.1.1.1.1.1 under.adds

@@ -1,4 +1,4 @@
-use Rattle.std.proofs.Common.{rules, ◌≡◌, ℕ, List, Result, IfErr, refl, subst}
+use Rattle.std.proofs.Common.{rules, ◌≡◌, ℕ, List, [], Result, IfErr, refl, subst}
 use Rattle.ferry_carry.proofs.NamingLemmas.{names_nothing}
 use Rattle.ferry_piece.proofs.WorkLemmas.{err_is}
 use Rattle.ferry_carry.proofs.naming.name_record.Goals as goal
@@ -9,6 +9,7 @@ use Rattle.ferry_carry.specs.Naming.{entry_for}
 use Rattle.ferry_carry.specs.Time.{time_for}
 use Rattle.ferry_manifest.specs.declared.manifest.ArchiveRef.{ArchiveRef}
 use Rattle.ferry_next.specs.Next.{next_manifest, written_at}
+use Rattle.ferry_piece.specs.Adding.{HoldsRefused}
 use Rattle.ferry_piece.specs.declared.fault.CarryFault.{CarryFault}
 use Rattle.ferry_piece.specs.declared.fault.CarryFault.TheVariants.{Memory}
 use Rattle.ferry_store.specs.Commit.{accepted_in}
@@ -63,3 +64,17 @@ returns-clause-works g c =
     c.commit_named.result) time
     (subst (λ (e : ArchiveRef). NamesArchive accepted e (written_at (next_manifest accepted e source.manifest.item_keys) c.deref.result.now) store
     c.commit_named.new.store a b n m c.commit_named.result) entry c.commit_named.ensures.works)
+
+pub returns-in_err-entry-clause-held : goal.returns-in_err-entry-clause-held
+returns-in_err-entry-clause-held g c at most =
+    let a = g.D.Shelf.told c.args.depot.now in
+    let store = c.args.store.now in
+    err_is c.from_residual.result Memory (λ (r : Result (Unit {0}) CarryFault). HoldsRefused at most store [] store a a r) c.from_residual.ensures.1
+    (λ spares. absurd spares)
+
+pub returns-in_err-time-clause-held : goal.returns-in_err-time-clause-held
+returns-in_err-time-clause-held g c at most =
+    let a = g.D.Shelf.told c.args.depot.now in
+    let store = c.args.store.now in
+    err_is c.from_residual-in_err-time.result Memory (λ (r : Result (Unit {0}) CarryFault). HoldsRefused at most store [] store a a r)
+    c.from_residual-in_err-time.ensures.1 (λ spares. absurd spares)

@@ -3,8 +3,8 @@ use Rattle.std.proofs.lemmas.Option.{IfSome_then}
 use Rattle.ferry_disk.specs.Device.{told_files}
 use Rattle.ferry_store.specs.Fault.{depot_failed}
 use Rattle.ferry_store.specs.declared.fault.StoreRefusal.TheVariants.{TooLarge}
-use Rattle.ferry_piece.proofs.AddingLemmas.{adds_last, held_target}
-use Rattle.ferry_piece.proofs.FaultLemmas.{adds_small, pieces_stop, target_is, told_behind}
+use Rattle.ferry_piece.proofs.AddingLemmas.{adds_last, held_unspent}
+use Rattle.ferry_piece.proofs.FaultLemmas.{adds_small, pieces_stop, told_behind}
 use Rattle.ferry_piece.proofs.GatherLemmas.{AddedSo, add_gathers, add_stands, added_fits}
 use Rattle.ferry_piece.proofs.WorkLemmas.{err_is, works_err, works_ok}
 use Rattle.ferry_piece.proofs.piece.add.Goals as goal
@@ -35,7 +35,8 @@ returns-in_err-added-clause-works g c most kind put is room =
       works = works_err {T = Added} (KeepsSound store.session store.counter) (Adds store content now) (KeepsStanding most store (one ∷ []))
           (λ _. Gathers most store (one ∷ []) now) a b n m refusal (add_stands most store (one ∷ [])) c.add.ensures.untold c.in_err-added.ensures.did;
       last = IfSome_then a c.in_err-added.ensures.refused (λ t r. adds_last store content one (told_files t) refusal refl r);
-      held = held_target {T = Added} Within most store now (one ∷ []) a b (Err (target_fault refusal)) (target_is refusal);
+      unspent = tt;
+      held = held_unspent Added Within most store now (one ∷ []) a b refusal c.in_err-added.ensures.kept;
     })
 
 pub returns-clause-works : goal.returns-clause-works
@@ -62,6 +63,7 @@ returns-clause-works g c most kind put is room =
           (λ _. Gathers most store (one ∷ []) now) a b n m added added
           (add_stands most store (one ∷ [])) (λ h k adds. add_gathers most store now kind content put added h k is room so adds) c.add.ensures.untold
           c.in_ok-added.ensures.did;
+      unspent = λ was. c.in_ok-added.ensures.unspent;
       last = tt;
       held = tt;
     }

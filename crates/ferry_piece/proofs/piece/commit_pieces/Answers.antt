@@ -1,12 +1,12 @@
 use Rattle.std.proofs.Common.{◌≢◌, Result, IfErr}
 use Rattle.ferry_disk.proofs.DeviceLemmas.{told_any}
 use Rattle.ferry_store.specs.declared.fault.StoreRefusal.TheVariants.{TooLarge}
-use Rattle.ferry_piece.proofs.AddingLemmas.{commits_unbroken}
+use Rattle.ferry_piece.proofs.AddingLemmas.{commits_spent}
 use Rattle.ferry_piece.proofs.FaultLemmas.{commits_small, pieces_stop}
 use Rattle.ferry_piece.proofs.GatherLemmas.{checkpoint_fits}
 use Rattle.ferry_piece.proofs.WorkLemmas.{err_is, works_err, works_ok}
 use Rattle.ferry_piece.proofs.piece.commit_pieces.Goals as goal
-use Rattle.ferry_piece.specs.Adding.{IsNoChunk}
+use Rattle.ferry_piece.specs.Adding.{SparesStore}
 use Rattle.ferry_piece.specs.Fault.{target_fault}
 use Rattle.ferry_piece.specs.Stops.{StopsPieces}
 use Rattle.ferry_piece.specs.Work.{Works}
@@ -45,11 +45,11 @@ returns-clause-works g c =
     (g.D.Shelf.faults c.checkpoint.new.depot) tt tt (λ h k untold e. (untold, e)) (λ h k takes. takes) c.checkpoint.ensures.untold
     c.in_ok-checkpoint.ensures.did
 
-pub returns-in_err-checkpoint-clause-unbroken : goal.returns-in_err-checkpoint-clause-unbroken
-returns-in_err-checkpoint-clause-unbroken g c =
+pub returns-in_err-checkpoint-clause-spent : goal.returns-in_err-checkpoint-clause-spent
+returns-in_err-checkpoint-clause-spent g c =
     let refusal = c.in_err-checkpoint.field-0.0 in
-    err_is c.from_residual.result (target_fault refusal) (λ (r : Result (Unit {0}) CarryFault). IfErr r IsNoChunk) c.from_residual.ensures.1
-    (commits_unbroken c.args.store.now.session refusal c.in_err-checkpoint.ensures.refused)
+    err_is c.from_residual.result (target_fault refusal) (λ (r : Result (Unit {0}) CarryFault). IfErr r (λ (fault : CarryFault). SparesStore fault → ⊥))
+    c.from_residual.ensures.1 (commits_spent c.args.store.now.session refusal c.in_err-checkpoint.ensures.refused)
 
 pub returns-clause-fits : goal.returns-clause-fits
 returns-clause-fits g c =

@@ -1,4 +1,4 @@
-use Rattle.std.proofs.Common.{◌≡◌, Result, refl, subst, IfSome}
+use Rattle.std.proofs.Common.{◌≡◌, true, Result, refl, subst, IfSome}
 use Rattle.ferry_piece.proofs.FaultLemmas.{source_still}
 use Rattle.ferry_piece.proofs.WorkLemmas.{err_is}
 use Rattle.ferry_piece.specs.Fault.{IsOfWork, source_fault}
@@ -8,7 +8,10 @@ use Rattle.ferry_disk.specs.Moments.{Between}
 use Rattle.ferry_repo.specs.Fault.{repo_failed}
 use Rattle.ferry_repo.specs.declared.fault.RepoFault.{RepoFault}
 use Rattle.ferry_repo.specs.declared.repo.Repo.{Repo}
+use Rattle.ferry_run_transfer.proofs.PuttingLemmas.{untouched_first}
 use Rattle.ferry_run_transfer.proofs.ToldLemmas.{untouched_told}
+use Rattle.ferry_run_transfer.specs.Putting.{LeavesFirst, is_spared}
+use Rattle.ferry_status.specs.Status.{carry_status}
 use Rattle.ferry_run_transfer.proofs.SourceLemmas.{asked_kept, source_fits, source_opens}
 use Rattle.ferry_run_transfer.proofs.UntouchedLemmas.{untouched}
 use Rattle.ferry_run_transfer.proofs.command.copy.Goals as goal
@@ -82,6 +85,21 @@ returns-clause-only_told g c =
     → Between (g.D.Shelf.told c.args.target.now) (g.D.Shelf.told c.copy_into.new.target) (LeavesTold request)))
     (asked_kept {T = Repo} {F = RepoFault} c.args.secrets.now c.args.options.now c.args.names.now repo_failed (g.S.Shelf.told c.args.source.now)
     (g.S.Shelf.told c.open.new.shelf) c.in_ok-repo.repo c.in_ok-repo.ensures.same) c.copy_into.ensures.only_told
+
+pub returns-in_err-repo-clause-put : goal.returns-in_err-repo-clause-put
+returns-in_err-repo-clause-put g c =
+    let a = g.D.Shelf.told c.args.target.now in
+    let request = asked c.args.secrets.now c.args.options.now c.args.names.now (g.S.Shelf.told c.args.source.now) in
+    err_is c.from_residual.result (source_fault c.in_err-repo.field-0.0)
+    (λ (r : Result (Unit {0}) CarryFault). IfErr r (λ (f : CarryFault). is_spared (carry_status f) ≡ true → Between a a (LeavesFirst request)))
+    c.from_residual.ensures.1 (λ e. untouched_first request a)
+
+pub returns-clause-put : goal.returns-clause-put
+returns-clause-put g c =
+    subst (λ (request : Request). IfErr c.copy_into.result (λ (f : CarryFault). is_spared (carry_status f) ≡ true
+    → Between (g.D.Shelf.told c.args.target.now) (g.D.Shelf.told c.copy_into.new.target) (LeavesFirst request)))
+    (asked_kept {T = Repo} {F = RepoFault} c.args.secrets.now c.args.options.now c.args.names.now repo_failed (g.S.Shelf.told c.args.source.now)
+    (g.S.Shelf.told c.open.new.shelf) c.in_ok-repo.repo c.in_ok-repo.ensures.same) c.copy_into.ensures.put
 
 pub returns-in_err-repo-clause-untouched : goal.returns-in_err-repo-clause-untouched
 returns-in_err-repo-clause-untouched g c =

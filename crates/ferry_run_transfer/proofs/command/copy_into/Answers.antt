@@ -1,4 +1,4 @@
-use Rattle.std.proofs.Common.{Result, IfErr, refl, ◌∙◌}
+use Rattle.std.proofs.Common.{◌≡◌, true, Result, IfErr, refl, ◌∙◌}
 use Rattle.ferry_piece.proofs.WorkLemmas.{err_is}
 use Rattle.ferry_piece.specs.Fault.{IsOfWork, target_fault}
 use Rattle.ferry_piece.specs.Work.{Works}
@@ -8,7 +8,10 @@ use Rattle.ferry_disk.specs.Moments.{Between}
 use Rattle.ferry_repo.specs.Opening.{repo_view}
 use Rattle.ferry_store.proofs.UseLemmas.{fits_opened}
 use Rattle.ferry_store.specs.Store.{OpenEach, OpenFits}
+use Rattle.ferry_run_transfer.proofs.PuttingLemmas.{stopped_first, unopened_first, untouched_first}
 use Rattle.ferry_run_transfer.proofs.ToldLemmas.{stopped_told, unopened_told, untouched_told}
+use Rattle.ferry_run_transfer.specs.Putting.{LeavesFirst, is_spared}
+use Rattle.ferry_status.specs.Status.{carry_status}
 use Rattle.ferry_run_transfer.proofs.TransferLemmas.{copied_all, copied_some}
 use Rattle.ferry_run_transfer.proofs.UntouchedLemmas.{unopened, untouched}
 use Rattle.ferry_run_transfer.proofs.command.copy_into.Goals as goal
@@ -206,6 +209,56 @@ returns-in_err-carry-clause-only_told g c =
     stopped_told c.args.secrets.now c.args.options.now c.args.names.now (repo_view c.args.repo.now) told c.deref-2.result.now
     c.requires.source_opens chosen_is store a b d n m accepts c.in_ok-store.ensures.opened c.open.ensures.untold c.in_ok-store.ensures.did
     works.each (c.in_err-carry.ensures.stands w))
+
+pub returns-in_err-chosen-clause-put : goal.returns-in_err-chosen-clause-put
+returns-in_err-chosen-clause-put g c =
+    let a = g.D.Shelf.told c.args.target.now in
+    let request = asked c.args.secrets.now c.args.options.now c.args.names.now (g.S.Shelf.told c.args.source.now) in
+    err_is c.from_residual.result Memory
+    (λ (r : Result (Unit {0}) CarryFault). IfErr r (λ (f : CarryFault). is_spared (carry_status f) ≡ true → Between a a (LeavesFirst request)))
+    c.from_residual.ensures.1 (λ e. untouched_first request a)
+
+pub returns-in_err-find_names-clause-put : goal.returns-in_err-find_names-clause-put
+returns-in_err-find_names-clause-put g c =
+    let a = g.D.Shelf.told c.args.target.now in
+    let request = asked c.args.secrets.now c.args.options.now c.args.names.now (g.S.Shelf.told c.args.source.now) in
+    let fault = c.in_err-find_names.field-0.0 in
+    err_is c.from_residual-in_err-find_names.result fault
+    (λ (r : Result (Unit {0}) CarryFault). IfErr r (λ (f : CarryFault). is_spared (carry_status f) ≡ true → Between a a (LeavesFirst request)))
+    c.from_residual-in_err-find_names.ensures.1 (λ e. untouched_first request a)
+
+pub returns-in_err-store-clause-put : goal.returns-in_err-store-clause-put
+returns-in_err-store-clause-put g c =
+    let a = g.D.Shelf.told c.args.target.now in
+    let b = g.D.Shelf.told c.open.new.depot in
+    let n = g.D.Shelf.faults c.args.target.now in
+    let m = g.D.Shelf.faults c.open.new.depot in
+    let request = asked c.args.secrets.now c.args.options.now c.args.names.now (g.S.Shelf.told c.args.source.now) in
+    let refusal = c.in_err-store.field-0.0 in
+    err_is c.from_residual-in_err-store.result (target_fault refusal)
+    (λ (r : Result (Unit {0}) CarryFault). IfErr r (λ (f : CarryFault). is_spared (carry_status f) ≡ true → Between a b (LeavesFirst request)))
+    c.from_residual-in_err-store.ensures.1
+    (λ e. unopened_first request OpenFits a b n m refusal c.in_err-store.ensures.did c.in_err-store.ensures.refused e)
+
+pub returns-in_err-carry-clause-put : goal.returns-in_err-carry-clause-put
+returns-in_err-carry-clause-put g c =
+    let a = g.D.Shelf.told c.args.target.now in
+    let b = g.D.Shelf.told c.open.new.depot in
+    let d = g.D.Shelf.told c.carry.new.depot in
+    let n = g.D.Shelf.faults c.args.target.now in
+    let m = g.D.Shelf.faults c.open.new.depot in
+    let k = g.D.Shelf.faults c.carry.new.depot in
+    let told = g.S.Shelf.told c.args.source.now in
+    let request = asked c.args.secrets.now c.args.options.now c.args.names.now told in
+    let fault = c.in_err-carry.field-0.0 in
+    err_is c.from_residual-in_err-carry.result fault
+    (λ (r : Result (Unit {0}) CarryFault). IfErr r (λ (f : CarryFault). is_spared (carry_status f) ≡ true → Between a d (LeavesFirst request)))
+    c.from_residual-in_err-carry.ensures.1
+    (λ e.
+    stopped_first c.args.secrets.now c.args.options.now c.args.names.now (repo_view c.args.repo.now) told c.deref-2.result.now
+    c.requires.source_opens (c.deref-2.ensures.value ∙ c.in_ok-chosen.ensures.chosen) c.in_ok-store.store c.carry.new.store a b d n m k
+    (g.E.Entropy.drawn c.args.entropy.now) (g.E.Entropy.drawn c.carry.new.entropy) fault c.in_ok-store.ensures.accepted
+    c.in_ok-store.ensures.opened c.in_ok-store.ensures.did c.in_err-carry.ensures.works e)
 
 pub returns-in_err-chosen-clause-untouched : goal.returns-in_err-chosen-clause-untouched
 returns-in_err-chosen-clause-untouched g c =

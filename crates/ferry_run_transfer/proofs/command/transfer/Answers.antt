@@ -1,6 +1,7 @@
 use Rattle.ferry_run_transfer.proofs.ToldLemmas.{of_work}
 use Rattle.ferry_run_transfer.proofs.UntouchedLemmas.{transfer_ended}
 use Rattle.ferry_run_transfer.proofs.command.transfer.Goals as goal
+use Rattle.ferry_run_transfer.specs.Putting.{is_spared}
 use Rattle.ferry_status.specs.Status.{is_of_work}
 use Rattle.ferry_run_transfer.specs.Transfer.{asked, drawn_from}
 use Rattle.std.proofs.Common.{◌≡◌, false, true, inl, inr, refl, subst}
@@ -51,3 +52,10 @@ returns-in-Ok-clause-only_told g c refused = absurd (let e : false ≡ true = re
 pub returns-in-Err-clause-only_told : goal.returns-in-Err-clause-only_told
 returns-in-Err-clause-only_told g c refused =
     c.in-Err.ensures.only_told (of_work c.in-Err.fault (subst (λ (status : Status). is_of_work status ≡ true) c.of_carry.ensures refused))
+
+pub returns-in-Ok-clause-put : goal.returns-in-Ok-clause-put
+returns-in-Ok-clause-put g c refused = absurd (let e : false ≡ true = refused in let no : ⊥ = cc in no)
+
+pub returns-in-Err-clause-put : goal.returns-in-Err-clause-put
+returns-in-Err-clause-put g c refused =
+    c.in-Err.ensures.put (subst (λ (status : Status). is_spared status ≡ true) c.of_carry.ensures refused)

@@ -7,7 +7,7 @@ use Rattle.ferry_store.specs.Fault.{repo_refusal}
 use Rattle.ferry_store.specs.State.{Did}
 use Rattle.ferry_store.specs.Store.{InitFits, RefusesInit}
 use Rattle.ferry_store.specs.declared.fault.StoreRefusal.{StoreRefusal}
-use Rattle.ferry_top.proofs.InitLemmas.{did_failed, did_tell, did_unread, has_id, on_ok, refuses_reading}
+use Rattle.ferry_top.proofs.InitLemmas.{did_failed, did_tell, did_unread, has_id, line_refused, on_ok, refuses_reading}
 use Rattle.ferry_top.proofs.init.make.Goals as goal
 use Rattle.ferry_top.specs.Init.{CommandEach, InitTells}
 
@@ -83,3 +83,7 @@ returns-clause-made g c =
             (keeps_end {T = Unit {0}} repo_failed b d (Ok tt) same) c.in_ok-unlocked.ensures.cause c.tell_id.ensures.did,
       ),
     )
+
+pub returns-clause-refused : goal.returns-clause-refused
+returns-clause-refused g c =
+    line_refused c.args.secret.now c.args.timestamp.now (g.D.Shelf.told c.args.target.now) c.tell_id.result c.tell_id.ensures.refused

@@ -29,6 +29,7 @@ returns-in-Transfer-clause-does g c =
       untouched = e.untouched;
       left = e.left;
       only_told = e.only_told;
+      put = e.put;
       each = e.each;
     } in
     subst (λ (command : Command). DoesCommand (Ok command) secrets before status after) (sym c.in-Transfer.is)

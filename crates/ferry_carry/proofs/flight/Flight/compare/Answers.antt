@@ -1,12 +1,13 @@
 use Rattle.std.proofs.Common.{◌≡◌, ◌≤◌, [], ◌∷◌, ℕ, List, Some, Result, Ok, Err, refl, sym, ◌∙◌, ap, subst, IfErr, IsSome}
 use Rattle.std.proofs.lemmas.Result.{on_ok_weaker}
 use Rattle.ferry_carry.proofs.AcceptingLemmas.{still_rest}
-use Rattle.ferry_carry.proofs.FlightLemmas.{read_rest, read_unspent, rest_accepts, rest_packable, rest_there, there_accepted}
+use Rattle.ferry_carry.proofs.FlightLemmas.{read_rest, rest_accepts, rest_packable, rest_there, there_accepted}
 use Rattle.ferry_carry.proofs.FlyLemmas.{begins_there, filled_apart, fills_there, flies_as, flies_fault, present_flies, present_stands, stands_within}
 use Rattle.ferry_carry.proofs.FlyLemmas.{taken_still, taken_unbroken, turn_present, turned_err}
 use Rattle.ferry_carry.proofs.GrowLemmas.{most_from}
-use Rattle.ferry_carry.proofs.HeldLemmas.{held_apart, held_within, targets_apart}
+use Rattle.ferry_carry.proofs.HeldLemmas.{held_within, spent_chunk, targets_apart}
 use Rattle.ferry_carry.proofs.ReportLemmas.{told_unbroken}
+use Rattle.ferry_piece.proofs.AddingLemmas.{held_spent, read_unspent}
 use Rattle.ferry_carry.proofs.WorkLemmas.{carried_from}
 use Rattle.ferry_piece.proofs.WorkLemmas.{err_is, gathered_fault}
 use Rattle.ferry_carry.proofs.flight.Flight.compare.Goals as goal
@@ -108,8 +109,8 @@ returns-in-Equal-clause-works g c =
       begins = begins_there a from (repo_view store.repo).keys (accepted_in store) name
           (there_accepted store name c.requires.accepts c.requires.there);
       stands = present_stands {T = Compared} from.most store middle a b d n m compared c.present.result rest.keys works ends.each;
-      last = told_unbroken {T = Turn} a (repo_view store.repo).keys [] c.present.result c.present.ensures.unbroken;
-      held = held_apart {T = Turn} (border_behind AtBegin []) from.most store now [] a d c.present.result apart;
+      last = told_unbroken {T = Turn} a (repo_view store.repo).keys [] c.present.result (spent_chunk {T = Turn} c.present.result c.present.ensures.spent);
+      held = held_spent {T = Turn} (border_behind AtBegin []) from.most store now [] a d c.present.result c.present.ensures.spent;
       fills = filled_apart {T = Turn} a from (repo_view store.repo).keys (accepted_in store) name [] c.present.result apart;
       lists = turn_present (g.S.Shelf.told c.compare_item-compared.new.shelf) (repo_view c.compare_item-compared.new.source) d now _ a from
           (repo_view store.repo).keys c.present.result c.requires.uncounted c.present.ensures.present;

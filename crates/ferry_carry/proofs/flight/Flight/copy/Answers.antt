@@ -186,7 +186,7 @@ returns-in_err-self-in-Ok-false-clause-works g c =
         (
           turned_err _ _ from name added ends.0 [] store now _ a d n k c.from_residual.result fault c.from_residual.ensures.1
               (turn_ended from name added ends.0 [] store middle now _ _ _ a b d n m k more (Err fault) c.requires.accepts rest c.requires.unnamed first
-              (flies_err {T = Carried} added from name (name ∷ []) ends.0 middle now now b d m k fault does.carries) does.begins does.stands does.last
+              (flies_err {T = Carried} added from name (name ∷ []) ends.0 middle now now b d m k fault does.carries) does.begins does.stands does.last does.held
               (end_apart from b (repo_view middle.repo).keys name fault
               (c.in_err-self-in-Ok-false.ensures.refused from added (ended.1 c.requires.flight.named))) tt),
           match_err {T = Turn} _ (TagsOr (repo_view store.repo).keys ends.0 (g.E.Entropy.drawn c.args.entropy.now)
@@ -242,7 +242,7 @@ returns-in_ok-self-in-Ok-false-clause-works g c =
         (
           turn_ended from name added ends.0 records store middle now _ _ _ a b d n m k more (Ok Named) c.requires.accepts rest c.requires.unnamed first
               (flies_as {T = Carried} added from name (name ∷ []) ends.0 middle now b d m k c.in_ok-self-in-Ok-false.field-0 Named refl does.carries)
-              does.begins tt tt tt (
+              does.begins tt tt tt tt (
                 refl,
                 (
                   done_before from from (repo_view store.repo).keys (repo_view middle.repo).keys name records (added ++ ends.0) (added ++ ends.0) true

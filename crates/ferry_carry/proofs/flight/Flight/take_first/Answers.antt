@@ -5,12 +5,11 @@ use Rattle.ferry_carry.proofs.FlightLemmas.{read_rest}
 use Rattle.ferry_carry.proofs.FlyLemmas.{begins_none, fills_begin, fills_there, flies_err, flies_fault, origin_kept, record_unbroken, stands_within}
 use Rattle.ferry_carry.proofs.FlyLemmas.{turned_behind, turned_err}
 use Rattle.ferry_carry.proofs.GrowLemmas.{most_from, most_then}
-use Rattle.ferry_carry.proofs.HeldLemmas.{held_within, holds_here}
+use Rattle.ferry_carry.proofs.HeldLemmas.{held_nothing, held_within}
 use Rattle.ferry_carry.proofs.ProgressLemmas.{begin_copied}
 use Rattle.ferry_carry.proofs.WorkLemmas.{carried_nothing}
 use Rattle.ferry_piece.proofs.WorkLemmas.{err_is}
 use Rattle.ferry_carry.proofs.flight.Flight.take_first.Goals as goal
-use Rattle.ferry_piece.specs.Adding.{HoldsAll}
 use Rattle.ferry_carry.specs.Flight.{TakesTurn, flown_from}
 use Rattle.ferry_carry.specs.Grow.{KeepsMost}
 use Rattle.ferry_piece.specs.Puts.{AtBegin, border_behind}
@@ -52,7 +51,7 @@ returns-in_err-copy-clause-works g c =
             stands = λ _. stands_within at from.most store [] a a (here_each (KeepsStanding from.most store []) a (λ h. stands_here from.most store [] h));
             last = stops_unbroken a (repo_view store.repo).keys [] fault
                 (record_unbroken (g.S.Shelf.told c.args.shelf.now) (repo_view c.args.source.now) c.args.self.now.named.id fault c.in_err-copy.ensures.refused);
-            held = λ _. here_each (HoldsAll at from.most store [] store) a (λ h. holds_here at from.most store h);
+            held = held_nothing at from.most store a fault;
             fills = fills_begin a (g.S.Shelf.told c.args.shelf.now) (repo_view c.args.source.now) from.block from.most from.time (repo_view store.repo).keys
                 (accepted_in store) c.args.self.now.named fault c.requires.flight.named c.in_err-copy.ensures.refused;
             lists = tt;

@@ -13,11 +13,11 @@ pub returns-in_err-added-clause-works : goal.returns-in_err-added-clause-works
 returns-in_err-added-clause-works g c =
     let most = c.args.self.now.checkpoint in
     let store = c.args.store.now in
-    let now = c.add_piece.new.store in
+    let now = c.add_foreseen.new.store in
     let a = g.D.Shelf.told c.args.depot.now in
-    let b = g.D.Shelf.told c.add_piece.new.depot in
+    let b = g.D.Shelf.told c.add_foreseen.new.depot in
     let n = g.D.Shelf.faults c.args.depot.now in
-    let m = g.D.Shelf.faults c.add_piece.new.depot in
+    let m = g.D.Shelf.faults c.add_foreseen.new.depot in
     let fault = c.in_err-added.field-0.0 in
     let writer = c.args.self.now in (
       false,
@@ -38,11 +38,11 @@ pub returns-in_err-note-clause-works : goal.returns-in_err-note-clause-works
 returns-in_err-note-clause-works g c =
     let most = c.args.self.now.checkpoint in
     let store = c.args.store.now in
-    let now = c.add_piece.new.store in
+    let now = c.add_foreseen.new.store in
     let a = g.D.Shelf.told c.args.depot.now in
-    let b = g.D.Shelf.told c.add_piece.new.depot in
+    let b = g.D.Shelf.told c.add_foreseen.new.depot in
     let n = g.D.Shelf.faults c.args.depot.now in
-    let m = g.D.Shelf.faults c.add_piece.new.depot in
+    let m = g.D.Shelf.faults c.add_foreseen.new.depot in
     let writer = c.args.self.now in
     let put = c.in_ok-added.added.new in (
       put,
@@ -63,11 +63,11 @@ pub returns-clause-works : goal.returns-clause-works
 returns-clause-works g c =
     let most = c.args.self.now.checkpoint in
     let store = c.args.store.now in
-    let now = c.add_piece.new.store in
+    let now = c.add_foreseen.new.store in
     let a = g.D.Shelf.told c.args.depot.now in
-    let b = g.D.Shelf.told c.add_piece.new.depot in
+    let b = g.D.Shelf.told c.add_foreseen.new.depot in
     let n = g.D.Shelf.faults c.args.depot.now in
-    let m = g.D.Shelf.faults c.add_piece.new.depot in
+    let m = g.D.Shelf.faults c.add_foreseen.new.depot in
     let writer = c.args.self.now in
     let put = c.in_ok-added.added.new in (
       put,

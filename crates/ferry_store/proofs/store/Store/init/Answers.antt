@@ -1,6 +1,8 @@
 use Rattle.std.proofs.Common.{false, Ok, Err, Result, IfErr, IfSome, refl}
+use Rattle.ferry_disk.proofs.DeviceLemmas.{told_same}
 use Rattle.ferry_disk.specs.Device.{HasCause}
 use Rattle.ferry_repo.specs.Fault.{repo_failed}
+use Rattle.ferry_repo.specs.Opening.{OpensFilesTo, repo_view}
 use Rattle.ferry_store.proofs.InitLemmas.{still_cause}
 use Rattle.ferry_store.proofs.StepLemmas.{err_is, same_told}
 use Rattle.ferry_store.proofs.StoreLemmas.{given_still, init_front, init_limit, init_made, init_makes, init_opened, init_uncopied, init_ungiven, init_unopened}
@@ -199,3 +201,8 @@ returns-clause-limit g c =
     (init_made secret c.args.iterations c.args.timestamp.now made.0 a b d n m k (Ok (c.in_ok-counter.counter, c.in_ok-counter.session))
     c.in_ok-expect_no_commit.ensures.none c.in_ok-expect_no_commit.ensures.same c.in_ok-expect_no_commit.ensures.cause made.1.1)
     c.in_ok-repo.ensures.repository
+
+pub returns-clause-opened : goal.returns-clause-opened
+returns-clause-opened g c =
+    told_same (g.D.Shelf.told c.make_repository.new.depot) (g.D.Shelf.told c.open.new.shelf)
+    (λ f. OpensFilesTo f c.args.secret.now (repo_view c.in_ok-repo.repo)) c.in_ok-repo.ensures.same c.in_ok-repo.ensures.repository

@@ -1,0 +1,4 @@
+pub mod FieldLemmas
+pub mod ListLemmas
+pub mod PutLemmas
+pub mod MadeLemmas

@@ -1,0 +1,89 @@
+use Rattle.std.proofs.Common.{◌≢◌, ◌∷◌, [], Result, Err, IfErr, refl}
+use Rattle.std.proofs.lemmas.Option.{IfSome_then}
+use Rattle.ferry_disk.specs.Device.{told_files}
+use Rattle.ferry_store.specs.Fault.{depot_failed}
+use Rattle.ferry_store.specs.declared.fault.StoreRefusal.TheVariants.{TooLarge}
+use Rattle.ferry_piece.proofs.AddingLemmas.{adds_last, held_unspent}
+use Rattle.ferry_piece.proofs.FaultLemmas.{adds_small, pieces_stop, told_behind}
+use Rattle.ferry_piece.proofs.GatherLemmas.{AddedSo, add_gathers, add_stands, added_fits}
+use Rattle.ferry_piece.proofs.WorkLemmas.{err_is, works_err, works_ok}
+use Rattle.ferry_piece.proofs.foreseen.add_prepared.Goals as goal
+use Rattle.ferry_piece.specs.Adding.{AddsOn}
+use Rattle.ferry_piece.specs.Fault.{target_fault}
+use Rattle.ferry_piece.specs.Gather.{Gathers, KeepsStanding}
+use Rattle.ferry_piece.specs.Puts.{Within, addition}
+use Rattle.ferry_piece.specs.Stops.{StopsPieces}
+use Rattle.ferry_piece.specs.declared.fault.CarryFault.{CarryFault}
+use Rattle.ferry_repo.specs.Opening.{repo_view}
+use Rattle.ferry_store.specs.Adding.{Adds}
+use Rattle.ferry_store.specs.Piece.{content_in}
+use Rattle.ferry_store.specs.State.{KeepsSound}
+use Rattle.ferry_store.specs.declared.content.Added.{Added}
+
+pub returns-in_err-added-clause-works : goal.returns-in_err-added-clause-works
+returns-in_err-added-clause-works g c most kind put is room =
+    let a = g.D.Shelf.told c.args.depot.now in
+    let b = g.D.Shelf.told c.add_piece.new.depot in
+    let n = g.D.Shelf.faults c.args.depot.now in
+    let m = g.D.Shelf.faults c.add_piece.new.depot in
+    let store = c.args.store.now in
+    let now = c.add_piece.new.self in
+    let content = content_in (repo_view store.repo).keys c.args.is_blob c.args.buffer.now in
+    let one = addition kind content put in
+    let refusal = c.in_err-added.field-0.0 in
+    err_is c.from_residual.result (target_fault refusal) (λ (r : Result Added CarryFault). AddsOn most store (one ∷ []) now a b n m r)
+    c.from_residual.ensures.1 (record {
+      works = works_err {T = Added} (KeepsSound store.session store.counter) (Adds store content now) (KeepsStanding most store (one ∷ []))
+          (λ _. Gathers most store (one ∷ []) now) a b n m refusal (add_stands most store (one ∷ [])) c.add_piece.ensures.untold c.in_err-added.ensures.did;
+      last = IfSome_then a c.in_err-added.ensures.refused (λ t r. adds_last store content one (told_files t) refusal refl r);
+      unspent = tt;
+      held = held_unspent Added Within most store now (one ∷ []) a b refusal c.in_err-added.ensures.kept;
+    })
+
+pub returns-clause-works : goal.returns-clause-works
+returns-clause-works g c most kind put is room =
+    let a = g.D.Shelf.told c.args.depot.now in
+    let b = g.D.Shelf.told c.add_piece.new.depot in
+    let n = g.D.Shelf.faults c.args.depot.now in
+    let m = g.D.Shelf.faults c.add_piece.new.depot in
+    let store = c.args.store.now in
+    let now = c.add_piece.new.self in
+    let content = content_in (repo_view store.repo).keys c.args.is_blob c.args.buffer.now in
+    let one = addition kind content put in
+    let added = c.in_ok-added.added in
+    let so : AddedSo store content now added = record {
+      id = c.in_ok-added.ensures.id;
+      new = c.in_ok-added.ensures.new;
+      known = c.in_ok-added.ensures.known;
+      repo = c.in_ok-added.ensures.repo;
+      opens = c.in_ok-added.ensures.opens;
+      accepted = c.add_piece.ensures.accepted;
+    } in
+    record {
+      works = works_ok (KeepsSound store.session store.counter) (Adds store content now) (KeepsStanding most store (one ∷ []))
+          (λ _. Gathers most store (one ∷ []) now) a b n m added added
+          (add_stands most store (one ∷ [])) (λ h k adds. add_gathers most store now kind content put added h k is room so adds) c.add_piece.ensures.untold
+          c.in_ok-added.ensures.did;
+      unspent = λ was. c.in_ok-added.ensures.unspent;
+      last = tt;
+      held = tt;
+    }
+
+pub returns-clause-fits : goal.returns-clause-fits
+returns-clause-fits g c =
+    added_fits c.args.store.now c.add_piece.new.self (content_in (repo_view c.args.store.now.repo).keys c.args.is_blob c.args.buffer.now)
+    c.in_ok-added.added (g.D.Shelf.told c.args.depot.now) (g.D.Shelf.told c.add_piece.new.depot)
+    (g.D.Shelf.faults c.args.depot.now) (g.D.Shelf.faults c.add_piece.new.depot) c.requires.fits c.in_ok-added.ensures.did
+
+pub returns-in_err-added-clause-stops : goal.returns-in_err-added-clause-stops
+returns-in_err-added-clause-stops g c =
+    let a = g.D.Shelf.told c.args.depot.now in
+    let b = g.D.Shelf.told c.add_piece.new.depot in
+    let keys = (repo_view c.args.store.now.repo).keys in
+    let refusal = c.in_err-added.field-0.0 in
+    err_is c.from_residual.result (target_fault refusal) (λ (r : Result Added CarryFault). IfErr r (StopsPieces b keys)) c.from_residual.ensures.1
+    (pieces_stop b keys refusal
+    (told_behind (refusal ≢ TooLarge) (depot_failed refusal) a b c.in_err-added.ensures.did.ends
+    (IfSome_then a c.in_err-added.ensures.refused
+    (λ t r. adds_small c.args.store.now (content_in (repo_view c.args.store.now.repo).keys c.args.is_blob c.args.buffer.now) (told_files t) refusal r)))
+    c.in_err-added.ensures.stops)
