@@ -1,5 +1,5 @@
 -- Lemmas on specs/Accepting.antt: the manifest behind an archive, in the words of the target in front of it.
-use Rattle.std.proofs.Common.{◌≡◌, ◌⊎◌, inl, inr, ◌<◌, ℕ, true, List, [], ◌∷◌, ◌++◌, length}
+use Rattle.std.proofs.Common.{◌≡◌, ◌⊎◌, inl, inr, ◌<◌, ◌≤◌, ℕ, true, List, [], ◌∷◌, ◌++◌, length}
 use Rattle.std.proofs.Common.{Option, Some, None, IfSome, IsSome, Result, Ok, Err, OnOk, refl, sym, ◌∙◌, ap, subst}
 use Rattle.std.proofs.lemmas.Option.{IfSome_then}
 use Rattle.ferry_base.specs.Limits.{content_limit}
@@ -19,13 +19,13 @@ use Rattle.ferry_store.specs.Fault.{store_refusal}
 use Rattle.ferry_store.specs.Standing.{with_manifest}
 use Rattle.ferry_store.specs.declared.fault.StoreRefusal.TheVariants.{TooLarge}
 use Rattle.ferry_store.specs.declared.store.Store.{Store}
-use Rattle.ferry_carry.proofs.NextLemmas.{draws_none, draws_one, next_one}
-use Rattle.ferry_carry.specs.Accepting.{AreNextOf, HasLargeNext, IsNewIn, LimitsNames, NamesNew, named_next, next_named}
+use Rattle.ferry_carry.proofs.NextLemmas.{draws_none, draws_one, named_one}
+use Rattle.ferry_carry.specs.Accepting.{AreNextOf, HasLargeNext, IsNamedNext, IsNewIn, LimitsNames, NamesNew, named_next, next_named}
 use Rattle.ferry_carry.specs.Carrying.{Origin}
 use Rattle.ferry_carry.specs.Flight.{origin_of}
 use Rattle.ferry_piece.specs.Fault.{target_fault}
 use Rattle.ferry_piece.specs.Gather.{KeepsRest}
-use Rattle.ferry_carry.specs.Naming.{Draws, DrawsSalts, TaggedRecord, entry_for, record_ids}
+use Rattle.ferry_carry.specs.Naming.{Draws, DrawsSalts, TaggedRecord, entry_for}
 use Rattle.ferry_carry.specs.Refusals.{IsLimited, is_of_telling}
 use Rattle.ferry_carry.specs.Telling.{AcceptsNames, TellsNames}
 use Rattle.ferry_carry.specs.Time.{time_for}
@@ -57,8 +57,9 @@ pub record_named : (given : Option (List ℕ)) (source : RepoState) (store middl
     (before between after : Option (List ℕ)) → KeepsRest store middle → id ≡ content_id (repo_view store.repo).keys one.text
     → repo_view now.repo ≡ with_manifest (repo_view middle.repo) (named_next given source middle named id)
     → accepted_in now ≡ (repo_view now.repo).manifest → Draws one.salt before between → Draws one.manifest_salt between after
+    → length (manifest_text (repo_view middle.repo).keys one.manifest_salt (accepted_in now)) ≤ content_limit
     → NamesNew given source store named (one ∷ []) now before after
-record_named given source store middle now named id one before between after rest id_is is accepted salt manifest_salt = record {
+record_named given source store middle now named id one before between after rest id_is is accepted salt manifest_salt small = record {
   one = one;
   records_are = refl;
   accepted = accepted
@@ -67,6 +68,7 @@ record_named given source store middle now named id one before between after res
       ∙ (ap (λ (m : ManifestText). next_with given source named (accepted_in store) m id) rest.manifest
       ∙ ap (next_with given source named (accepted_in store) (repo_view store.repo).manifest) id_is)));
   drew = draws_one one before between after salt manifest_salt;
+  small = subst (λ (k : Keys). length (manifest_text k one.manifest_salt (accepted_in now)) ≤ content_limit) rest.keys small;
 }
 
 -- the same of an archive that is named behind pieces
@@ -85,6 +87,7 @@ next_rest given source after store middle now named records x y rest same next =
           ∙ (ap (λ (m : ManifestText). next_with given source named (accepted_in store) m (content_id (repo_view middle.repo).keys text)) rest.manifest
           ∙ ap (λ (k : Keys). next_with given source named (accepted_in store) (repo_view store.repo).manifest (content_id k text)) rest.keys)));
       drew = next.drew;
+      small = subst (λ (k : Keys). length (manifest_text k next.one.manifest_salt (accepted_in now)) ≤ content_limit) rest.keys next.small;
     }
 
 -- where an archive is there, nothing is accepted
@@ -131,9 +134,12 @@ flown_named told options other source after store middle now named was records x
     record { named = named; named_is = named_is; lacks = lacked_before named was (accepted_in store) (accepted_in middle) called accepted lacks } in
     let id = content_id (repo_view store.repo).keys text in
     let is = next.accepted ∙ settled_next given other.timestamp source after store middle named was text settled given_is repo called accepted keys in (
-      subst (λ (l : List TaggedRecord). AreNextOf given source.manifest (accepted_in store) (named.name ∷ []) (record_ids (repo_view store.repo).keys l)
-          (accepted_in now)) (sym next.records_are)
-          (next_one given source.manifest (accepted_in store) named.name (id ∷ []) (accepted_in now) (inr (new, (id, (refl, is))))),
+      named_one given source.manifest (repo_view store.repo).keys (accepted_in store) named.name records (accepted_in now)
+          (subst (λ (l : List TaggedRecord). IsNamedNext given source.manifest (repo_view store.repo).keys (accepted_in store) named.name l (accepted_in now))
+          (sym next.records_are) (
+            inr (new, (id, (refl, is))),
+            (subst (λ (k : Keys). length (manifest_text k next.one.manifest_salt (accepted_in now)) ≤ content_limit) keys next.small, tt),
+          )),
       subst (λ (o : Option (List ℕ)). DrawsSalts records o z) undrawn next.drew,
     )
 
@@ -142,8 +148,10 @@ pub flown_present : (from : Origin) (name : List ℕ) (store now : Store) (recor
     → IsSome (archive_named name (accepted_in store).archives) → accepted_in now ≡ accepted_in store → z ≡ x → records ≡ []
     → AcceptsNames from (name ∷ []) records store now x z
 flown_present from name store now records x z there same undrawn none =
-    subst (λ (l : List TaggedRecord). AcceptsNames from (name ∷ []) l store now x z) (sym none)
-    (next_one from.time from.repo.manifest (accepted_in store) name [] (accepted_in now) (inl (there, (refl, same))), draws_none x z undrawn)
+    subst (λ (l : List TaggedRecord). AcceptsNames from (name ∷ []) l store now x z) (sym none) (
+      named_one from.time from.repo.manifest (repo_view store.repo).keys (accepted_in store) name [] (accepted_in now) (inl (there, (refl, same)), tt),
+      draws_none x z undrawn,
+    )
 
 -- or with it the manifest is too large
 pub flown_large : (now : Option Told) (given other : Option (List ℕ)) (source after : RepoState) (store middle : Store) (named was : ArchiveRef)

@@ -1,7 +1,7 @@
 -- Lemmas on specs/Listing.antt: what is added of an archive, item by item, and how far that came.
 use Rattle.std.proofs.Common.{◌≡◌, ◌≤◌, ◌<◌, ◌+◌, ℕ, inl, inr, Bool, false, true, List, [], ◌∷◌, ◌++◌, length, min, Option, Some, None, IfSome}
 use Rattle.std.proofs.Common.{if◌then◌else◌, ◌&&◌, refl, sym, ◌∙◌, ap, subst, arith}
-use Rattle.std.proofs.lemmas.List.{append-nil, append_assoc}
+use Rattle.std.proofs.lemmas.List.{append-nil, append_assoc, length-map}
 use Rattle.std.proofs.lemmas.List.Elements.{All-nil}
 use Rattle.std.proofs.lemmas.Option.{IfSome_then}
 use Rattle.ferry_disk.proofs.DeviceLemmas.{told_any}
@@ -27,9 +27,10 @@ use Rattle.ferry_repo.proofs.WalkLawLemmas.{some_to_come}
 use Rattle.ferry_store.specs.declared.store.Store.{Store}
 use Rattle.ferry_carry.proofs.SourceLemmas.{leads_come}
 use Rattle.ferry_carry.specs.Carrying.{Origin, origin}
-use Rattle.ferry_carry.specs.Copied.{copied_item, pieces_of, stream_block}
+use Rattle.ferry_carry.specs.Copied.{HasFewPieces, copied_item, pieces_of, stream_block}
 use Rattle.ferry_carry.specs.Copying.{BeginsContent, CopiesContent, IsReady}
 use Rattle.ferry_carry.specs.Listing.{BeginsArchive, BeginsNext, BeginsOne, FillsOn, ListsContents, ListsItems, TakesItems}
+use Rattle.ferry_piece.specs.Gather.{chunk_of}
 use Rattle.ferry_piece.specs.Piece.{AreFullOf, WritesOn}
 use Rattle.ferry_carry.specs.Progress.{CopiesAll, CopiesSoFar, IsCopiedSoFar}
 use Rattle.ferry_piece.specs.Puts.{Addition, AreOf, ArePieces, Content, Kind, Stream, contents_in, put_bytes, put_count, same_kind}
@@ -76,6 +77,7 @@ pub record IsTaken (there : Files) (source : RepoState) (block : ℕ) (keys : Ke
     (whole : WholeItem) : Type 0 where
   pub holds : HoldsItem there source.log source.keys item whole
   pub pieces : contents ≡ pieces_of block whole.content
+  pub few : HasFewPieces block whole
   pub text : copied ≡ copied_item keys block whole
 
 -- items with the same fields and the same chunks are the same
@@ -97,6 +99,7 @@ item_taken t source block keys item fields None None contents is same copies =
           content = subst (λ (c : Option (List ChunkRef)). HoldsJoined (told_files t) source.log source.keys c None) (sym is) tt;
         };
         pieces = copies;
+        few = omega arith;
         text = same_text copied (copied_item keys block whole) same refl;
       },
     )
@@ -112,6 +115,8 @@ item_taken t source block keys item fields (Some chunks) (Some copied) contents 
           content = subst (λ (c : Option (List ChunkRef)). HoldsJoined (told_files t) source.log source.keys c (Some copies.0)) (sym is) copies.1.1.1.1;
         };
         pieces = copies.1.0;
+        few = subst (λ (n : ℕ). n ≤ 4294967295)
+            (ap (λ (c : List ChunkRef). length c) copies.1.1.0 ∙ length-map (cut block copies.0) (chunk_of keys)) copies.1.1.1.0;
         text = same_text text (copied_item keys block whole) same (ap (λ (c : List ChunkRef). Some c) copies.1.1.0);
       },
     )

@@ -1,6 +1,7 @@
 -- Lemmas on specs/Naming.antt: the record that was put for an archive, what the store lets a next body do, and the commit of a name.
 use Rattle.std.proofs.Common.{◌≡◌, ◌⊎◌, inl, inr, Bool, ℕ, List, [], ◌∷◌, Option, None, Result, Ok, Err, IfOk, IfSome, OnOk, ◌+◌, ◌-◌, ◌^◌, min}
 use Rattle.std.proofs.Common.{length, ◌<◌, ◌≤◌, ◌++◌, refl, sym, ◌∙◌, ap, arith, subst, false, true}
+use Rattle.std.proofs.lemmas.Bool.{cases_lt}
 use Rattle.std.proofs.lemmas.List.{append-nil, append_assoc}
 use Rattle.std.proofs.lemmas.Option.{IfSome_then}
 use Rattle.ferry_base.specs.Limits.{content_limit, zero_id}
@@ -130,6 +131,7 @@ copied_so files repo copy wholes added more ready writes adds =
       text_is = adds.text_is;
       reads = adds.reads;
       small = adds.small;
+      few = writes.few;
       spelled = writes.spelled;
     }
 
@@ -328,6 +330,13 @@ names_nothing entry manifest store now a n fault accepts still from earlier at_e
     carried_nothing {T = Unit {0}} earlier from (entry.name ∷ []) (entry.name ∷ []) [] store now a n fault accepts still
 
 -- ---- a manifest that is too large
+
+-- what isn't larger than the content of an object may be
+pub no_larger : (size : ℕ) → (content_limit < size → ⊥) → size ≤ content_limit
+no_larger size none = elim (cases_lt content_limit size) [
+  | inl large ↦ absurd (none large)
+  | inr small ↦ small
+]
 
 -- what the store says of the manifest of a commit
 pub commit_limit : (store : Store) (keys : Keys) (manifest : ManifestText) (salt : List ℕ) (refusal : StoreRefusal) → length salt ≡ 64

@@ -5,7 +5,7 @@ use Rattle.std.proofs.Common.{subst}
 use Rattle.std.proofs.lemmas.List.{append-nil, append_assoc, map-append}
 use Rattle.std.specs.List.{AllByRecursion}
 use Rattle.ferry_blob.specs.Blob.{content_id}
-use Rattle.ferry_carry.specs.Accepting.{AreNextOf, IsNextOf, named_next, next_named}
+use Rattle.ferry_carry.specs.Accepting.{AreNamedNext, AreNextOf, IsNamedNext, IsNextOf, named_next, next_named}
 use Rattle.ferry_carry.specs.Carrying.{Origin}
 use Rattle.ferry_carry.specs.Flight.{IsFlown}
 use Rattle.ferry_carry.specs.Grow.{IsBehind}
@@ -92,6 +92,44 @@ are_then given source manifest middle now (name ∷ some) more ids others p q =
       ),
     )
 
+-- the same of those that are no larger than they may be
+pub named_one : (given : Option (List ℕ)) (source : ManifestText) (keys : Keys) (manifest : ManifestText) (name : List ℕ) (records : List TaggedRecord)
+    (now : ManifestText) → IsNamedNext given source keys manifest name records now → AreNamedNext given source keys manifest (name ∷ []) records now
+named_one given source keys manifest name records now next = (records, ([], (sym (append-nil records), (now, (next, (refl, refl))))))
+
+named_then : (given : Option (List ℕ)) (source : ManifestText) (keys : Keys) (manifest middle now : ManifestText) (some more : List (List ℕ))
+    (records others : List TaggedRecord) → AreNamedNext given source keys manifest some records middle
+    → AreNamedNext given source keys middle more others now → AreNamedNext given source keys manifest (some ++ more) (records ++ others) now
+named_then given source keys manifest middle now [] more records others p q =
+    subst (λ (m : ManifestText). AreNamedNext given source keys m more (records ++ others) now) p.1
+    (subst (λ (l : List TaggedRecord). AreNamedNext given source keys middle more (l ++ others) now) (sym p.0) q)
+named_then given source keys manifest middle now (name ∷ some) more records others p q =
+    let next = p.1.1.1 in
+    let rest = named_then given source keys next.0 middle now some more p.1.0 others next.1.1 q in (
+      p.0,
+      (
+        p.1.0 ++ others,
+        (ap (λ (l : List TaggedRecord). l ++ others) p.1.1.0 ∙ append_assoc p.0 p.1.0 others, (next.0, (next.1.0, rest))),
+      ),
+    )
+
+-- they are those behind the archives, by the ids of the records
+pub next_of : (given : Option (List ℕ)) (source : ManifestText) (keys : Keys) (manifest : ManifestText) (names : List (List ℕ))
+    (records : List TaggedRecord) (now : ManifestText) → AreNamedNext given source keys manifest names records now
+    → AreNextOf given source manifest names (record_ids keys records) now
+next_of given source keys manifest [] records now p = (ap (record_ids keys) p.0, p.1)
+next_of given source keys manifest (name ∷ names) records now p =
+    let next = p.1.1.1 in (
+      record_ids keys p.0,
+      (
+        record_ids keys p.1.0,
+        (
+          ap (record_ids keys) p.1.1.0 ∙ map-append (λ (one : TaggedRecord). content_id keys one.text) p.0 p.1.0,
+          (next.0, (next.1.0.0, next_of given source keys next.0 names p.1.0 now next.1.1)),
+        ),
+      ),
+    )
+
 -- ---- what a store accepted
 
 pub accepts_none : (from : Origin) (store : Store) (drawn : Option (List ℕ)) → AcceptsNames from [] [] store store drawn drawn
@@ -104,11 +142,8 @@ pub accepts_then : (from : Origin) (some more : List (List ℕ)) (records others
 accepts_then from some more records others store middle now x y z same p q =
     let keys = (repo_view store.repo).keys in
     let source = from.repo.manifest in
-    let behind = subst (λ (k : Keys). AreNextOf from.time source (accepted_in middle) more (record_ids k others) (accepted_in now)) same q.0 in (
-      subst (λ (ids : List (List ℕ)). AreNextOf from.time source (accepted_in store) (some ++ more) ids (accepted_in now))
-          (sym (map-append (λ (one : TaggedRecord). content_id keys one.text) records others))
-          (are_then from.time source (accepted_in store) (accepted_in middle) (accepted_in now) some more (record_ids keys records) (record_ids keys others)
-          p.0 behind),
+    let behind = subst (λ (k : Keys). AreNamedNext from.time source k (accepted_in middle) more others (accepted_in now)) same q.0 in (
+      named_then from.time source keys (accepted_in store) (accepted_in middle) (accepted_in now) some more records others p.0 behind,
       draws_then records others x y z p.1 q.1,
     )
 

@@ -39,7 +39,7 @@ use Rattle.ferry_carry.proofs.SourceLemmas.{leads_end, leads_then, source_whole,
 use Rattle.ferry_piece.proofs.AmongLemmas.{all_both, all_front, each_to}
 use Rattle.ferry_piece.proofs.WorkLemmas.{works_known}
 use Rattle.ferry_carry.specs.Carrying.{CanBeNamed, HoldsApart, IsReadyToName, Origin, SaysIn, origin}
-use Rattle.ferry_carry.specs.Copied.{IsCopyOf, IsRead, adds_of, contents_of, copied_item, copied_stream, pieces_of, stream_block, stream_pieces}
+use Rattle.ferry_carry.specs.Copied.{HasFewPieces, IsCopyOf, IsRead, adds_of, contents_of, copied_item, copied_stream, pieces_of, stream_block, stream_pieces}
 use Rattle.ferry_carry.specs.Copying.{IsReady}
 use Rattle.ferry_piece.specs.Gather.{Gathered, Gathers, HoldsContents, HoldsWithin, IsAmong, KeepsRest, KeepsStanding, NoCollision, chunk_of, chunks_of}
 use Rattle.ferry_carry.specs.Listing.{ListsItems}
@@ -130,9 +130,9 @@ writes_more : (most : ℕ) (counts : Bool) (store now : Store) (h g : History) (
     → copy_now.block ≡ copy.block → ArePieces Content (pieces_of copy.block whole.content) own → AreOf Stream spelled
     → WritesOn (repo_view store.repo).keys copy.stream.cutter copy.stream.chunks.items (item_text (copied_item (repo_view store.repo).keys copy.block whole))
     (contents_in spelled) copy_now.stream.cutter copy_now.stream.chunks.items → IsRead (copied_item (repo_view store.repo).keys copy.block whole)
-    → WritesItems (files_now h) (repo_view store.repo) copy wholes added
+    → HasFewPieces copy.block whole → WritesItems (files_now h) (repo_view store.repo) copy wholes added
     → WritesItems (files_now g) (repo_view now.repo) copy_now (wholes ++ whole ∷ []) (added ++ (own ++ spelled))
-writes_more most counts store now h g fits copy copy_now wholes whole added own spelled end rest ready same own_is of wrote read writes =
+writes_more most counts store now h g fits copy copy_now wholes whole added own spelled end rest ready same own_is of wrote read few writes =
     let large = ready.stream_block_is in
     let keys = (repo_view store.repo).keys in
     let block = copy.block in
@@ -171,6 +171,8 @@ writes_more most counts store now h g fits copy copy_now wholes whole added own 
       fed = so.0;
       chunks = so.1.0;
       spelled = so.1.1.0;
+      few = subst (λ (b : ℕ). AllByRecursion (HasFewPieces b) all) (sym same)
+          (all-append (HasFewPieces block) wholes (whole ∷ []) writes.few (few, tt));
       held = subst (λ (b : ℕ). HoldsApart (files_now g) (repo_view now.repo) (added ++ more) (contents_of b all ++ taken)) (sym same) held;
       lists = so.1.1.1;
     }
@@ -195,6 +197,7 @@ writes_on most counts store now more h g fits copy copy_now wholes added end res
       fed = so.0;
       chunks = so.1.0;
       spelled = so.1.1.0;
+      few = subst (λ (b : ℕ). AllByRecursion (HasFewPieces b) wholes) (sym same) writes.few;
       held = subst (λ (b : ℕ). HoldsApart (files_now g) (repo_view now.repo) added (contents_of b wholes ++ taken)) (sym same)
           (held_on most counts store now added more (contents_of copy.block wholes ++ taken) h g fits end rest writes.held);
       lists = so.1.1.1;
@@ -238,7 +241,7 @@ step_copied most counts t source named store now copy copy_now added more h g fi
       writes = subst (λ (l : List Addition). WritesItems (files_now g) (repo_view now.repo) copy_now (so.wholes ++ whole ∷ []) (added ++ l)) (sym step.pieces)
           (writes_more most counts store now h g fits copy copy_now so.wholes whole added own spelled
           (subst (λ (l : List Addition). Gathered Within most counts store l now h g fits) step.pieces end) rest ready same (is.pieces, step.of_content)
-          step.of_stream wrote read so.writes);
+          step.of_stream wrote read is.few so.writes);
     }
 
 -- no item more is to come: all were written
@@ -369,6 +372,7 @@ nothing_taken there source named files repo copy record_is walk stream =
         fed = subst (λ (piece : List ℕ). IsFed stream_block [] [] piece) (sym stream.0) (fed_nothing stream_block);
         chunks = stream.1;
         spelled = tt;
+        few = tt;
         held = λ scope apart all within. tt;
         lists = (refl, stream.0);
       };
@@ -479,6 +483,7 @@ ready_then most counts there from named store middle copy added last more before
       text_is = is.adds.text_is;
       reads = is.adds.reads;
       small = is.adds.small;
+      few = writes.few;
       spelled = writes.spelled;
     } in
     let behind : stream_pieces keys block wholes ++ text ∷ [] ≡ writes.taken ++ (left ++ text ∷ []) =

@@ -26,7 +26,7 @@ use Rattle.ferry_carry.proofs.NamesLemmas.{ListedAs, listed_as, lists_one}
 use Rattle.ferry_carry.proofs.CountingLemmas.{counts_then, counts_none}
 use Rattle.ferry_carry.proofs.MomentLemmas.{reported_growing, reported_here, names_here, reported_wider, reported_then, names_then, reported_name, told_name}
 use Rattle.ferry_carry.proofs.MomentLemmas.{grows_told, carries_told, reported_whole, told_whole}
-use Rattle.ferry_carry.proofs.NextLemmas.{accepts_both, accepts_none}
+use Rattle.ferry_carry.proofs.NextLemmas.{accepts_both, accepts_none, next_of}
 use Rattle.ferry_piece.specs.Adding.{IsNoChunk, SparesStore, StopsLast}
 use Rattle.ferry_carry.specs.Carrying.{Origin}
 use Rattle.ferry_carry.specs.Chosen.{TellsLine}
@@ -390,7 +390,8 @@ reports_more from other names place name d store middle now carried between afte
     ap (λ (x : List ℕ). some ++ x ∷ []) named ∙ sym (take_more names place d lt) in
     reports_as from from (take (place + 1) names) (some ++ name ∷ []) store now carried after a c n k x z result refl more
     (reports_then from some (name ∷ []) store middle now carried between after a b c n m k x y z result settled accepts fits
-    (extends_next from.time from.repo.manifest (accepted_in store) (accepted_in middle) some (record_ids (repo_view store.repo).keys p.records) p.accepts.0)
+    (extends_next from.time from.repo.manifest (accepted_in store) (accepted_in middle) some (record_ids (repo_view store.repo).keys p.records)
+    (next_of from.time from.repo.manifest (repo_view store.repo).keys (accepted_in store) some p.records (accepted_in middle) p.accepts.0))
     same unspent p follows
     (subst (λ (f : Origin). Reports f (name ∷ []) middle now between after b c m k y z result) is q))
 

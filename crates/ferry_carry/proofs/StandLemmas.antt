@@ -20,6 +20,7 @@ use Rattle.ferry_piece.proofs.GatherLemmas.{add_stands, each_then}
 use Rattle.ferry_carry.proofs.GrowLemmas.{Follows, growing_by, growing_here, growing_then, standing_accepted}
 use Rattle.ferry_carry.proofs.MomentLemmas.{names_here, reported_growing, reported_here, reported_then}
 use Rattle.ferry_carry.proofs.NamesLemmas.{all_nothing, all_then, all_wider}
+use Rattle.ferry_carry.proofs.NextLemmas.{next_of}
 use Rattle.ferry_carry.proofs.ThereLemmas.{extends_next}
 use Rattle.ferry_carry.specs.Carrying.{Origin}
 use Rattle.ferry_piece.specs.Fault.{IsOfWork, target_fault}
@@ -139,7 +140,8 @@ stops_behind from other names some name rest store middle carried between a b c 
       begins = subst (λ (l : List (List ℕ)). BeginsAll a from store l (added ++ others)) (append_assoc some (name ∷ []) rest ∙ sym split)
           (all_wider a from store (some ++ name ∷ []) rest (added ++ others)
           (all_then from store middle some (name ∷ []) p.records added others a b
-          (extends_next from.time from.repo.manifest accepted (accepted_in middle) some (record_ids (repo_view store.repo).keys p.records) p.accepts.0) keys
+          (extends_next from.time from.repo.manifest accepted (accepted_in middle) some (record_ids (repo_view store.repo).keys p.records)
+          (next_of from.time from.repo.manifest (repo_view store.repo).keys accepted some p.records (accepted_in middle) p.accepts.0)) keys
           p.works.end stopped.begins));
       each = between_then a b c
           (λ h g. KeepsReported from some store added h g

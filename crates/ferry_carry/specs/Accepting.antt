@@ -1,5 +1,6 @@
 -- Which manifests a target has, one behind another, as archives of a source are named in it, and which is too large.
-use Rattle.std.specs.Prelude.{◌≡◌, ◌⊎◌, ◌<◌, ◌++◌, ℕ, List, [], ◌∷◌, length, Option, Some, None, IsSome}
+use Rattle.std.specs.Prelude.{◌≡◌, ◌⊎◌, ◌<◌, ◌≤◌, ◌++◌, ℕ, List, [], ◌∷◌, length, Option, Some, None, IsSome}
+use Rattle.std.specs.List.{AllByRecursion}
 use Rattle.ferry_base.specs.Limits.{content_limit}
 use Rattle.ferry_blob.specs.Blob.{content_id}
 use Rattle.ferry_mac.specs.declared.keys.Keys.{Keys}
@@ -11,7 +12,7 @@ use Rattle.ferry_repo.specs.Archives.{archive_named}
 use Rattle.ferry_repo.specs.Opening.{RepoState, repo_view}
 use Rattle.ferry_store.specs.Commit.{accepted_in}
 use Rattle.ferry_store.specs.declared.store.Store.{Store}
-use Rattle.ferry_carry.specs.Naming.{DrawsSalts, TaggedRecord, entry_for}
+use Rattle.ferry_carry.specs.Naming.{DrawsSalts, TaggedRecord, entry_for, record_ids}
 use Rattle.ferry_carry.specs.Time.{time_for}
 
 -- a manifest with an archive of a source, whose record has this id, written at the time that is given, or else at the later of both manifests' times
@@ -25,13 +26,15 @@ named_next given source store named id =
     written_at (next_manifest (accepted_in store) (entry_for named id) source.manifest.item_keys)
     (time_for given source.manifest.timestamp (repo_view store.repo).manifest.timestamp)
 
--- What a store accepted has an archive of a source too, by the id of its record, whose salts were drawn.
+-- What a store accepted has an archive of a source too, by the id of its record, whose salts were drawn; tagged with the second of them it is no larger than
+-- the content of an object may be.
 pub record NamesNew (given : Option (List ℕ)) (source : RepoState) (store : Store) (named : ArchiveRef) (records : List TaggedRecord) (store_now : Store)
     (drawn drawn_now : Option (List ℕ)) : Type 0 where
   pub one : TaggedRecord
   pub records_are : records ≡ one ∷ []
   pub accepted : accepted_in store_now ≡ named_next given source store named (content_id (repo_view store.repo).keys one.text)
   pub drew : DrawsSalts records drawn drawn_now
+  pub small : length (manifest_text (repo_view store.repo).keys one.manifest_salt (accepted_in store_now)) ≤ content_limit
 
 -- A source has an archive of a name, which a manifest lacks.
 pub record IsNewIn (source manifest : ManifestText) (name : List ℕ) : Type 0 where
@@ -50,6 +53,19 @@ abbrev pub AreNextOf : Option (List ℕ) → ManifestText → ManifestText → L
 AreNextOf given source manifest [] ids manifest_now = (ids ≡ []) × (manifest_now ≡ manifest)
 AreNextOf given source manifest (name ∷ names) ids manifest_now = (own : List (List ℕ)) × ((others : List (List ℕ)) × ((ids ≡ own ++ others)
     × ((middle : ManifestText) × (IsNextOf given source manifest name own middle × AreNextOf given source middle names others manifest_now))))
+
+-- The manifest behind the archive of a name, by the id of its record where it is new, and tagged with the salt that stands beside the record it is no larger
+-- than the content of an object may be.
+abbrev pub IsNamedNext : Option (List ℕ) → ManifestText → Keys → ManifestText → List ℕ → List TaggedRecord → ManifestText → Type 0
+IsNamedNext given source keys manifest name records manifest_now = IsNextOf given source manifest name (record_ids keys records) manifest_now
+    × AllByRecursion (λ (one : TaggedRecord). length (manifest_text keys one.manifest_salt manifest_now) ≤ content_limit) records
+
+-- The manifest behind the archives of names, one after another, each of them so.
+abbrev pub AreNamedNext : Option (List ℕ) → ManifestText → Keys → ManifestText → List (List ℕ) → List TaggedRecord → ManifestText → Type 0
+AreNamedNext given source keys manifest [] records manifest_now = (records ≡ []) × (manifest_now ≡ manifest)
+AreNamedNext given source keys manifest (name ∷ names) records manifest_now = (own : List TaggedRecord) × ((others : List TaggedRecord)
+    × ((records ≡ own ++ others) × ((middle : ManifestText)
+    × (IsNamedNext given source keys manifest name own middle × AreNamedNext given source keys middle names others manifest_now))))
 
 -- With the archive of a name a manifest is larger than the content of an object may be, whatever the text of its record, and whatever salt of 64 bytes it is
 -- tagged with.

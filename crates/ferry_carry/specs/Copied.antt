@@ -24,6 +24,10 @@ abbrev pub pieces_of : ℕ → Option (List ℕ) → List (List ℕ)
 pieces_of block None = []
 pieces_of block (Some content) = cut block content
 
+-- The content of an item is cut into no more pieces than an item may have.
+abbrev pub HasFewPieces : ℕ → WholeItem → Type 0
+HasFewPieces block whole = length (pieces_of block whole.content) ≤ 4294967295
+
 -- an item of a source as it is in a target
 abbrev pub copied_item : Keys → ℕ → WholeItem → ItemText
 copied_item keys block whole =
@@ -53,7 +57,7 @@ abbrev pub adds_of : Keys → ℕ → List WholeItem → List ℕ → List (List
 adds_of keys block wholes text = contents_of block wholes ++ (stream_pieces keys block wholes ++ text ∷ [])
 
 -- A text is that of the record of an archive with these fields, whose stream is that of these items, and which was cut into pieces of this length. It is
--- tagged with this salt, and no larger than the content of an object may be.
+-- tagged with this salt, and no larger than the content of an object may be, and no item has more pieces than one may have.
 pub record IsCopyOf (keys : Keys) (block : ℕ) (wholes : List WholeItem) (fields : Tree) (salt text : List ℕ) : Type 0 where
   pub some : 1 ≤ block
   pub salt_size : length salt ≡ 64
@@ -65,4 +69,5 @@ pub record IsCopyOf (keys : Keys) (block : ℕ) (wholes : List WholeItem) (field
   pub text_is : text ≡ archive_text keys salt copied
   pub reads : archive_of keys text ≡ Ok copied
   pub small : length text ≤ content_limit
+  pub few : AllByRecursion (HasFewPieces block) wholes
   pub spelled : AllByRecursion (λ (whole : WholeItem). IsRead (copied_item keys block whole)) wholes

@@ -13,7 +13,7 @@ use Rattle.ferry_repo.specs.Walk.{LeadsOn, begin_walk, walk_view}
 use Rattle.ferry_repo.specs.Whole.{WholeItem, WholesCome}
 use Rattle.ferry_store.specs.declared.store.Store.{Store}
 use Rattle.ferry_carry.specs.Carrying.{HoldsApart, Origin, SaysIn}
-use Rattle.ferry_carry.specs.Copied.{IsRead, contents_of, copied_item, copied_stream, stream_block}
+use Rattle.ferry_carry.specs.Copied.{HasFewPieces, IsRead, contents_of, copied_item, copied_stream, stream_block}
 use Rattle.ferry_piece.specs.Gather.{chunks_of}
 use Rattle.ferry_carry.specs.Listing.{ListsItems}
 use Rattle.ferry_piece.specs.Puts.{Addition, Content, Stream, put_bytes, put_count}
@@ -26,6 +26,7 @@ pub record WritesItems (files : Files) (repo : RepoState) (copy : Copy) (wholes 
   pub fed : IsFed stream_block (copied_stream repo.keys copy.block wholes) taken copy.stream.cutter.piece
   pub chunks : copy.stream.chunks.items ≡ chunks_of repo.keys taken
   pub spelled : AllByRecursion (λ (whole : WholeItem). IsRead (copied_item repo.keys copy.block whole)) wholes
+  pub few : AllByRecursion (HasFewPieces copy.block) wholes
   pub held : HoldsApart files repo added (contents_of copy.block wholes ++ taken)
   pub lists : ListsItems repo.keys copy.block [] wholes added copy.stream.cutter.piece
 

@@ -12,13 +12,13 @@ use Rattle.ferry_store.specs.State.{IsSound, Written}
 use Rattle.ferry_store.specs.Store.{StoreFits}
 use Rattle.ferry_store.specs.declared.store.Store.{Store}
 use Rattle.ferry_piece.specs.Adding.{HoldsRefused, StopsLast}
-use Rattle.ferry_carry.specs.Accepting.{AreNextOf}
+use Rattle.ferry_carry.specs.Accepting.{AreNamedNext}
 use Rattle.ferry_carry.specs.Carrying.{Origin}
 use Rattle.ferry_carry.specs.Counting.{CountsMore, IsTotalOf, TellsNew}
 use Rattle.ferry_carry.specs.Filling.{FillsAll}
 use Rattle.ferry_carry.specs.Grow.{Grows, KeepsGrowing, StandsOn}
 use Rattle.ferry_carry.specs.Listing.{BeginsNames, ListsNames}
-use Rattle.ferry_carry.specs.Naming.{DrawsSalts, TaggedRecord, record_ids}
+use Rattle.ferry_carry.specs.Naming.{DrawsSalts, TaggedRecord}
 use Rattle.ferry_piece.specs.Puts.{Addition, AtBegin}
 use Rattle.ferry_carry.specs.Lines.{name_line, told_of, total_line}
 use Rattle.ferry_piece.specs.Work.{Works}
@@ -90,10 +90,11 @@ abbrev pub CarriesNames : Origin → List (List ℕ) → List TaggedRecord → L
 CarriesNames from chosen records added store store_now before now = Grows [] from chosen added store store_now before now
     × ListsNames from (repo_view store.repo).keys (accepted_in store) [] chosen records added
 
--- The manifest that is accepted is the one behind the archives of these names, by the ids of their records, whose salts were drawn.
+-- The manifest that is accepted is the one behind the archives of these names, by the ids of their records, whose salts were drawn, and each on the way to it
+-- is no larger than the content of an object may be.
 abbrev pub AcceptsNames : Origin → List (List ℕ) → List TaggedRecord → Store → Store → Option (List ℕ) → Option (List ℕ) → Type 0
 AcceptsNames from chosen records store store_now drawn drawn_now =
-    AreNextOf from.time from.repo.manifest (accepted_in store) chosen (record_ids (repo_view store.repo).keys records) (accepted_in store_now)
+    AreNamedNext from.time from.repo.manifest (repo_view store.repo).keys (accepted_in store) chosen records (accepted_in store_now)
     × DrawsSalts records drawn drawn_now
 
 -- What was added for these names, as far as it came, where the target tells its files.

@@ -22,7 +22,7 @@ ghost use Rattle.ferry_disk.specs.Device.{HasCause, Told};
 ghost use Rattle.ferry_disk.specs.Moments.{Between};
 ghost use Rattle.ferry_mac.specs.declared.keys.Keys.{Keys};
 ghost use Rattle.ferry_manifest.specs.Manifest.Text.{ManifestText};
-ghost use Rattle.ferry_manifest.specs.Manifest.Writing.{IsPackable};
+ghost use Rattle.ferry_manifest.specs.Manifest.Writing.{IsPackable, manifest_text};
 ghost use Rattle.ferry_manifest.specs.declared.manifest.ArchiveRef.{ArchiveRef};
 ghost use Rattle.ferry_manifest.specs.Record.Text.{archive_of, archive_view, as_tagged};
 ghost use Rattle.ferry_manifest.specs.Record.Writing.{IsPackableArchive, archive_text};
@@ -290,7 +290,9 @@ fn name_record<D: Depot, E: Entropy>(
     requires unnamed { archive_named named.now.name (accepted_in store.old).archives ≡ None }
     ensures works { NamesArchive (accepted_in store.old) (entry_for named.now id) (named_next timestamp.now (repo_view source.now) store.old named.now id)
         store.old store.new (D.told depot.old) (D.told depot.new) (D.faults depot.old) (D.faults depot.new) result }
-    ensures salt { OnOk result ((salt : List ℕ) × Draws salt (E.drawn entropy.old) (E.drawn entropy.new)) }
+    // Tagged with the salt that was drawn, what is accepted is no larger than the content of an object may be.
+    ensures salt { OnOk result ((salt : List ℕ) × (Draws salt (E.drawn entropy.old) (E.drawn entropy.new)
+        × (length (manifest_text (repo_view store.old.repo).keys salt (accepted_in store.new)) ≤ content_limit))) }
     // Where it is refused, but for a device that failed and want of memory, nothing is named.
     ensures stands { IfErr result (λ fault. IsOfWork fault
         → (most : ℕ) → Between (D.told depot.old) (D.told depot.new) (KeepsStanding most store.old [])) }
@@ -391,7 +393,9 @@ fn commit_named<D: Depot, E: Entropy>(
     ensures works { NamesArchive (accepted_in store.old) entry
         (written_at (next_manifest (accepted_in store.old) entry (repo_view source.now).manifest.item_keys) timestamp.now)
         store.old store.new (D.told depot.old) (D.told depot.new) (D.faults depot.old) (D.faults depot.new) result }
-    ensures salt { OnOk result ((salt : List ℕ) × Draws salt (E.drawn entropy.old) (E.drawn entropy.new)) }
+    // Tagged with the salt that was drawn, what is accepted is no larger than the content of an object may be.
+    ensures salt { OnOk result ((salt : List ℕ) × (Draws salt (E.drawn entropy.old) (E.drawn entropy.new)
+        × (length (manifest_text (repo_view store.old.repo).keys salt (accepted_in store.new)) ≤ content_limit))) }
     // Where it is refused, but for a device that failed and want of memory, nothing is named.
     ensures stands { IfErr result (λ fault. IsOfWork fault
         → (most : ℕ) → Between (D.told depot.old) (D.told depot.new) (KeepsStanding most store.old [])) }
@@ -432,7 +436,9 @@ fn commit<D: Depot, E: Entropy>(
     ensures works { (accepted : ManifestText) (entry : ArchiveRef) → AcceptsOne accepted store.old entry
         → NamesArchive accepted entry (written_at (accepted_in store.old) timestamp.now) store.old store.new
         (D.told depot.old) (D.told depot.new) (D.faults depot.old) (D.faults depot.new) result }
-    ensures salt { OnOk result ((salt : List ℕ) × Draws salt (E.drawn entropy.old) (E.drawn entropy.new)) }
+    // Tagged with the salt that was drawn, what is accepted is no larger than the content of an object may be.
+    ensures salt { OnOk result ((salt : List ℕ) × (Draws salt (E.drawn entropy.old) (E.drawn entropy.new)
+        × (length (manifest_text (repo_view store.old.repo).keys salt (accepted_in store.new)) ≤ content_limit))) }
     // Where it is refused, but for a device that failed and want of memory, nothing is named.
     ensures stands { IfErr result (λ fault. IsOfWork fault
         → (most : ℕ) → Between (D.told depot.old) (D.told depot.new) (KeepsStanding most store.old [])) }

@@ -1,14 +1,14 @@
 -- Lemmas on specs/Archives.antt: lists that grow at their end, names in their order, and the entries of archives.
-use Rattle.std.proofs.Common.{◌≡◌, ◌≤◌, ◌<◌, ◌+◌, ◌-◌, ◌⊎◌, inl, inr, ℕ, zero, suc, Bool, true, false, T, not, ◌&&◌, List, [], ◌∷◌, ◌++◌, length, map}
+use Rattle.std.proofs.Common.{◌≡◌, ◌≤◌, ◌<◌, ◌+◌, ◌-◌, ◌*◌, ◌/◌, ◌⊎◌, inl, inr, ℕ, zero, suc, Bool, true, false, T, not, ◌&&◌, List, [], ◌∷◌, ◌++◌, length, map}
 use Rattle.std.proofs.Common.{Some, None, Option, slice_get, refl, sym, ◌∙◌, ap, subst, arith, eq-zero-or-pos}
-use Rattle.std.proofs.lemmas.List.{append-nil, append_assoc}
+use Rattle.std.proofs.lemmas.List.{append-nil, append_assoc, length-append}
 use Rattle.std.proofs.lemmas.Option.{slice_get_within}
 use Rattle.std.proofs.lemmas.Slice.Eq.{bytes_eq-Decides}
-use Rattle.std.specs.List.{filter}
+use Rattle.std.specs.List.{AllByRecursion, filter}
 use Rattle.std.specs.Str.{bytes_eq}
 use lib.Ieee.Fits.{and_l, and_r}
 use Rattle.ferry_blob.specs.Blob.{content_id}
-use Rattle.ferry_carry.specs.Copied.{adds_of, contents_of, copied_item, copied_stream, pieces_of}
+use Rattle.ferry_carry.specs.Copied.{HasFewPieces, adds_of, contents_of, copied_item, copied_stream, pieces_of}
 use Rattle.ferry_item.specs.Writing.{item_text}
 use Rattle.ferry_item.specs.declared.item.ChunkRef.{ChunkRef}
 use Rattle.ferry_mac.specs.declared.keys.Keys.{Keys}
@@ -16,10 +16,14 @@ use Rattle.ferry_manifest.specs.declared.manifest.ArchiveRef.{ArchiveRef}
 use Rattle.ferry_next.proofs.OrderLemmas.{apart, less}
 use Rattle.ferry_next.specs.Next.{is_below, with_archive}
 use Rattle.ferry_piece.specs.Gather.{chunks_of}
+use Rattle.ferry_rechunk.proofs.CutLemmas.{cut_count}
+use Rattle.ferry_rechunk.specs.Cut.{cut}
 use Rattle.ferry_repo.specs.Archives.{archive_named}
 use Rattle.ferry_repo.specs.Whole.{WholeItem}
 use Rattle.ferry_gen.specs.Archives.{AreRecordsOf, IsRecordOf, contents_from, drill_item, drill_items, entries_from, entry_of, items_front}
-use Rattle.ferry_gen.specs.Content.{archive_name}
+use Rattle.ferry_gen.specs.Content.{archive_name, file_byte, file_content, file_front, file_size}
+use Rattle.ferry_gen.specs.Source.{source_block}
+use Rattle.ferry_write.proofs.StandLemmas.{all-append}
 
 -- ---- items
 
@@ -55,6 +59,33 @@ items_more archive count zero is = absurd (let no : ⊥ = omega (arith, is) in n
 items_more archive count (suc n) is =
     let same : n ≡ count = omega (arith, is) in
     ap (λ (m : ℕ). items_front archive m ++ drill_item archive m ∷ []) same
+
+-- as many bytes as told
+front_size : (archive file count : ℕ) → length (file_front archive file count) ≡ count
+unfolding file_front
+front_size archive file zero = refl
+front_size archive file (suc count) =
+    omega (arith, length-append (file_front archive file count) (file_byte archive file count ∷ []), front_size archive file count)
+
+-- a file is cut into few pieces
+file_few : (archive file : ℕ) → file < 8 → HasFewPieces source_block (drill_item archive file)
+file_few archive file most =
+    let content = file_content archive file in
+    let size : length content ≡ 4096 * (file + 1) = front_size archive file (file_size file) in
+    let few : (length content + 1023) / 1024 ≤ 33 = omega (arith, size, most) in
+    let count : length (cut source_block content) ≡ (length content + 1023) / 1024 = cut_count source_block content in
+    omega (arith, few, count)
+
+front_few : (archive count : ℕ) → count ≤ 8 → AllByRecursion (HasFewPieces source_block) (items_front archive count)
+unfolding items_front
+front_few archive zero most = tt
+front_few archive (suc count) most =
+    all-append (HasFewPieces source_block) (items_front archive count) (drill_item archive count ∷ []) (front_few archive count (omega (arith, most)))
+    (file_few archive count (omega (arith, most)), tt)
+
+-- and so is each of an archive
+pub drill_few : (archive : ℕ) → AllByRecursion (HasFewPieces source_block) (drill_items archive)
+drill_few archive = front_few archive 8 (omega arith)
 
 -- ---- archives
 

@@ -33,7 +33,7 @@ use Rattle.ferry_rechunk.specs.Cutting.{Cutting, IsFed}
 use Rattle.ferry_store.proofs.StepLemmas.{here_each}
 use Rattle.ferry_store.specs.declared.store.Store.{Store}
 use Rattle.ferry_write.specs.Script.{AllDone}
-use Rattle.ferry_gen.proofs.ListLemmas.{ids_of}
+use Rattle.ferry_gen.proofs.ListLemmas.{drill_few, ids_of}
 use Rattle.ferry_gen.specs.Archives.{drill_items}
 use Rattle.ferry_gen.specs.Fields.{IsNewRecord, archive_fields}
 use Rattle.ferry_gen.specs.Source.{source_block}
@@ -234,6 +234,7 @@ archive_puts (Ok id) archive keys other stream store middle now a b c rest rest_
           text_is = one.text_is;
           reads = one.reads;
           small = one.small;
+          few = drill_few archive;
           spelled = read;
         },
       );

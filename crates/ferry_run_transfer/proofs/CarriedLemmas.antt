@@ -4,9 +4,9 @@ use Rattle.std.proofs.Common.{refl, sym, ◌∙◌, ap, subst, IfSome}
 use Rattle.std.specs.List.{AllByRecursion}
 use Rattle.ferry_piece.proofs.AmongLemmas.{each_to}
 use Rattle.ferry_carry.specs.Listing.{BeginsNames, ListsNames}
-use Rattle.ferry_carry.specs.Naming.{TaggedRecord, record_ids}
+use Rattle.ferry_carry.specs.Naming.{TaggedRecord}
 use Rattle.ferry_carry.specs.Carrying.{AreCut, CarriesOver, IsApart, IsCarried}
-use Rattle.ferry_carry.specs.Accepting.{AreNextOf}
+use Rattle.ferry_carry.specs.Accepting.{AreNamedNext, AreNextOf}
 use Rattle.ferry_carry.specs.Flight.{origin_of}
 use Rattle.ferry_piece.specs.Gather.{BringsOpening, HoldsWithin, NoCollision}
 use Rattle.ferry_carry.specs.Grow.{IsBehind, IsNamedBy, KeepsChunks, StandsOn}
@@ -103,20 +103,19 @@ module _ (secrets : Secrets) (options : Options) (names : List (List ℕ)) (sour
   pub all_listed : (told : Option Told) (chosen : List (List ℕ)) (accepted manifest : ManifestText) (repo : RepoState) (records : List TaggedRecord)
       (added : List Addition) → SourceOpens told → chosen ≡ chosen_of names source.manifest → accepted ≡ repo.manifest
       → ListsNames (origin_of told source options) repo.keys accepted [] chosen records added
-      → AreNextOf options.timestamp source.manifest accepted chosen (record_ids repo.keys records) manifest
+      → AreNamedNext options.timestamp source.manifest repo.keys accepted chosen records manifest
       → IfSome (asked secrets options names told).source (ListsChosen (asked secrets options names told) repo manifest records added)
   all_listed None chosen accepted manifest repo records added opens chosen_is accepted_is lists next = tt
   all_listed (Some t) chosen accepted manifest repo records added opens chosen_is accepted_is lists next =
-      let from = origin_of (Some t) source options in
-      let ids = record_ids repo.keys records in (
+      let from = origin_of (Some t) source options in (
         source,
         (
           opens,
           (
             subst (λ (all : List (List ℕ)). ListsNames from repo.keys repo.manifest [] all records added) chosen_is
                 (subst (λ (m : ManifestText). ListsNames from repo.keys m [] chosen records added) accepted_is lists),
-            subst (λ (all : List (List ℕ)). AreNextOf options.timestamp source.manifest repo.manifest all ids manifest) chosen_is
-                (subst (λ (m : ManifestText). AreNextOf options.timestamp source.manifest m chosen ids manifest) accepted_is next),
+            subst (λ (all : List (List ℕ)). AreNamedNext options.timestamp source.manifest repo.keys repo.manifest all records manifest) chosen_is
+                (subst (λ (m : ManifestText). AreNamedNext options.timestamp source.manifest repo.keys m chosen records manifest) accepted_is next),
           ),
         ),
       )

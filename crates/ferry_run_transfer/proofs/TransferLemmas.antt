@@ -9,9 +9,9 @@ use Rattle.ferry_piece.proofs.WorkLemmas.{between_known, works_both, works_ok, w
 use Rattle.ferry_carry.specs.Listing.{BeginsNames}
 use Rattle.ferry_carry.specs.declared.options.Carried.{Carried}
 use Rattle.ferry_carry.specs.Carrying.{AreCut, IsCarried, Origin}
-use Rattle.ferry_carry.specs.Accepting.{AreNextOf}
+use Rattle.ferry_carry.specs.Accepting.{AreNamedNext}
 use Rattle.ferry_carry.specs.Flight.{origin_of}
-use Rattle.ferry_carry.specs.Naming.{TaggedRecord, record_ids}
+use Rattle.ferry_carry.specs.Naming.{TaggedRecord}
 use Rattle.ferry_carry.specs.Grow.{Grown, IsNamedBy, KeepsChunks, StandsOn}
 use Rattle.ferry_piece.specs.Puts.{Addition, AddsAll, AtBegin, Border, GoesOn, border_behind}
 use Rattle.ferry_carry.specs.Telling.{AcceptsNames, BeginsAll, CarriesNames, IsReport, IsReported, KeepsReported, ReportsWhole, ShowsReport, TellsWhole}
@@ -234,7 +234,7 @@ module _ (secrets : Secrets) (options : Options) (names : List (List ℕ)) (sour
       grown.puts))) in
       let lists = all_listed secrets options names source told chosen (accepted_in store) manifest (repo_view store.repo) records added source_opens
       chosen_is settled carries.1
-      (subst (AreNextOf options.timestamp source.manifest (accepted_in store) chosen (record_ids keys records)) settled_now accepts.0) in
+      (subst (AreNamedNext options.timestamp source.manifest keys (accepted_in store) chosen records) settled_now accepts.0) in
       let told_all = subst (λ (m : ManifestText). TellsWhole m kept.0.done added carried h i) settled
       (subst (λ (l : List (List ℕ)). TellsWhole (accepted_in store) l added carried h i) (sym (kept.1.0 ∙ stands.1.0)) whole) in
       let begun = sym kept.1.1.0 in

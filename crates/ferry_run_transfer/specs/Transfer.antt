@@ -3,13 +3,13 @@ use Rattle.std.specs.Prelude.{◌≡◌, ◌≢◌, ◌⊎◌, ℕ, List, [], �
 use Rattle.std.specs.List.{AllByRecursion}
 use Rattle.ferry_base.specs.Limits.{zero_id}
 use Rattle.ferry_blob.specs.Blob.{OpensTo, content_id}
-use Rattle.ferry_carry.specs.Accepting.{AreNextOf}
+use Rattle.ferry_carry.specs.Accepting.{AreNamedNext, AreNextOf}
 use Rattle.ferry_carry.specs.Carrying.{IsRecordText, Origin}
 use Rattle.ferry_carry.specs.Copied.{IsCopyOf}
 use Rattle.ferry_piece.specs.Gather.{HoldsWithin, IsAmong, NoCollision}
 use Rattle.ferry_carry.specs.Grow.{IsNamedBy, KeepsNames}
 use Rattle.ferry_carry.specs.Listing.{BeginsNames, ListsNames}
-use Rattle.ferry_carry.specs.Naming.{DrawsSalts, TaggedRecord, record_ids}
+use Rattle.ferry_carry.specs.Naming.{DrawsSalts, TaggedRecord}
 use Rattle.ferry_piece.specs.Puts.{Addition, AddsAll, AddsFirst, Within, contents_in}
 use Rattle.ferry_carry.specs.Telling.{AreLines, IsReport, TellsWhole}
 use Rattle.ferry_carry.specs.declared.options.Carried.{Carried}
@@ -192,11 +192,11 @@ IsChosen request done files =
     (repo : RepoState) × (OpensFilesTo files request.secrets.source repo × (done ≡ chosen_of request.names repo.manifest))
 
 -- The source's files open, and this is all that is added for the chosen names to a target that opened so, with these records, by whose ids the archives that
--- are new come into its manifest.
+-- are new come into its manifest, which is no larger with any of them than the content of an object may be.
 abbrev pub ListsChosen : Request → RepoState → ManifestText → List TaggedRecord → List Addition → Files → Type 0
 ListsChosen request before manifest records added files = (repo : RepoState) × (OpensFilesTo files request.secrets.source repo
     × (ListsNames (from_source request files repo) before.keys before.manifest [] (chosen_of request.names repo.manifest) records added
-    × AreNextOf request.timestamp repo.manifest before.manifest (chosen_of request.names repo.manifest) (record_ids before.keys records) manifest))
+    × AreNamedNext request.timestamp repo.manifest before.keys before.manifest (chosen_of request.names repo.manifest) records manifest))
 
 -- The target's files opened, and now they open with each archive that was there. All chosen names arrived and were told, and behind them the whole, with the
 -- numbers of these names and of what was put. What was begun is all that is added for them, of which all was added. From the source of random bytes the salts

@@ -2,6 +2,7 @@ use Rattle.std.proofs.Common.{◌≡◌, ℕ, List, ◌<◌, ◌≤◌, ◌+◌,
 use Rattle.ferry_carry.proofs.AcceptingLemmas.{one_large}
 use Rattle.ferry_carry.proofs.FlyLemmas.{origin_kept}
 use Rattle.ferry_carry.proofs.GrowLemmas.{accepts_on, most_here, most_then}
+use Rattle.ferry_carry.proofs.NextLemmas.{next_of}
 use Rattle.ferry_carry.proofs.ReportLemmas.{reports_all, reports_begin, reports_front, reports_more}
 use Rattle.ferry_piece.proofs.WorkLemmas.{err_is}
 use Rattle.ferry_carry.proofs.chosen.carry_all.Goals as goal
@@ -198,7 +199,8 @@ returns-in_err-carry_one-clause-limit g c =
     c.in_err-carry_one.ensures.limit is in
     one_large d given source.manifest after.manifest keys (repo_view c.loop-place.store.repo).keys a names done name
     (drop (c.loop-place.place + 1) names) _ accepted (accepted_in c.loop-place.store) (ap (λ (r : RepoState). r.manifest) invariant.repo) invariant.most.keys
-    (split_at names c.loop-place.place name _ lt named) invariant.works.0.accepts.0
+    (split_at names c.loop-place.place name _ lt named)
+    (next_of given source.manifest keys accepted done invariant.works.0.records (accepted_in c.loop-place.store) invariant.works.0.accepts.0)
     (told_still accepted done a b d told_all (c.in_err-carry_one.ensures.untold (ap is_of_telling is))) large)
 
 pub returns-in_err-carry_one-clause-stands : goal.returns-in_err-carry_one-clause-stands
@@ -271,5 +273,6 @@ returns-in_err-carry_one-clause-chunk g c =
     chunk_then told source block most time (origin later after block most time) store middle names done (drop (place + 1) names) name id works.records
     works.added a b d x y z (origin_kept told later source after block block most most time time invariant.alike invariant.repo refl refl refl)
     invariant.most.keys (split_at names place name _ lt named)
-    (extends_next time source.manifest accepted (accepted_in middle) done (record_ids keys works.records) works.accepts.0) works.accepts.1 works.works.end
+    (extends_next time source.manifest accepted (accepted_in middle) done (record_ids keys works.records)
+    (next_of time source.manifest keys accepted done works.records (accepted_in middle) works.accepts.0)) works.accepts.1 works.works.end
     (told_still accepted done a b d told_all (c.in_err-carry_one.ensures.untold (ap is_of_telling is.1))) (c.in_err-carry_one.ensures.chunk id is))

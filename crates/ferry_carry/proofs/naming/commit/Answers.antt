@@ -1,7 +1,7 @@
-use Rattle.std.proofs.Common.{◌≡◌, [], Result, IfErr, refl, sym, ◌∙◌, ap}
+use Rattle.std.proofs.Common.{◌≡◌, ◌≤◌, [], length, Result, IfErr, refl, sym, ◌∙◌, ap, subst}
 use Rattle.ferry_piece.proofs.FaultLemmas.{target_stops}
 use Rattle.ferry_carry.proofs.GrowLemmas.{commit_fits}
-use Rattle.ferry_carry.proofs.NamingLemmas.{commit_limit, commit_most, commit_works, commit_works_err}
+use Rattle.ferry_carry.proofs.NamingLemmas.{commit_limit, commit_most, commit_works, commit_works_err, no_larger}
 use Rattle.ferry_piece.proofs.WorkLemmas.{err_is}
 use Rattle.ferry_carry.proofs.naming.commit.Goals as goal
 use Rattle.ferry_piece.specs.Fault.{target_fault}
@@ -9,6 +9,8 @@ use Rattle.ferry_carry.specs.Flight.{NamesArchive}
 use Rattle.ferry_carry.specs.Refusals.{LimitsManifest}
 use Rattle.ferry_piece.specs.Stops.{StopsTarget}
 use Rattle.ferry_piece.specs.declared.fault.CarryFault.{CarryFault}
+use Rattle.ferry_base.specs.Limits.{content_limit}
+use Rattle.ferry_manifest.specs.Manifest.Text.{ManifestText}
 use Rattle.ferry_manifest.specs.Manifest.Writing.{manifest_text}
 use Rattle.ferry_next.specs.Next.{written_at}
 use Rattle.ferry_repo.specs.Opening.{RepoState, repo_view}
@@ -102,7 +104,16 @@ returns-in_err-commit-clause-unbroken g c =
 
 pub returns-clause-salt : goal.returns-clause-salt
 returns-clause-salt g c =
-    let made = c.in_ok-commit.ensures.committed in (made.0, (made.1.0, made.1.1))
+    let made = c.in_ok-commit.ensures.committed in
+    let store = c.args.store.now in
+    let keys = (repo_view store.repo).keys in
+    let small = no_larger (length (manifest_text keys made.0 (written_at (accepted_in store) c.args.timestamp.now))) made.1.4.large.always in (
+      made.0,
+      (
+        (made.1.0, made.1.1),
+        subst (λ (m : ManifestText). length (manifest_text keys made.0 m) ≤ content_limit) (sym c.in_ok-commit.ensures.accepted) small,
+      ),
+    )
 
 pub returns-in_err-commit-clause-held : goal.returns-in_err-commit-clause-held
 returns-in_err-commit-clause-held g c at most =

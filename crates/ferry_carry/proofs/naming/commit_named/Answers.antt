@@ -1,4 +1,4 @@
-use Rattle.std.proofs.Common.{rules, ◌≡◌, [], Result, IfErr, sym, refl, ap, subst}
+use Rattle.std.proofs.Common.{rules, ◌≡◌, ◌≤◌, ℕ, List, [], length, Result, IfErr, OnOk, sym, refl, ap, subst}
 use Rattle.ferry_carry.specs.Refusals.{LimitsManifest}
 use Rattle.ferry_mac.specs.declared.keys.Keys.{Keys}
 use Rattle.ferry_next.specs.Next.{next_manifest, written_at}
@@ -8,7 +8,10 @@ use Rattle.ferry_carry.proofs.NamingLemmas.{named_behind, names_nothing}
 use Rattle.ferry_piece.proofs.WorkLemmas.{err_is}
 use Rattle.ferry_carry.proofs.naming.commit_named.Goals as goal
 use Rattle.ferry_carry.specs.Flight.{NamesArchive}
+use Rattle.ferry_base.specs.Limits.{content_limit}
 use Rattle.ferry_carry.specs.Grow.{KeepsNames}
+use Rattle.ferry_carry.specs.Naming.{Draws}
+use Rattle.ferry_manifest.specs.Manifest.Writing.{manifest_text}
 use Rattle.ferry_piece.specs.Adding.{HoldsRefused}
 use Rattle.ferry_piece.specs.declared.fault.CarryFault.{CarryFault}
 use Rattle.ferry_piece.specs.declared.fault.CarryFault.TheVariants.{Memory}
@@ -106,3 +109,10 @@ pub returns-clause-held : goal.returns-clause-held
 returns-clause-held g c at most =
     held_accepted {T = Unit {0}} at most c.args.store.now c.name_archive.new.self c.commit.new.store [] (g.D.Shelf.told c.args.depot.now)
     (g.D.Shelf.told c.commit.new.depot) c.commit.result c.in_ok-name_archive.ensures.rest (c.commit.ensures.held at most)
+
+pub returns-clause-salt : goal.returns-clause-salt
+returns-clause-salt g c =
+    let keys : (repo_view c.name_archive.new.self.repo).keys ≡ (repo_view c.args.store.now.repo).keys =
+    ap (λ (s : Store). (repo_view s.repo).keys) c.in_ok-name_archive.ensures.rest in
+    subst (λ (k : Keys). OnOk c.commit.result ((salt : List ℕ) × (Draws salt (g.E.Entropy.drawn c.args.entropy.now) (g.E.Entropy.drawn c.commit.new.entropy)
+    × (length (manifest_text k salt (accepted_in c.commit.new.store)) ≤ content_limit)))) keys c.commit.ensures.salt

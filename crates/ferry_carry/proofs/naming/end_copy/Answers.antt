@@ -201,7 +201,7 @@ returns-clause-works g c =
           },
           record_named c.args.timestamp.now (repo_view c.args.source.now) store middle now named id one (g.E.Entropy.drawn c.args.entropy.now)
               (g.E.Entropy.drawn c.end_stream.new.entropy) (g.E.Entropy.drawn c.name_record.new.entropy) rest under.id_is
-              c.in_ok-name_record.ensures.named c.in_ok-name_record.ensures.accepted under.drew salt.1,
+              c.in_ok-name_record.ensures.named c.in_ok-name_record.ensures.accepted under.drew salt.1.0 salt.1.1,
         ),
       ),
     )
