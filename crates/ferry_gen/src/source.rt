@@ -29,9 +29,8 @@ const NO_TIME: &[u8] = b"1970-01-01T00:00:00.000000";
 
 /// Makes the drill's source of so many archives, from 1 to 64, in a depot that has no file and tells so. Its passphrase is `source`.
 ///
-/// The records are those of the drill's archives, tagged with 64 bytes drawn for each from a source in memory; the files are cut into pieces of 1024 bytes.
-/// After
-/// a refusal, which is want of memory or a failed depot, a part may be there.
+/// The records are those of the drill's archives, tagged with 64 bytes drawn for each from a source in memory; the files are cut into
+/// pieces of 1024 bytes. After a refusal, which is answered as want of memory or a failed depot, a part may be there.
 ///
 /// Source: BorgBackup 1.2, Internals, "Data structures and file formats".
 pub fn make_source<D: Depot>(alloc: Global, depot: &mut D, count: u32) -> Result<(), StoreRefusal>
@@ -48,7 +47,8 @@ pub fn make_source<D: Depot>(alloc: Global, depot: &mut D, count: u32) -> Result
     }
 }
 
-/// The refusal that a fault is. So small a repository has numbers, blocks and bytes enough, so that each other fault is want of memory.
+/// The refusal that a fault is. What is neither the depot's nor want of memory isn't expected of so small a repository, and is answered as want of
+/// memory too.
 fn refusal_of(fault: CarryFault) -> StoreRefusal
     ensures refused { IsOfDepot result }
     ensures failed { depot_failed result ≡ target_failed fault }
