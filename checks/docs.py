@@ -27,7 +27,7 @@ READING = """
     ferry_base ferry_segment ferry_disk ferry_log ferry_aes ferry_mac ferry_text ferry_msgpack ferry_fields ferry_config ferry_keyfile ferry_keyblob
     ferry_blob ferry_manifest ferry_item ferry_repo ferry_compare ferry_check ferry_view ferry_stops ferry_nonce ferry_write ferry_compact ferry_next
     ferry_store ferry_rechunk ferry_piece ferry_carry ferry_refs ferry_plan ferry_words ferry_status ferry_run_compact ferry_run_delete
-    ferry_run_transfer ferry_run_plan ferry_run_tag ferry_top ferry_lanes ferry_tree ferry_run_restore
+    ferry_run_transfer ferry_run_plan ferry_run_tag ferry_gen ferry_run_drill ferry_top ferry_lanes ferry_tree ferry_run_restore
 """.split()
 SHORT_HEAD = "| Name | One sentence | File |"
 QUOTED = re.compile(r'"(?:[^"\\]|\\.)*"')

@@ -504,7 +504,7 @@ def helps(good):
     for part in re.split(rb"(?m)^(?=  [a-z])", text.split(b"\ncommands:\n")[1].split(b"\nvariables")[0])[1:]:
         command = re.match(rb"  ([a-z-]+)", part)[1].decode()
         lines[command] = lines.get(command, b"") + part
-    holds(len(lines) == 13, f"--help: the commands are {list(lines)}")
+    holds(len(lines) == 14, f"--help: the commands are {list(lines)}")
     for command, part in lines.items():
         for given in [(command, "--help"), ("source", "source", command, "--help"), ("u@h:p", "-", command, "--help", "x")]:
             case(f"words {given}", good, (0, part), given, variables={b"BORG_PASSPHRASE": b"\xff"})
@@ -1548,6 +1548,22 @@ def foreseen():
             judge(f"foreseen: {path.decode()}", run(("target", "-", "extract", "a", path.decode()), root, variables), (0, content))
 
 
+def drills():
+    """The drill: its line, that it uses neither folder and no passphrase, and numbers that aren't one of its."""
+    done = lambda count: (0, b"drill %d: transferred %d chunks %d bytes %d check ok\n" % (count, count, 280 * count + 8, 512 * (280 * count + 8)))
+    for count in (1, 3, 64):
+        case(f"drill {count}", None, done(count), ("-", "-", "drill", str(count)))
+    good = log(segment(put(K, b"abc")), COMMIT_SEGMENT)
+    case("drill beside repositories", good, done(2), ("source", "target", "drill", "2"), inside("target", good), variables=OPEN)
+    case("drill beside what isn't there", None, done(1), ("source", "target", "drill", "1"), {"target": b"text"})
+    for number in ("0", "65", "01", "+1", "1 ", "x", "", "18446744073709551617"):
+        case(f"drill {number!r}", None, wrong_word(2), ("-", "-", "drill", number))
+    case("drill behind the end of its options", None, done(1), ("-", "-", "drill", "--", "1"))
+    case("drill without a number", None, wrong_word(2), ("-", "-", "drill"))
+    case("drill without a number behind that end", None, wrong_word(3), ("-", "-", "drill", "--"))
+    case("drill with a word more", None, wrong_word(3), ("-", "-", "drill", "1", "1"))
+
+
 def variables():
     good = log(segment(put(K, b"abc")), COMMIT_SEGMENT)
     bad, text = b"\xff\xfe", "gr\u00fc\u00df e".encode()
@@ -1571,7 +1587,7 @@ def outputs():
     """Output that isn't taken: a full device, a closed one, and a pipe that nobody reads."""
     with tempfile.TemporaryDirectory() as root:
         make(root, inside("source", log(segment(put(K, b"abc")), COMMIT_SEGMENT)))
-        for words, status in {("source", "-", "keys"): 7, ("-", "-", "keys"): 8, ("source", "-", "nothing"): 2, ("source",): 2, ("--help",): 7}.items():
+        for words, status in {("source", "-", "keys"): 7, ("-", "-", "keys"): 8, ("source", "-", "nothing"): 2, ("source",): 2, ("--help",): 7, ("-", "-", "drill", "1"): 7}.items():
             # Where the line of standard output says why, the one on standard error is the same whether that is taken or not.
             says = filled(OUTPUT_ROW, "source") if status == 7 else start(words, root)[2]
             with open("/dev/full", "wb") as full:
@@ -1741,7 +1757,7 @@ def rows():
 
 
 READING = (folders, logs, damage, memory, names, words, keys_of_configs, listings, archives, checked, every_byte)
-CASES = (*READING, key_files, targets, refused_targets, transfers, foreseen, plans, restores, deletions, taggings, compactions, locks, written, limits, entropy, variables, of_borg, outputs, progress)
+CASES = (*READING, key_files, targets, refused_targets, transfers, foreseen, plans, restores, deletions, taggings, compactions, locks, written, drills, limits, entropy, variables, of_borg, outputs, progress)
 
 
 def main(chosen):

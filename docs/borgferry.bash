@@ -1,7 +1,7 @@
 # Completion of borgferry's words for bash: folders for SOURCE and TARGET, then a command and its options.
 
 _borgferry() {
-    local word=${COMP_WORDS[COMP_CWORD]} commands="keys key list extract check restore init plan transfer delete tag-archives compact make-key" options=""
+    local word=${COMP_WORDS[COMP_CWORD]} commands="keys key list extract check restore init plan transfer delete tag-archives compact make-key drill" options=""
     case $COMP_CWORD in
     1 | 2)
         mapfile -t COMPREPLY < <(compgen -d -- "$word")

@@ -173,8 +173,11 @@ fn form_of(command: &str) -> &'static str {
         "make-key" => {
             "the form is borgferry SOURCE TARGET make-key, with --iterations N, from 1 to 10000000, behind it, or without"
         }
+        "drill" => {
+            "the form is borgferry SOURCE TARGET drill N, from 1 to 64, and - in the place of both will do, since neither is used"
+        }
         _ => {
-            "the form is borgferry SOURCE TARGET COMMAND, and the commands are keys, key, list, extract, check, restore, init, plan, transfer, delete, tag-archives, compact and make-key; borgferry --help says what they do"
+            "the form is borgferry SOURCE TARGET COMMAND, and the commands are keys, key, list, extract, check, restore, init, plan, transfer, delete, tag-archives, compact, make-key and drill; borgferry --help says what they do"
         }
     }
 }

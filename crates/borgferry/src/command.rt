@@ -3,18 +3,23 @@
 //! Each function makes one value that is given up at the end, and lends it to the next: where the next can't make its own, there is
 //! one value alone to be given up.
 
+ghost use Rattle.std.specs.Prelude.{◌≡◌, [], IfSome};
+
 use crate::advice::{EMPTY_PASSPHRASE, LOCKED, OUTDATED, advice, side_of};
 use crate::fault::StartFault;
 use crate::places::{compressed, has_index, is_locked, is_record, presence};
 use crate::secrets::secrets;
 use crate::side::{Side, filled};
 use crate::start::advise;
-use ferry_disk::Shelf;
+use ferry_disk::{Depot, MemoryDepot, Shelf};
 use ferry_real::{FolderDepot, FolderShelf, Progress, StdSink, SystemEntropy, Terminals};
 use ferry_top::{Secrets, Status, run};
 use std::alloc::{AllocError, AllocGlobal, Global};
 use std::rc::Rc;
 use std::rt::Runtime;
+
+/// The command that has a target of its own.
+const DRILL: &str = "drill";
 
 /// The words that name the two repositories.
 #[derive(Clone, Copy)]
@@ -79,26 +84,33 @@ fn with_source<R: Runtime + AllocGlobal>(
     with_target(rt, task, progress, &mut source)
 }
 
-/// Runs a command, with the files of both.
+/// Runs a command, with the files of both. A drill has a target in memory, which prints no line.
 fn with_target<R: Runtime + AllocGlobal>(
     rt: &R,
     task: &Task,
     progress: &Rc<Progress<R>>,
     source: &mut FolderShelf<R>,
 ) -> Result<u8, StartFault> {
+    if name_of(task.words) == DRILL {
+        let alloc = rt.alloc();
+        let mut target = MemoryDepot::new(alloc, Vec::new(alloc), Vec::new(alloc))?;
+        return with_output(rt, task, progress, source, &mut target);
+    }
     let own = rt.clone()?;
     let mut target = FolderDepot::new(own, rt.alloc(), task.places.target, progress.clone()?)?;
     with_output(rt, task, progress, source, &mut target)
 }
 
 /// Runs a command, with standard output.
-fn with_output<R: Runtime + AllocGlobal>(
+fn with_output<R: Runtime + AllocGlobal, D: Depot>(
     rt: &R,
     task: &Task,
     progress: &Rc<Progress<R>>,
     source: &mut FolderShelf<R>,
-    target: &mut FolderDepot<R>,
-) -> Result<u8, StartFault> {
+    target: &mut D,
+) -> Result<u8, StartFault>
+    requires begun { IfSome (D.told target.old) (λ t. t.history.acts ≡ []) }
+{
     let own = rt.clone()?;
     let mut out = StdSink::new(own, progress.clone()?);
     let status = with_entropy(rt, task, source, target, &mut out)?;
@@ -109,13 +121,15 @@ fn with_output<R: Runtime + AllocGlobal>(
 }
 
 /// Runs a command, with the system's random bytes, and answers its status.
-fn with_entropy<R: Runtime + AllocGlobal>(
+fn with_entropy<R: Runtime + AllocGlobal, D: Depot>(
     rt: &R,
     task: &Task,
     source: &mut FolderShelf<R>,
-    target: &mut FolderDepot<R>,
+    target: &mut D,
     out: &mut StdSink<R>,
-) -> Result<Status, AllocError> {
+) -> Result<Status, AllocError>
+    requires begun { IfSome (D.told target.old) (λ t. t.history.acts ≡ []) }
+{
     let mut entropy = SystemEntropy::new(rt.clone()?);
     Ok(run(
         rt.alloc(),

@@ -22,7 +22,7 @@ commands:
 ";
 
 /// The commands, in the order of the help.
-pub const COMMANDS: [&str; 13] = [
+pub const COMMANDS: [&str; 14] = [
     "keys",
     "key",
     "list",
@@ -36,6 +36,7 @@ pub const COMMANDS: [&str; 13] = [
     "tag-archives",
     "compact",
     "make-key",
+    "drill",
 ];
 
 /// What stands behind the commands in the help.
@@ -84,6 +85,7 @@ pub fn lines_of(command: &str) -> Option<&'static str> {
         "tag-archives" => Some(TAG_ARCHIVES),
         "compact" => Some(COMPACT),
         "make-key" => Some(MAKE_KEY),
+        "drill" => Some(DRILL),
         _ => None,
     }
 }
@@ -163,4 +165,10 @@ const COMPACT: &str = "  compact [--threshold P]
 const MAKE_KEY: &str = "  make-key [--iterations N]
       prints the text of a new key file, sealed with the target's passphrase
       N: the iterations that seal it, 1 to 10000000, else 100000
+";
+
+const DRILL: &str = "  drill N
+      copies a source of N archives, which it makes itself, into a target of its
+      own in memory and checks that; uses neither folder, and prints one line
+      N: 1 to 64
 ";

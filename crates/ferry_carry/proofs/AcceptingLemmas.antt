@@ -2,6 +2,7 @@
 use Rattle.std.proofs.Common.{◌≡◌, ◌⊎◌, inl, inr, ◌<◌, ◌≤◌, ℕ, true, List, [], ◌∷◌, ◌++◌, length}
 use Rattle.std.proofs.Common.{Option, Some, None, IfSome, IsSome, Result, Ok, Err, OnOk, refl, sym, ◌∙◌, ap, subst}
 use Rattle.std.proofs.lemmas.Option.{IfSome_then}
+use Rattle.std.specs.List.{AllByRecursion}
 use Rattle.ferry_base.specs.Limits.{content_limit}
 use Rattle.ferry_blob.specs.Blob.{content_id}
 use Rattle.ferry_disk.specs.Device.{Told}
@@ -20,7 +21,7 @@ use Rattle.ferry_store.specs.Standing.{with_manifest}
 use Rattle.ferry_store.specs.declared.fault.StoreRefusal.TheVariants.{TooLarge}
 use Rattle.ferry_store.specs.declared.store.Store.{Store}
 use Rattle.ferry_carry.proofs.NextLemmas.{draws_none, draws_one, named_one}
-use Rattle.ferry_carry.specs.Accepting.{AreNextOf, HasLargeNext, IsNamedNext, IsNewIn, LimitsNames, NamesNew, named_next, next_named}
+use Rattle.ferry_carry.specs.Accepting.{AreNextOf, HasIdSize, HasLargeNext, IsNamedNext, IsNewIn, LimitsNames, NamesNew, named_next, next_named}
 use Rattle.ferry_carry.specs.Carrying.{Origin}
 use Rattle.ferry_carry.specs.Flight.{origin_of}
 use Rattle.ferry_piece.specs.Fault.{target_fault}
@@ -181,10 +182,10 @@ begin_small X P fault name (inr e) is = absurd (let both : NotFound name ≡ Tar
 -- behind a front of these names the manifest with the next is too large
 pub one_large : (now : Option Told) (given : Option (List ℕ)) (source after : ManifestText) (keys other : Keys) (heard : Option Told)
     (names done : List (List ℕ)) (name : List ℕ) (rest ids : List (List ℕ)) (manifest middle : ManifestText) → after ≡ source → other ≡ keys
-    → names ≡ done ++ name ∷ rest → AreNextOf given source manifest done ids middle
+    → names ≡ done ++ name ∷ rest → AllByRecursion HasIdSize ids → AreNextOf given source manifest done ids middle
     → IfSome heard (λ b. IfSome now (λ t. TellsNames manifest done b.history t.history)) → IfSome now (λ _. HasLargeNext given after other middle name)
     → IfSome heard (λ b. IfSome now (λ t. LimitsNames given source keys manifest names (λ told. TellsNames manifest told b.history t.history)))
-one_large now given source after keys other heard names done name rest ids manifest middle repo same split are told large =
+one_large now given source after keys other heard names done name rest ids manifest middle repo same split sizes are told large =
     IfSome_then heard told (λ b known. both now b known large) where
       both : (o : Option Told) (b : Told) → IfSome o (λ t. TellsNames manifest done b.history t.history)
           → IfSome o (λ _. HasLargeNext given after other middle name)
@@ -198,6 +199,7 @@ one_large now given source after keys other heard names done name rest ids manif
         told = known;
         middle = middle;
         ids = ids;
+        sizes = sizes;
         behind = are;
         large = subst (λ (k : Keys). HasLargeNext given source k middle name) same
             (subst (λ (m : ManifestText). HasLargeNext given m other middle name) repo big);

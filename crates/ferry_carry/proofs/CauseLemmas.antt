@@ -27,7 +27,7 @@ use Rattle.ferry_stops.specs.Tells.{TellsNothing}
 use Rattle.ferry_store.specs.Commit.{accepted_in}
 use Rattle.ferry_store.specs.declared.store.Store.{Store}
 use Rattle.ferry_store.proofs.ReadLemmas.{known_read}
-use Rattle.ferry_carry.proofs.GrowLemmas.{most_then}
+use Rattle.ferry_carry.proofs.LeftLemmas.{usable_before}
 use Rattle.ferry_carry.proofs.ProgressLemmas.{any_told, stream_ids}
 use Rattle.ferry_piece.proofs.AmongLemmas.{among_next}
 use Rattle.ferry_carry.specs.Carrying.{Origin, SaysIn, origin}
@@ -39,7 +39,7 @@ use Rattle.ferry_carry.specs.Naming.{copied_archive}
 use Rattle.ferry_carry.specs.Progress.{IsAllCopied}
 use Rattle.ferry_piece.specs.Puts.{Addition}
 use Rattle.ferry_carry.specs.Refusals.{DiffersThere, HasLargeRecord, LacksName, RefusesBegin, RefusesComparing, RefusesEnd, RefusesName, RefusesRecordText}
-use Rattle.ferry_carry.specs.Refusals.{RefusesNames, RefusesOne, RefusesStep, TakenAt, WhereTold, is_of_telling}
+use Rattle.ferry_carry.specs.Refusals.{RefusesNames, RefusesOne, RefusesStep, TakenAt, UsableAt, WhereTold, is_of_telling}
 use Rattle.ferry_piece.specs.Stops.{StopsPieces, StopsTarget, is_target}
 use Rattle.ferry_carry.specs.Telling.{TellsNames}
 use Rattle.ferry_carry.specs.declared.copy.Copy.{Copy}
@@ -81,60 +81,71 @@ lacks_by before after name keeps lacks = by (archive_named name before.archives)
 -- its record isn't read
 pub begin_refused : (told heard now : Option Told) (source : RepoState) (block most : ℕ) (time : Option (List ℕ)) (named : ArchiveRef) (store store_now :
     Store) (fault : CarryFault)
-    → archive_named named.name source.manifest.archives ≡ Some named → RefusesBegin told source named.id fault
+    → archive_named named.name source.manifest.archives ≡ Some named → UsableAt most store now store_now → RefusesBegin told source named.id fault
     → RefusesName (origin told source block most time) heard store now store_now named.name fault
-begin_refused told heard now source block most time named store store_now (Source fault) named_is refuses = λ of_files.
-    where_first told heard source block most time (λ there. RefusesWhole there source.log source.keys source.manifest.archives named.name fault)
-    (IfSome_then told (refuses of_files) (λ t r. record { named = named; named_is = named_is; refused = inl r }))
-begin_refused told heard now source block most time named store store_now (Target refusal) named_is refuses = absurd refuses
-begin_refused told heard now source block most time named store store_now (Taken name) named_is refuses = absurd refuses
-begin_refused told heard now source block most time named store store_now (NotFound name) named_is refuses = absurd refuses
-begin_refused told heard now source block most time named store store_now Pieces named_is refuses = absurd refuses
-begin_refused told heard now source block most time named store store_now Memory named_is refuses = tt
-begin_refused told heard now source block most time named store store_now Record named_is refuses = absurd refuses
+begin_refused told heard now source block most time named store store_now (Source fault) named_is usable refuses = (
+  λ of_files.
+      where_first told heard source block most time (λ there. RefusesWhole there source.log source.keys source.manifest.archives named.name fault)
+      (IfSome_then told (refuses of_files) (λ t r. record { named = named; named_is = named_is; refused = inl r })),
+  usable,
+)
+begin_refused told heard now source block most time named store store_now (Target refusal) named_is usable refuses = absurd refuses
+begin_refused told heard now source block most time named store store_now (Taken name) named_is usable refuses = absurd refuses
+begin_refused told heard now source block most time named store store_now (NotFound name) named_is usable refuses = absurd refuses
+begin_refused told heard now source block most time named store store_now Pieces named_is usable refuses = absurd refuses
+begin_refused told heard now source block most time named store store_now Memory named_is usable refuses = tt
+begin_refused told heard now source block most time named store store_now Record named_is usable refuses = absurd refuses
 
 -- it isn't copied
 pub step_refused : (from : Origin) (heard now : Option Told) (store store_now : Store) (name : List ℕ) (fault : CarryFault) → LacksName store name
-    → StopsPieces now (repo_view store.repo).keys fault → RefusesStep from heard name fault → RefusesName from heard store now store_now name fault
-step_refused from heard now store store_now name (Source fault) lacks stops refuses = refuses
-step_refused from heard now store store_now name (Target refusal) lacks stops refuses = IfSome_then now stops (λ t s. s.1)
-step_refused from heard now store store_now name (Taken taken) lacks stops refuses = absurd refuses
-step_refused from heard now store store_now name (NotFound missing) lacks stops refuses = absurd refuses
-step_refused from heard now store store_now name Pieces lacks stops refuses = (lacks, refuses)
-step_refused from heard now store store_now name Memory lacks stops refuses = tt
-step_refused from heard now store store_now name Record lacks stops refuses = absurd refuses
+    → StopsPieces now (repo_view store.repo).keys fault → (is_target fault ≡ false → UsableAt from.most store now store_now)
+    → RefusesStep from heard name fault → RefusesName from heard store now store_now name fault
+step_refused from heard now store store_now name (Source fault) lacks stops usable refuses = (refuses, usable refl)
+step_refused from heard now store store_now name (Target refusal) lacks stops usable refuses = IfSome_then now stops (λ t s. s.1)
+step_refused from heard now store store_now name (Taken taken) lacks stops usable refuses = absurd refuses
+step_refused from heard now store store_now name (NotFound missing) lacks stops usable refuses = absurd refuses
+step_refused from heard now store store_now name Pieces lacks stops usable refuses = (lacks, (refuses, usable refl))
+step_refused from heard now store store_now name Memory lacks stops usable refuses = tt
+step_refused from heard now store store_now name Record lacks stops usable refuses = absurd refuses
 
 -- it isn't named
 pub end_refused : (from : Origin) (a b now : Option Told) (E : History → History → Type 0) (store middle store_now : Store) (name : List ℕ)
     (fault : CarryFault) → Between a b E → (repo_view middle.repo).keys ≡ (repo_view store.repo).keys → LacksName store name
-    → StopsTarget now (repo_view middle.repo).keys fault → RefusesEnd from b (repo_view middle.repo).keys name fault
-    → RefusesName from a store now store_now name fault
-end_refused from a b now E store middle store_now name (Source fault) between same lacks stops refuses = absurd (let no : ⊥ = cc in no)
-end_refused from a b now E store middle store_now name (Target refusal) between same lacks stops refuses =
+    → StopsTarget now (repo_view middle.repo).keys fault → (is_target fault ≡ false → UsableAt from.most store now store_now)
+    → RefusesEnd from b (repo_view middle.repo).keys name fault → RefusesName from a store now store_now name fault
+end_refused from a b now E store middle store_now name (Source fault) between same lacks stops usable refuses = absurd (let no : ⊥ = cc in no)
+end_refused from a b now E store middle store_now name (Target refusal) between same lacks stops usable refuses =
     subst (λ (k : Keys). StopsTarget now k (Target refusal)) same stops
-end_refused from a b now E store middle store_now name (Taken taken) between same lacks stops refuses = absurd (let no : ⊥ = cc in no)
-end_refused from a b now E store middle store_now name (NotFound missing) between same lacks stops refuses = absurd (let no : ⊥ = cc in no)
-end_refused from a b now E store middle store_now name Pieces between same lacks stops refuses = absurd (let no : ⊥ = cc in no)
-end_refused from a b now E store middle store_now name Memory between same lacks stops refuses = tt
-end_refused from a b now E store middle store_now name Record between same lacks stops refuses = (
+end_refused from a b now E store middle store_now name (Taken taken) between same lacks stops usable refuses = absurd (let no : ⊥ = cc in no)
+end_refused from a b now E store middle store_now name (NotFound missing) between same lacks stops usable refuses = absurd (let no : ⊥ = cc in no)
+end_refused from a b now E store middle store_now name Pieces between same lacks stops usable refuses = absurd (let no : ⊥ = cc in no)
+end_refused from a b now E store middle store_now name Memory between same lacks stops usable refuses = tt
+end_refused from a b now E store middle store_now name Record between same lacks stops usable refuses = (
   lacks,
-  where_back from a b E (λ there. HasLargeRecord there from (repo_view store.repo).keys name) between
-      (subst (λ (k : Keys). WhereTold from b (λ there. HasLargeRecord there from k name)) same refuses),
+  (
+    where_back from a b E (λ there. HasLargeRecord there from (repo_view store.repo).keys name) between
+        (subst (λ (k : Keys). WhereTold from b (λ there. HasLargeRecord there from k name)) same refuses),
+    usable refl,
+  ),
 )
 
 -- it isn't compared
 pub comparing_refused : (told heard now : Option Told) (source : RepoState) (block most : ℕ) (time : Option (List ℕ)) (name : List ℕ) (store store_now : Store)
     (fault : CarryFault)
-    → StopsPieces now (repo_view store.repo).keys fault → RefusesComparing told source name fault
+    → StopsPieces now (repo_view store.repo).keys fault → UsableAt most store now store_now → RefusesComparing told source name fault
     → RefusesName (origin told source block most time) heard store now store_now name fault
-comparing_refused told heard now source block most time name store store_now (Source fault) stops refuses = λ of_files.
-    where_first told heard source block most time (λ there. RefusesWhole there source.log source.keys source.manifest.archives name fault) (refuses of_files)
-comparing_refused told heard now source block most time name store store_now (Target refusal) stops refuses = IfSome_then now stops (λ t s. s.1)
-comparing_refused told heard now source block most time name store store_now (Taken taken) stops refuses = absurd refuses
-comparing_refused told heard now source block most time name store store_now (NotFound missing) stops refuses = absurd refuses
-comparing_refused told heard now source block most time name store store_now Pieces stops refuses = absurd refuses
-comparing_refused told heard now source block most time name store store_now Memory stops refuses = tt
-comparing_refused told heard now source block most time name store store_now Record stops refuses = absurd refuses
+comparing_refused told heard now source block most time name store store_now (Source fault) stops usable refuses = (
+  λ of_files.
+      where_first told heard source block most time (λ there. RefusesWhole there source.log source.keys source.manifest.archives name fault)
+      (refuses of_files),
+  usable,
+)
+comparing_refused told heard now source block most time name store store_now (Target refusal) stops usable refuses = IfSome_then now stops (λ t s. s.1)
+comparing_refused told heard now source block most time name store store_now (Taken taken) stops usable refuses = absurd refuses
+comparing_refused told heard now source block most time name store store_now (NotFound missing) stops usable refuses = absurd refuses
+comparing_refused told heard now source block most time name store store_now Pieces stops usable refuses = absurd refuses
+comparing_refused told heard now source block most time name store store_now Memory stops usable refuses = tt
+comparing_refused told heard now source block most time name store store_now Record stops usable refuses = absurd refuses
 
 -- what pends isn't committed
 pub pending_refused : {T : Type 0} (from : Origin) (heard now : Option Told) (store store_now : Store) (keys : Keys) (name : List ℕ)
@@ -176,36 +187,32 @@ taken_refused from heard now store store_now name given fault (inr is) same diff
 -- what is said of a name by a store is said by one before it that keeps each archive
 pub refused_before : (from : Origin) (a b c : Option Told) (E : History → History → Type 0) (store middle now : Store) (name : List ℕ)
     (fault : CarryFault) → Between a b E → KeepsMost store middle → RefusesName from b middle c now name fault → RefusesName from a store c now name fault
-refused_before from a b c E store middle now name (Source fault) between most refuses = λ of_files.
-    where_back from a b E (λ there. RefusesWhole there from.repo.log from.repo.keys from.repo.manifest.archives name fault) between (refuses of_files)
+refused_before from a b c E store middle now name (Source fault) between most refuses = (
+  λ of_files.
+      where_back from a b E (λ there. RefusesWhole there from.repo.log from.repo.keys from.repo.manifest.archives name fault) between
+      (refuses.0 of_files),
+  usable_before from.most store middle c now most refuses.1,
+)
 refused_before from a b c E store middle now name (Target refusal) between most refuses =
     subst (λ (k : Keys). StopsTarget c k (Target refusal)) most.keys refuses
 refused_before from a b c E store middle now name (Taken taken) between most refuses =
     let at = refuses.1.1 in (
       refuses.0,
-      (
-        refuses.1.0,
-        record {
-          fits = at.fits;
-          there = at.there;
-          most_kept = most_then store middle now most at.most_kept;
-          unspent = at.unspent;
-          pending = at.pending;
-          packable = at.packable;
-          accepts = at.accepts;
-        },
-      ),
+      (refuses.1.0, record { usable = usable_before from.most store middle c now most at.usable; there = at.there }),
     )
 refused_before from a b c E store middle now name (NotFound missing) between most refuses = refuses
 refused_before from a b c E store middle now name Pieces between most refuses = (
   lacks_by (repo_view store.repo).manifest (repo_view middle.repo).manifest name most.names refuses.0,
-  where_back from a b E _ between refuses.1,
+  (where_back from a b E _ between refuses.1.0, usable_before from.most store middle c now most refuses.1.1),
 )
 refused_before from a b c E store middle now name Memory between most refuses = tt
 refused_before from a b c E store middle now name Record between most refuses = (
   lacks_by (repo_view store.repo).manifest (repo_view middle.repo).manifest name most.names refuses.0,
-  where_back from a b E (λ there. HasLargeRecord there from (repo_view store.repo).keys name) between
-      (subst (λ (k : Keys). WhereTold from b (λ there. HasLargeRecord there from k name)) most.keys refuses.1),
+  (
+    where_back from a b E (λ there. HasLargeRecord there from (repo_view store.repo).keys name) between
+        (subst (λ (k : Keys). WhereTold from b (λ there. HasLargeRecord there from k name)) most.keys refuses.1.0),
+    usable_before from.most store middle c now most refuses.1.1,
+  ),
 )
 
 -- the same of a body that ended with a fault, in the words of the source, the name and the store in front

@@ -29,3 +29,6 @@ pub mod ReportLemmas
 pub mod StandLemmas
 pub mod CutLemmas
 pub mod HeldLemmas
+pub mod LeftLemmas
+pub mod SmallLemmas
+pub mod OverLemmas

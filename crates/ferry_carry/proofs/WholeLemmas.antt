@@ -145,7 +145,7 @@ abbrev pub KeepsChunks : Files → LogState → Keys → Files → LogState → 
 KeepsChunks files log keys others after = (id content : List ℕ) → HoldsChunk files log keys id content → HoldsChunk others after keys id content
 
 module _ (files : Files) (log : LogState) (keys : Keys) (others : Files) (after : LogState) (keeps : KeepsChunks files log keys others after) where
-  chunks_kept : (ids contents : List (List ℕ)) → HoldChunks files log keys ids contents → HoldChunks others after keys ids contents
+  pub chunks_kept : (ids contents : List (List ℕ)) → HoldChunks files log keys ids contents → HoldChunks others after keys ids contents
   chunks_kept [] [] hold = tt
   chunks_kept [] (c ∷ cs) hold = absurd hold
   chunks_kept (i ∷ is) [] hold = absurd hold
@@ -165,7 +165,7 @@ module _ (files : Files) (log : LogState) (keys : Keys) (others : Files) (after 
   joined_kept (Some chunks) None holds = absurd holds
   joined_kept (Some chunks) (Some content) holds = (holds.0, contents_kept chunks holds.0 holds.1, holds.2)
 
-  wholes_kept : (items : List ItemText) (wholes : List WholeItem) → WholesCome files log keys items None wholes None
+  pub wholes_kept : (items : List ItemText) (wholes : List WholeItem) → WholesCome files log keys items None wholes None
       → WholesCome others after keys items None wholes None
   wholes_kept [] [] come = refl
   wholes_kept [] (w ∷ ws) come = absurd come

@@ -74,6 +74,10 @@ pub record HasLargeNext (given : Option (List ℕ)) (source : ManifestText) (key
   pub large : (text salt : List ℕ) → length salt ≡ 64
       → content_limit < length (manifest_text keys salt (next_named given source manifest new.named (content_id keys text)))
 
+-- An id has 32 bytes, as that of each content has.
+abbrev pub HasIdSize : List ℕ → Type 0
+HasIdSize id = length id ≡ 32
+
 -- Behind a front of these names, of which this holds, the manifest with the next is too large.
 pub record LimitsNames (given : Option (List ℕ)) (source : ManifestText) (keys : Keys) (manifest : ManifestText) (names : List (List ℕ))
     (Told : List (List ℕ) → Type 0) : Type 0 where
@@ -84,5 +88,6 @@ pub record LimitsNames (given : Option (List ℕ)) (source : ManifestText) (keys
   pub told : Told done
   pub middle : ManifestText
   pub ids : List (List ℕ)
+  pub sizes : AllByRecursion HasIdSize ids
   pub behind : AreNextOf given source manifest done ids middle
   pub large : HasLargeNext given source keys middle name

@@ -15,3 +15,4 @@ pub mod Filling
 pub mod Counting
 pub mod Accepting
 pub mod Refusals
+pub mod Over

@@ -36,6 +36,7 @@ use Rattle.ferry_carry.specs.Naming.{DrawsSalts, TaggedRecord, TagsDrawn, copied
 use Rattle.ferry_carry.specs.Telling.{TellsNames}
 use Rattle.ferry_piece.specs.declared.fault.CarryFault.{CarryFault}
 use Rattle.ferry_piece.specs.declared.fault.CarryFault.TheVariants.{Source, Target, Taken, NotFound, Pieces, Memory, Record}
+use Rattle.ferry_piece.specs.Gather.{KeepsRest}
 use Rattle.ferry_piece.specs.Puts.{Addition}
 use Rattle.ferry_piece.specs.Stops.{is_target, StopsTarget}
 
@@ -219,16 +220,33 @@ RefusesComparing told source name (Target refusal) = Unit {0}
 RefusesComparing told source name Memory = Unit {0}
 RefusesComparing told source name fault = ⊥
 
--- A store that keeps what another has fits, and has an archive of this name. It can be used on: it isn't spent, no more is pending than may be, and what it
--- accepted can be packed, and has each archive that it committed.
-pub record TakenAt (most : ℕ) (store : Store) (now : Option Told) (store_now : Store) (name : List ℕ) : Type 0 where
+-- A store that keeps what another has can be used on: it fits, isn't spent, no more is pending than may be, and what it accepted can be packed, and has each
+-- archive that it committed.
+pub record UsableAt (most : ℕ) (store : Store) (now : Option Told) (store_now : Store) : Type 0 where
   pub fits : IfSome now (λ t. StoreFits false store_now t.history)
-  pub there : IsSome (archive_named name (repo_view store_now.repo).manifest.archives)
   pub most_kept : KeepsMost store store_now
   pub unspent : IsUnspent store_now
   pub pending : store_now.pending ≤ most
   pub packable : IsPackable (accepted_in store_now)
   pub accepts : AcceptsMore store_now
+
+-- The same of one that has an archive of this name.
+pub record TakenAt (most : ℕ) (store : Store) (now : Option Told) (store_now : Store) (name : List ℕ) : Type 0 where
+  pub usable : UsableAt most store now store_now
+  pub open usable use *
+  pub there : IsSome (archive_named name (repo_view store_now.repo).manifest.archives)
+
+-- A store is left that fits and isn't spent, with no more pending than may be; its repository has the settings, the secrets and the manifest that it had, and
+-- what it accepted is the same.
+pub record IsLeft (most : ℕ) (store : Store) (now : Option Told) (store_now : Store) : Type 0 where
+  pub fits : IfSome now (λ t. StoreFits false store_now t.history)
+  pub unspent : IsUnspent store_now
+  pub pending : store_now.pending ≤ most
+  pub rest : KeepsRest store store_now
+
+-- Such a store is left by a refusal that isn't the target's.
+abbrev pub Leaves : ℕ → Store → Option Told → Store → CarryFault → Type 0
+Leaves most store now store_now fault = is_target fault ≡ false → IsLeft most store now store_now
 
 -- The target has no archive of this name.
 abbrev pub LacksName : Store → List ℕ → Type 0
@@ -239,15 +257,19 @@ LacksName store name = archive_named name (repo_view store.repo).manifest.archiv
 -- Why the archive of a name isn't carried. The source's archive isn't whole, or has an item that is too long. The target, as it is at the end, has
 -- another archive of this name. The source has none. Or the record that the target would have is too large. An item that is too long and a record that
 -- is too large are causes only where the target has no archive of this name. What a refusal of the target says, it says of its files at the end.
+-- Behind each of these but one of the target the store can be used on.
 abbrev pub RefusesName : Origin → Option Told → Store → Option Told → Store → List ℕ → CarryFault → Type 0
-RefusesName from heard store now store_now name (Source fault) = RefusesStep from heard name (Source fault)
+RefusesName from heard store now store_now name (Source fault) =
+    RefusesStep from heard name (Source fault) × UsableAt from.most store now store_now
 RefusesName from heard store now store_now name (Target refusal) = StopsTarget now (repo_view store.repo).keys (Target refusal)
 RefusesName from heard store now store_now name (Taken taken) =
     (taken ≡ name) × (DiffersThere from now (repo_view store_now.repo) name × TakenAt from.most store now store_now name)
 RefusesName from heard store now store_now name (NotFound missing) = (missing ≡ name) × (archive_named name from.repo.manifest.archives ≡ None)
-RefusesName from heard store now store_now name Pieces = LacksName store name × RefusesStep from heard name Pieces
+RefusesName from heard store now store_now name Pieces =
+    LacksName store name × (RefusesStep from heard name Pieces × UsableAt from.most store now store_now)
 RefusesName from heard store now store_now name Memory = Unit {0}
-RefusesName from heard store now store_now name Record = LacksName store name × RefusesEnd from heard (repo_view store.repo).keys name Record
+RefusesName from heard store now store_now name Record =
+    LacksName store name × (RefusesEnd from heard (repo_view store.repo).keys name Record × UsableAt from.most store now store_now)
 
 -- Behind a front of these names, which were told, and nothing else, the archive of the next isn't carried, so.
 pub record RefusesBehind (from : Origin) (heard : Option Told) (store : Store) (now : Option Told) (store_now : Store) (names : List (List ℕ))

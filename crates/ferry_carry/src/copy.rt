@@ -18,7 +18,7 @@ ghost use Rattle.ferry_piece.specs.Piece.{BeginsOn, CountsOn};
 ghost use Rattle.ferry_piece.specs.Puts.{Addition, AreOf, Content, IsCheckpoint, Stream, contents_in};
 ghost use Rattle.ferry_carry.specs.Refusals.{RefusesBegin, RefusesContents, RefusesCopying, RefusesNext, RefusesStep, RefusesText, RefusesWriting};
 ghost use Rattle.ferry_piece.specs.Stops.{StopsPieces};
-ghost use Rattle.ferry_carry.specs.Refusals.{total_size};
+ghost use Rattle.ferry_carry.specs.Refusals.{Leaves, total_size};
 ghost use Rattle.ferry_piece.specs.Stops.{is_target};
 ghost use Rattle.ferry_carry.specs.Step.{BeginsMore, StepsOn};
 ghost use Rattle.ferry_item.specs.Item.{is_healed, item_view};
@@ -158,6 +158,7 @@ impl Copy {
         ensures rest { OnOk result (KeepsRest store.old store.new) }
         ensures fits { OnOk result (IfSome (D.told depot.new) (λ t. StoreFits false store.new t.history)) }
         ensures stops { IfErr result (StopsPieces (D.told depot.new) (repo_view store.old.repo).keys) }
+        ensures left { IfErr result (Leaves self.old.contents.checkpoint store.old (D.told depot.new) store.new) }
         ensures unspent { OnOk result (IsUnspent store.new) }
         ensures source_fits { IfSome (S.told shelf.new) (λ t. FitsRepo (told_files t) (repo_view source.new) (cached_in source.new)) }
         ensures kept { repo_view source.new ≡ repo_view source.old }
@@ -269,6 +270,7 @@ impl Copy {
         ensures rest { OnOk result (KeepsRest store.old store.new) }
         ensures fits { OnOk result (IfSome (D.told depot.new) (λ t. StoreFits false store.new t.history)) }
         ensures stops { IfErr result (StopsPieces (D.told depot.new) (repo_view store.old.repo).keys) }
+        ensures left { IfErr result (Leaves self.old.contents.checkpoint store.old (D.told depot.new) store.new) }
         ensures unspent { OnOk result (IsUnspent store.new) }
         ensures source_fits { IfSome (S.told shelf.new) (λ t. FitsRepo (told_files t) (repo_view source.new) (cached_in source.new)) }
         ensures kept { repo_view source.new ≡ repo_view source.old }
@@ -316,6 +318,7 @@ impl Copy {
         ensures rest { OnOk result (KeepsRest store.old store.new) }
         ensures fits { OnOk result (IfSome (D.told depot.new) (λ t. StoreFits false store.new t.history)) }
         ensures stops { IfErr result (StopsPieces (D.told depot.new) (repo_view store.old.repo).keys) }
+        ensures left { IfErr result (Leaves self.old.contents.checkpoint store.old (D.told depot.new) store.new) }
         ensures unspent { OnOk result (IsUnspent store.new) }
         ensures source_fits { IfSome (S.told shelf.new) (λ t. FitsRepo (told_files t) (repo_view source.new) (cached_in source.new)) }
         ensures kept { repo_view source.new ≡ repo_view source.old }
@@ -397,6 +400,7 @@ fn write_contents<S: Shelf, D: Depot>(
     ensures rest { OnOk result (KeepsRest store.old store.new) }
     ensures fits { OnOk result (IfSome (D.told depot.new) (λ t. StoreFits false store.new t.history)) }
     ensures stops { IfErr result (StopsPieces (D.told depot.new) (repo_view store.old.repo).keys) }
+    ensures left { IfErr result (Leaves writer.old.checkpoint store.old (D.told depot.new) store.new) }
     ensures unspent { OnOk result (IsUnspent store.new) }
     ensures source_fits { IfSome (S.told shelf.new) (λ t. FitsRepo (told_files t) (repo_view source.new) (cached_in source.new)) }
     ensures kept { repo_view source.new ≡ repo_view source.old }
@@ -453,6 +457,7 @@ fn write_content<S: Shelf, D: Depot>(
     ensures rest { OnOk result (KeepsRest store.old store.new) }
     ensures fits { OnOk result (IfSome (D.told depot.new) (λ t. StoreFits false store.new t.history)) }
     ensures stops { IfErr result (StopsPieces (D.told depot.new) (repo_view store.old.repo).keys) }
+    ensures left { IfErr result (Leaves writer.old.checkpoint store.old (D.told depot.new) store.new) }
     ensures unspent { OnOk result (IsUnspent store.new) }
     ensures source_fits { IfSome (S.told shelf.new) (λ t. FitsRepo (told_files t) (repo_view source.new) (cached_in source.new)) }
     ensures kept { repo_view source.new ≡ repo_view source.old }

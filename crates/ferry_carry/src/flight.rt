@@ -12,7 +12,7 @@ ghost use Rattle.ferry_carry.specs.Grow.{AcceptsMore, KeepsMost};
 ghost use Rattle.ferry_carry.specs.Naming.{TaggedRecord, TagsDrawn};
 ghost use Rattle.ferry_carry.specs.Progress.{IsCopiedSoFar};
 ghost use Rattle.ferry_piece.specs.Puts.{Addition, AtBegin};
-ghost use Rattle.ferry_carry.specs.Refusals.{DiffersThere, IsLimited, RefusesComparing, RefusesName};
+ghost use Rattle.ferry_carry.specs.Refusals.{DiffersThere, IsLimited, Leaves, RefusesComparing, RefusesName};
 ghost use Rattle.ferry_piece.specs.Stops.{StopsPieces, is_target};
 ghost use Rattle.ferry_piece.specs.Work.{Works};
 ghost use Rattle.ferry_compare.specs.Compare.{Differ, FitsTold, comparison_view};
@@ -158,6 +158,8 @@ impl Flight {
         ensures ended { IfOk result (λ turn. turn ≢ Turn.More → store.new.pending ≡ 0) }
         ensures fits { OnOk result (IfSome (D.told depot.new) (λ t. StoreFits false store.new t.history)) }
         ensures unspent { OnOk result (IsUnspent store.new) }
+        // Behind a refusal that isn't the target's the store can be used on, by other flights too.
+        ensures left { IfErr result (Leaves self.old.options.checkpoint store.old (D.told depot.new) store.new) }
         ensures source_fits { IfSome (S.told shelf.new) (λ t. FitsRepo (told_files t) (repo_view source.new) (cached_in source.new)) }
         ensures kept { repo_view source.new ≡ repo_view source.old }
         ensures same { KeepsTold shelf_failed (S.told shelf.old) (S.told shelf.new) result }
@@ -215,6 +217,7 @@ impl Flight {
         ensures ended { IfOk result (λ turn. turn ≢ Turn.More → store.new.pending ≡ 0) }
         ensures fits { OnOk result (IfSome (D.told depot.new) (λ t. StoreFits false store.new t.history)) }
         ensures unspent { OnOk result (IsUnspent store.new) }
+        ensures left { IfErr result (Leaves self.old.options.checkpoint store.old (D.told depot.new) store.new) }
         ensures source_fits { IfSome (S.told shelf.new) (λ t. FitsRepo (told_files t) (repo_view source.new) (cached_in source.new)) }
         ensures kept { repo_view source.new ≡ repo_view source.old }
         ensures same { KeepsTold shelf_failed (S.told shelf.old) (S.told shelf.new) result }
@@ -282,6 +285,7 @@ impl Flight {
         ensures ended { IfOk result (λ turn. turn ≢ Turn.More → store.new.pending ≡ 0) }
         ensures fits { OnOk result (IfSome (D.told depot.new) (λ t. StoreFits false store.new t.history)) }
         ensures unspent { OnOk result (IsUnspent store.new) }
+        ensures left { IfErr result (Leaves self.old.options.checkpoint store.old (D.told depot.new) store.new) }
         ensures source_fits { IfSome (S.told shelf.new) (λ t. FitsRepo (told_files t) (repo_view source.new) (cached_in source.new)) }
         ensures kept { repo_view source.new ≡ repo_view source.old }
         ensures same { KeepsTold shelf_failed (S.told shelf.old) (S.told shelf.new) result }
@@ -358,6 +362,7 @@ impl Flight {
         ensures ended { IfOk result (λ turn. turn ≢ Turn.More → store.new.pending ≡ 0) }
         ensures fits { OnOk result (IfSome (D.told depot.new) (λ t. StoreFits false store.new t.history)) }
         ensures unspent { OnOk result (IsUnspent store.new) }
+        ensures left { IfErr result (Leaves self.old.options.checkpoint store.old (D.told depot.new) store.new) }
         ensures source_fits { IfSome (S.told shelf.new) (λ t. FitsRepo (told_files t) (repo_view source.new) (cached_in source.new)) }
         ensures kept { repo_view source.new ≡ repo_view source.old }
         ensures same { KeepsTold shelf_failed (S.told shelf.old) (S.told shelf.new) result }

@@ -8,6 +8,7 @@
 mod chosen;
 mod copy;
 mod flight;
+mod laws;
 mod lines;
 mod naming;
 mod options;
@@ -16,5 +17,6 @@ mod time;
 pub use chosen::{carry, missing_name};
 pub use ferry_piece::CarryFault;
 pub use flight::{Flight, Turn};
+pub use laws::flight_laws;
 pub use naming::end_stream;
 pub use options::{Carried, Options};

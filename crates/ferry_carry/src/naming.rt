@@ -15,7 +15,7 @@ ghost use Rattle.ferry_carry.specs.Progress.{IsAllCopied};
 ghost use Rattle.ferry_piece.specs.Piece.{CountsOn};
 ghost use Rattle.ferry_piece.specs.Puts.{Addition, ArePieces, Border, IsCheckpoint, Record, Stream, addition};
 ghost use Rattle.ferry_carry.specs.Naming.{BeginsRecord, Draws, PutsRecord, TaggedRecord, TagsDrawn, copied_archive, copied_in, entry_for, fixed_params};
-ghost use Rattle.ferry_carry.specs.Refusals.{IsLimited, LimitsManifest, RefusesEnd, RefusesRecordText};
+ghost use Rattle.ferry_carry.specs.Refusals.{IsLimited, Leaves, LimitsManifest, RefusesEnd, RefusesRecordText};
 ghost use Rattle.ferry_piece.specs.Stops.{StopsPieces, StopsTarget, is_target};
 ghost use Rattle.ferry_msgpack.specs.View.{value_view};
 ghost use Rattle.ferry_disk.specs.Device.{HasCause, Told};
@@ -189,6 +189,7 @@ fn put_record<D: Depot, E: Entropy>(
     ensures rest { OnOk result (KeepsRest store.old store.new) }
     ensures fits { OnOk result (IfSome (D.told depot.new) (λ t. StoreFits false store.new t.history)) }
     ensures stops { IfErr result (StopsPieces (D.told depot.new) (repo_view store.old.repo).keys) }
+    ensures left { (most : ℕ) → store.old.pending ≤ most → IfErr result (Leaves most store.old (D.told depot.new) store.new) }
     ensures unspent { OnOk result (IsUnspent store.new) }
     ensures entropy { HasCause random_failed (E.faults entropy.old) (E.faults entropy.new) result }
     ensures refused { IfErr result (RefusesRecordText (repo_view store.old.repo).keys (archive_view archive.now)) }
@@ -220,6 +221,7 @@ fn put_copied<D: Depot, E: Entropy>(
     ensures rest { OnOk result (KeepsRest store.old store.new) }
     ensures fits { OnOk result (IfSome (D.told depot.new) (λ t. StoreFits false store.new t.history)) }
     ensures stops { IfErr result (StopsPieces (D.told depot.new) (repo_view store.old.repo).keys) }
+    ensures left { (most : ℕ) → store.old.pending ≤ most → IfErr result (Leaves most store.old (D.told depot.new) store.new) }
     ensures unspent { OnOk result (IsUnspent store.new) }
     ensures entropy { HasCause random_failed (E.faults entropy.old) (E.faults entropy.new) result }
     ensures refused { IfErr result (RefusesRecordText (repo_view store.old.repo).keys
@@ -261,6 +263,8 @@ pub fn end_stream<D: Depot, E: Entropy>(
     ensures rest { OnOk result (KeepsRest store.old store.new) }
     ensures fits { OnOk result (IfSome (D.told depot.new) (λ t. StoreFits false store.new t.history)) }
     ensures stops { IfErr result (StopsPieces (D.told depot.new) (repo_view store.old.repo).keys) }
+    // Behind a refusal that isn't the target's the store can be used on.
+    ensures left { IfErr result (Leaves stream.old.checkpoint store.old (D.told depot.new) store.new) }
     ensures unspent { OnOk result (IsUnspent store.new) }
     ensures entropy { HasCause random_failed (E.faults entropy.old) (E.faults entropy.new) result }
     ensures refused { IfErr result (RefusesRecordText (repo_view store.old.repo).keys (copied_archive (archive_view archive.old) block
@@ -355,6 +359,7 @@ pub(crate) fn end_copy<D: Depot, E: Entropy>(
     ensures packable { OnOk result (IsPackable (accepted_in store.new)) }
     ensures fits { OnOk result (IfSome (D.told depot.new) (λ t. StoreFits false store.new t.history)) }
     ensures stops { IfErr result (StopsTarget (D.told depot.new) (repo_view store.old.repo).keys) }
+    ensures left { IfErr result (Leaves copy.old.contents.checkpoint store.old (D.told depot.new) store.new) }
     ensures limit { IfErr result (IsLimited (D.told depot.new) timestamp.now (repo_view source.now) store.old named.now) }
     ensures unspent { OnOk result (IsUnspent store.new) }
     ensures entropy { HasCause random_failed (E.faults entropy.old) (E.faults entropy.new) result }

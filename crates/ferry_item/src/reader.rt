@@ -14,7 +14,7 @@ use std::alloc::{AllocError, Global};
 use std::marker::Model;
 
 /// How many items a look ahead reads at most.
-const ITEMS_AHEAD: usize = 8;
+const ITEMS_AHEAD: usize = 11;
 
 /// A reader of the item stream of an archive, which comes in pieces that are cut anywhere.
 ///
@@ -109,7 +109,7 @@ impl ItemReader {
     }
 
     /// Adds the chunks of the items that `next` answers next, so far as these stand whole in the bytes that were fed, until
-    /// `chunks` has `most`. At most eight items are looked at, and a malformed one ends the look. The reader stays where it is.
+    /// `chunks` has `most`. At most eleven items are looked at, and a malformed one ends the look. The reader stays where it is.
     pub fn chunks_ahead(&self, most: usize, chunks: &mut Vec<ChunkRef>) -> Result<(), AllocError> {
         let alloc = *self.bytes.allocator();
         let mut at = self.at;
@@ -127,7 +127,7 @@ impl ItemReader {
     }
 
     /// The chunks of the items with content that `next` answers next, so far as these stand whole in the bytes that were fed: a list for
-    /// each item. At most eight items are looked at, and a malformed one ends the look. The reader stays where it is.
+    /// each item. At most eleven items are looked at, and a malformed one ends the look. The reader stays where it is.
     pub fn lists_ahead(&self) -> Result<Vec<ChunkRefs>, AllocError> {
         let alloc = *self.bytes.allocator();
         let mut lists = Vec::new(alloc);

@@ -24,8 +24,9 @@ use std::alloc::{AllocError, Global};
 /// a stream.
 pub(crate) const AHEAD: usize = 12;
 
-/// How many bytes of blobs are read ahead at most, with those of the contents that are kept, but for the first blob.
-const ROOM: u64 = 25_165_824;
+/// How many bytes of blobs are read ahead at most, with those of the contents that are kept, but for the first blob: twelve contents of
+/// 2 MiB, and 128 KiB for what stands before each and for a chunk of the stream.
+const ROOM: u64 = 25_296_896;
 
 /// Some blobs, with the ids of their contents in the same order, and how many bytes more may be read.
 #[derive(Drop)]

@@ -146,7 +146,7 @@ impl Walk {
         repo.read_contents(shelf, wanted.as_slice())
     }
 
-    /// The chunks of the items with content that come next, so far as they stand whole in what was read: a list for each item, of the next eight at
+    /// The chunks of the items with content that come next, so far as they stand whole in what was read: a list for each item, of the next eleven at
     /// most. The walk stays where it is.
     pub fn lists_ahead(&self) -> Result<Vec<ChunkRefs>, AllocError> {
         self.reader.lists_ahead()

@@ -211,6 +211,7 @@ module _ (drawn : Drawn) (secrets : Secrets) (options : Options) (names : List (
       told = all_lines limited.done limited.told;
       middle = limited.middle;
       ids = limited.ids;
+      sizes = limited.sizes;
       behind = subst (λ (m : ManifestText). AreNextOf options.timestamp source.manifest m limited.done limited.ids limited.middle) accepts
           limited.behind;
       large = limited.large;
@@ -298,7 +299,7 @@ module _ (drawn : Drawn) (secrets : Secrets) (options : Options) (names : List (
       → RefusesTransfer asks drawn (told_files t) (told_files a) (lines_of d.history.acts) (told_files d) fault
   refused_told keeps (Carry.Source fault) last limit (inl refused) = λ of_files.
       inr (of_chosen (Carry.Source fault) (λ repo target name. RefusesWhole (told_files t) repo.log repo.keys repo.manifest.archives name fault) refused
-      (refused.refused of_files))
+      (refused.refused.0 of_files))
   refused_told keeps (Carry.Source fault) last limit (inr untold) = told_line _ (Carry.Source fault) refl untold.0
   refused_told keeps (Carry.Target refusal) last limit (inl refused) =
       inr (
@@ -318,12 +319,12 @@ module _ (drawn : Drawn) (secrets : Secrets) (options : Options) (names : List (
   }
   refused_told keeps Carry.Pieces last limit (inl refused) =
       of_chosen Carry.Pieces (λ repo target name. LacksName target.manifest name × HasLongItem (told_files t) (from_source asks (told_files t) repo) name)
-      refused refused.refused
+      refused (refused.refused.0, refused.refused.1.0)
   refused_told keeps Carry.Pieces last limit (inr untold) = told_line _ Carry.Pieces refl untold.0
   refused_told keeps Carry.Memory last limit refused = tt
   refused_told keeps Carry.Record last limit (inl refused) =
       of_chosen Carry.Record (λ repo target name. LacksName target.manifest name
-      × HasLargeRecord (told_files t) (from_source asks (told_files t) repo) target.keys name) refused refused.refused
+      × HasLargeRecord (told_files t) (from_source asks (told_files t) repo) target.keys name) refused (refused.refused.0, refused.refused.1.0)
   refused_told keeps Carry.Record last limit (inr untold) = told_line _ Carry.Record refl untold.0
 
 files_begun : (h : History) → h.acts ≡ [] → files_now h ≡ h.start

@@ -7,9 +7,9 @@ ghost use Rattle.ferry_piece.specs.Gather.{IsAmong, NoCollision};
 ghost use Rattle.ferry_piece.specs.Puts.{Addition, contents_in};
 ghost use Rattle.ferry_carry.specs.Listing.{ListsNames};
 ghost use Rattle.ferry_carry.specs.Naming.{DrawsSalts, TaggedRecord, records_in, salts_of};
-ghost use Rattle.ferry_carry.specs.Refusals.{HasLargeRecord};
+ghost use Rattle.ferry_carry.specs.Refusals.{HasLargeRecord, HasLongItem};
 ghost use Rattle.ferry_check.specs.Verify.{FilesVerify};
-ghost use Rattle.ferry_disk.specs.Act.{History};
+ghost use Rattle.ferry_disk.specs.Act.{History, files_now};
 ghost use Rattle.ferry_disk.specs.Files.{Files, file_at};
 ghost use Rattle.ferry_disk.specs.Image.{ImageOf};
 ghost use Rattle.ferry_nonce.specs.Counter.{KeepsNumbers};
@@ -21,7 +21,7 @@ ghost use Rattle.ferry_stops.specs.Counters.{SpellsNumber};
 ghost use Rattle.ferry_store.specs.New.{OpensNew};
 ghost use Rattle.ferry_run_transfer.specs.Rerun.{AreLeftInTurn, EachChosen, HasNumber, IsNamedOrChosen, KeepsNonce, LacksName, MeetsConditions};
 ghost use Rattle.ferry_run_transfer.specs.Transfer.{Drawn, HasTransferred, KeepsArchives, NoneCollide, Request, chosen_of, from_source};
-ghost use Rattle.ferry_run_transfer.specs.TransferCauses.{IsOfAdded, IsReadyFor};
+ghost use Rattle.ferry_run_transfer.specs.TransferCauses.{HasLargeTarget, IsOfAdded, IsReadyFor};
 
 /// What a transfer asks of its target, it finds again in what it left at a stop, with the same words and the same source: the files open, the file
 /// `nonce` has a number, and each chosen name is absent there or equal.
@@ -78,6 +78,15 @@ pub fn transfer_laws()
         → request.source ≡ Some source → OpensFilesTo source request.secrets.source from
         → (did : HasTransferred request drawn drawn_now before now) → IsAmong (chosen_of request.names from.manifest) name
         → LacksName did.repo.manifest name → HasLargeRecord source (from_source request source from) did.repo.keys name → ⊥ }
+    // Nor had one an item that is too long, since none that came is in more pieces than an item may have.
+    ensures long { (request : Request) (source : Files) (from : RepoState) (drawn drawn_now : Option (List ℕ)) (before now : History) (name : List ℕ)
+        → request.source ≡ Some source → OpensFilesTo source request.secrets.source from
+        → (did : HasTransferred request drawn drawn_now before now) → IsAmong (chosen_of request.names from.manifest) name
+        → LacksName did.repo.manifest name → HasLongItem source (from_source request source from) name → ⊥ }
+    // And behind no front of the chosen names the manifest was too large with the next, whatever lines tell the front.
+    ensures limited { (request : Request) (source : Files) (drawn drawn_now : Option (List ℕ)) (before now : History) (lines : List (List ℕ))
+        → request.source ≡ Some source → HasTransferred request drawn drawn_now before now
+        → HasLargeTarget request source (files_now before) lines → ⊥ }
     // For each 128 bytes are drawn.
     ensures salts { (records : List TaggedRecord) (before now : Option (List ℕ)) → DrawsSalts records before now
         → length (salts_of records) ≡ 128 * length records }

@@ -1,5 +1,5 @@
 -- The settings and the key of a new repository. BorgBackup 1.2 Internals, "Data structures and file formats", Key files.
-use Rattle.std.specs.Prelude.{◌≡◌, ◌==◌, ℕ, true, false, List, [], ◌++◌, length, codes, Option, Some, None, Ok, Err}
+use Rattle.std.specs.Prelude.{◌≡◌, ◌≢◌, ◌==◌, ℕ, true, false, List, [], ◌++◌, length, codes, Option, Some, None, Ok, Err}
 use Rattle.std.specs.Int.{w32, cast_signed, from_be_bytes}
 use Rattle.ferry_config.specs.declared.config.Config.{Config}
 use Rattle.ferry_keyblob.specs.Opening.{Opened, key_of}
@@ -96,9 +96,9 @@ GivenOpens secret (Some basis) = BasisOpens secret basis
 
 -- The text of a key file that is handed in: it is there, and doesn't read or doesn't open.
 abbrev pub RefusesGiven : Secret → StoreRefusal → Type 0
-RefusesGiven secret (Repo (Repos.KeyFile fault)) = key_file_of secret.key_file ≡ Err fault
+RefusesGiven secret (Repo (Repos.KeyFile fault)) = (secret.key_file ≢ []) × (key_file_of secret.key_file ≡ Err fault)
 RefusesGiven secret (Repo (Repos.Key fault)) =
-    (file : KeyFile) × (key_file_of secret.key_file ≡ Ok file) × (key_of secret.passphrase file.key ≡ Err fault)
+    (secret.key_file ≢ []) × ((file : KeyFile) × (key_file_of secret.key_file ≡ Ok file) × (key_of secret.passphrase file.key ≡ Err fault))
 RefusesGiven secret Memory = Unit {0}
 RefusesGiven secret refusal = ⊥
 

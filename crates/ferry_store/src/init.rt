@@ -2,6 +2,8 @@
 ghost use Rattle.std.specs.Prelude.{◌≡◌, ◌≤◌, ◌++◌, ℕ, List, true, false, Some, None, IfOk, IfErr, IfSome, OnOk, length, option_map};
 ghost use Rattle.ferry_disk.specs.Device.{HasCause, told_files};
 ghost use Rattle.ferry_disk.specs.Image.{settled};
+ghost use Rattle.ferry_disk.specs.Moments.{Between};
+ghost use Rattle.ferry_stops.specs.Tells.{TellsNothing};
 ghost use Rattle.ferry_store.specs.Fault.{source_failed};
 ghost use Rattle.ferry_store.specs.Init.{MakesFirst, MakesOf, RefusesMaking};
 ghost use Rattle.ferry_nonce.specs.declared.counter.Counter.{Counter};
@@ -26,6 +28,7 @@ fn commit_first<D: Depot>(depot: &mut D, session: &mut Session) -> Result<(), St
     requires few { behind session.old.last ≤ 1 }
     ensures did { (counter : Counter) → Did (CommitsSound session.old counter) (λ _. TakesCommit session.old counter session.new)
         (D.told depot.old) (D.told depot.new) (D.faults depot.old) (D.faults depot.new) result }
+    ensures untold { Between (D.told depot.old) (D.told depot.new) TellsNothing }
     ensures unspent { OnOk result (session.new.spent ≡ false) }
     ensures limit { session.new.limit ≡ session.old.limit }
     ensures refused { IfErr result IsTarget }
@@ -49,6 +52,7 @@ fn write_first<D: Depot, E: Entropy>(
     ensures made { (salt : List ℕ) × ((length salt ≡ 64) × OnOk result (E.drawn entropy.new ≡ option_map (λ d. d ++ salt) (E.drawn entropy.old))
         × MakesFirst basis.now timestamp.now salt session.old counter.old session.new counter.new (D.told depot.old) (D.told depot.new)
         (D.faults depot.old) (D.faults depot.new) result) }
+    ensures untold { Between (D.told depot.old) (D.told depot.new) TellsNothing }
     ensures unspent { OnOk result ((session.new.spent ≡ false) × (counter.new.spent ≡ false)) }
     ensures limit { session.new.limit ≡ session.old.limit }
     ensures cause { HasCause source_failed (E.faults entropy.old) (E.faults entropy.new) result }
@@ -98,6 +102,7 @@ pub(crate) fn make_repository<D: Depot, E: Entropy>(
     ensures made { (bytes : List ℕ) × (OnOk result (E.drawn entropy.new ≡ option_map (λ d. d ++ bytes) (E.drawn entropy.old))
         × Did (MakesSound secret.now) (λ b. MakesOf secret.now iterations timestamp.now bytes b.0 b.1)
         (D.told depot.old) (D.told depot.new) (D.faults depot.old) (D.faults depot.new) result) }
+    ensures untold { Between (D.told depot.old) (D.told depot.new) TellsNothing }
     ensures unspent { IfOk result (λ b. (b.1.spent ≡ false) × (b.0.spent ≡ false)) }
     ensures refused { IfErr result (λ refusal. IfSome (D.told depot.old) (λ t. RefusesMaking timestamp.now (told_files t) refusal)) }
     ensures cause { HasCause source_failed (E.faults entropy.old) (E.faults entropy.new) result }

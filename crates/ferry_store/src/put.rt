@@ -176,6 +176,7 @@ pub(crate) fn put_manifest<D: Depot, E: Entropy>(
     ensures put { (salt : List ℕ) × ((length salt ≡ 64) × OnOk result (E.drawn entropy.new ≡ option_map (λ d. d ++ salt) (E.drawn entropy.old))
         × PutsManifest basis.now timestamp.now salt session.old counter.old session.new counter.new (D.told depot.old) (D.told depot.new)
         (D.faults depot.old) (D.faults depot.new) result) }
+    ensures untold { Between (D.told depot.old) (D.told depot.new) TellsNothing }
     ensures unspent { OnOk result ((session.new.spent ≡ false) × (counter.new.spent ≡ false)) }
     ensures limit { session.new.limit ≡ session.old.limit }
     ensures cause { HasCause source_failed (E.faults entropy.old) (E.faults entropy.new) result }

@@ -81,6 +81,7 @@ fn replace<D: Depot>(depot: &mut D, name: Name, bytes: &[u8]) -> Result<(), Stor
     requires { IsPlain name }
     ensures did { Did (IsStep (ReplaceBy name bytes.now)) (λ _ h g. g ≡ with_act (ReplaceBy name bytes.now) true h)
         (D.told depot.old) (D.told depot.new) (D.faults depot.old) (D.faults depot.new) result }
+    ensures untold { Between (D.told depot.old) (D.told depot.new) TellsNothing }
     ensures refused { IfErr result IsTarget }
 {
     depot.replace(name, bytes)?;
@@ -97,6 +98,7 @@ pub(crate) fn replace_settings<D: Depot>(
     requires limit { config.now.limit ≡ 524288000 }
     ensures did { Did SettingsSound (λ _. TakesSettings config.now) (D.told depot.old) (D.told depot.new) (D.faults depot.old) (D.faults depot.new)
         result }
+    ensures untold { Between (D.told depot.old) (D.told depot.new) TellsNothing }
     ensures read_again { OnOk result (config_of (config_text config.now) ≡ Ok config.now) }
     ensures refused { IfErr result IsTarget }
 {

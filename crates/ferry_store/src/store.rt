@@ -99,6 +99,8 @@ impl Store {
         ensures did { Did (InitEach secret.now) InitFits (D.told depot.old) (D.told depot.new) (D.faults depot.old) (D.faults depot.new) result }
         // The files open under the secret to the repository of the store.
         ensures opened { IfOk result (λ store. IfSome (D.told depot.new) (λ t. OpensFilesTo (told_files t) secret.now (repo_view store.repo))) }
+        // No line is told, also by a call that fails.
+        ensures untold { Between (D.told depot.old) (D.told depot.new) TellsNothing }
         // Each refusal says why, and each but `Committed`, the devices and memory says as well that nothing is committed.
         ensures refused { IfErr result (λ refusal. IfSome (D.told depot.old) (λ t. RefusesInit secret.now timestamp.now t.history refusal)) }
         // The source of random bytes counted a fault exactly where it is the answer.

@@ -49,7 +49,7 @@ use Rattle.ferry_top.specs.Run.{DoesCommand}
 use Rattle.ferry_write.specs.Session.{SettlesFirst}
 use Rattle.ferry_words.specs.declared.command.Command.{Command}
 use Rattle.ferry_words.specs.declared.command.Command.TheVariants.{Keys, Key, List as ListArchives, ListItems, Extract, Check}
-use Rattle.ferry_words.specs.declared.command.Command.TheVariants.{Init, MakeKey, Transfer, Plan, Delete, Compact, TagArchives}
+use Rattle.ferry_words.specs.declared.command.Command.TheVariants.{Init, MakeKey, Transfer, Plan, Delete, Compact, TagArchives, Drill}
 
 -- ---- an object that is live lies in a segment
 
@@ -291,6 +291,7 @@ command_goes (Extract name path) secrets before now first last devices status af
 command_goes Check secrets before now first last devices status after told told_after first_is last_is writes does may = absurd writes
 command_goes (MakeKey iterations) secrets before now first last devices status after told told_after first_is last_is writes does may = absurd writes
 command_goes (Plan block names) secrets before now first last devices status after told told_after first_is last_is writes does may = absurd writes
+command_goes (Drill count) secrets before now first last devices status after told told_after first_is last_is writes does may = absurd writes
 
 run_goes : (secret : Secret) (before now : History) → IsRunOf secret before now → MayBegin secret before → GoesOn secret before now
 run_goes secret before now run may =

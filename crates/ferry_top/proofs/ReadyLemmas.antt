@@ -47,7 +47,7 @@ use Rattle.ferry_view.specs.Items.{RefusesFile, RefusesItems}
 use Rattle.ferry_view.specs.declared.fault.ViewFault.TheVariants as View
 use Rattle.ferry_words.specs.declared.command.Command.{Command}
 use Rattle.ferry_words.specs.declared.command.Command.TheVariants.{Keys, Key, List as ListArchives, ListItems, Extract, Check}
-use Rattle.ferry_words.specs.declared.command.Command.TheVariants.{Init, MakeKey, Transfer, Plan, Delete, Compact, TagArchives}
+use Rattle.ferry_words.specs.declared.command.Command.TheVariants.{Init, MakeKey, Transfer, Plan, Delete, Compact, TagArchives, Drill}
 
 -- ---- by what a command prints
 
@@ -385,6 +385,11 @@ module _ (secrets : Secrets) (drawn : Drawn) (output output_now : Written) (stat
   shown (Delete timestamp name) (Some s) IsMet ready shows = absurd ready
   shown (Compact threshold) (Some s) IsMet ready shows = absurd ready
   shown (TagArchives timestamp) (Some s) IsMet ready shows = absurd ready
+  shown (Drill count) (Some s) IsMet ready shows = absurd ready
+
+  nothing_shown : (source : Option Told) (P : Type 0) → Tells source (λ s. ⊥) → P
+  nothing_shown None P ready = absurd ready
+  nothing_shown (Some s) P ready = absurd ready
 
   made : (iterations : ℕ) (timestamp : Option (List ℕ)) (source before now : Option Told) → IfSome before (λ b. b.history.acts ≡ [])
       → IsReadyTo (Init iterations timestamp) secrets drawn source before now
@@ -480,3 +485,5 @@ completes (Compact threshold) secrets before after status begun ready does =
 completes (TagArchives timestamp) secrets before after status begun ready does =
     tagged secrets (drawn_in before after) before.output after.output status timestamp
     before.source.told before.target.told after.target.told begun ready does.completes
+completes (Drill count) secrets before after status begun ready does =
+    nothing_shown secrets (drawn_in before after) before.output after.output status before.source.told _ ready

@@ -23,6 +23,7 @@ use Rattle.ferry_store.specs.Store.{RefusesInit}
 use Rattle.ferry_store.specs.declared.fault.StoreRefusal.TheVariants as Store
 use Rattle.ferry_top.specs.Init.{CommandEach, IsRefused, time_or}
 use Rattle.ferry_top.specs.MakeKey.{PrintsKey}
+use Rattle.ferry_run_drill.proofs.NothingLemmas.{drills_nothing}
 use Rattle.ferry_run_plan.specs.Planning.{planned_for}
 use Rattle.ferry_top.specs.Run.{DoesCommand, Runs}
 use Rattle.ferry_status.specs.Output.{Prints, PrintsAsRead, Reports}
@@ -36,7 +37,7 @@ use Rattle.ferry_status.specs.declared.status.Status.TheVariants.{SourceRefused,
 use Rattle.ferry_write.specs.Session.{SettlesFirst}
 use Rattle.ferry_words.specs.declared.command.Command.{Command}
 use Rattle.ferry_words.specs.declared.command.Command.TheVariants.{Keys, Key, List as ListArchives, ListItems, Extract, Check}
-use Rattle.ferry_words.specs.declared.command.Command.TheVariants.{Init, MakeKey, Transfer, Plan, Delete, Compact, TagArchives}
+use Rattle.ferry_words.specs.declared.command.Command.TheVariants.{Init, MakeKey, Transfer, Plan, Delete, Compact, TagArchives, Drill}
 
 -- ---- a command of the source
 
@@ -247,6 +248,7 @@ first_of (Ok (TagArchives timestamp)) secrets before after status does =
     between_map before.target.told after.target.told _ SettlesFirst (λ h g each. each.1.1.1) does.each
 first_of (Ok (Plan block names)) secrets before after status does =
     read_first {T = Unit {0}} {F = Bool} (λ failed. failed) before.target.told after.target.told (Err (target_failed status)) does.target
+first_of (Ok (Drill count)) secrets before after status does = does.first
 first_of (Err word) secrets before after status does = unused_first before after (ap (λ (d : Devices). d.target) does)
 
 pub runs_reported : (words : Result Command ℕ) (secrets : Secrets) (before after : Devices) (between : Written) (status : Status)
@@ -298,4 +300,5 @@ does_nothing (Ok (Plan block names)) secrets all = plans_nothing (planned_for se
 does_nothing (Ok (Delete timestamp name)) secrets all = deletes_nothing (deletion secrets.target name timestamp) all
 does_nothing (Ok (Compact threshold)) secrets all = compacts_nothing threshold all
 does_nothing (Ok (TagArchives timestamp)) secrets all = tags_nothing (tagging secrets.target timestamp) all
+does_nothing (Ok (Drill count)) secrets all = drills_nothing count all
 does_nothing (Err word) secrets all = refl

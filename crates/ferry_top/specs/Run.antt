@@ -15,6 +15,7 @@ use Rattle.ferry_top.specs.Keys.{IsListing}
 use Rattle.ferry_top.specs.Key.{IsIdLine, RefusesUnlocking}
 use Rattle.ferry_top.specs.List.{IsArchiveListing, RefusesOpening}
 use Rattle.ferry_top.specs.MakeKey.{MakesKey}
+use Rattle.ferry_run_drill.specs.Drilling.{DrillsTarget}
 use Rattle.ferry_run_plan.specs.Planning.{PlansTransfer, planned_for}
 use Rattle.ferry_view.specs.Items.{RefusesItems, RefusesFile}
 use Rattle.ferry_top.specs.Items.{ShowsItems, ShowsItemsFront, ShowsFile, ShowsFileFront, RefusesShowing, LacksArchive, LacksPath}
@@ -24,7 +25,7 @@ use Rattle.ferry_run_transfer.specs.Transfer.{asked}
 use Rattle.ferry_run_transfer.specs.Transferring.{Transfers}
 use Rattle.ferry_words.specs.declared.command.Command.{Command}
 use Rattle.ferry_words.specs.declared.command.Command.TheVariants.{Keys, Key, List as ListArchives, ListItems, Extract, Check}
-use Rattle.ferry_words.specs.declared.command.Command.TheVariants.{Init, MakeKey, Transfer, Plan, Delete, Compact, TagArchives}
+use Rattle.ferry_words.specs.declared.command.Command.TheVariants.{Init, MakeKey, Transfer, Plan, Delete, Compact, TagArchives, Drill}
 use Rattle.ferry_status.specs.declared.status.Secrets.{Secrets}
 use Rattle.ferry_status.specs.declared.status.Status.{Status}
 use Rattle.ferry_write.specs.Session.{SettlesFirst}
@@ -57,7 +58,7 @@ pub record ReadsSource (command : Command) (secret : Secret) (before : Devices) 
   pub entropy : after.entropy ≡ before.entropy
 
 -- what each command does, before the fault line: it reads the source, makes a repository in the target, makes a key for it, copies archives into it,
--- plans that, deletes one of it, compacts it, or tags those of it; where the words are no command, no device is used
+-- plans that, deletes one of it, compacts it, tags those of it, or copies a source of its own into it; where the words are no command, no device is used
 abbrev pub DoesCommand : Result Command ℕ → Secrets → Devices → Status → Devices → Type 0
 DoesCommand (Ok Keys) secrets before status after = ReadsSource Keys secrets.source before status after
 DoesCommand (Ok Key) secrets before status after = ReadsSource Key secrets.source before status after
@@ -75,6 +76,7 @@ DoesCommand (Ok (Delete timestamp name)) secrets before status after =
     DeletesArchive (deletion secrets.target name timestamp) before status after
 DoesCommand (Ok (Compact threshold)) secrets before status after = CompactsTarget threshold before status after
 DoesCommand (Ok (TagArchives timestamp)) secrets before status after = TagsArchives (tagging secrets.target timestamp) before status after
+DoesCommand (Ok (Drill count)) secrets before status after = DrillsTarget count before status after
 DoesCommand (Err word) secrets before status after = after ≡ before
 
 -- what a run leaves: what its command does, then the fault line, and the causes of its status; the first act in the target, where there is one, is a Settle

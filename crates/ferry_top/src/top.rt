@@ -15,6 +15,7 @@ use ferry_carry::Options;
 use ferry_disk::{Depot, Entropy, Shelf, Sink};
 use ferry_run_compact::compact;
 use ferry_run_delete::delete;
+use ferry_run_drill::drill;
 use ferry_run_plan::plan;
 use ferry_run_tag::tag_archives;
 use ferry_run_transfer::transfer;
@@ -40,7 +41,9 @@ use std::alloc::Global;
 /// of the target of which a part is unused, removes them, and tells `compacted ` and how many these were; it uses neither `source` and
 /// `entropy` nor `out` but for its fault line. `tag-archives` gives the record of each archive of the target an authentication tag that has none,
 /// and tells `tagged ` and how many these were; it uses neither `source` nor `out` but for its fault line. `make-key` draws a new key, seals it
-/// with the target's passphrase and prints the text of its key file; it uses neither `source` nor `target`.
+/// with the target's passphrase and prints the text of its key file; it uses neither `source` nor `target`. `drill` makes a source of so many
+/// archives in memory and a repository in the target, with passphrases of its own, copies all archives into it, which tells the lines of
+/// `transfer`, checks it, and prints one line with the numbers of what was put; it doesn't use `source`.
 pub fn run<S: Shelf, D: Depot, E: Entropy, K: Sink>(
     alloc: Global,
     words: &[String],
@@ -167,6 +170,7 @@ fn carry_out<S: Shelf, D: Depot, E: Entropy, K: Sink>(
         Command::TagArchives { timestamp } => {
             tag_archives(alloc, &secrets.target, timestamp, target, entropy)
         }
+        Command::Drill { count } => drill(alloc, count, target, entropy, out),
         Command::MakeKey { iterations } => make_key(
             alloc,
             &secrets.target,

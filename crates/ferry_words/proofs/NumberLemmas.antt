@@ -7,7 +7,7 @@ use Rattle.std.specs.Option.{SomeIff, option_and_then}
 use Rattle.std.specs.Result.{OkIff, result_ok}
 use Rattle.std.specs.Str.{all_ascii_digits}
 use Rattle.std.specs.Str.Parse.{ParsesUnsigned, digits_value}
-use Rattle.ferry_words.specs.Words.{block, block_of, checkpoint, checkpoint_of, is_decimal, iterations}
+use Rattle.ferry_words.specs.Words.{block, block_of, checkpoint, checkpoint_of, count_of, is_decimal, iterations}
 use Rattle.ferry_words.specs.Words.{iterations_of, number_of, number_or, threshold, threshold_of, value_of}
 
 left : (a b : Bool) → (a && b) ≡ true → a ≡ true
@@ -71,3 +71,9 @@ checkpoint_in_range given = number_within 1 1000000 1024 (value_of given checkpo
 
 pub threshold_in_range : (given : List (List ℕ)) → threshold_of given ≤ 100
 threshold_in_range given = (number_within 0 100 10 (value_of given threshold.name) (omega arith, omega arith)).1
+
+option_within : (least most default : ℕ) (word : List ℕ) → IsWithin least most default → IsWithin least most (number_or default (number_of least most word))
+option_within least most default word h = number_within least most default (Some word) h
+
+pub count_in_range : (operands : List (List ℕ)) → (1 ≤ count_of operands) × (count_of operands ≤ 64)
+count_in_range operands = option_within 1 64 1 (get_or operands 0 []) (omega arith, omega arith)

@@ -5,9 +5,9 @@ use Rattle.std.proofs.lemmas.Slice.Eq.{bytes_eq-Decides}
 use Rattle.std.specs.List.{AllByRecursion}
 use Rattle.std.specs.Str.{IsUtf8, bytes_eq}
 use Rattle.ferry_words.specs.Words.{Form, IsInRange, OptionForm, Row, is_known, is_option, is_taken, iterations, listed, number_of, options_end, rows, row_of}
-use Rattle.ferry_words.specs.Words.{block, checkpoint, threshold, timestamp, transferred}
+use Rattle.ferry_words.specs.Words.{block, checkpoint, drill_form, threshold, timestamp, transferred}
 use Rattle.ferry_words.specs.Laws.{AreOperands, IsPlainAhead}
-use Rattle.ferry_words.proofs.NumberLemmas.{block_in_range, checkpoint_in_range, iterations_in_range, threshold_in_range}
+use Rattle.ferry_words.proofs.NumberLemmas.{block_in_range, checkpoint_in_range, count_in_range, iterations_in_range, threshold_in_range}
 
 -- ---- options
 
@@ -118,6 +118,11 @@ none form least = record { few = []; utf8 = tt; plain = tt; fitting = tt; as_few
 utf8_empty : IsUtf8 []
 utf8_empty = ([], (refl, refl))
 
+-- one number, where a form counts
+one_counted : HasOperands drill_form
+unfolding number_of
+one_counted = record { few = codes "1" ∷ []; utf8 = (utf8_one, tt); plain = refl; fitting = (refl, tt); as_few = refl }
+
 found_at : (k : ℕ) (row : Row) → k < length rows → get_or rows k row ≡ row → IsFound row
 unfolding row_of
 found_at zero row within e = subst IsFound e record { found = refl; usable = tt; filled = none _ refl; in_range = λ given operands. tt }
@@ -179,7 +184,14 @@ found_at (suc (suc (suc (suc (suc (suc (suc (suc (suc (suc (suc zero))))))))))) 
       filled = none _ refl;
       in_range = λ given operands. tt;
     }
-found_at (suc (suc (suc (suc (suc (suc (suc (suc (suc (suc (suc (suc k)))))))))))) row within e = absurd (omega arith)
+found_at (suc (suc (suc (suc (suc (suc (suc (suc (suc (suc (suc (suc zero)))))))))))) row within e =
+    subst IsFound e record {
+      found = refl;
+      usable = tt;
+      filled = one_counted;
+      in_range = λ given operands. count_in_range operands;
+    }
+found_at (suc (suc (suc (suc (suc (suc (suc (suc (suc (suc (suc (suc (suc k))))))))))))) row within e = absurd (omega arith)
 
 pub listed_found : (row : Row) → Contains rows row → IsFound row
 listed_found row h = found_at h.0 row h.1 h.2

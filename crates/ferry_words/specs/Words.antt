@@ -12,7 +12,7 @@ use Rattle.std.specs.List.{list_any, starts_with}
 use Rattle.std.specs.Option.{option_and_then}
 use Rattle.ferry_words.specs.declared.command.Command.{Command}
 use Rattle.ferry_words.specs.declared.command.Command.TheVariants.{Keys, Key, List as ListArchives, ListItems, Extract, Check}
-use Rattle.ferry_words.specs.declared.command.Command.TheVariants.{Init, MakeKey, Transfer, Plan, Delete, Compact, TagArchives}
+use Rattle.ferry_words.specs.declared.command.Command.TheVariants.{Init, MakeKey, Transfer, Plan, Delete, Compact, TagArchives, Drill}
 
 -- ---- values
 
@@ -195,6 +195,18 @@ compact_form = form (threshold ∷ []) 0 (up_to 0) (λ given operands. Compact (
 abbrev pub tag_archives_form : Form
 tag_archives_form = form (timestamp ∷ []) 0 (up_to 0) (λ given operands. TagArchives (timestamp_of given))
 
+-- how many archives `drill` makes: the number that its operand writes
+abbrev pub count_of : List (List ℕ) → ℕ
+count_of operands = number_or 1 (number_of 1 64 (get_or operands 0 []))
+
+-- one operand, a number from 1 to 64
+abbrev pub counts : ℕ → List ℕ → Bool
+counts place word = nat_lt place 1 && is_number 1 64 word
+
+-- the form of `drill N`
+abbrev pub drill_form : Form
+drill_form = form [] 1 counts (λ given operands. Drill (count_of operands))
+
 -- the numbers of a command are in the ranges of its options
 abbrev pub IsInRange : Command → Type 0
 IsInRange (Init number text) = (1 ≤ number) × (number ≤ 10000000)
@@ -202,6 +214,7 @@ IsInRange (MakeKey number) = (1 ≤ number) × (number ≤ 10000000)
 IsInRange (Transfer size count text names) = (64 ≤ size) × (size ≤ 8388608) × (1 ≤ count) × (count ≤ 1000000)
 IsInRange (Plan size names) = (64 ≤ size) × (size ≤ 8388608)
 IsInRange (Compact hundredths) = hundredths ≤ 100
+IsInRange (Drill count) = (1 ≤ count) × (count ≤ 64)
 IsInRange command = ⊤
 
 -- the row of a command
@@ -223,6 +236,7 @@ rows =
     ∷ row (codes "delete") delete_form
     ∷ row (codes "compact") compact_form
     ∷ row (codes "tag-archives") tag_archives_form
+    ∷ row (codes "drill") drill_form
     ∷ []
 
 -- the row of this word

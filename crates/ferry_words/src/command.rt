@@ -73,4 +73,9 @@ pub enum Command {
         /// The manifest's timestamp, where one is given.
         timestamp: Option<Bytes>,
     },
+    /// `drill N`: copies a source of its own into a target, and checks it.
+    Drill {
+        /// How many archives the source has, 1 to 64.
+        count: u32,
+    },
 }

@@ -8,12 +8,16 @@ ghost use Rattle.ferry_words.specs.Words.{IsInRange, command_of};
 ghost use Rattle.ferry_words.specs.declared.command.Command.TheVariants as TheCommand;
 
 use crate::command::Command;
+use crate::number::number_of;
 use crate::options::{
     Options, block_of, bytes_of, checkpoint_of, iterations_of, names_of, parts_of, threshold_of,
     timestamp_of,
 };
 use crate::usage::Usage;
 use std::alloc::Global;
+
+/// The most archives that a drill makes.
+const MOST_ARCHIVES: u32 = 64;
 
 /// A command of one word.
 #[derive(Clone, Copy)]
@@ -63,6 +67,7 @@ fn read_row(alloc: Global, words: &[String]) -> Result<Command, Usage>
         "delete" => delete(alloc, behind),
         "compact" => compact(behind),
         "tag-archives" => tag_archives(alloc, behind),
+        "drill" => drill(behind),
         _ => Err(Usage::Word(1)),
     }
 }
@@ -242,5 +247,21 @@ fn tag_archives(alloc: Global, behind: &[String]) -> Result<Command, Usage>
             timestamp: timestamp_of(alloc, parts.given)?,
         }),
         [_, ..] => Err(Usage::Word(parts.first)),
+    }
+}
+
+/// `drill` with how many archives its source has.
+#[tactic(auto, unfolding(crate::specs::Words::made, crate::specs::Words::first_unfit))]
+fn drill(behind: &[String]) -> Result<Command, Usage>
+    ensures answer { IsAnswer result (spec.meaning_of spec.drill_form (map string_bytes behind.now)) }
+{
+    let parts = parts_of(Options::None, behind)?;
+    let [word, more @ ..] = parts.operands else {
+        return Err(Usage::Word(parts.first));
+    };
+    match number_of(word.as_str(), 1, MOST_ARCHIVES) {
+        None => Err(Usage::Word(parts.first)),
+        Some(count) if more.is_empty() => Ok(Command::Drill { count }),
+        Some(_) => Err(Usage::Word(parts.first + 1)),
     }
 }

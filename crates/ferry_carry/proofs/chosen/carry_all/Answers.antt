@@ -4,6 +4,7 @@ use Rattle.ferry_carry.proofs.FlyLemmas.{origin_kept}
 use Rattle.ferry_carry.proofs.GrowLemmas.{accepts_on, most_here, most_then}
 use Rattle.ferry_carry.proofs.NextLemmas.{next_of}
 use Rattle.ferry_carry.proofs.ReportLemmas.{reports_all, reports_begin, reports_front, reports_more}
+use Rattle.ferry_carry.proofs.SmallLemmas.{ids_sized}
 use Rattle.ferry_piece.proofs.WorkLemmas.{err_is}
 use Rattle.ferry_carry.proofs.chosen.carry_all.Goals as goal
 use Rattle.ferry_carry.specs.Accepting.{HasLargeNext, LimitsNames}
@@ -199,7 +200,7 @@ returns-in_err-carry_one-clause-limit g c =
     c.in_err-carry_one.ensures.limit is in
     one_large d given source.manifest after.manifest keys (repo_view c.loop-place.store.repo).keys a names done name
     (drop (c.loop-place.place + 1) names) _ accepted (accepted_in c.loop-place.store) (ap (λ (r : RepoState). r.manifest) invariant.repo) invariant.most.keys
-    (split_at names c.loop-place.place name _ lt named)
+    (split_at names c.loop-place.place name _ lt named) (ids_sized keys invariant.works.0.records)
     (next_of given source.manifest keys accepted done invariant.works.0.records (accepted_in c.loop-place.store) invariant.works.0.accepts.0)
     (told_still accepted done a b d told_all (c.in_err-carry_one.ensures.untold (ap is_of_telling is))) large)
 

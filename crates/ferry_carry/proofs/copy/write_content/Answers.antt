@@ -3,10 +3,12 @@ use Rattle.ferry_piece.proofs.AddingLemmas.{none_refused, source_unbroken}
 use Rattle.ferry_piece.proofs.FaultLemmas.{source_still}
 use Rattle.ferry_piece.proofs.PieceLemmas.{ok_to}
 use Rattle.ferry_piece.proofs.WorkLemmas.{err_is, gathered_nothing}
+use Rattle.ferry_carry.proofs.LeftLemmas.{left_here, targets_leave}
 use Rattle.ferry_carry.proofs.copy.write_content.Goals as goal
 use Rattle.ferry_piece.specs.Adding.{AddsOn}
 use Rattle.ferry_carry.specs.Copying.{BeginsChunk, WritesContent}
 use Rattle.ferry_piece.specs.Fault.{IsOfSource, source_fault}
+use Rattle.ferry_carry.specs.Refusals.{Leaves}
 use Rattle.ferry_piece.specs.Piece.{CountsOn, WritesOn}
 use Rattle.ferry_piece.specs.Puts.{Addition, AreOf, Content, contents_in}
 use Rattle.ferry_piece.specs.declared.fault.CarryFault.{CarryFault}
@@ -77,3 +79,17 @@ returns-clause-written g c =
         ),
       ),
     )
+
+pub returns-in_err-content-clause-left : goal.returns-in_err-content-clause-left
+returns-in_err-content-clause-left g c =
+    let store = c.args.store.now in
+    let a = g.D.Shelf.told c.args.depot.now in
+    let most = c.args.writer.now.checkpoint in
+    err_is c.from_residual.result (source_fault c.in_err-content.field-0.0)
+    (λ (r : Result (Unit {0}) CarryFault). IfErr r (Leaves most store a store)) c.from_residual.ensures.1
+    (λ _. left_here most store a c.requires.fits c.requires.unspent c.requires.pending)
+
+pub returns-clause-left : goal.returns-clause-left
+returns-clause-left g c =
+    targets_leave {T = Unit {0}} c.args.writer.now.checkpoint c.args.store.now (g.D.Shelf.told c.write.new.depot) c.write.new.store c.write.result
+    c.write.ensures.target

@@ -4,6 +4,7 @@ use Rattle.ferry_carry.proofs.FillingLemmas.{chunks_filled}
 use Rattle.ferry_piece.proofs.GatherLemmas.{rest_here, rest_then}
 use Rattle.ferry_piece.proofs.PieceLemmas.{counts_none, counts_then, pieces_then}
 use Rattle.ferry_piece.proofs.PutsLemmas.{contents_append, of_append}
+use Rattle.ferry_carry.proofs.LeftLemmas.{left_then}
 use Rattle.ferry_carry.proofs.RefusalLemmas.{contents_refused}
 use Rattle.ferry_piece.proofs.WorkLemmas.{err_is, gathered_none}
 use Rattle.ferry_carry.proofs.copy.write_contents.Goals as goal
@@ -12,7 +13,7 @@ use Rattle.ferry_carry.specs.Copying.{BeginsContents, WritesContents}
 use Rattle.ferry_carry.specs.Filling.{FillsChunks, WhereSource}
 use Rattle.ferry_piece.specs.Piece.{CountsOn}
 use Rattle.ferry_piece.specs.Puts.{AreOf, Content, contents_in}
-use Rattle.ferry_carry.specs.Refusals.{RefusesContents}
+use Rattle.ferry_carry.specs.Refusals.{Leaves, RefusesContents}
 use Rattle.ferry_piece.specs.declared.fault.CarryFault.{CarryFault}
 use Rattle.ferry_repo.specs.Opening.{repo_view}
 
@@ -185,3 +186,14 @@ returns-in_err-write_content-clause-refused g c =
     err_is c.from_residual.result fault (λ (r : Result (Unit {0}) CarryFault). IfErr r (RefusesContents told source chunks)) c.from_residual.ensures.1
     (contents_refused told (g.S.Shelf.told c.loop-place.shelf) source (repo_view c.loop-place.source) chunks c.loop-place.place _
     invariant.written.1.1.1.0.contents fault invariant.alike invariant.repo lt invariant.written.1.1.1.0.come c.in_err-write_content.ensures.refused)
+
+pub returns-in_err-write_content-clause-left : goal.returns-in_err-write_content-clause-left
+returns-in_err-write_content-clause-left g c =
+    let invariant = c.loop-place.invariant in
+    let store = c.args.store.now in
+    let now = c.write_content.new.store in
+    let b = g.D.Shelf.told c.write_content.new.depot in
+    let most = c.args.writer.now.checkpoint in
+    let fault = c.in_err-write_content.field-0.0 in
+    err_is c.from_residual.result fault (λ (r : Result (Unit {0}) CarryFault). IfErr r (Leaves most store b now)) c.from_residual.ensures.1
+    (left_then most c.loop-place.writer.checkpoint store c.loop-place.store b now fault invariant.checkpoint invariant.rest c.in_err-write_content.ensures.left)

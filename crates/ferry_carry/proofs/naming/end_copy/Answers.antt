@@ -6,6 +6,7 @@ use Rattle.ferry_carry.proofs.GrowLemmas.{most_from, most_then}
 use Rattle.ferry_carry.proofs.FlightLemmas.{rest_accepts, rest_packable}
 use Rattle.ferry_carry.proofs.FlyLemmas.{added_all}
 use Rattle.ferry_carry.proofs.HeldLemmas.{held_then, held_within}
+use Rattle.ferry_carry.proofs.LeftLemmas.{left_then, target_leaves}
 use Rattle.ferry_piece.proofs.FaultLemmas.{stops_of_pieces}
 use Rattle.ferry_carry.proofs.NamingLemmas.{begins_done, behind_record, counts_done, lists_done, pieces_limit, record_limit, tagged_as, unnamed_rest}
 use Rattle.ferry_carry.proofs.NextLemmas.{behind_named}
@@ -22,9 +23,10 @@ use Rattle.ferry_carry.specs.Naming.{copied_in}
 use Rattle.ferry_piece.specs.Puts.{Addition, AtBegin, AtEnd, border_behind}
 use Rattle.ferry_piece.specs.declared.fault.CarryFault.{CarryFault}
 use Rattle.ferry_carry.specs.declared.options.Carried.{Carried}
+use Rattle.ferry_piece.proofs.GatherLemmas.{rest_here}
 use Rattle.ferry_carry.proofs.CauseLemmas.{record_refused}
 use Rattle.ferry_piece.specs.Gather.{KeepsStanding, chunks_of}
-use Rattle.ferry_carry.specs.Refusals.{IsLimited, RefusesEnd}
+use Rattle.ferry_carry.specs.Refusals.{IsLimited, Leaves, RefusesEnd}
 use Rattle.ferry_piece.specs.Stops.{StopsTarget}
 use Rattle.ferry_disk.specs.Moments.{Between}
 use Rattle.ferry_manifest.specs.Record.Text.{archive_view}
@@ -254,3 +256,24 @@ returns-in_err-name_record-clause-limit g c =
     c.from_residual-in_err-name_record.ensures.1
     (record_limit d given source store c.end_stream.new.store named c.in_ok-id.id under.adds.text fault c.in_ok-id.ensures.rest under.id_is
     c.requires.unnamed c.in_err-name_record.ensures.limit)
+
+pub returns-in_err-id-clause-left : goal.returns-in_err-id-clause-left
+returns-in_err-id-clause-left g c =
+    let store = c.args.store.now in
+    let now = c.end_stream.new.store in
+    let b = g.D.Shelf.told c.end_stream.new.depot in
+    let copy = c.args.copy.now in
+    let most = copy.contents.checkpoint in
+    let fault = c.in_err-id.field-0.0 in
+    err_is c.from_residual.result fault (λ (r : Result Carried CarryFault). IfErr r (Leaves most store b now)) c.from_residual.ensures.1
+    (left_then most copy.stream.checkpoint store store b now fault c.requires.ready.same (rest_here store) c.in_err-id.ensures.left)
+
+pub returns-in_err-name_record-clause-left : goal.returns-in_err-name_record-clause-left
+returns-in_err-name_record-clause-left g c =
+    let store = c.args.store.now in
+    let now = c.name_record.new.store in
+    let d = g.D.Shelf.told c.name_record.new.depot in
+    let most = c.args.copy.now.contents.checkpoint in
+    let fault = c.in_err-name_record.field-0.0 in
+    err_is c.from_residual-in_err-name_record.result fault (λ (r : Result Carried CarryFault). IfErr r (Leaves most store d now))
+    c.from_residual-in_err-name_record.ensures.1 (target_leaves most store d now fault c.in_err-name_record.ensures.target)

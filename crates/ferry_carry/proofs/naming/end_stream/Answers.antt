@@ -1,5 +1,6 @@
-use Rattle.std.proofs.Common.{ℕ, inl, inr, List, [], ◌++◌, Result, Err, OnOk, Vec, Global, refl, sym, ◌∙◌, subst}
+use Rattle.std.proofs.Common.{ℕ, inl, inr, List, [], ◌++◌, Result, Err, IfErr, OnOk, Vec, Global, refl, sym, ◌∙◌, subst}
 use Rattle.std.proofs.lemmas.List.{append-nil}
+use Rattle.ferry_carry.proofs.LeftLemmas.{lefts_then, target_leaves}
 use Rattle.ferry_carry.proofs.NamingLemmas.{on_any, record_as}
 use Rattle.ferry_carry.proofs.TagLemmas.{tags_none}
 use Rattle.ferry_piece.proofs.WorkLemmas.{err_is, gathered_err, gathered_then}
@@ -7,6 +8,7 @@ use Rattle.ferry_carry.proofs.naming.end_stream.Goals as goal
 use Rattle.ferry_piece.specs.Adding.{AddsOn}
 use Rattle.ferry_piece.specs.Gather.{chunks_of}
 use Rattle.ferry_carry.specs.Naming.{BeginsRecord, PutsRecord, copied_in}
+use Rattle.ferry_carry.specs.Refusals.{Leaves}
 use Rattle.ferry_piece.specs.Piece.{CountsOn}
 use Rattle.ferry_piece.specs.Puts.{Addition, ArePieces, Stream}
 use Rattle.ferry_piece.specs.declared.fault.CarryFault.{CarryFault}
@@ -74,3 +76,19 @@ returns-clause-ended g c =
         ),
       ),
     )
+
+pub returns-in_err-pieces-clause-left : goal.returns-in_err-pieces-clause-left
+returns-in_err-pieces-clause-left g c =
+    let store = c.args.store.now in
+    let now = c.finish.new.store in
+    let b = g.D.Shelf.told c.finish.new.depot in
+    let most = c.args.stream.now.checkpoint in
+    let fault = c.in_err-pieces.field-0.0 in
+    err_is c.from_residual.result fault (λ (r : Result (List ℕ) CarryFault). IfErr r (Leaves most store b now)) c.from_residual.ensures.1
+    (target_leaves most store b now fault c.in_err-pieces.ensures.target)
+
+pub returns-clause-left : goal.returns-clause-left
+returns-clause-left g c =
+    let most = c.args.stream.now.checkpoint in
+    lefts_then {T = List ℕ} most most c.args.store.now c.finish.new.store (g.D.Shelf.told c.put_copied.new.depot) c.put_copied.new.store
+    c.put_copied.result refl c.in_ok-pieces.ensures.rest (c.put_copied.ensures.left most c.in_ok-pieces.ensures.pending)

@@ -1,9 +1,11 @@
-use Rattle.std.proofs.Common.{ℕ, inl, List, [], Result, refl, subst}
+use Rattle.std.proofs.Common.{ℕ, inl, List, [], Result, IfErr, refl, subst}
+use Rattle.ferry_carry.proofs.LeftLemmas.{target_leaves}
 use Rattle.ferry_carry.proofs.NamingLemmas.{RecordIs}
 use Rattle.ferry_piece.proofs.WorkLemmas.{err_is, gathered_nothing}
 use Rattle.ferry_carry.proofs.naming.put_copied.Goals as goal
 use Rattle.ferry_piece.specs.Adding.{AddsOn}
 use Rattle.ferry_carry.specs.Naming.{PutsRecord, copied_in}
+use Rattle.ferry_carry.specs.Refusals.{Leaves}
 use Rattle.ferry_piece.specs.declared.fault.CarryFault.{CarryFault}
 use Rattle.ferry_piece.specs.declared.fault.CarryFault.TheVariants.{Memory}
 use Rattle.ferry_manifest.specs.Record.Text.{ArchiveText, archive_view}
@@ -40,3 +42,11 @@ returns-clause-put g c =
             (g.E.Entropy.drawn c.put_record.new.entropy) c.put_record.result) c.in_ok-copied_archive.ensures.archive put.1.1,
       ),
     )
+
+pub returns-in_err-copied_archive-clause-left : goal.returns-in_err-copied_archive-clause-left
+returns-in_err-copied_archive-clause-left g c =
+    λ most pending.
+    let store = c.args.store.now in
+    let a = g.D.Shelf.told c.args.depot.now in
+    err_is c.from_residual.result Memory (λ (r : Result (List ℕ) CarryFault). IfErr r (Leaves most store a store)) c.from_residual.ensures.1
+    (target_leaves most store a store Memory refl)

@@ -1,9 +1,11 @@
 use Rattle.std.proofs.Common.{ℕ, inl, List, [], ◌∷◌, Result, IfErr, refl}
+use Rattle.ferry_carry.proofs.LeftLemmas.{left_here, targets_leave}
 use Rattle.ferry_carry.proofs.NamingLemmas.{record_put}
 use Rattle.ferry_piece.proofs.WorkLemmas.{err_is, gathered_nothing}
 use Rattle.ferry_carry.proofs.naming.put_record.Goals as goal
 use Rattle.ferry_piece.specs.Adding.{AddsOn}
 use Rattle.ferry_carry.specs.Naming.{PutsRecord}
+use Rattle.ferry_carry.specs.Refusals.{Leaves}
 use Rattle.ferry_piece.specs.Puts.{Record, addition}
 use Rattle.ferry_piece.specs.Stops.{StopsPieces}
 use Rattle.ferry_piece.specs.declared.fault.CarryFault.{CarryFault}
@@ -53,3 +55,17 @@ returns-in_err-text-clause-stops g c =
     let keys = (repo_view c.args.store.now.repo).keys in
     err_is c.from_residual.result c.in_err-text.field-0.0 (λ (r : Result (List ℕ) CarryFault). IfErr r (StopsPieces a keys)) c.from_residual.ensures.1
     (c.in_err-text.ensures.stops a keys)
+
+pub returns-in_err-text-clause-left : goal.returns-in_err-text-clause-left
+returns-in_err-text-clause-left g c =
+    λ most pending.
+    let store = c.args.store.now in
+    let a = g.D.Shelf.told c.args.depot.now in
+    err_is c.from_residual.result c.in_err-text.field-0.0 (λ (r : Result (List ℕ) CarryFault). IfErr r (Leaves most store a store)) c.from_residual.ensures.1
+    (λ _. left_here most store a c.requires.fits c.requires.unspent pending)
+
+pub returns-clause-left : goal.returns-clause-left
+returns-clause-left g c =
+    λ most pending.
+    targets_leave {T = List ℕ} most c.args.store.now (g.D.Shelf.told c.add_record.new.depot) c.add_record.new.store c.add_record.result
+    c.add_record.ensures.target

@@ -10,6 +10,7 @@ returns g c = record {
       (λ _ h k. TakesCommit c.args.session.now counter c.commit.new.session h k × OnlyAppends c.args.session.now h k)
       (λ _. TakesCommit c.args.session.now counter c.commit.new.session) (g.D.Shelf.told c.args.depot.now) (g.D.Shelf.told c.commit.new.depot)
       (g.D.Shelf.faults c.args.depot.now) (g.D.Shelf.faults c.commit.new.depot) c.commit.result (λ x h k e. e.0) (c.commit.ensures.did counter);
+  untold = c.commit.ensures.untold;
   unspent = committed_unspent c.args.session.now c.commit.new.session c.commit.result c.requires.session c.commit.ensures.session;
   limit = c.commit.ensures.limit;
   refused = target_refused c.args.session.now c.commit.result c.requires.few c.commit.ensures.refused;

@@ -12,6 +12,7 @@ use Rattle.ferry_store.specs.State.{Begins, BeginsSound, Did}
 use Rattle.ferry_store.specs.declared.fault.StoreRefusal.{StoreRefusal}
 use Rattle.ferry_write.specs.Session.{SettlesFirst}
 use Rattle.ferry_write.specs.declared.session.Session.{Session}
+use Rattle.ferry_stops.proofs.TellLemmas.{told_both}
 
 pub returns-in_err-counter-clause-made : goal.returns-in_err-counter-clause-made
 returns-in_err-counter-clause-made g c =
@@ -146,3 +147,13 @@ returns-clause-made g c =
     c.in_ok-basis.ensures.made c.in_ok-counter.ensures.number
     (did_also {T = Counter × Session} (BeginsSound None) SettlesFirst (λ x. Begins None x.0 x.1) a b n m (Ok (counter, session)) c.in_ok-counter.ensures.first
     c.in_ok-counter.ensures.did) c.in_ok-write_first.ensures.made
+
+pub returns-in_err-write_first-clause-untold : goal.returns-in_err-write_first-clause-untold
+returns-in_err-write_first-clause-untold g c =
+    told_both (g.D.Shelf.told c.args.depot.now) (g.D.Shelf.told c.begin_at.new.depot) (g.D.Shelf.told c.write_first.new.depot) c.in_ok-counter.ensures.untold
+    c.in_err-write_first.ensures.untold
+
+pub returns-clause-untold : goal.returns-clause-untold
+returns-clause-untold g c =
+    told_both (g.D.Shelf.told c.args.depot.now) (g.D.Shelf.told c.begin_at.new.depot) (g.D.Shelf.told c.write_first.new.depot) c.in_ok-counter.ensures.untold
+    c.in_ok-write_first.ensures.untold

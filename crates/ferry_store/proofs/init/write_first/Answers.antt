@@ -6,6 +6,7 @@ use Rattle.ferry_store.proofs.init.write_first.Goals as goal
 use Rattle.ferry_store.specs.Init.{MakesFirst}
 use Rattle.ferry_store.specs.State.{SettingsSound, TakesSettings}
 use Rattle.ferry_store.specs.declared.fault.StoreRefusal.{StoreRefusal}
+use Rattle.ferry_stops.proofs.TellLemmas.{told_both}
 
 pub returns-in_err-replace_settings-clause-made : goal.returns-in_err-replace_settings-clause-made
 returns-in_err-replace_settings-clause-made g c =
@@ -85,3 +86,16 @@ returns-clause-made g c =
             c.commit_first.ensures.refused,
       ),
     )
+
+pub returns-in_err-put_manifest-clause-untold : goal.returns-in_err-put_manifest-clause-untold
+returns-in_err-put_manifest-clause-untold g c =
+    told_both (g.D.Shelf.told c.args.depot.now) (g.D.Shelf.told c.replace_settings.new.depot) (g.D.Shelf.told c.put_manifest.new.depot)
+    c.in_ok-replace_settings.ensures.untold c.in_err-put_manifest.ensures.untold
+
+pub returns-clause-untold : goal.returns-clause-untold
+returns-clause-untold g c =
+    let a = g.D.Shelf.told c.args.depot.now in
+    let d = g.D.Shelf.told c.put_manifest.new.depot in
+    told_both a d (g.D.Shelf.told c.commit_first.new.depot)
+    (told_both a (g.D.Shelf.told c.replace_settings.new.depot) d c.in_ok-replace_settings.ensures.untold c.in_ok-put_manifest.ensures.untold)
+    c.commit_first.ensures.untold

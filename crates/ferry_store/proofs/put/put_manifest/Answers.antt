@@ -12,6 +12,7 @@ use Rattle.ferry_store.proofs.put.put_manifest.Goals as goal
 use Rattle.ferry_store.specs.New.{PutsManifest, manifest_bytes}
 use Rattle.ferry_store.specs.declared.fault.StoreRefusal.{StoreRefusal}
 use Rattle.ferry_store.specs.declared.fault.StoreRefusal.TheVariants.{Nonce}
+use Rattle.ferry_stops.proofs.TellLemmas.{told_none}
 
 pub returns-in_err-buffer-clause-put : goal.returns-in_err-buffer-clause-put
 returns-in_err-buffer-clause-put g c =
@@ -102,3 +103,6 @@ returns-clause-put g c =
             (exactly_untold {T = Place} (Nonce Nonces.Exhausted) _ (Ok place) c.in_ok-put_object.ensures.exhausted),
       ),
     )
+
+pub returns-in_err-buffer-clause-untold : goal.returns-in_err-buffer-clause-untold
+returns-in_err-buffer-clause-untold g c = told_none (g.D.Shelf.told c.args.depot.now)

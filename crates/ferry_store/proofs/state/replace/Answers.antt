@@ -6,6 +6,7 @@ use Rattle.ferry_store.proofs.state.replace.Goals as goal
 use Rattle.ferry_store.specs.Fault.{store_refusal}
 use Rattle.ferry_store.specs.State.{Did, IsStep}
 use Rattle.ferry_store.specs.declared.fault.StoreRefusal.{StoreRefusal}
+use Rattle.ferry_stops.proofs.TellLemmas.{told_act}
 
 pub returns-in_err-replace-clause-did : goal.returns-in_err-replace-clause-did
 returns-in_err-replace-clause-did g c =
@@ -22,3 +23,13 @@ pub returns-clause-did : goal.returns-clause-did
 returns-clause-did g c =
     replace_ok (ReplaceBy c.args.name c.args.bytes.now) (g.D.Shelf.told c.args.depot.now) (g.D.Shelf.told c.replace.new.self)
     (g.D.Shelf.faults c.args.depot.now) (g.D.Shelf.faults c.replace.new.self) c.in_ok-replace.ensures.act c.in_ok-replace.ensures.cause
+
+pub returns-in_err-replace-clause-untold : goal.returns-in_err-replace-clause-untold
+returns-in_err-replace-clause-untold g c =
+    told_act (ReplaceBy c.args.name c.args.bytes.now) (g.D.Shelf.told c.args.depot.now) (g.D.Shelf.told c.replace.new.self) c.replace.result tt
+    c.replace.ensures.act
+
+pub returns-clause-untold : goal.returns-clause-untold
+returns-clause-untold g c =
+    told_act (ReplaceBy c.args.name c.args.bytes.now) (g.D.Shelf.told c.args.depot.now) (g.D.Shelf.told c.replace.new.self) c.replace.result tt
+    c.replace.ensures.act

@@ -6,6 +6,7 @@ use Rattle.ferry_store.proofs.state.replace_settings.Goals as goal
 use Rattle.ferry_store.specs.State.{Did, SettingsSound, TakesSettings}
 use Rattle.ferry_store.specs.declared.fault.StoreRefusal.{StoreRefusal}
 use Rattle.ferry_store.specs.declared.fault.StoreRefusal.TheVariants.{Memory}
+use Rattle.ferry_stops.proofs.TellLemmas.{told_both, told_none}
 
 pub returns-in_err-text-clause-did : goal.returns-in_err-text-clause-did
 returns-in_err-text-clause-did g c =
@@ -32,3 +33,14 @@ returns-clause-did g c =
     settings_both c.args.config.now c.deref.result.now (g.D.Shelf.told c.args.depot.now) (g.D.Shelf.told c.replace.new.depot)
     (g.D.Shelf.told c.replace-2.new.depot) (g.D.Shelf.faults c.args.depot.now) (g.D.Shelf.faults c.replace.new.depot)
     (g.D.Shelf.faults c.replace-2.new.depot) c.replace-2.result is c.in_ok-replace.ensures.did c.replace-2.ensures.did
+
+pub returns-in_err-text-clause-untold : goal.returns-in_err-text-clause-untold
+returns-in_err-text-clause-untold g c = told_none (g.D.Shelf.told c.args.depot.now)
+
+pub returns-in_err-replace-clause-untold : goal.returns-in_err-replace-clause-untold
+returns-in_err-replace-clause-untold g c = c.in_err-replace.ensures.untold
+
+pub returns-clause-untold : goal.returns-clause-untold
+returns-clause-untold g c =
+    told_both (g.D.Shelf.told c.args.depot.now) (g.D.Shelf.told c.replace.new.depot) (g.D.Shelf.told c.replace-2.new.depot) c.in_ok-replace.ensures.untold
+    c.replace-2.ensures.untold

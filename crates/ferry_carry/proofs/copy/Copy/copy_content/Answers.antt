@@ -1,6 +1,7 @@
 use Rattle.std.proofs.Common.{◌≡◌, ◌≤◌, ◌++◌, ℕ, List, [], inl, Some, Result, Ok, Err, IfErr, IfOk, OnOk, length, refl, sym, ◌∙◌, ap, subst, arith}
 use Rattle.ferry_carry.proofs.CopyLemmas.{contents_begun, contents_from, content_copied, content_whole}
 use Rattle.ferry_carry.proofs.FillingLemmas.{filled_from, where_target}
+use Rattle.ferry_carry.proofs.LeftLemmas.{left_here, target_leaves}
 use Rattle.ferry_piece.proofs.PieceLemmas.{counts_then, pieces_then}
 use Rattle.ferry_piece.proofs.PutsLemmas.{contents_append, of_append}
 use Rattle.ferry_piece.proofs.WorkLemmas.{err_is, gathered_as, gathered_err, gathered_fault, gathered_nothing}
@@ -8,6 +9,7 @@ use Rattle.ferry_carry.proofs.copy.Copy.copy_content.Goals as goal
 use Rattle.ferry_piece.specs.Adding.{AddsOn}
 use Rattle.ferry_carry.specs.Copying.{BeginsContent, CopiesContent}
 use Rattle.ferry_carry.specs.Filling.{FillsContent, WhereSource}
+use Rattle.ferry_carry.specs.Refusals.{Leaves}
 use Rattle.ferry_piece.specs.Piece.{CountsOn}
 use Rattle.ferry_piece.specs.Puts.{AreOf, Content, contents_in}
 use Rattle.ferry_piece.specs.declared.fault.CarryFault.{CarryFault}
@@ -222,3 +224,22 @@ returns-clause-copied g c =
         ),
       ),
     )
+
+pub returns-then-total_size-self-clause-left : goal.returns-then-total_size-self-clause-left
+returns-then-total_size-self-clause-left g c =
+    λ _. left_here c.args.self.now.contents.checkpoint c.args.store.now (g.D.Shelf.told c.args.depot.now) c.requires.fits c.requires.unspent
+    c.requires.pending
+
+pub returns-in_err-copied-clause-left : goal.returns-in_err-copied-clause-left
+returns-in_err-copied-clause-left g c =
+    let store = c.args.store.now in
+    let now = c.finish.new.store in
+    let b = g.D.Shelf.told c.finish.new.depot in
+    let most = c.args.self.now.contents.checkpoint in
+    let fault = c.in_err-copied.field-0.0 in
+    err_is c.from_residual-in_err-copied.result fault (λ (r : Result ChunkRefs CarryFault). IfErr r (Leaves most store b now))
+    c.from_residual-in_err-copied.ensures.1 (target_leaves most store b now fault c.in_err-copied.ensures.target)
+
+pub returns-then-len-clause-left : goal.returns-then-len-clause-left
+returns-then-len-clause-left g c =
+    target_leaves c.args.self.now.contents.checkpoint c.args.store.now (g.D.Shelf.told c.finish.new.depot) c.finish.new.store Memory refl

@@ -1,6 +1,7 @@
 use Rattle.std.proofs.Common.{◌≡◌, ◌≤◌, ◌++◌, Bool, true, false, [], inl, Option, Result, Ok, Err, IfErr, refl, ◌∙◌, ap, arith}
 use Rattle.ferry_carry.proofs.CopyLemmas.{copied_packable}
 use Rattle.ferry_carry.proofs.FillingLemmas.{item_filled, next_filled, where_target}
+use Rattle.ferry_carry.proofs.LeftLemmas.{left_here, left_then, target_leaves}
 use Rattle.ferry_piece.proofs.GatherLemmas.{rest_here, rest_then}
 use Rattle.ferry_piece.proofs.PieceLemmas.{pieces_at, pieces_then}
 use Rattle.ferry_carry.proofs.RefusalLemmas.{item_refused, next_refused, next_unbroken}
@@ -11,7 +12,7 @@ use Rattle.ferry_carry.proofs.copy.Copy.step.Goals as goal
 use Rattle.ferry_carry.specs.Carrying.{origin}
 use Rattle.ferry_carry.specs.Filling.{FillsCopy}
 use Rattle.ferry_piece.specs.Puts.{contents_in}
-use Rattle.ferry_carry.specs.Refusals.{RefusesStep}
+use Rattle.ferry_carry.specs.Refusals.{Leaves, RefusesStep}
 use Rattle.ferry_carry.specs.declared.copy.Copy.{Copy}
 use Rattle.ferry_piece.specs.declared.fault.CarryFault.{CarryFault}
 use Rattle.ferry_compare.proofs.StepLemmas.{some_holds}
@@ -297,3 +298,35 @@ returns-in_err-chunks-clause-refused g c =
     c.next.new.self.block copy.contents.checkpoint time named c.args.store.now copy added (item_view c.in-Some.item) (walk_view c.next.new.self.walk) fault
     c.in_ok-item.ensures.same
     c.in_ok-item.ensures.kept block c.requires.source_fits taken named_is so c.in_err-chunks.ensures.refused)
+
+pub returns-in_err-item-clause-left : goal.returns-in_err-item-clause-left
+returns-in_err-item-clause-left g c =
+    let store = c.args.store.now in
+    let a = g.D.Shelf.told c.args.depot.now in
+    let most = c.args.self.now.contents.checkpoint in
+    err_is c.from_residual.result c.in_err-item.field-0.0 (λ (r : Result Bool CarryFault). IfErr r (Leaves most store a store)) c.from_residual.ensures.1
+    (λ _. left_here most store a c.requires.fits c.requires.unspent c.requires.pending)
+
+pub returns-in_err-chunks-clause-left : goal.returns-in_err-chunks-clause-left
+returns-in_err-chunks-clause-left g c =
+    let store = c.args.store.now in
+    let now = c.copy_chunks.new.store in
+    let b = g.D.Shelf.told c.copy_chunks.new.depot in
+    let copy = c.args.self.now in
+    let next = c.next.new.self in
+    let most = copy.contents.checkpoint in
+    let fault = c.in_err-chunks.field-0.0 in
+    err_is c.from_residual-in_err-chunks.result fault (λ (r : Result Bool CarryFault). IfErr r (Leaves most store b now))
+    c.from_residual-in_err-chunks.ensures.1
+    (left_then most next.contents.checkpoint store store b now fault (most_taken copy next c.in_ok-item.ensures.others) (rest_here store)
+    c.in_err-chunks.ensures.left)
+
+pub returns-in_err-write_item-clause-left : goal.returns-in_err-write_item-clause-left
+returns-in_err-write_item-clause-left g c =
+    let store = c.args.store.now in
+    let now = c.write_item.new.store in
+    let b = g.D.Shelf.told c.write_item.new.depot in
+    let most = c.args.self.now.contents.checkpoint in
+    let fault = c.in_err-write_item.field-0.0 in
+    err_is c.from_residual-in_err-write_item.result fault (λ (r : Result Bool CarryFault). IfErr r (Leaves most store b now))
+    c.from_residual-in_err-write_item.ensures.1 (target_leaves most store b now fault c.in_err-write_item.ensures.target)

@@ -1,13 +1,13 @@
-use Rattle.std.proofs.Common.{◌≡◌, ◌≤◌, [], ◌∷◌, ℕ, List, Some, Result, Ok, Err, refl, sym, ◌∙◌, ap, subst, IfErr, IsSome}
+use Rattle.std.proofs.Common.{◌≡◌, [], ◌∷◌, ℕ, List, Some, Result, Ok, Err, refl, sym, ◌∙◌, ap, subst, IfErr, IsSome}
 use Rattle.std.proofs.lemmas.Result.{on_ok_weaker}
 use Rattle.ferry_carry.proofs.AcceptingLemmas.{still_rest}
-use Rattle.ferry_carry.proofs.FlightLemmas.{read_rest, rest_accepts, rest_packable, rest_there, there_accepted}
+use Rattle.ferry_carry.proofs.FlightLemmas.{read_rest, rest_accepts, rest_there, there_accepted}
 use Rattle.ferry_carry.proofs.FlyLemmas.{begins_there, filled_apart, fills_there, flies_as, flies_fault, present_flies, present_stands, stands_within}
 use Rattle.ferry_carry.proofs.FlyLemmas.{taken_still, taken_unbroken, turn_present, turned_err}
-use Rattle.ferry_carry.proofs.GrowLemmas.{most_from}
 use Rattle.ferry_carry.proofs.HeldLemmas.{held_within, spent_chunk, targets_apart}
+use Rattle.ferry_carry.proofs.LeftLemmas.{left_read, left_usable, targets_leave}
 use Rattle.ferry_carry.proofs.ReportLemmas.{told_unbroken}
-use Rattle.ferry_piece.proofs.AddingLemmas.{held_spent, read_unspent}
+use Rattle.ferry_piece.proofs.AddingLemmas.{held_spent}
 use Rattle.ferry_carry.proofs.WorkLemmas.{carried_from}
 use Rattle.ferry_piece.proofs.WorkLemmas.{err_is, gathered_fault}
 use Rattle.ferry_carry.proofs.flight.Flight.compare.Goals as goal
@@ -24,11 +24,10 @@ use Rattle.ferry_repo.specs.Opening.{RepoState, repo_view}
 use Rattle.ferry_carry.proofs.CauseLemmas.{comparing_refused, pending_refused, taken_refused}
 use Rattle.ferry_carry.proofs.NamingLemmas.{pieces_limit, taken_limit}
 use Rattle.ferry_carry.specs.Carrying.{origin}
-use Rattle.ferry_carry.specs.Refusals.{DiffersThere, IsLimited, RefusesComparing, RefusesName}
+use Rattle.ferry_carry.specs.Refusals.{DiffersThere, IsLimited, Leaves, RefusesComparing, RefusesName}
 use Rattle.ferry_piece.specs.Stops.{StopsPieces}
 use Rattle.std.proofs.lemmas.Result.{IfErr-weaker}
 use Rattle.ferry_store.specs.Commit.{accepted_in}
-use Rattle.ferry_store.specs.declared.store.Store.{Store}
 
 pub returns-in-More-clause-works : goal.returns-in-More-clause-works
 returns-in-More-clause-works g c =
@@ -189,10 +188,13 @@ returns-in_err-compared-clause-refused g c =
     let a = g.D.Shelf.told c.args.depot.now in
     let b = g.D.Shelf.told c.compare_item-compared.new.depot in
     let fault = c.in_err-compared.field-0.0 in
+    let compared = c.compare_item-compared.ensures in
+    let left = left_read most store b now compared.read compared.fits c.requires.unspent c.requires.pending in
     err_is c.from_residual.result fault (λ (r : Result Turn CarryFault). IfErr r (RefusesName (origin told source block most c.args.self.now.options.timestamp)
     a store b now name))
     c.from_residual.ensures.1
     (comparing_refused told a b source block most c.args.self.now.options.timestamp name store now fault c.in_err-compared.ensures.stops
+    (left_usable most store b now left c.requires.packable c.requires.accepts)
     (subst (λ (n : List ℕ). RefusesComparing told source n fault) c.requires.same_name c.in_err-compared.ensures.refused))
 
 pub returns-in-Differs-clause-refused : goal.returns-in-Differs-clause-refused
@@ -204,18 +206,13 @@ returns-in-Differs-clause-refused g c =
     let a = g.D.Shelf.told c.args.depot.now in
     let b = g.D.Shelf.told c.compare_item-compared.new.depot in
     let read = c.compare_item-compared.ensures.read in
-    let rest = read_rest store now read in
+    let left = left_read from.most store b now read c.compare_item-compared.ensures.fits c.requires.unspent c.requires.pending in
     let differs : DiffersThere from b (repo_view now.repo) name =
     subst (DiffersThere from b (repo_view now.repo)) c.requires.same_name
     (c.in_ok-compared.ensures.differs_now (ap Ok c.in-Differs.is) from.block from.most from.time) in
     taken_refused from a b store now name c.as_slice.result.now c.taken.result c.taken.ensures.taken c.as_slice.ensures differs (record {
-      fits = c.compare_item-compared.ensures.fits;
+      usable = left_usable from.most store b now left c.requires.packable c.requires.accepts;
       there = subst (λ (r : RepoState). IsSome (archive_named name r.manifest.archives)) (sym read.repo) c.requires.there;
-      most_kept = most_from store now rest;
-      unspent = read_unspent store now read c.requires.unspent;
-      pending = subst (λ (n : ℕ). n ≤ from.most) (sym (ap (λ (s : Store). s.pending) read.rest)) c.requires.pending;
-      packable = rest_packable store now rest c.requires.packable;
-      accepts = rest_accepts store now rest c.requires.accepts;
     })
 
 pub returns-in-More-clause-more : goal.returns-in-More-clause-more
@@ -266,3 +263,24 @@ returns-in-Equal-clause-still g c is =
     let store = c.args.store.now in
     let middle = c.compare_item-compared.new.store in
     still_rest store middle c.present.new.store c.present.result Present (read_rest store middle c.compare_item-compared.ensures.read) c.present.ensures.rest is
+
+pub returns-in_err-compared-clause-left : goal.returns-in_err-compared-clause-left
+returns-in_err-compared-clause-left g c =
+    let store = c.args.store.now in
+    let now = c.compare_item-compared.new.store in
+    let b = g.D.Shelf.told c.compare_item-compared.new.depot in
+    let most = c.args.self.now.options.checkpoint in
+    let compared = c.compare_item-compared.ensures in
+    err_is c.from_residual.result c.in_err-compared.field-0.0 (λ (r : Result Turn CarryFault). IfErr r (Leaves most store b now)) c.from_residual.ensures.1
+    (λ _. left_read most store b now compared.read compared.fits c.requires.unspent c.requires.pending)
+
+pub returns-in-Differs-clause-left : goal.returns-in-Differs-clause-left
+returns-in-Differs-clause-left g c =
+    let compared = c.compare_item-compared.ensures in
+    λ _. left_read c.args.self.now.options.checkpoint c.args.store.now (g.D.Shelf.told c.compare_item-compared.new.depot)
+    c.compare_item-compared.new.store compared.read compared.fits c.requires.unspent c.requires.pending
+
+pub returns-in-Equal-clause-left : goal.returns-in-Equal-clause-left
+returns-in-Equal-clause-left g c =
+    targets_leave {T = Turn} c.args.self.now.options.checkpoint c.args.store.now (g.D.Shelf.told c.present.new.depot) c.present.new.store c.present.result
+    c.present.ensures.target

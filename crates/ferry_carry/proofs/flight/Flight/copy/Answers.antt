@@ -1,4 +1,4 @@
-use Rattle.std.proofs.Common.{rules, ◌≡◌, inr, [], ◌∷◌, ◌++◌, false, true, Some, None, Bool, List, Result, Ok, Err, refl, sym, subst, IfErr, ℕ}
+use Rattle.std.proofs.Common.{rules, ◌≡◌, inr, [], ◌∷◌, ◌++◌, false, true, Some, None, Bool, List, Result, Ok, Err, refl, sym, ◌∙◌, subst, IfErr, ℕ}
 use Rattle.ferry_carry.proofs.CauseLemmas.{end_refused, lacks_by, step_refused}
 use Rattle.ferry_carry.proofs.AcceptingLemmas.{next_rest}
 use Rattle.ferry_carry.proofs.FlightLemmas.{rest_accepts}
@@ -6,9 +6,11 @@ use Rattle.ferry_carry.proofs.FlyLemmas.{begins_new, done_before, end_apart, fil
 use Rattle.ferry_carry.proofs.FlyLemmas.{stands_within, stepped_as, turn_ended, turned_err}
 use Rattle.ferry_carry.proofs.GrowLemmas.{most_from, most_then}
 use Rattle.ferry_carry.proofs.HeldLemmas.{held_within}
+use Rattle.ferry_carry.proofs.LeftLemmas.{left_then, left_usable}
 use Rattle.ferry_carry.proofs.NamingLemmas.{pieces_limit, rest_limit}
 use Rattle.ferry_carry.proofs.TagLemmas.{TagsOr, match_err, tags_as, tags_none}
 use Rattle.ferry_carry.proofs.WorkLemmas.{carried_from}
+use Rattle.ferry_piece.proofs.GatherLemmas.{rest_here}
 use Rattle.ferry_piece.proofs.WorkLemmas.{err_is}
 use Rattle.ferry_carry.proofs.flight.Flight.copy.Goals as goal
 use Rattle.ferry_piece.specs.Adding.{AddsOn}
@@ -17,7 +19,7 @@ use Rattle.ferry_carry.specs.Flight.{IsFlown, WorkFits, flown_from}
 use Rattle.ferry_piece.specs.Gather.{KeepsStanding}
 use Rattle.ferry_carry.specs.Progress.{CopiesOn, IsCopiedSoFar}
 use Rattle.ferry_piece.specs.Puts.{Addition, AtBegin, border_behind}
-use Rattle.ferry_carry.specs.Refusals.{IsLimited, RefusesName, RefusesStep}
+use Rattle.ferry_carry.specs.Refusals.{IsLimited, Leaves, RefusesName, RefusesStep}
 use Rattle.ferry_piece.specs.declared.fault.CarryFault.{CarryFault}
 use Rattle.ferry_carry.specs.declared.flight.Turn.{Turn}
 use Rattle.ferry_carry.specs.declared.flight.Turn.TheVariants.{More, Named}
@@ -281,7 +283,9 @@ returns-in-Err-clause-refused g c =
     let refused = c.in-Err.ensures.refused time named added c.requires.flight.named (so_far_as told source block most time named a store c.args.copy added so)
     in
     let lacks = lacks_by (repo_view store.repo).manifest (accepted_in store) named.name c.requires.accepts c.requires.unnamed in
+    let left = left_then most c.args.copy.contents.checkpoint store store b now fault (sym so.0.most) (rest_here store) c.in-Err.ensures.left in
     step_refused (origin told source block most time) a b store now named.name fault lacks c.in-Err.ensures.stops
+    (λ other. left_usable most store b now (left other) c.requires.packable c.requires.accepts)
     (subst (λ (l : ℕ). RefusesStep (origin told source block l time) a named.name fault) (sym so.0.most)
     (subst (λ (d : ℕ). RefusesStep (origin told source d c.args.copy.contents.checkpoint time) a named.name fault) (sym so.0.block) refused))
 
@@ -312,10 +316,13 @@ returns-in_err-self-in-Ok-false-clause-refused g c =
     let ended : CopiesOn from named b middle c.step.new.self added stepped.0 false =
     subst (CopiesOn from named b middle c.step.new.self added stepped.0) not_more works.1.1.1 in
     let lacks = lacks_by (repo_view store.repo).manifest (accepted_in store) named.name c.requires.accepts c.requires.unnamed in
+    let left = left_then from.most c.step.new.self.contents.checkpoint store middle d now fault (c.in-Ok-false.ensures.checkpoint ∙ sym so.0.most)
+    c.in-Ok-false.ensures.rest c.in_err-self-in-Ok-false.ensures.left in
     err_is c.from_residual.result fault (λ (r : Result Turn CarryFault). IfErr r (RefusesName from a store d now named.name))
     c.from_residual.ensures.1
     (end_refused from a b d (KeepsStanding from.most store stepped.0) store middle now named.name fault works.0.works.each c.in-Ok-false.ensures.rest.keys lacks
-    c.in_err-self-in-Ok-false.ensures.stops (c.in_err-self-in-Ok-false.ensures.refused from added (ended.1 c.requires.flight.named)))
+    c.in_err-self-in-Ok-false.ensures.stops (λ other. left_usable from.most store d now (left other) c.requires.packable c.requires.accepts)
+    (c.in_err-self-in-Ok-false.ensures.refused from added (ended.1 c.requires.flight.named)))
 
 pub returns-in-Err-clause-limit : goal.returns-in-Err-clause-limit
 returns-in-Err-clause-limit g c =
@@ -338,3 +345,21 @@ returns-in_err-self-in-Ok-false-clause-limit g c =
     c.from_residual.ensures.1
     (rest_limit d given source (repo_view c.step.new.source) store c.step.new.store flight.named fault c.in-Ok-false.ensures.rest c.step.ensures.kept
     c.in_err-self-in-Ok-false.ensures.limit)
+
+pub returns-in-Err-clause-left : goal.returns-in-Err-clause-left
+returns-in-Err-clause-left g c =
+    let store = c.args.store.now in
+    left_then c.args.self.now.options.checkpoint c.args.copy.contents.checkpoint store store (g.D.Shelf.told c.step.new.depot) c.step.new.store c.in-Err.fault
+    (sym c.requires.copied.1.0.most) (rest_here store) c.in-Err.ensures.left
+
+pub returns-in_err-self-in-Ok-false-clause-left : goal.returns-in_err-self-in-Ok-false-clause-left
+returns-in_err-self-in-Ok-false-clause-left g c =
+    let store = c.args.store.now in
+    let middle = c.step.new.store in
+    let now = c.end_copy-put.new.store in
+    let d = g.D.Shelf.told c.end_copy-put.new.depot in
+    let most = c.args.self.now.options.checkpoint in
+    let fault = c.in_err-self-in-Ok-false.field-0.0 in
+    err_is c.from_residual.result fault (λ (r : Result Turn CarryFault). IfErr r (Leaves most store d now)) c.from_residual.ensures.1
+    (left_then most c.step.new.self.contents.checkpoint store middle d now fault (c.in-Ok-false.ensures.checkpoint ∙ sym c.requires.copied.1.0.most)
+    c.in-Ok-false.ensures.rest c.in_err-self-in-Ok-false.ensures.left)

@@ -6,6 +6,7 @@ use Rattle.ferry_carry.proofs.FlyLemmas.{begins_none, fills_begin, fills_there, 
 use Rattle.ferry_carry.proofs.FlyLemmas.{turned_behind, turned_err}
 use Rattle.ferry_carry.proofs.GrowLemmas.{most_from, most_then}
 use Rattle.ferry_carry.proofs.HeldLemmas.{held_nothing, held_within}
+use Rattle.ferry_carry.proofs.LeftLemmas.{left_here, left_read, left_usable, lefts_then}
 use Rattle.ferry_carry.proofs.ProgressLemmas.{begin_copied}
 use Rattle.ferry_carry.proofs.WorkLemmas.{carried_nothing}
 use Rattle.ferry_piece.proofs.WorkLemmas.{err_is}
@@ -25,7 +26,7 @@ use Rattle.ferry_carry.proofs.TagLemmas.{TagsOr, match_err, tags_none, unnamed_a
 use Rattle.ferry_carry.specs.Accepting.{NamesNew}
 use Rattle.ferry_carry.specs.Carrying.{Origin, origin}
 use Rattle.ferry_piece.specs.Gather.{KeepsStanding}
-use Rattle.ferry_carry.specs.Refusals.{IsLimited, RefusesName}
+use Rattle.ferry_carry.specs.Refusals.{IsLimited, Leaves, RefusesName}
 use Rattle.ferry_carry.proofs.NamingLemmas.{begin_limit, pieces_limit, rest_limit}
 use Rattle.std.proofs.lemmas.Result.{IfErr-weaker}
 use Rattle.ferry_piece.proofs.GatherLemmas.{stands_here}
@@ -186,7 +187,9 @@ returns-in_err-copy-clause-refused g c =
     err_is c.from_residual-in_err-copy.result fault
     (λ (r : Result Turn CarryFault). IfErr r (RefusesName (origin told source block most time) a store a store flight.named.name))
     c.from_residual-in_err-copy.ensures.1
-    (begin_refused told a a source block most time flight.named store store fault c.requires.flight.named c.in_err-copy.ensures.refused)
+    (begin_refused told a a source block most time flight.named store store fault c.requires.flight.named
+    (left_usable most store a store (left_here most store a c.requires.fits c.requires.unspent c.requires.pending) c.requires.packable c.requires.accepts)
+    c.in_err-copy.ensures.refused)
 
 pub returns-in_ok-copy-clause-refused : goal.returns-in_ok-copy-clause-refused
 returns-in_ok-copy-clause-refused g c =
@@ -214,12 +217,15 @@ returns-in_err-comparison-clause-refused g c =
     let a = g.D.Shelf.told c.args.depot.now in
     let b = g.D.Shelf.told c.begin_comparing.new.depot in
     let fault = c.in_err-comparison.field-0.0 in
+    let begun = c.begin_comparing.ensures in
+    let most = flight.options.checkpoint in
+    let left = left_read most store b now begun.read begun.fits c.requires.unspent c.requires.pending in
     err_is c.from_residual.result fault
     (λ (r : Result Turn CarryFault). IfErr r (RefusesName (origin told source flight.options.block flight.options.checkpoint flight.options.timestamp) a store
     b now flight.named.name))
     c.from_residual.ensures.1
     (comparing_refused told a b source flight.options.block flight.options.checkpoint flight.options.timestamp flight.named.name store now fault
-    c.in_err-comparison.ensures.stops
+    c.in_err-comparison.ensures.stops (left_usable most store b now left c.requires.packable c.requires.accepts)
     c.in_err-comparison.ensures.refused)
 
 pub returns-in_ok-comparison-clause-refused : goal.returns-in_ok-comparison-clause-refused
@@ -288,3 +294,29 @@ returns-in_ok-copy-clause-limit g c =
 pub returns-in_ok-comparison-clause-still : goal.returns-in_ok-comparison-clause-still
 returns-in_ok-comparison-clause-still g c is =
     c.compare.ensures.still is ∙ (read_rest c.args.store.now c.begin_comparing.new.store c.begin_comparing.ensures.read).accepted
+
+pub returns-in_err-copy-clause-left : goal.returns-in_err-copy-clause-left
+returns-in_err-copy-clause-left g c =
+    let store = c.args.store.now in
+    let a = g.D.Shelf.told c.args.depot.now in
+    let most = c.args.self.now.options.checkpoint in
+    err_is c.from_residual-in_err-copy.result c.in_err-copy.field-0.0 (λ (r : Result Turn CarryFault). IfErr r (Leaves most store a store))
+    c.from_residual-in_err-copy.ensures.1 (λ _. left_here most store a c.requires.fits c.requires.unspent c.requires.pending)
+
+pub returns-in_err-comparison-clause-left : goal.returns-in_err-comparison-clause-left
+returns-in_err-comparison-clause-left g c =
+    let store = c.args.store.now in
+    let now = c.begin_comparing.new.store in
+    let b = g.D.Shelf.told c.begin_comparing.new.depot in
+    let most = c.args.self.now.options.checkpoint in
+    let begun = c.begin_comparing.ensures in
+    err_is c.from_residual.result c.in_err-comparison.field-0.0 (λ (r : Result Turn CarryFault). IfErr r (Leaves most store b now)) c.from_residual.ensures.1
+    (λ _. left_read most store b now begun.read begun.fits c.requires.unspent c.requires.pending)
+
+pub returns-in_ok-comparison-clause-left : goal.returns-in_ok-comparison-clause-left
+returns-in_ok-comparison-clause-left g c =
+    let store = c.args.store.now in
+    let middle = c.begin_comparing.new.store in
+    let most = c.args.self.now.options.checkpoint in
+    lefts_then {T = Turn} most most store middle (g.D.Shelf.told c.compare.new.depot) c.compare.new.store c.compare.result refl
+    (read_rest store middle c.begin_comparing.ensures.read) c.compare.ensures.left

@@ -14,6 +14,8 @@ use Rattle.ferry_store.specs.Store.{InitEach, InitFits, RefusesInit}
 use Rattle.ferry_store.specs.declared.fault.StoreRefusal.{StoreRefusal}
 use Rattle.ferry_store.specs.declared.fault.StoreRefusal.TheVariants.{Memory}
 use Rattle.ferry_store.specs.declared.store.Store.{Store}
+use Rattle.ferry_stops.proofs.TellLemmas.{told_both, told_kept}
+use Rattle.ferry_store.specs.Fault.{depot_failed}
 
 pub returns-in_err-expect_no_commit-clause-did : goal.returns-in_err-expect_no_commit-clause-did
 returns-in_err-expect_no_commit-clause-did g c =
@@ -206,3 +208,50 @@ pub returns-clause-opened : goal.returns-clause-opened
 returns-clause-opened g c =
     told_same (g.D.Shelf.told c.make_repository.new.depot) (g.D.Shelf.told c.open.new.shelf)
     (λ f. OpensFilesTo f c.args.secret.now (repo_view c.in_ok-repo.repo)) c.in_ok-repo.ensures.same c.in_ok-repo.ensures.repository
+
+pub returns-in_err-expect_no_commit-clause-untold : goal.returns-in_err-expect_no_commit-clause-untold
+returns-in_err-expect_no_commit-clause-untold g c =
+    told_kept depot_failed (g.D.Shelf.told c.args.depot.now) (g.D.Shelf.told c.expect_no_commit.new.depot) c.expect_no_commit.result
+    c.expect_no_commit.ensures.same
+
+pub returns-in_err-given-clause-untold : goal.returns-in_err-given-clause-untold
+returns-in_err-given-clause-untold g c =
+    told_kept depot_failed (g.D.Shelf.told c.args.depot.now) (g.D.Shelf.told c.expect_no_commit.new.depot) c.expect_no_commit.result
+    c.expect_no_commit.ensures.same
+
+pub returns-in_err-counter-clause-untold : goal.returns-in_err-counter-clause-untold
+returns-in_err-counter-clause-untold g c =
+    let a = g.D.Shelf.told c.args.depot.now in
+    let b = g.D.Shelf.told c.expect_no_commit.new.depot in
+    told_both a b (g.D.Shelf.told c.make_repository.new.depot) (told_kept depot_failed a b c.expect_no_commit.result c.expect_no_commit.ensures.same)
+    c.in_err-counter.ensures.untold
+
+pub returns-in_err-repo-clause-untold : goal.returns-in_err-repo-clause-untold
+returns-in_err-repo-clause-untold g c =
+    let a = g.D.Shelf.told c.args.depot.now in
+    let b = g.D.Shelf.told c.expect_no_commit.new.depot in
+    let d = g.D.Shelf.told c.make_repository.new.depot in
+    let e = g.D.Shelf.told c.open.new.shelf in
+    told_both a d e
+    (told_both a b d (told_kept depot_failed a b c.expect_no_commit.result c.expect_no_commit.ensures.same) c.in_ok-counter.ensures.untold)
+    (told_kept repo_failed d e c.open.result c.open.ensures.same)
+
+pub returns-in_err-accepted-clause-untold : goal.returns-in_err-accepted-clause-untold
+returns-in_err-accepted-clause-untold g c =
+    let a = g.D.Shelf.told c.args.depot.now in
+    let b = g.D.Shelf.told c.expect_no_commit.new.depot in
+    let d = g.D.Shelf.told c.make_repository.new.depot in
+    let e = g.D.Shelf.told c.open.new.shelf in
+    told_both a d e
+    (told_both a b d (told_kept depot_failed a b c.expect_no_commit.result c.expect_no_commit.ensures.same) c.in_ok-counter.ensures.untold)
+    (told_kept repo_failed d e c.open.result c.open.ensures.same)
+
+pub returns-clause-untold : goal.returns-clause-untold
+returns-clause-untold g c =
+    let a = g.D.Shelf.told c.args.depot.now in
+    let b = g.D.Shelf.told c.expect_no_commit.new.depot in
+    let d = g.D.Shelf.told c.make_repository.new.depot in
+    let e = g.D.Shelf.told c.open.new.shelf in
+    told_both a d e
+    (told_both a b d (told_kept depot_failed a b c.expect_no_commit.result c.expect_no_commit.ensures.same) c.in_ok-counter.ensures.untold)
+    (told_kept repo_failed d e c.open.result c.open.ensures.same)

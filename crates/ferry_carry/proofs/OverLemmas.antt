@@ -1,0 +1,478 @@
+-- Lemmas on specs/Over.antt: what fits a flight stays so over what others add.
+use Rattle.std.proofs.Common.{◌≡◌, ◌≢◌, ◌⊎◌, inl, inr, ℕ, zero, Bool, true, false, cond, List, [], ◌∷◌, ◌++◌, take, Option, Some, None, IfSome, IsSome}
+use Rattle.std.proofs.Common.{Result, Ok, Err, refl, sym, ◌∙◌, ap, append_assoc, subst}
+use Rattle.std.proofs.lemmas.List.{append-nil}
+use Rattle.std.proofs.lemmas.Option.{IfSome_then}
+use Rattle.std.proofs.lemmas.Slice.Eq.{bytes_eq-Decides}
+use Rattle.std.specs.List.{AllByRecursion}
+use Rattle.std.specs.Str.{bytes_eq}
+use Rattle.ferry_base.specs.Limits.{zero_id}
+use Rattle.ferry_blob.specs.Blob.{content_id}
+use Rattle.ferry_compare.specs.Compare.{ComparisonState, FitsTold, ReadsSoFar, StandsBeside, comparison_view}
+use Rattle.ferry_disk.proofs.DeviceLemmas.{told_same}
+use Rattle.ferry_disk.proofs.MomentLemmas.{between_map}
+use Rattle.ferry_disk.specs.Act.{History, files_now}
+use Rattle.ferry_disk.specs.Device.{Told, heard, told_files}
+use Rattle.ferry_disk.specs.Faults.{EndsAtFault, FailedWhere, failed_told}
+use Rattle.ferry_disk.specs.Files.{Files}
+use Rattle.ferry_disk.specs.Moments.{Between}
+use Rattle.ferry_mac.specs.declared.keys.Keys.{Keys}
+use Rattle.ferry_manifest.specs.Manifest.Text.{ManifestText}
+use Rattle.ferry_manifest.specs.declared.manifest.ArchiveRef.{ArchiveRef}
+use Rattle.ferry_piece.proofs.AmongLemmas.{each_to}
+use Rattle.ferry_next.proofs.PlaceLemmas.{with_named}
+use Rattle.ferry_piece.specs.Adding.{HoldsRefused, HoldsUntil, SparesStore}
+use Rattle.ferry_piece.specs.Fault.{target_failed}
+use Rattle.ferry_piece.specs.Gather.{IsAmong, NoCollision, chunks_of}
+use Rattle.ferry_piece.specs.Puts.{Addition, AddsAll, AtBegin, AtEnd, Border, ComesBefore, IsAddedBehind, MayCome, Within, border_behind, border_of}
+use Rattle.ferry_piece.specs.Puts.{manifests_committed}
+use Rattle.ferry_piece.specs.Stops.{is_target}
+use Rattle.ferry_piece.specs.declared.fault.CarryFault.{CarryFault}
+use Rattle.ferry_piece.specs.declared.fault.CarryFault.TheVariants.{Source, Target, Taken, NotFound, Pieces, Memory, Record}
+use Rattle.ferry_rechunk.specs.Cutting.{IsFed}
+use Rattle.ferry_repo.specs.Archives.{archive_named}
+use Rattle.ferry_repo.specs.Objects.{HoldsChunk}
+use Rattle.ferry_repo.specs.Opening.{RepoState, repo_view}
+use Rattle.ferry_repo.specs.Walk.{FitsWalk, WalkState, walk_view}
+use Rattle.ferry_repo.specs.Whole.{IsWhole, WholeArchive, WholeItem}
+use Rattle.ferry_segment.specs.Entry.{LogEntry, PutEntry, CommitEntry}
+use Rattle.ferry_store.proofs.LiveLemmas.{live_commit, live_other, same_or}
+use Rattle.ferry_store.specs.Commit.{accepted_in}
+use Rattle.ferry_store.specs.Standing.{entries_of, live_in}
+use Rattle.ferry_store.specs.Store.{StoreFits}
+use Rattle.ferry_store.specs.declared.store.Store.{Store}
+use Rattle.ferry_write.specs.Script.{AllDone}
+use Rattle.ferry_carry.proofs.FlyLemmas.{so_far_later}
+use Rattle.ferry_carry.proofs.GrowLemmas.{has_kept, most_from}
+use Rattle.ferry_carry.proofs.WholeLemmas.{KeepsChunks as KeepsHeld, chunks_kept, whole_kept, wholes_kept}
+use Rattle.ferry_carry.specs.Accepting.{NamesNew}
+use Rattle.ferry_carry.specs.Carrying.{HoldsApart, Origin, origin}
+use Rattle.ferry_carry.specs.Copied.{IsRead, contents_of, copied_item, copied_stream, stream_block}
+use Rattle.ferry_carry.specs.Flight.{FlightFits, FlightStands, Flies, IsCommitted, WorkFits, carried_by}
+use Rattle.ferry_carry.specs.Grow.{Grows, IsNamedBy, KeepsChunks, KeepsMost, KeepsNames}
+use Rattle.ferry_carry.specs.Listing.{ListsItems}
+use Rattle.ferry_carry.specs.Naming.{TaggedRecord, entry_for}
+use Rattle.ferry_carry.specs.Over.{AddsBetween, AddsOver, ArePresent, GoesOver, OthersDid}
+use Rattle.ferry_carry.specs.Progress.{CopiesSoFar, IsCopiedSoFar, WritesItems}
+use Rattle.ferry_carry.specs.Refusals.{IsLeft}
+use Rattle.ferry_carry.specs.declared.copy.Copy.{Copy}
+use Rattle.ferry_carry.specs.declared.flight.Flight.{Flight}
+use Rattle.ferry_carry.specs.declared.flight.Turn.{Turn}
+use Rattle.ferry_carry.specs.declared.flight.Work.{Work}
+use Rattle.ferry_carry.specs.declared.flight.Work.TheVariants.{Waiting, Copying, Comparing}
+use Rattle.ferry_carry.specs.declared.options.Options.{Options}
+
+-- ---- what is live
+
+-- Each id but the manifest's that was live is so by the same blob, and where nothing was put none is that wasn't.
+abbrev SameLive : List LogEntry → List LogEntry → Type 0
+SameLive a b = (id : List ℕ) → id ≢ zero_id → live_in id b ≡ live_in id a
+
+live_manifests : (entries : List LogEntry) (blobs : List (List ℕ)) → SameLive entries (entries ++ manifests_committed blobs)
+live_manifests entries [] id apart = ap (live_in id) (append-nil entries)
+live_manifests entries (blob ∷ blobs) id apart =
+    let first = entries ++ PutEntry zero_id blob ∷ [] in
+    let second = first ++ CommitEntry ∷ [] in
+    let rest = manifests_committed blobs in
+    ap (live_in id) (sym (append_assoc first (CommitEntry ∷ []) rest ∙ append_assoc entries (PutEntry zero_id blob ∷ []) (CommitEntry ∷ rest)))
+    ∙ (live_manifests second blobs id apart ∙ (live_commit id first ∙ live_other zero_id blob id entries apart))
+
+live_may : (at : Border) (before others : List LogEntry) → MayCome at before others → SameLive before (before ++ others)
+live_may Within before others none id apart = ap (λ (l : List LogEntry). live_in id (before ++ l)) none ∙ ap (live_in id) (append-nil before)
+live_may AtEnd before others may id apart =
+    ap (λ (l : List LogEntry). live_in id (before ++ l)) may.1 ∙ live_manifests before may.0 id apart
+live_may AtBegin before others (inl none) id apart =
+    ap (λ (l : List LogEntry). live_in id (before ++ l)) none ∙ ap (live_in id) (append-nil before)
+live_may AtBegin before others (inr some) id apart = ap (λ (l : List LogEntry). live_in id (before ++ l)) some.1 ∙ live_commit id before
+
+live_comes : (keys : Keys) (most : ℕ) (front : List LogEntry) (one : Addition) (after : List LogEntry) → ComesBefore keys most front one after
+    → SameLive front after
+live_comes keys most front one after (inl same) id apart = ap (live_in id) same
+live_comes keys most front one after (inr full) id apart = ap (live_in id) full.1 ∙ live_commit id front
+
+live_one : (keys : Keys) (most : ℕ) (front : List LogEntry) (one : Addition) (after : List LogEntry) → IsAddedBehind keys most front one after
+    → KeepsChunks front after
+live_one keys most front one after (inl there) id blob apart live = ap (live_in id) there.1.1 ∙ live
+live_one keys most front one after (inr new) id blob apart live = ap (live_in id) new.1.1.1 ∙ by_id (same_or (content_id keys one.content) id) where
+  by_id : (id ≡ content_id keys one.content) ⊎ (id ≢ content_id keys one.content)
+      → live_in id (front ++ PutEntry (content_id keys one.content) new.1.0 ∷ []) ≡ Some blob
+  by_id (inl is) =
+      let there : live_in (content_id keys one.content) front ≡ Some blob = subst (λ (i : List ℕ). live_in i front ≡ Some blob) is live in
+      absurd (new.1.1.0.new (inr (subst IsSome (sym there) refl)))
+  by_id (inr differ) = live_other (content_id keys one.content) new.1.0 id front differ ∙ live
+
+-- what was live is so behind what was added
+pub live_added : (at : Border) (keys : Keys) (most : ℕ) (a : List LogEntry) (added : List Addition) (b : List LogEntry) → AddsAll at keys most a added b
+    → KeepsChunks a b
+live_added at keys most a [] b p id blob apart live = ap (live_in id) p.1.1 ∙ (live_may at a p.0 p.1.0 id apart ∙ live)
+live_added at keys most a (one ∷ rest) b p id blob apart live =
+    let before = a ++ p.0 in
+    let front = p.1.1.0 in
+    let middle = p.1.1.1.1.0 in
+    live_added (border_of one.kind) keys most middle rest b p.1.1.1.1.1.1 id blob apart
+    (live_one keys most front one middle p.1.1.1.1.1.0 id blob apart
+    (live_comes keys most before one front p.1.1.1.0 id apart ∙ (live_may at a p.0 p.1.0 id apart ∙ live)))
+
+-- and nothing else where nothing was put
+live_unput : (keys : Keys) (most : ℕ) (front : List LogEntry) (one : Addition) (after : List LogEntry) → one.put ≡ false
+    → IsAddedBehind keys most front one after → SameLive front after
+live_unput keys most front one after none (inl there) id apart = ap (live_in id) there.1.1
+live_unput keys most front one after none (inr new) id apart = absurd (let both : false ≡ true = sym none ∙ new.0 in let no : ⊥ = cc in no)
+
+pub live_present : (at : Border) (keys : Keys) (most : ℕ) (a : List LogEntry) (added : List Addition) (b : List LogEntry) → AddsAll at keys most a added b
+    → ArePresent added → SameLive a b
+live_present at keys most a [] b p none id apart = ap (live_in id) p.1.1 ∙ live_may at a p.0 p.1.0 id apart
+live_present at keys most a (one ∷ rest) b p none id apart =
+    let before = a ++ p.0 in
+    let front = p.1.1.0 in
+    let middle = p.1.1.1.1.0 in
+    live_present (border_of one.kind) keys most middle rest b p.1.1.1.1.1.1 none.1 id apart
+    ∙ (live_unput keys most front one middle none.0 p.1.1.1.1.1.0 id apart
+    ∙ (live_comes keys most before one front p.1.1.1.0 id apart ∙ live_may at a p.0 p.1.0 id apart))
+
+-- ---- chunks
+
+-- a chunk that was there is there
+over_held : (added : List Addition) (store now : Store) (h g : History) (fits : StoreFits false store h) (over : AddsOver added store now h g fits)
+    → KeepsHeld (files_now h) (repo_view store.repo).log (repo_view store.repo).keys (files_now g) (repo_view now.repo).log
+over_held added store now h g fits over id content chunk =
+    let object = chunk.object in
+    let keys = (repo_view store.repo).keys in
+    let before = entries_of fits.written in
+    let after = entries_of over.fits_now.written in
+    let was = (fits.holds id object.blob chunk.chunk).0 object.has in
+    let live = live_added over.at keys over.most before added after over.adds id object.blob chunk.chunk was in
+    record {
+      chunk = chunk.chunk;
+      object = record { blob = object.blob; has = (over.fits_now.holds id object.blob chunk.chunk).1 live; opens = object.opens };
+    }
+
+-- and nothing else where nothing was put
+over_back : (added : List Addition) (store now : Store) (h g : History) (fits : StoreFits false store h) (over : AddsOver added store now h g fits)
+    → ArePresent added
+    → KeepsHeld (files_now g) (repo_view now.repo).log (repo_view store.repo).keys (files_now h) (repo_view store.repo).log
+over_back added store now h g fits over none id content chunk =
+    let object = chunk.object in
+    let keys = (repo_view store.repo).keys in
+    let before = entries_of fits.written in
+    let after = entries_of over.fits_now.written in
+    let live = sym (live_present over.at keys over.most before added after over.adds none id chunk.chunk)
+    ∙ (over.fits_now.holds id object.blob chunk.chunk).0 object.has in
+    record {
+      chunk = chunk.chunk;
+      object = record { blob = object.blob; has = (fits.holds id object.blob chunk.chunk).1 live; opens = object.opens };
+    }
+
+-- ---- an archive that is copied
+
+-- contents that are there apart from collisions are so where each chunk is kept
+apart_over : (f g : Files) (repo now : RepoState) (added : List Addition) (contents : List (List ℕ)) → now.keys ≡ repo.keys
+    → KeepsHeld f repo.log repo.keys g now.log → HoldsApart f repo added contents → HoldsApart g now added contents
+apart_over f g repo now added contents keys keeps holds scope apart among within =
+    let held = holds scope (subst (λ (k : Keys). NoCollision k scope) keys apart) among (λ id content chunk.
+    within id content (subst (λ (k : Keys). HoldsChunk g now.log k id content) (sym keys) (keeps id content chunk))) in
+    subst (λ (k : Keys). AllByRecursion (λ (content : List ℕ). HoldsChunk g now.log k (content_id k content) content) contents) (sym keys)
+    (each_to (λ (content : List ℕ). HoldsChunk f repo.log repo.keys (content_id repo.keys content) content)
+    (λ (content : List ℕ). HoldsChunk g now.log repo.keys (content_id repo.keys content) content) contents
+    (λ content chunk. keeps (content_id repo.keys content) content chunk) held)
+
+items_over : (f g : Files) (repo now : RepoState) (copy : Copy) (wholes : List WholeItem) (added : List Addition) → now.keys ≡ repo.keys
+    → KeepsHeld f repo.log repo.keys g now.log → WritesItems f repo copy wholes added → WritesItems g now copy wholes added
+items_over f g repo now copy wholes added keys keeps w =
+    let back = sym keys in
+    record {
+      taken = w.taken;
+      fed = subst (λ (k : Keys). IsFed stream_block (copied_stream k copy.block wholes) w.taken copy.stream.cutter.piece) back w.fed;
+      chunks = subst (λ (k : Keys). copy.stream.chunks.items ≡ chunks_of k w.taken) back w.chunks;
+      spelled = subst (λ (k : Keys). AllByRecursion (λ (whole : WholeItem). IsRead (copied_item k copy.block whole)) wholes) back w.spelled;
+      few = w.few;
+      held = apart_over f g repo now added (contents_of copy.block wholes ++ w.taken) keys keeps w.held;
+      lists = subst (λ (k : Keys). ListsItems k copy.block [] wholes added copy.stream.cutter.piece) back w.lists;
+    }
+
+copies_over : (there f g : Files) (source : RepoState) (named : ArchiveRef) (repo now : RepoState) (copy : Copy) (added : List Addition)
+    → now.keys ≡ repo.keys → KeepsHeld f repo.log repo.keys g now.log → CopiesSoFar there source named f repo copy added
+    → CopiesSoFar there source named g now copy added
+copies_over there f g source named repo now copy added keys keeps so = record {
+  items = so.items;
+  wholes = so.wholes;
+  record_is = so.record_is;
+  leads = so.leads;
+  come = so.come;
+  writes = items_over f g repo now copy so.wholes added keys keeps so.writes;
+}
+
+-- ---- an archive that is compared
+
+reads_over : (f g : Files) (repo now : RepoState) (name : List ℕ) (walk : WalkState) (front : WholeArchive) → now.keys ≡ repo.keys
+    → KeepsHeld f repo.log repo.keys g now.log → KeepsNames repo.manifest now.manifest → ReadsSoFar f repo name walk front → ReadsSoFar g now name walk front
+reads_over f g repo now name walk front keys keeps names r =
+    let back = sym keys in
+    let fits : FitsWalk g now.log repo.keys walk = record {
+      contents = r.fits.contents;
+      hold = chunks_kept f repo.log repo.keys g now.log keeps (take walk.read walk.ids) r.fits.contents r.fits.hold;
+      items = r.fits.items;
+      front = r.fits.front;
+      answered = r.fits.answered;
+      left = r.fits.left;
+      split = r.fits.split;
+      left_is = r.fits.left_is;
+      met = r.fits.met;
+    } in
+    let under : (k : Keys) → k ≡ repo.keys → ReadsSoFar g (record now { keys = k }) name walk front =
+    λ k same. subst (λ (l : Keys). ReadsSoFar g (record now { keys = l }) name walk front) (sym same) (record {
+      named = r.named;
+      named_is = names name r.named r.named_is;
+      archive = r.archive;
+      record_is = record {
+        content = r.record_is.content;
+        chunk = keeps r.named.id r.record_is.content r.record_is.chunk;
+        record_is = r.record_is.record_is;
+      };
+      time = r.time;
+      fields = r.fields;
+      id = r.id;
+      ids = r.ids;
+      fits = fits;
+      contents = wholes_kept f repo.log repo.keys g now.log keeps r.fits.items front.items r.contents;
+    }) in
+    under now.keys keys
+
+-- the archive that a name had it has
+same_named : (before after : ManifestText) (name : List ℕ) → KeepsNames before after → IsSome (archive_named name before.archives)
+    → archive_named name after.archives ≡ archive_named name before.archives
+same_named before after name keeps has = by (archive_named name before.archives) refl has where
+  by : (o : Option ArchiveRef) → archive_named name before.archives ≡ o → IsSome o → archive_named name after.archives ≡ archive_named name before.archives
+  by None e is = absurd (let no : ⊥ = cc in no)
+  by (Some entry) e is = keeps name entry e ∙ sym e
+
+beside_over : (f g : Files) (repo now : RepoState) (name : List ℕ) (walk : Option WalkState) (front : WholeArchive) → now.keys ≡ repo.keys
+    → KeepsHeld f repo.log repo.keys g now.log → IsSome walk ⊎ KeepsHeld g now.log repo.keys f repo.log → KeepsNames repo.manifest now.manifest
+    → IsSome (archive_named name repo.manifest.archives) → StandsBeside f repo name walk front → StandsBeside g now name walk front
+beside_over f g repo now name None front keys keeps (inl met) names there stands = absurd (let no : ⊥ = cc in no)
+beside_over f g repo now name None front keys keeps (inr back) names there stands = λ whole says more.
+    stands whole (whole_kept g now.log repo.keys f repo.log now.manifest.archives repo.manifest.archives name whole
+    (subst (λ (k : Keys). IsWhole g now.log k now.manifest.archives name whole) keys says) back
+    (sym (same_named repo.manifest now.manifest name names there))) more
+beside_over f g repo now name (Some walk) front keys keeps met names there stands = reads_over f g repo now name walk front keys keeps names stands
+
+-- ---- a flight
+
+-- a name that was lacked, and that came with none of these, is lacked
+lacked_over : (store now : Store) (names : List (List ℕ)) (name : List ℕ) → IsNamedBy (accepted_in store) names (accepted_in now)
+    → (IsAmong names name → ⊥) → archive_named name (accepted_in store).archives ≡ None → archive_named name (accepted_in now).archives ≡ None
+lacked_over store now names name only other lacks = by (archive_named name (accepted_in now).archives) refl where
+  never : (entry : ArchiveRef) → (archive_named name (accepted_in store).archives ≡ Some entry) ⊎ IsAmong names name → ⊥
+  never entry (inl is) = let both : None ≡ Some entry = sym lacks ∙ is in let no : ⊥ = cc in no
+  never entry (inr among) = other among
+
+  by : (o : Option ArchiveRef) → archive_named name (accepted_in now).archives ≡ o → archive_named name (accepted_in now).archives ≡ None
+  by None e = e
+  by (Some entry) e = absurd (never entry (only name entry e))
+
+-- where the target tells its files
+copied_told : (from : Origin) (named : ArchiveRef) (a b : Told) (store now : Store) (copy : Copy) (others added : List Addition)
+    (fits : StoreFits false store a.history) → (repo_view now.repo).keys ≡ (repo_view store.repo).keys → AddsOver others store now a.history b.history fits
+    → IsCopiedSoFar from named (Some a) store copy added → IsCopiedSoFar from named (Some b) now copy added
+copied_told from named a b store now copy others added fits keys over so = (
+  so.0,
+  IfSome_then from.files so.1 (λ there c.
+      copies_over there (told_files a) (told_files b) from.repo named (repo_view store.repo) (repo_view now.repo) copy added keys
+      (over_held others store now a.history b.history fits over) c),
+)
+
+held_or : (a b : Told) (store now : Store) (others : List Addition) (fits : StoreFits false store a.history) (M : Type 0)
+    → AddsOver others store now a.history b.history fits → M ⊎ ArePresent others
+    → M ⊎ KeepsHeld (told_files b) (repo_view now.repo).log (repo_view store.repo).keys (told_files a) (repo_view store.repo).log
+held_or a b store now others fits M over (inl met) = inl met
+held_or a b store now others fits M over (inr none) = inr (over_back others store now a.history b.history fits over none)
+
+compared_told : (told : Option Told) (source : RepoState) (state : ComparisonState) (a b : Told) (store now : Store) (others : List Addition)
+    (fits : StoreFits false store a.history) → KeepsMost store now → IsSome (archive_named state.name (repo_view store.repo).manifest.archives)
+    → AddsOver others store now a.history b.history fits → IsSome state.other ⊎ ArePresent others
+    → FitsTold told source (Some a) (repo_view store.repo) state → FitsTold told source (Some b) (repo_view now.repo) state
+compared_told told source state a b store now others fits kept there over goes p = record {
+  front = p.front;
+  read = p.read;
+  beside = beside_over (told_files a) (told_files b) (repo_view store.repo) (repo_view now.repo) state.name state.other p.front kept.keys
+      (over_held others store now a.history b.history fits over) (held_or a b store now others fits (IsSome state.other) over goes) kept.names there p.beside;
+}
+
+-- whether it tells or not
+copied_by : (from : Origin) (named : ArchiveRef) (a b : Option Told) (store now : Store) (copy : Copy) (others added : List Addition)
+    → (repo_view now.repo).keys ≡ (repo_view store.repo).keys → IfSome a (λ t. StoreFits false store t.history) → AddsBetween others store now a b
+    → IsCopiedSoFar from named a store copy added → IsCopiedSoFar from named b now copy added
+copied_by from named None b store now copy others added keys fits over so =
+    subst (λ (o : Option Told). IsCopiedSoFar from named o now copy added) (sym (over.none refl)) so
+copied_by from named (Some a) b store now copy others added keys fits over so =
+    let to = over.adds in
+    subst (λ (o : Option Told). IsCopiedSoFar from named o now copy added) (sym to.1)
+    (copied_told from named a to.0 store now copy others added fits keys (to.2 fits) so)
+
+compared_by : (told : Option Told) (source : RepoState) (state : ComparisonState) (a b : Option Told) (store now : Store) (others : List Addition)
+    → KeepsMost store now → IsSome (archive_named state.name (repo_view store.repo).manifest.archives) → IfSome a (λ t. StoreFits false store t.history)
+    → AddsBetween others store now a b → IsSome state.other ⊎ ArePresent others → FitsTold told source a (repo_view store.repo) state
+    → FitsTold told source b (repo_view now.repo) state
+compared_by told source state None b store now others kept there fits over goes p =
+    subst (λ (o : Option Told). FitsTold told source o (repo_view now.repo) state) (sym (over.none refl)) (record {
+      front = p.front;
+      read = p.read;
+      beside = tt;
+    })
+compared_by told source state (Some a) b store now others kept there fits over goes p =
+    let to = over.adds in
+    subst (λ (o : Option Told). FitsTold told source o (repo_view now.repo) state) (sym to.1)
+    (compared_told told source state a to.0 store now others fits kept there (to.2 fits) goes p)
+
+work_over : (told : Option Told) (source : RepoState) (a b : Option Told) (store now : Store) (names : List (List ℕ)) (others : List Addition)
+    (named : ArchiveRef) (options : Options) (added : List Addition) (work : Work) → IfSome a (λ t. StoreFits false store t.history)
+    → OthersDid names others store now a b → (IsAmong names named.name → ⊥) → GoesOver work others
+    → WorkFits told source a store named options added work → WorkFits told source b now named options added work
+work_over told source a b store now names others named options added Waiting fits did other goes is = is
+work_over told source a b store now names others named options added (Copying copy) fits did other goes is = (
+  is.0,
+  lacked_over store now names named.name did.only other is.1,
+  is.2,
+  copied_by (origin told source options.block options.checkpoint options.timestamp) named a b store now copy others added did.kept.keys fits did.adds is.3,
+)
+work_over told source a b store now names others named options added (Comparing comparison) fits did other goes is =
+    let repo = repo_view store.repo in
+    let there = subst (λ (name : List ℕ). IsSome (archive_named name repo.manifest.archives)) (sym is.1) is.2 in (
+      compared_by told source (comparison_view comparison) a b store now others did.kept there fits did.adds goes is.0,
+      is.1,
+      has_kept repo.manifest (repo_view now.repo).manifest named.name did.kept.names is.2,
+      is.3,
+    )
+
+-- what fits a flight fits it over what others did
+pub flight_over : (told : Option Told) (source : RepoState) (a b : Option Told) (store now : Store) (flight : Flight) (names : List (List ℕ))
+    (others : List Addition) → FlightFits told source a store flight → IfSome a (λ t. StoreFits false store t.history) → OthersDid names others store now a b
+    → (IsAmong names flight.named.name → ⊥) → GoesOver flight.work others → FlightFits told source b now flight
+flight_over told source a b store now flight names others p fits did other goes = record {
+  stands = p.stands;
+  added = p.added;
+  work = work_over told source a b store now names others flight.named flight.options p.added flight.work fits did other goes p.work;
+  uncounted = p.uncounted;
+}
+
+-- what was accepted of its name is committed still
+pub committed_over : (store now : Store) (names : List (List ℕ)) (others : List Addition) (a b : Option Told) (name : List ℕ)
+    → OthersDid names others store now a b → (IsAmong names name → ⊥) → IsCommitted store name → IsCommitted now name
+committed_over store now names others a b name did other committed entry is = by (did.only name entry is) where
+  by : (archive_named name (accepted_in store).archives ≡ Some entry) ⊎ IsAmong names name
+      → archive_named name (repo_view now.repo).manifest.archives ≡ Some entry
+  by (inl was) = did.kept.names name entry (committed entry was)
+  by (inr among) = absurd (other among)
+
+-- ---- what a turn of another does
+
+none_told : (b : Option Told) → failed_told b ≡ None → b ≡ None
+none_told None e = refl
+none_told (Some t) e = absurd (let no : ⊥ = cc in no)
+
+none_failed : (failed : Bool) (b : Option Told) → FailedWhere failed None b → b ≡ None
+none_failed false b e = none_told b e
+none_failed true None e = refl
+none_failed true (Some t) e = absurd (let no : ⊥ = cc in no)
+
+ends_none : {T : Type 0} (a b : Option Told) (result : Result T CarryFault) → EndsAtFault target_failed a b result → a ≡ None → b ≡ None
+ends_none {T} None b (Ok x) ends none = none_told b ends
+ends_none {T} None b (Err fault) ends none = none_failed (target_failed fault) b ends
+ends_none {T} (Some t) b result ends none = absurd (let no : ⊥ = cc in no)
+
+named_by : (name : List ℕ) (named : ArchiveRef) (id : List ℕ) (archives : List ArchiveRef) (entry : ArchiveRef) (same : Bool)
+    → bytes_eq named.name name ≡ same → cond (bytes_eq named.name name) (Some (entry_for named id)) (archive_named name archives) ≡ Some entry
+    → (archive_named name archives ≡ Some entry) ⊎ IsAmong (named.name ∷ []) name
+named_by name named id archives entry true e found = inr (zero, ap Some ((bytes_eq-Decides named.name name).0 e))
+named_by name named id archives entry false e found =
+    inl (subst (λ (b : Bool). cond b (Some (entry_for named id)) (archive_named name archives) ≡ Some entry) e found)
+
+-- what it accepted, as an archive is named
+pub named_only : (given : Option (List ℕ)) (source : RepoState) (store : Store) (named : ArchiveRef) (records : List TaggedRecord) (now : Store)
+    (x y : Option (List ℕ)) → NamesNew given source store named records now x y → IsNamedBy (accepted_in store) (named.name ∷ []) (accepted_in now)
+named_only given source store named records now x y new name entry is =
+    named_by name named (content_id (repo_view store.repo).keys new.one.text) (accepted_in store).archives entry (bytes_eq named.name name) refl
+    (sym (with_named name (accepted_in store).archives (entry_for named (content_id (repo_view store.repo).keys new.one.text)))
+    ∙ (ap (λ (m : ManifestText). archive_named name m.archives) (sym new.accepted) ∙ is))
+
+-- a turn that was taken
+pub turn_did : (earlier : List Addition) (from : Origin) (name : List ℕ) (added : List Addition) (store now : Store) (a b : Option Told) (n m : ℕ)
+    (turn : Turn) → Flies earlier from name added store now a b n m (Ok turn) → KeepsMost store now
+    → IsNamedBy (accepted_in store) (name ∷ []) (accepted_in now) → OthersDid (name ∷ []) added store now a b
+turn_did earlier from name added store now a b n m turn flies kept only = record {
+  adds = record {
+    none = ends_none {T = Turn} a b (Ok turn) flies.ends;
+    adds = between_map a b (λ h g. AllDone h g × Grows earlier from (carried_by turn name) added store now h g)
+        (λ h g. (fits : StoreFits false store h) → AddsOver added store now h g fits)
+        (λ h g e fits. let end = e.1 false fits in
+        record { fits_now = end.fits_now; at = border_behind AtBegin earlier; most = from.most; adds = end.puts }) flies.end;
+  };
+  kept = kept;
+  only = only;
+}
+
+-- a turn that was refused, but not by the target
+spares_other : (fault : CarryFault) → is_target fault ≡ false → SparesStore fault
+spares_other (Source fault) other = tt
+spares_other (Target refusal) other = absurd (let no : ⊥ = cc in no)
+spares_other (Taken name) other = tt
+spares_other (NotFound name) other = tt
+spares_other Pieces other = tt
+spares_other Memory other = absurd (let no : ⊥ = cc in no)
+spares_other Record other = tt
+
+pub refusal_did : (earlier : List Addition) (from : Origin) (name : List ℕ) (at : Border) (limit most : ℕ) (added : List Addition) (store now : Store)
+    (a b : Option Told) (n m : ℕ) (fault : CarryFault) → Flies earlier from name added store now a b n m (Err fault)
+    → HoldsRefused {T = Turn} at limit store added now a b (Err fault) → is_target fault ≡ false → IsLeft most store b now
+    → OthersDid [] added store now a b
+refusal_did earlier from name at limit most added store now a b n m fault flies held other left = record {
+  adds = record {
+    none = ends_none {T = Turn} a b (Err fault) flies.ends;
+    adds = between_map a b (HoldsUntil false at limit store added now) (λ h g. (fits : StoreFits false store h) → AddsOver added store now h g fits)
+        (λ h g e fits. let end = e false fits in record { fits_now = end.0; at = at; most = limit; adds = end.1 })
+        (subst (λ (target : Bool). Between a b (HoldsUntil target at limit store added now)) other (held (spares_other fault other)).1);
+  };
+  kept = most_from store now left.rest;
+  only = λ called entry is. inl (ap (λ (m : ManifestText). archive_named called m.archives) (sym left.rest.accepted) ∙ is);
+}
+
+-- ---- the source
+
+walk_later : (told later : Option Told) (source after : RepoState) (walk : WalkState) → heard later ≡ heard told → after ≡ source
+    → IfSome told (λ t. FitsWalk (told_files t) source.log source.keys walk) → IfSome later (λ t. FitsWalk (told_files t) after.log after.keys walk)
+walk_later told later source after walk alike same fits =
+    subst (λ (r : RepoState). IfSome later (λ t. FitsWalk (told_files t) r.log r.keys walk)) (sym same)
+    (told_same told later (λ f. FitsWalk f source.log source.keys walk) alike fits)
+
+work_later : (told later : Option Told) (source after : RepoState) (a : Option Told) (store : Store) (named : ArchiveRef) (options : Options)
+    (added : List Addition) (work : Work) → heard later ≡ heard told → after ≡ source → WorkFits told source a store named options added work
+    → WorkFits later after a store named options added work
+work_later told later source after a store named options added Waiting alike same is = is
+work_later told later source after a store named options added (Copying copy) alike same is = (
+  is.0,
+  is.1,
+  walk_later told later source after (walk_view copy.walk) alike same is.2,
+  so_far_later told later source after options.block options.checkpoint options.timestamp named a store copy added alike same is.3,
+)
+work_later told later source after a store named options added (Comparing comparison) alike same is =
+    let state = comparison_view comparison in (
+      record {
+        front = is.0.front;
+        read = subst (λ (r : RepoState). IfSome later (λ t. ReadsSoFar (told_files t) r state.name state.walk is.0.front)) (sym same)
+            (told_same told later (λ f. ReadsSoFar f source state.name state.walk is.0.front) alike is.0.read);
+        beside = is.0.beside;
+      },
+      is.1,
+      is.2,
+      is.3,
+    )
+
+-- where the source's files were only read
+pub flight_later : (told later : Option Told) (source after : RepoState) (a : Option Told) (store : Store) (flight : Flight) → heard later ≡ heard told
+    → after ≡ source → FlightFits told source a store flight → FlightFits later after a store flight
+flight_later told later source after a store flight alike same p = record {
+  stands = subst (λ (r : RepoState). FlightStands r flight) (sym same) p.stands;
+  added = p.added;
+  work = work_later told later source after a store flight.named flight.options p.added flight.work alike same p.work;
+  uncounted = p.uncounted;
+}

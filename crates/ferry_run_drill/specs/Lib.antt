@@ -1,0 +1,4 @@
+pub mod Drill
+pub mod Steps
+pub mod Complete
+pub mod Drilling
