@@ -118,6 +118,19 @@ def lacking(crate, paper, kept):
     return [it for it in definitions(crate) if it[0] in kept and not any(it[2] in " ".join(row) for row in rows.get(it[0], []))]
 
 
+def files_of(crate):
+    """The files in which a crate defines each name."""
+    files = {}
+    for name, _, file in definitions(crate):
+        files.setdefault(name, []).append(file)
+    return files
+
+
+def is_row_of(files, name, row):
+    """Whether a row has the file of the definition that it names."""
+    return any(file in row for file in files.get(name, []))
+
+
 def look_at_definitions(crate, paper, kept):
     """Each definition that a call reaches has a row in the section of its crate, with its file, and each row is of one."""
     lacks = {name for name, _, _ in lacking(crate, paper, kept)}
@@ -125,6 +138,11 @@ def look_at_definitions(crate, paper, kept):
         judge(name not in lacks, f"docs/DEFINITIONS.md, {crate}: no row of `{name}`")
     for name in sorted(set(defined_rows(crate, paper)) - kept):
         judge(False, f"docs/DEFINITIONS.md, {crate}: `{name}` is no definition that a call reaches")
+    files = files_of(crate)
+    for name, rows in sorted(defined_rows(crate, paper).items()):
+        if name in kept:
+            stale = [row for row in rows if not is_row_of(files, name, " ".join(row))]
+            judge(not stale, f"docs/DEFINITIONS.md, {crate}: a row of `{name}` with another file")
 
 
 def look_at_order(paper):
@@ -133,15 +151,20 @@ def look_at_order(paper):
     judge(found == [it for it in READING if it in found], "docs/DEFINITIONS.md: the sections aren't in the order of READING of checks/docs.py")
 
 
-def without_others(text, kept):
-    """A section with the rows of these definitions alone; a table of which none is left goes."""
+def without_others(text, crate, kept):
+    """A section with the rows of these definitions alone, where they are; a table of which none is left goes."""
+    files = files_of(crate)
     parts = []
     for part in text.strip("\n").split("\n\n"):
         if part.startswith("|"):
             head, rows = part.splitlines()[:2], []
             for row in part.splitlines()[2:]:
                 first, _, rest = row[1:].partition("|")
-                names = [name for name in re.findall(r"`[^`]+`(?: \([^)]*\))?", first) if name[1:].split("`")[0].split()[0] in kept]
+                names = [
+                    name
+                    for name in re.findall(r"`[^`]+`(?: \([^)]*\))?", first)
+                    if (plain := name[1:].split("`")[0].split()[0]) in kept and is_row_of(files, plain, rest)
+                ]
                 if names:
                     rows.append(f"| {', '.join(names)} |{rest}")
             part = "\n".join([*head, *rows]) if rows else ""
@@ -168,7 +191,7 @@ def write_definitions(reached):
     parts = [paper.split("\n## ")[0].rstrip("\n")]
     for crate in READING:
         kept = reached.get(crate, set())
-        text = with_rows(without_others(section(paper, crate), kept), crate, paper, kept)
+        text = with_rows(without_others(section(paper, crate), crate, kept), crate, paper, kept)
         if kept:
             parts.append(f"## {crate}\n\n{text}")
     with open(os.path.join(TOP, "docs", "DEFINITIONS.md"), "w", encoding="utf-8") as file:
