@@ -18,10 +18,10 @@ use Rattle.ferry_disk.specs.Moments.{Between}
 use Rattle.ferry_disk.specs.declared.name.Name.TheVariants.{Config as ConfigFile}
 use Rattle.ferry_log.specs.State.{LogState}
 use Rattle.ferry_mac.specs.declared.keys.Keys.{Keys}
-use Rattle.ferry_manifest.specs.Manifest.Text.{ManifestText}
+use Rattle.ferry_manifest.specs.Manifest.Text.{ManifestText, in_order}
 use Rattle.ferry_manifest.specs.declared.manifest.ArchiveRef.{ArchiveRef}
 use Rattle.ferry_manifest.specs.declared.manifest.Manifest.{Manifest}
-use Rattle.ferry_next.specs.Next.{next_manifest, with_archive, written_at}
+use Rattle.ferry_next.specs.Next.{next_manifest, union, with_archive, written_at}
 use Rattle.ferry_piece.proofs.AmongLemmas.{all_among, all_both, all_front, each_to}
 use Rattle.ferry_piece.specs.Gather.{Gathered, Gathers, HoldsContents, HoldsWithin, IsAmong, KeepsRest, NoCollision}
 use Rattle.ferry_piece.specs.Puts.{Addition, Within, contents_in}
@@ -36,7 +36,7 @@ use Rattle.ferry_segment.specs.Entry.{LogEntry, PutEntry}
 use Rattle.ferry_stops.specs.Entries.{Shows}
 use Rattle.ferry_store.proofs.StandingLemmas.{live_renewed, opened_unlocks, opens_live, state_live}
 use Rattle.ferry_store.specs.Commit.{Commits, IsSettled, accepted_in}
-use Rattle.ferry_store.specs.New.{OpensNew}
+use Rattle.ferry_store.specs.New.{OpensNew, first_manifest}
 use Rattle.ferry_store.specs.Standing.{CommitsManifest, HoldsManifest, UnlocksSettings, committed_of, entries_of, live_in, with_manifest}
 use Rattle.ferry_store.specs.State.{Did, Written, all_committed, with_entry}
 use Rattle.ferry_store.specs.Store.{InitFits, InitMakes, StoreFits}
@@ -48,8 +48,8 @@ use Rattle.ferry_write.specs.Script.{AllDone}
 use Rattle.ferry_gen.proofs.ListLemmas.{contents_none, contents_then, entries_none, entries_with, entry_at, entry_none, records_then}
 use Rattle.ferry_gen.specs.Archives.{AreRecordsOf, IsRecordOf, contents_from, drill_archive, drill_items, entries_from, entry_of}
 use Rattle.ferry_gen.specs.Content.{archive_name, archive_time}
-use Rattle.ferry_gen.specs.Source.{IsSource, TellsEmpty, source_block, source_secret}
-use Rattle.ferry_gen.specs.Steps.{AreHeld, HasMade, PutsArchive, item_names, most_pending}
+use Rattle.ferry_gen.specs.Source.{HasPlain, IsPlain, IsSource, TellsEmpty, item_names, new_time, source_block, source_secret}
+use Rattle.ferry_gen.specs.Steps.{AreHeld, HasMade, PutsArchive, most_pending}
 
 -- ---- chunks
 
@@ -127,9 +127,19 @@ free_told archive store middle entry id (Some t) told low made rest is =
     ap (λ (e : ArchiveRef). archive_named e.name (accepted_in middle).archives) is
     ∙ (ap (archive_named (archive_name archive)) archives ∙ entry_none keys 0 archive made.texts (omega (arith, made.texts_size)) low)
 
+-- the names of the fields of items, behind those of the archives before
+union_plain : (names : List (List ℕ)) → (names ≡ []) ⊎ (names ≡ item_names) → union names item_names ≡ item_names
+unfolding in_order
+union_plain names (inl none) = ap (λ (l : List (List ℕ)). union l item_names) none ∙ refl
+union_plain names (inr same) = ap (λ (l : List (List ℕ)). union l item_names) same ∙ refl
+
+plain_next : (manifest : ManifestText) (entry : ArchiveRef) (time : List ℕ) → time ≡ new_time → IsPlain manifest
+    → IsPlain (written_at (next_manifest manifest entry item_names) time)
+plain_next manifest entry time is plain = (ap Some is, inr (union_plain manifest.item_keys plain.1))
+
 -- an archive whose contents were added is named and committed
 pub made_next : (archive : ℕ) (store middle now : Store) (accepted : Manifest) (entry : ArchiveRef) (time blob id : List ℕ) (a b d : Option Told)
-    → archive < 64 → IfSome a (λ t. StoreFits false store t.history) → IfSome a (λ t. HasMade archive store t.history) → IsSettled store
+    → time ≡ new_time → archive < 64 → IfSome a (λ t. StoreFits false store t.history) → IfSome a (λ t. HasMade archive store t.history) → IsSettled store
     → KeepsRest store middle → PutsArchive archive (repo_view store.repo).keys store middle a b id
     → entry ≡ record { name = archive_name archive; id = id; time = archive_time }
     → accepted_in (record middle { accepted = accepted }) ≡ next_manifest (accepted_in middle) entry item_names
@@ -137,7 +147,8 @@ pub made_next : (archive : ℕ) (store middle now : Store) (accepted : Manifest)
     → repo_view now.repo ≡ with_manifest (repo_view middle.repo) (written_at (accepted_in (record middle { accepted = accepted })) time)
     → accepted_in now ≡ written_at (accepted_in (record middle { accepted = accepted })) time
     → Between a d (λ h k. HasMade (suc archive) now k × StoreFits false now k)
-made_next archive store middle now accepted entry time blob id a b d low fits_a made_a settled rest puts entry_is named_is committed repo_is accepted_is =
+made_next archive store middle now accepted entry time blob id a b d time_is low fits_a made_a settled rest puts entry_is named_is committed repo_is
+    accepted_is =
     joined a b d fits_a made_a puts.puts.1.1 committed
   where
     keys : Keys
@@ -155,6 +166,15 @@ made_next archive store middle now accepted entry time blob id a b d low fits_a 
     archives_are : (accepted_in now).archives ≡ with_archive (accepted_in middle).archives entry
     archives_are =
         ap (λ (m : ManifestText). m.archives) accepted_is ∙ ap (λ (m : ManifestText). m.archives) named_is
+
+    accepted_now : accepted_in now ≡ written_at (next_manifest (accepted_in store) entry item_names) time
+    accepted_now =
+        accepted_is
+        ∙ ap (λ (m : ManifestText). written_at m time)
+        (named_is ∙ ap (λ (m : ManifestText). next_manifest m entry item_names) rest.accepted)
+
+    plain_now : IsPlain (accepted_in store) → IsPlain (accepted_in now)
+    plain_now plain = subst IsPlain (sym accepted_now) (plain_next (accepted_in store) entry time time_is plain)
 
     next : (h g k : History) (fits : StoreFits false store h) → HasMade archive store h → Gathers most_pending store puts.puts.0 middle h g
         → Commits named (PutEntry zero_id blob) now g k → HasMade (suc archive) now k × StoreFits false now k
@@ -210,6 +230,7 @@ made_next archive store middle now accepted entry time blob id a b d low fits_a 
             texts_size = grown ∙ (let e : length texts + 1 ≡ suc archive = omega (arith, made.texts_size) in e);
             config = made.config;
             unlocks = so.0;
+            plain = plain_now made.plain;
             archives = so.1.0;
             records = so.1.1.0;
             held = so.1.1.1;
@@ -254,8 +275,9 @@ module _ (store : Store) (h : History) (fits : StoreFits false store h) (none : 
       (behind store.session.after, fits_now store.session fits.written.committed fits.written.pending h fits.under_way.fits)
 
   -- no archive is there
-  pub made_none : IsSettled store → OpensFilesTo (files_now h) source_secret (repo_view store.repo) → OpensNew source_secret (files_now h) → HasMade 0 store h
-  made_none settled opens new =
+  pub made_none : IsSettled store → OpensFilesTo (files_now h) source_secret (repo_view store.repo) → (new : OpensNew source_secret (files_now h))
+      → new.repo.manifest ≡ first_manifest new_time → HasMade 0 store h
+  made_none settled opens new first =
       let repo = repo_view store.repo in
       let same = one_repo (files_now h) source_secret repo new.repo opens new.opens in
       let empty : (accepted_in store).archives ≡ [] =
@@ -265,6 +287,7 @@ module _ (store : Store) (h : History) (fits : StoreFits false store h) (none : 
         texts_size = refl;
         config = repo.config;
         unlocks = opened_unlocks (files_now h) source_secret repo opens;
+        plain = subst IsPlain (sym (settled ∙ (ap (λ (r : RepoState). r.manifest) same ∙ first))) (refl, inl refl);
         archives = empty ∙ sym (entries_none (repo_view store.repo).keys);
         records = tt;
         held = λ scope apart all. (
@@ -367,27 +390,36 @@ source_has count store h most fits settled none made =
           ));
     }
 
+-- their manifest is plain
+source_plain : (count : ℕ) (store : Store) (h : History) → count ≤ 64 → StoreFits false store h → IsSettled store → store.pending ≡ 0
+    → HasMade count store h → HasPlain (files_now h)
+unfolding source_has
+source_plain count store h most fits settled none made repo opens =
+    let is = source_has count store h most fits settled none made in
+    subst IsPlain (settled ∙ ap (λ (r : RepoState). r.manifest) (one_repo (files_now h) source_secret is.repo repo is.opens opens)) made.plain
+
 -- ---- what is told
 
 -- a store that was made fits, and has no archive
-first_made : (secret : Secret) (store : Store) (timestamp bytes : List ℕ) (a b : Option Told) → secret ≡ source_secret → TellsEmpty a
+first_made : (secret : Secret) (store : Store) (timestamp bytes : List ℕ) (a b : Option Told) → secret ≡ source_secret → timestamp ≡ new_time → TellsEmpty a
     → Between a b (λ h g. AllDone h g × InitFits store h g) → Between a b (InitMakes secret 1 timestamp bytes)
     → IfSome b (λ t. OpensFilesTo (told_files t) secret (repo_view store.repo)) → IsSettled store → store.pending ≡ 0
     → IfSome b (λ t. HasMade 0 store t.history × StoreFits false store t.history)
-first_made secret store timestamp bytes None b is empty fits makes opened settled none = absurd (let e = empty.1.0 in let no : ⊥ = cc in no)
-first_made secret store timestamp bytes (Some s) None is empty fits makes opened settled none = tt
-first_made secret store timestamp bytes (Some s) (Some t) is empty fits makes opened settled none =
+first_made secret store timestamp bytes None b is at empty fits makes opened settled none = absurd (let e = empty.1.0 in let no : ⊥ = cc in no)
+first_made secret store timestamp bytes (Some s) None is at empty fits makes opened settled none = tt
+first_made secret store timestamp bytes (Some s) (Some t) is at empty fits makes opened settled none =
     let begun : s.history.acts ≡ [] = (let e : Some s ≡ Some empty.0 = empty.1.0 in let f : s ≡ empty.0 = cc in ap (λ (x : Told). x.history.acts) f
     ∙ empty.1.1.no_acts) in
     let one : fits.0 ≡ t = (let e = fits.1 in cc) in
     let two : makes.0 ≡ t = (let e = makes.1 in cc) in
     let stands : StoreFits false store t.history =
     subst (λ (x : Told). StoreFits false store x.history) one (fits.2.1 false begun (λ counted. absurd (let no : ⊥ = cc in no))) in
-    let made : OpensNew secret (told_files t) = subst (λ (x : Told). OpensNew secret (told_files x)) two (makes.2 begun).opens in
-    let new : OpensNew source_secret (told_files t) = subst (λ (k : Secret). OpensNew k (told_files t)) is made in
+    let New : Secret → Told → Type 0 = λ k x. (new : OpensNew k (told_files x)) × (new.repo.manifest ≡ first_manifest timestamp) in
+    let made : New secret t = subst (New secret) two ((makes.2 begun).opens, (makes.2 begun).first) in
+    let new : New source_secret t = subst (λ (k : Secret). New k t) is made in
     let opens : OpensFilesTo (told_files t) source_secret (repo_view store.repo) =
     subst (λ (k : Secret). OpensFilesTo (told_files t) k (repo_view store.repo)) is opened in
-    (made_none store t.history stands none settled opens new, stands)
+    (made_none store t.history stands none settled opens new.0 (new.1 ∙ ap first_manifest at), stands)
 
 -- the same over what the depot tells
 pub source_told : (count : ℕ) (store : Store) (a : Option Told) → count ≤ 64 → IfSome a (λ t. StoreFits false store t.history) → IsSettled store
@@ -396,20 +428,26 @@ pub source_told : (count : ℕ) (store : Store) (a : Option Told) → count ≤ 
 source_told count store None most fits settled none made = tt
 source_told count store (Some t) most fits settled none made = source_has count store t.history most fits settled none made
 
+pub plain_told : (count : ℕ) (store : Store) (a : Option Told) → count ≤ 64 → IfSome a (λ t. StoreFits false store t.history) → IsSettled store
+    → store.pending ≡ 0
+    → IfSome a (λ t. HasMade count store t.history) → IfSome a (λ t. HasPlain (told_files t))
+plain_told count store None most fits settled none made = tt
+plain_told count store (Some t) most fits settled none made = source_plain count store t.history most fits settled none made
+
 -- the two parts of that
-pub first_has : (secret : Secret) (store : Store) (timestamp bytes : List ℕ) (a b : Option Told) → secret ≡ source_secret → TellsEmpty a
+pub first_has : (secret : Secret) (store : Store) (timestamp bytes : List ℕ) (a b : Option Told) → secret ≡ source_secret → timestamp ≡ new_time → TellsEmpty a
     → Between a b (λ h g. AllDone h g × InitFits store h g) → Between a b (InitMakes secret 1 timestamp bytes)
     → IfSome b (λ t. OpensFilesTo (told_files t) secret (repo_view store.repo)) → IsSettled store → store.pending ≡ 0
     → IfSome b (λ t. HasMade 0 store t.history)
-first_has secret store timestamp bytes a b is empty fits makes opened settled none =
-    IfSome_then b (first_made secret store timestamp bytes a b is empty fits makes opened settled none) (λ t both. both.0)
+first_has secret store timestamp bytes a b is at empty fits makes opened settled none =
+    IfSome_then b (first_made secret store timestamp bytes a b is at empty fits makes opened settled none) (λ t both. both.0)
 
-pub first_fits : (secret : Secret) (store : Store) (timestamp bytes : List ℕ) (a b : Option Told) → secret ≡ source_secret → TellsEmpty a
+pub first_fits : (secret : Secret) (store : Store) (timestamp bytes : List ℕ) (a b : Option Told) → secret ≡ source_secret → timestamp ≡ new_time → TellsEmpty a
     → Between a b (λ h g. AllDone h g × InitFits store h g) → Between a b (InitMakes secret 1 timestamp bytes)
     → IfSome b (λ t. OpensFilesTo (told_files t) secret (repo_view store.repo)) → IsSettled store → store.pending ≡ 0
     → IfSome b (λ t. StoreFits false store t.history)
-first_fits secret store timestamp bytes a b is empty fits makes opened settled none =
-    IfSome_then b (first_made secret store timestamp bytes a b is empty fits makes opened settled none) (λ t both. both.1)
+first_fits secret store timestamp bytes a b is at empty fits makes opened settled none =
+    IfSome_then b (first_made secret store timestamp bytes a b is at empty fits makes opened settled none) (λ t both. both.1)
 
 -- where all archives were made
 pub source_made : (r : Result (Unit {0}) CarryFault) (count : ℕ) (store : Store) (a : Option Told) → count ≤ 64
@@ -418,6 +456,13 @@ pub source_made : (r : Result (Unit {0}) CarryFault) (count : ℕ) (store : Stor
     → OnOk r (IfSome a (λ t. IsSource count (told_files t)))
 source_made (Err fault) count store a most fits settled none made = tt
 source_made (Ok x) count store a most fits settled none made = source_told count store a most fits settled none made
+
+pub plain_made : (r : Result (Unit {0}) CarryFault) (count : ℕ) (store : Store) (a : Option Told) → count ≤ 64
+    → OnOk r (IfSome a (λ t. StoreFits false store t.history))
+    → OnOk r (IsSettled store) → OnOk r (store.pending ≡ 0) → OnOk r (IfSome a (λ t. HasMade count store t.history))
+    → OnOk r (IfSome a (λ t. HasPlain (told_files t)))
+plain_made (Err fault) count store a most fits settled none made = tt
+plain_made (Ok x) count store a most fits settled none made = plain_told count store a most fits settled none made
 
 -- a device that told tells behind a body
 pub told_on : (E : History → History → Type 0) (a d : Option Told) → IsSome a → Between a d E → IsSome d
@@ -436,7 +481,7 @@ told_first E a d empty between = told_on E a d (subst IsSome (sym empty.1.0) ref
 -- an archive that was named in the store
 pub archive_made : (archive : ℕ) (store middle named now : Store) (entry : ArchiveRef) (time blob id : List ℕ) (a b d : Option Told) (n m : ℕ)
     (E : History → History → Type 0)
-    → archive < 64 → IfSome a (λ t. StoreFits false store t.history) → IfSome a (λ t. HasMade archive store t.history) → IsSettled store
+    → time ≡ new_time → archive < 64 → IfSome a (λ t. StoreFits false store t.history) → IfSome a (λ t. HasMade archive store t.history) → IsSettled store
     → KeepsRest store middle → PutsArchive archive (repo_view store.repo).keys store middle a b id
     → entry ≡ record { name = archive_name archive; id = id; time = archive_time } → named ≡ record middle { accepted = named.accepted }
     → accepted_in named ≡ next_manifest (accepted_in middle) entry item_names
@@ -444,13 +489,14 @@ pub archive_made : (archive : ℕ) (store middle named now : Store) (entry : Arc
     → repo_view now.repo ≡ with_manifest (repo_view named.repo) (written_at (accepted_in named) time)
     → accepted_in now ≡ written_at (accepted_in named) time
     → Between a d (λ h k. HasMade (suc archive) now k × StoreFits false now k)
-archive_made archive store middle named now entry time blob id a b d n m E low fits made settled rest puts entry_is same named_is did repo_is accepted_is =
+archive_made archive store middle named now entry time blob id a b d n m E time_is low fits made settled rest puts entry_is same named_is did repo_is
+    accepted_is =
     let Facts : Store → Type 0 = λ s.
     (accepted_in s ≡ next_manifest (accepted_in middle) entry item_names)
     × (Between b d (λ g k. AllDone g k × Commits s (PutEntry zero_id blob) now g k)
     × ((repo_view now.repo ≡ with_manifest (repo_view s.repo) (written_at (accepted_in s) time)) × (accepted_in now ≡ written_at (accepted_in s) time))) in
     let facts : Facts (record middle { accepted = named.accepted }) = subst Facts same (named_is, (did.end, (repo_is, accepted_is))) in
-    made_next archive store middle now named.accepted entry time blob id a b d low fits made settled rest puts entry_is facts.0 facts.1.0 facts.1.1.0
+    made_next archive store middle now named.accepted entry time blob id a b d time_is low fits made settled rest puts entry_is facts.0 facts.1.0 facts.1.1.0
     facts.1.1.1
 
 -- the two parts of that

@@ -1,11 +1,13 @@
 -- The drill's source, and why it isn't made.
-use Rattle.std.specs.Prelude.{◌≡◌, ℕ, codes, [], List, Option, Some, IfSome, None}
+use Rattle.std.specs.Prelude.{◌≡◌, ◌⊎◌, ℕ, codes, [], ◌∷◌, List, Option, Some, IfSome, None}
 use Rattle.ferry_disk.specs.Act.{History}
 use Rattle.ferry_disk.specs.Device.{Told, told_files}
 use Rattle.ferry_disk.specs.Files.{Files, file_at}
 use Rattle.ferry_disk.specs.declared.name.Name.{Name}
+use Rattle.ferry_manifest.specs.Manifest.Text.{ManifestText}
 use Rattle.ferry_nonce.specs.declared.fault.NonceFault.TheVariants as Nonces
 use Rattle.ferry_repo.specs.declared.fault.RepoFault.TheVariants as Repos
+use Rattle.ferry_repo.specs.Opening.{OpensFilesTo, RepoState}
 use Rattle.ferry_repo.specs.declared.secret.Secret.{Secret}
 use Rattle.ferry_store.specs.declared.fault.StoreRefusal.{StoreRefusal}
 use Rattle.ferry_store.specs.declared.fault.StoreRefusal.TheVariants.{Memory, Nonce, Repo, Write}
@@ -23,6 +25,22 @@ source_secret = record { passphrase = codes "source"; key_file = [] }
 -- Files are the drill's source of so many archives.
 abbrev pub IsSource : ℕ → Files → Type 0
 IsSource count files = HasArchives source_secret source_block count files
+
+-- the timestamp of a new repository, which each commit keeps
+abbrev pub new_time : List ℕ
+new_time = codes "1970-01-01T00:00:00.000000"
+
+-- the names of the items' fields
+abbrev pub item_names : List (List ℕ)
+item_names = codes "chunks" ∷ codes "mode" ∷ codes "path" ∷ []
+
+-- A manifest has that timestamp, and says of items no name of a field, or these.
+abbrev pub IsPlain : ManifestText → Type 0
+IsPlain manifest = (manifest.timestamp ≡ Some new_time) × ((manifest.item_keys ≡ []) ⊎ (manifest.item_keys ≡ item_names))
+
+-- The manifest that opens under the source's secret is so.
+abbrev pub HasPlain : Files → Type 0
+HasPlain files = (repo : RepoState) → OpensFilesTo files source_secret repo → IsPlain repo.manifest
 
 -- A depot has no file and has made no act.
 pub record IsEmpty (history : History) : Type 0 where

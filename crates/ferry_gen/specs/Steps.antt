@@ -1,5 +1,5 @@
 -- The source as it comes to be: contents that are added, and archives that are named.
-use Rattle.std.specs.Prelude.{◌≡◌, ◌≤◌, ◌++◌, ◌∷◌, [], ℕ, zero, true, List, length, map, Option, Some, Ok, codes}
+use Rattle.std.specs.Prelude.{◌≡◌, ◌≤◌, ◌++◌, ◌∷◌, [], ℕ, zero, true, List, length, map, Option, Some, Ok}
 use Rattle.std.specs.List.{AllByRecursion}
 use Rattle.ferry_base.specs.Limits.{content_limit}
 use Rattle.ferry_blob.specs.Blob.{content_id}
@@ -24,7 +24,7 @@ use Rattle.ferry_store.specs.Standing.{UnlocksSettings}
 use Rattle.ferry_store.specs.declared.store.Store.{Store}
 use Rattle.ferry_gen.specs.Archives.{AreRecordsOf, IsRecordOf, contents_from, drill_items, entries_from}
 use Rattle.ferry_gen.specs.Fields.{archive_fields}
-use Rattle.ferry_gen.specs.Source.{source_block, source_secret}
+use Rattle.ferry_gen.specs.Source.{IsPlain, source_block, source_secret}
 
 -- how many pieces may be put before a commit
 abbrev pub most_pending : ℕ
@@ -79,10 +79,7 @@ pub record HasMade (count : ℕ) (store : Store) (history : History) : Type 0 wh
   pub texts_size : length texts ≡ count
   pub config : Config
   pub unlocks : UnlocksSettings source_secret (files_now history).config config (repo_view store.repo).keys
+  pub plain : IsPlain (accepted_in store)
   pub archives : (accepted_in store).archives ≡ entries_from (repo_view store.repo).keys zero texts
   pub records : AreRecordsOf (repo_view store.repo).keys source_block zero texts
   pub held : AreHeld (files_now history) (repo_view store.repo) (contents_from (repo_view store.repo).keys source_block zero texts)
-
--- the names of the items' fields
-abbrev pub item_names : List (List ℕ)
-item_names = codes "chunks" ∷ codes "mode" ∷ codes "path" ∷ []

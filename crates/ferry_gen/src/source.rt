@@ -9,8 +9,8 @@ ghost use Rattle.ferry_store.specs.Commit.{IsSettled, accepted_in};
 ghost use Rattle.ferry_store.specs.Fault.{depot_failed};
 ghost use Rattle.ferry_store.specs.Store.{IsUnspent, StoreFits};
 ghost use Rattle.ferry_gen.specs.Content.{archive_name, archive_time};
-ghost use Rattle.ferry_gen.specs.Source.{IsOfDepot, IsSource, TellsEmpty, source_secret};
-ghost use Rattle.ferry_gen.specs.Steps.{HasMade, item_names};
+ghost use Rattle.ferry_gen.specs.Source.{HasPlain, IsOfDepot, IsSource, TellsEmpty, item_names, source_secret};
+ghost use Rattle.ferry_gen.specs.Steps.{HasMade};
 
 use crate::content::{archive_name, archive_time};
 use crate::put::put_archive;
@@ -38,6 +38,7 @@ pub fn make_source<D: Depot>(alloc: Global, depot: &mut D, count: u32) -> Result
     requires most { count ≤ 64 }
     requires empty { TellsEmpty (D.told depot.old) }
     ensures made { OnOk result (IfSome (D.told depot.new) (λ t. IsSource count (told_files t))) }
+    ensures plain { OnOk result (IfSome (D.told depot.new) (λ t. HasPlain (told_files t))) }
     ensures refused { IfErr result IsOfDepot }
     ensures cause { HasCause depot_failed (D.faults depot.old) (D.faults depot.new) result }
 {
@@ -83,6 +84,7 @@ fn make<D: Depot>(alloc: Global, depot: &mut D, count: u32) -> Result<(), CarryF
     requires most { count ≤ 64 }
     requires empty { TellsEmpty (D.told depot.old) }
     ensures made { OnOk result (IfSome (D.told depot.new) (λ t. IsSource count (told_files t))) }
+    ensures plain { OnOk result (IfSome (D.told depot.new) (λ t. HasPlain (told_files t))) }
     ensures cause { HasCause target_failed (D.faults depot.old) (D.faults depot.new) result }
 {
     let mut entropy = MemoryEntropy::new(alloc, Vec::new(alloc))?;

@@ -1,52 +1,51 @@
 -- Lemmas on specs/Complete.antt: where a drill is done.
-use Rattle.std.proofs.Common.{◌≡◌, ◌≤◌, inr, ℕ, List, Option, Some, None, IfSome, subst, sym}
+use Rattle.std.proofs.Common.{◌≡◌, ◌≤◌, inr, ℕ, Option, Some, None, IfSome, subst, sym}
 use Rattle.ferry_carry.specs.declared.options.Carried.{Carried}
 use Rattle.ferry_disk.specs.Act.{History}
 use Rattle.ferry_disk.specs.Device.{Told, told_files}
 use Rattle.ferry_disk.specs.Files.{Files}
 use Rattle.ferry_disk.specs.Moments.{Between}
-use Rattle.ferry_gen.specs.Source.{IsSource}
+use Rattle.ferry_gen.specs.Source.{HasPlain, IsSource}
 use Rattle.ferry_piece.specs.declared.fault.CarryFault.{CarryFault}
 use Rattle.ferry_status.specs.Status.{carry_status}
 use Rattle.ferry_status.specs.declared.status.Status.{Status}
 use Rattle.ferry_status.specs.declared.status.Status.TheVariants as Statuses
-use Rattle.ferry_stops.specs.Tells.{lines_of}
 use Rattle.ferry_run_drill.specs.Complete.{AreApartIn, Completes, EndsChecked, EndsFrom, IsDoneUnless, IsFinished, WhereFree}
 use Rattle.ferry_run_drill.specs.Drill.{HasCopied}
 
-where_then : (before now : Option Told) (P Q : Files → List (List ℕ) → Files → Type 0)
-    → ((start : Files) (lines : List (List ℕ)) (image : Files) → P start lines image → Q start lines image) → WhereFree before now P → WhereFree before now Q
+where_then : (before now : Option Told) (P Q : Files → Files → Type 0)
+    → ((start image : Files) → P start image → Q start image) → WhereFree before now P → WhereFree before now Q
 where_then None now P Q step where_p = tt
 where_then (Some b) None P Q step where_p = tt
-where_then (Some b) (Some t) P Q step where_p = λ begun free. step (told_files b) (lines_of t.history.acts) (told_files t) (where_p begun free)
+where_then (Some b) (Some t) P Q step where_p = λ begun free. step (told_files b) (told_files t) (where_p begun free)
 
 -- a copy that was refused
-pub refused_completes : (count : ℕ) (source : Files) (a d : Option Told) (fault : CarryFault) → count ≤ 64 → IsSource count source → EndsFrom source a d fault
-    → Completes count a d (carry_status fault)
-refused_completes count source a d fault most is ends =
+pub refused_completes : (count : ℕ) (source : Files) (a d : Option Told) (fault : CarryFault) → count ≤ 64 → IsSource count source → HasPlain source
+    → EndsFrom source a d fault → Completes count a d (carry_status fault)
+refused_completes count source a d fault most is plain ends =
     inr (record {
       source = source;
       source_is = is;
       ends = λ apart.
-          where_then a d (λ start lines image. IsDoneUnless source start lines image (carry_status fault))
-          (λ start lines image. AreApartIn count image → IsDoneUnless source start lines image (carry_status fault)) (λ start lines image done target. done)
-          (ends count most is apart);
+          where_then a d (λ start image. IsDoneUnless start image (carry_status fault))
+          (λ start image. AreApartIn count image → IsDoneUnless start image (carry_status fault)) (λ start image done target. done)
+          (ends count most is plain apart);
     })
 
-finished_done : (source start image : Files) (lines : List (List ℕ)) (status : Status) → IsFinished status → IsDoneUnless source start lines image status
-finished_done source start image lines Statuses.Done finished = tt
-finished_done source start image lines Statuses.No finished = absurd finished
-finished_done source start image lines (Statuses.Usage word) finished = absurd finished
-finished_done source start image lines Statuses.Memory finished = tt
-finished_done source start image lines Statuses.SourceDevice finished = absurd finished
-finished_done source start image lines Statuses.TargetDevice finished = tt
-finished_done source start image lines Statuses.EntropyDevice finished = absurd finished
-finished_done source start image lines Statuses.OutputDevice finished = tt
-finished_done source start image lines (Statuses.SourceRefused refusal) finished = absurd finished
-finished_done source start image lines (Statuses.TargetRefused refusal) finished = absurd finished
-finished_done source start image lines (Statuses.Taken name) finished = absurd finished
-finished_done source start image lines (Statuses.NotFound what) finished = absurd finished
-finished_done source start image lines (Statuses.Limit limit) finished = absurd finished
+finished_done : (start image : Files) (status : Status) → IsFinished status → IsDoneUnless start image status
+finished_done start image Statuses.Done finished = tt
+finished_done start image Statuses.No finished = absurd finished
+finished_done start image (Statuses.Usage word) finished = absurd finished
+finished_done start image Statuses.Memory finished = tt
+finished_done start image Statuses.SourceDevice finished = absurd finished
+finished_done start image Statuses.TargetDevice finished = tt
+finished_done start image Statuses.EntropyDevice finished = absurd finished
+finished_done start image Statuses.OutputDevice finished = tt
+finished_done start image (Statuses.SourceRefused refusal) finished = absurd finished
+finished_done start image (Statuses.TargetRefused refusal) finished = absurd finished
+finished_done start image (Statuses.Taken name) finished = absurd finished
+finished_done start image (Statuses.NotFound what) finished = absurd finished
+finished_done start image (Statuses.Limit limit) finished = absurd finished
 
 -- one that came, behind which the target was checked
 pub finished_completes : (count : ℕ) (carried : Carried) (source : Files) (a b d : Option Told) (E : History → History → Type 0) (status : Status)
@@ -66,5 +65,5 @@ finished_completes count carried source (Some s) (Some u) (Some t) E status is e
       source = now.source;
       source_is = now.source_is;
       ends = λ apart begun free target.
-          finished_done now.source (told_files s) (told_files t) (lines_of t.history.acts) status (ends now apart target);
+          finished_done (told_files s) (told_files t) status (ends now apart target);
     })

@@ -18,7 +18,7 @@ use Rattle.ferry_piece.specs.declared.fault.CarryFault.{CarryFault}
 use Rattle.ferry_run_transfer.proofs.TransferLemmas.{untold_yet}
 use Rattle.ferry_stops.specs.Tells.{TellsNothing}
 use Rattle.ferry_store.proofs.StepLemmas.{first_kept}
-use Rattle.ferry_store.specs.New.{OpensNew}
+use Rattle.ferry_store.specs.New.{OpensNew, first_manifest}
 use Rattle.ferry_write.specs.Script.{AllDone}
 use Rattle.ferry_write.specs.Session.{SettlesFirst}
 use Rattle.ferry_disk.specs.Act.{History, files_now}
@@ -51,7 +51,7 @@ use Rattle.ferry_run_drill.proofs.NameLemmas.{texts_of}
 use Rattle.ferry_run_drill.proofs.OpenLemmas.{all_open, new_archives, none_live}
 use Rattle.ferry_run_drill.proofs.NewLemmas.{PutsNew, puts_new}
 use Rattle.ferry_run_drill.proofs.TotalLemmas.{counts_all, totals_are}
-use Rattle.ferry_run_drill.specs.Drill.{HasCopied, NoneCollide, target_block, target_secret}
+use Rattle.ferry_run_drill.specs.Drill.{HasCopied, NoneCollide, drill_time, target_block, target_secret}
 use Rattle.ferry_run_drill.specs.Steps.{CopiesNames, IsMadeNew, drill_checkpoint, drill_origin}
 
 -- ---- a source that was made and opened
@@ -202,10 +202,11 @@ settles_on from names store added h g i first made reported begun =
 
 -- a store that is made
 pub made_works : (store : Store) (timestamp bytes : List ℕ) (secret : Secret) (a b : Option Told) (n m : ℕ) → secret ≡ target_secret
-    → IfSome a (λ t. t.history.acts ≡ []) → Did (InitEach secret) InitFits a b n m (Ok store) → Between a b (InitMakes secret 1 timestamp bytes)
-    → Between a b TellsNothing → IfSome b (λ t. OpensFilesTo (told_files t) secret (repo_view store.repo)) → IsSettled store → store.pending ≡ 0
+    → timestamp ≡ drill_time → IfSome a (λ t. t.history.acts ≡ []) → Did (InitEach secret) InitFits a b n m (Ok store)
+    → Between a b (InitMakes secret 1 timestamp bytes) → Between a b TellsNothing
+    → IfSome b (λ t. OpensFilesTo (told_files t) secret (repo_view store.repo)) → IsSettled store → store.pending ≡ 0
     → Works SettlesFirst IsMadeNew a b n m (Ok store)
-made_works store timestamp bytes secret a b n m is begun did makes untold opens settled none = record {
+made_works store timestamp bytes secret a b n m is time begun did makes untold opens settled none = record {
   each = between_map a b (InitEach secret) SettlesFirst (λ h g e. e.1.1.1) did.each;
   end = at_end a b begun did.end makes untold opens;
   ends = did.ends;
@@ -222,7 +223,9 @@ made_works store timestamp bytes secret a b n m is begun did makes untold opens 
       let three : untold.0 ≡ t = (let e = untold.1 in cc) in
       let stands : StoreFits false store t.history =
       subst (λ (x : Told). StoreFits false store x.history) one (fits.2.1 false begun (λ counted. absurd (let no : ⊥ = cc in no))) in
-      let new : OpensNew secret (told_files t) = subst (λ (x : Told). OpensNew secret (told_files x)) two (makes.2 begun).opens in
+      let New : Secret → Told → Type 0 = λ k x. (new : OpensNew k (told_files x)) × (new.repo.manifest ≡ first_manifest timestamp) in
+      let own : New secret t = subst (New secret) two ((makes.2 begun).opens, (makes.2 begun).first) in
+      let new : New target_secret t = subst (λ (k : Secret). New k t) is own in
       let silent : TellsNothing s.history t.history = subst (λ (x : Told). TellsNothing s.history x.history) three untold.2 in (
         t,
         refl,
@@ -231,7 +234,8 @@ made_works store timestamp bytes secret a b n m is begun did makes untold opens 
           record {
             uncommitted = (makes.2 begun).uncommitted;
             untold = silent ∙ untold_yet s.history begun;
-            new = subst (λ (k : Secret). OpensNew k (told_files t)) is new;
+            new = new.0;
+            first = new.1 ∙ ap first_manifest time;
             opens = subst (λ (k : Secret). OpensFilesTo (told_files t) k (repo_view store.repo)) is opens;
             fits = stands;
             settled = settled;

@@ -1,18 +1,18 @@
 -- Lemmas on specs/Complete.antt: how a copy of the drill's source ends that is refused.
 use Rattle.std.proofs.Common.{◌≡◌, ◌≤◌, ◌<◌, ◌+◌, inl, inr, ℕ, false, List, [], ◌∷◌, ◌++◌, Option, Some, None, Result, Ok, Err, IfErr}
 use Rattle.std.proofs.Common.{IfSome, slice_get, refl, sym, ◌∙◌, ap, subst, arith}
-use Rattle.ferry_carry.specs.Accepting.{AreNextOf, LimitsNames}
+use Rattle.std.specs.List.{AllByRecursion}
+use Rattle.ferry_carry.specs.Accepting.{LimitsNames}
 use Rattle.ferry_carry.specs.Carrying.{Origin}
 use Rattle.ferry_carry.specs.Refusals.{HasLargeRecord, HasLongItem, RefusesBehind, RefusesNames}
-use Rattle.ferry_carry.specs.Telling.{AreLines, KeepsReported, ReportsWhole, StopsBehind, TellsNames}
+use Rattle.ferry_carry.specs.Telling.{KeepsReported, ReportsWhole, StopsBehind, TellsNames}
 use Rattle.ferry_carry.specs.declared.options.Carried.{Carried}
-use Rattle.ferry_disk.specs.Act.{files_now}
 use Rattle.ferry_disk.specs.Device.{Told, told_files}
 use Rattle.ferry_disk.specs.Files.{Files}
 use Rattle.ferry_gen.proofs.ListLemmas.{entry_at, slice_at}
 use Rattle.ferry_gen.specs.Archives.{drill_archive, entries_from, entry_of}
 use Rattle.ferry_gen.specs.Content.{archive_name}
-use Rattle.ferry_gen.specs.Source.{IsSource, source_secret}
+use Rattle.ferry_gen.specs.Source.{HasPlain, IsSource, source_secret}
 use Rattle.ferry_manifest.specs.Manifest.Text.{ManifestText}
 use Rattle.ferry_nonce.specs.declared.fault.NonceFault.TheVariants as Nonces
 use Rattle.ferry_piece.proofs.AmongLemmas.{among_next}
@@ -34,7 +34,6 @@ use Rattle.ferry_repo.specs.declared.fault.RepoFault.TheVariants as Repos
 use Rattle.ferry_repo.specs.declared.secret.Secret.{Secret}
 use Rattle.ferry_run_transfer.specs.Transfer.{chosen_of}
 use Rattle.ferry_status.specs.Status.{carry_status}
-use Rattle.ferry_stops.specs.Tells.{lines_of}
 use Rattle.ferry_store.specs.Causes.{StopsAt}
 use Rattle.ferry_store.specs.Commit.{accepted_in}
 use Rattle.ferry_store.specs.declared.fault.StoreRefusal.{StoreRefusal}
@@ -44,18 +43,19 @@ use Rattle.ferry_write.specs.Script.{AllDone}
 use Rattle.ferry_write.specs.Session.{SettlesFirst}
 use Rattle.ferry_write.specs.declared.fault.WriteFault.TheVariants as Writes
 use Rattle.ferry_run_drill.proofs.CopyLemmas.{chosen_names, source_says}
-use Rattle.ferry_run_drill.proofs.NameLemmas.{SaysAll, below_none, names_from}
-use Rattle.ferry_run_drill.proofs.OpenLemmas.{new_archives}
+use Rattle.ferry_run_drill.proofs.NameLemmas.{SaysAll, below_none, names_from, names_size}
+use Rattle.ferry_run_drill.proofs.ManifestLemmas.{IsShort, entries_short, never_limited}
+use Rattle.ferry_run_drill.proofs.OpenLemmas.{accepts_first}
 use Rattle.ferry_run_drill.proofs.RefusedLemmas.{among_named, apart_front, named_among, none_breaks, one_front, same_start, told_once}
 use Rattle.ferry_run_drill.proofs.SmallLemmas.{no_long, none_large}
-use Rattle.ferry_run_drill.specs.Complete.{EndsFrom, HasLargeManifest, IsDoneUnless}
+use Rattle.ferry_run_drill.specs.Complete.{EndsFrom, IsDoneUnless}
 use Rattle.ferry_run_drill.specs.Drill.{NoneCollide}
 use Rattle.ferry_run_drill.specs.Steps.{IsMadeNew, drill_origin}
 
 -- names of the drill's archives, from a source that was made, into a target that was made
 module _ (count : ℕ) (source : Files) (is : IsSource count source) (repo : RepoState) (opens : OpensFilesTo source source_secret repo) (most : count ≤ 64)
-    (apart : NoneCollide is) (store now : Store) (s u t : Told) (begun : s.history.acts ≡ []) (first : SettlesFirst s.history u.history)
-    (done : AllDone s.history u.history) (made : IsMadeNew store s.history u.history) where
+    (plain : HasPlain source) (apart : NoneCollide is) (store now : Store) (s u t : Told) (begun : s.history.acts ≡ [])
+    (first : SettlesFirst s.history u.history) (done : AllDone s.history u.history) (made : IsMadeNew store s.history u.history) where
   abbrev From : Origin
   From = drill_origin source repo
 
@@ -63,7 +63,7 @@ module _ (count : ℕ) (source : Files) (is : IsSource count source) (repo : Rep
   Names = names_from 0 count
 
   abbrev Ends : CarryFault → Type 0
-  Ends fault = IsDoneUnless source (told_files s) (lines_of t.history.acts) (told_files t) (carry_status fault)
+  Ends fault = IsDoneUnless (told_files s) (told_files t) (carry_status fault)
 
   abbrev Refused : CarryFault → Type 0
   Refused fault = RefusesBehind From (Some u) store (Some t) now Names fault
@@ -124,31 +124,15 @@ module _ (count : ℕ) (source : Files) (is : IsSource count source) (repo : Rep
   Limited = LimitsNames None repo.manifest (repo_view store.repo).keys (accepted_in store) Names
       (λ told. TellsNames (accepted_in store) told u.history t.history)
 
-  large_there : Limited → HasLargeManifest source (lines_of t.history.acts)
-  large_there limited =
-      let lines_are : lines_of t.history.acts ≡ limited.told.0 =
-      limited.told.1.0 ∙ ap (λ (l : List (List ℕ)). l ++ limited.told.0) made.untold in
-      record {
-        repo = repo;
-        opens = opens;
-        made = files_now u.history;
-        new = repo_view store.repo;
-        new_opens = made.opens;
-        new_archives = ap (λ (m : ManifestText). m.archives) (sym made.settled) ∙ new_archives store s.history u.history made;
-        limits = record {
-          done = limited.done;
-          name = limited.name;
-          rest = limited.rest;
-          split = chosen_names count source is repo opens most ∙ limited.split;
-          told = subst (λ (m : ManifestText). AreLines m [] (lines_of t.history.acts) limited.done) made.settled
-              (subst (λ (l : List (List ℕ)). AreLines (accepted_in store) [] l limited.done) (sym lines_are) limited.told.1.1);
-          middle = limited.middle;
-          ids = limited.ids;
-          sizes = limited.sizes;
-          behind = subst (λ (m : ManifestText). AreNextOf None repo.manifest m limited.done limited.ids limited.middle) made.settled limited.behind;
-          large = limited.large;
-        };
-      }
+  never_large : Limited → ⊥
+  never_large limited =
+      let same = one_repo source source_secret is.repo repo is.opens opens in
+      let archives : repo.manifest.archives ≡ entries_from repo.keys 0 is.texts =
+      subst (λ (r : RepoState). r.manifest.archives ≡ entries_from r.keys 0 is.texts) same is.archives in
+      never_limited repo.manifest (plain repo opens) (subst (AllByRecursion IsShort) (sym archives) (entries_short repo.keys 0 is.texts))
+      (repo_view store.repo).keys Names (λ told. TellsNames (accepted_in store) told u.history t.history) (omega (arith, names_size 0 count, most))
+      (subst (λ (m : ManifestText). LimitsNames None repo.manifest (repo_view store.repo).keys m Names
+      (λ told. TellsNames (accepted_in store) told u.history t.history)) (accepts_first store s.history u.history made) limited)
 
   -- the target isn't written
   module _ (added : List Addition) (reported : KeepsReported From Names store added u.history t.history) where
@@ -179,7 +163,7 @@ module _ (count : ℕ) (source : Files) (is : IsSource count source) (repo : Rep
     stopped_ends (Stores.Nonce Nonces.Device) limit stops = tt
     stopped_ends (Stores.Nonce Nonces.Memory) limit stops = tt
     stopped_ends Stores.Committed limit stops = absurd stops
-    stopped_ends Stores.TooLarge limit stops = large_there (limit refl)
+    stopped_ends Stores.TooLarge limit stops = absurd (never_large (limit refl))
     stopped_ends Stores.Entropy limit stops = tt
     stopped_ends Stores.Memory limit stops = tt
 
@@ -237,12 +221,12 @@ pub uncopied_ends : (source : Files) (repo : RepoState) (names : List (List ℕ)
     (λ told. TellsNames (accepted_in store) told u.history t.history))))
     → (IsOfWork fault → StopsBehind (drill_origin source repo) names store b d) → RefusesNames (drill_origin source repo) b store d now names fault
     → EndsFrom source a d fault
-uncopied_ends source repo names store now None b d n m k x y fault opens chosen made carried still limit stops refused = λ count most is apart. tt
-uncopied_ends source repo names store now (Some s) b None n m k x y fault opens chosen made carried still limit stops refused = λ count most is apart. tt
+uncopied_ends source repo names store now None b d n m k x y fault opens chosen made carried still limit stops refused = λ count most is plain apart. tt
+uncopied_ends source repo names store now (Some s) b None n m k x y fault opens chosen made carried still limit stops refused = λ count most is plain apart. tt
 uncopied_ends source repo names store now (Some s) None (Some t) n m k x y fault opens chosen made carried still limit stops refused =
     absurd (let e = made.end.1 in let no : ⊥ = cc in no)
 uncopied_ends source repo names store now (Some s) (Some u) (Some t) n m k x y fault opens chosen made carried still limit stops refused =
-    λ count most is apart begun free.
+    λ count most is plain apart begun free.
     let from = drill_origin source repo in
     let all : names ≡ names_from 0 count = chosen ∙ chosen_names count source is repo opens most in
     let ended : Some u ≡ Some made.end.0 = made.end.1 in
@@ -254,7 +238,7 @@ uncopied_ends source repo names store now (Some s) (Some u) (Some t) n m k x y f
     let told : Some t ≡ Some carried.works.each.0 = carried.works.each.1 in
     let three : carried.works.each.0 ≡ t = cc in
     let reported = subst (λ (o : Told). KeepsReported from names store carried.added u.history o.history) three carried.works.each.2 in
-    refused_ends count source is repo opens most apart store now s u t begun first did.0 did.1 fault carried.added
+    refused_ends count source is repo opens most plain apart store now s u t begun first did.0 did.1 fault carried.added
     (subst (λ (l : List (List ℕ)). KeepsReported from l store carried.added u.history t.history) all reported) still
     (λ e. subst (λ (l : List (List ℕ)). LimitsNames None repo.manifest (repo_view store.repo).keys (accepted_in store) l
     (λ told. TellsNames (accepted_in store) told u.history t.history)) all (limit e))

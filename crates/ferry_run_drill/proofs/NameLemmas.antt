@@ -48,6 +48,11 @@ unfolding entries_from names_from
 entry_names keys first [] = refl
 entry_names keys first (t ∷ ts) = ap (λ (l : List (List ℕ)). archive_name first ∷ l) (entry_names keys (suc first) ts)
 
+pub names_size : (first count : ℕ) → length (names_from first count) ≡ count
+unfolding names_from
+names_size first zero = refl
+names_size first (suc count) = ap suc (names_size (suc first) count)
+
 -- what holds of each name holds of that of each archive
 pub name_at : (P : List ℕ → Type 0) (first count place : ℕ) → AllByRecursion P (names_from first count) → place < count → P (archive_name (first + place))
 unfolding names_from

@@ -5,7 +5,9 @@ use Rattle.ferry_status.specs.Devices.{Devices}
 use Rattle.ferry_status.specs.declared.status.Status.TheVariants as Statuses
 use Rattle.ferry_store.proofs.StepLemmas.{here_each}
 use Rattle.ferry_store.proofs.CallLemmas.{first_here}
+use Rattle.ferry_store.specs.Store.{InitLeaves}
 use Rattle.ferry_write.specs.Session.{SettlesFirst}
+use Rattle.ferry_run_drill.proofs.WorkLemmas.{leaves_here}
 use Rattle.ferry_run_drill.specs.Drill.{TellsStart}
 use Rattle.ferry_run_drill.specs.Drilling.{DrillsTarget}
 
@@ -19,5 +21,6 @@ drills_nothing count all = record {
   prints = inl refl;
   start = says_nothing all.target.told;
   first = here_each SettlesFirst all.target.told first_here;
+  kept = here_each InitLeaves all.target.told leaves_here;
   completes = inl refl;
 }

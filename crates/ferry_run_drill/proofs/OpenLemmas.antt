@@ -18,18 +18,23 @@ use Rattle.ferry_repo.specs.Objects.{HasBlob}
 use Rattle.ferry_repo.specs.Opening.{OpensFilesTo, RepoState, repo_view}
 use Rattle.ferry_store.proofs.StandingLemmas.{opened_unlocks, opens_live, state_live}
 use Rattle.ferry_store.specs.Commit.{accepted_in}
+use Rattle.ferry_store.specs.New.{first_manifest}
 use Rattle.ferry_store.specs.Standing.{OpensLive, UnlocksSettings, entries_of, live_in}
 use Rattle.ferry_store.specs.declared.store.Store.{Store}
-use Rattle.ferry_run_drill.specs.Drill.{target_secret}
+use Rattle.ferry_run_drill.specs.Drill.{drill_time, target_secret}
 use Rattle.ferry_run_drill.specs.Steps.{CopiesNames, IsMadeNew, drill_origin}
 
 module _ (store : Store) (before begun : History) (made : IsMadeNew store before begun) where
+  -- what is accepted is its first manifest
+  pub accepts_first : accepted_in store ≡ first_manifest drill_time
+  accepts_first =
+      made.settled
+      ∙ (ap (λ (r : RepoState). r.manifest) (one_repo (files_now begun) target_secret (repo_view store.repo) made.new.repo made.opens made.new.opens)
+      ∙ made.first)
+
   -- it has no archive
   pub new_archives : (accepted_in store).archives ≡ []
-  new_archives =
-      ap (λ (m : ManifestText). m.archives) made.settled
-      ∙ (ap (λ (r : RepoState). r.manifest.archives) (one_repo (files_now begun) target_secret (repo_view store.repo) made.new.repo made.opens made.new.opens)
-      ∙ made.new.no_archives)
+  new_archives = ap (λ (m : ManifestText). m.archives) accepts_first
 
   -- no chunk is live
   pub none_live : (id blob : List ℕ) → id ≢ zero_id → live_in id (entries_of made.fits.written) ≡ Some blob → ⊥

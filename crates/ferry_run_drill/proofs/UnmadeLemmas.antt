@@ -14,7 +14,6 @@ use Rattle.ferry_repo.specs.declared.fault.RepoFault.{RepoFault}
 use Rattle.ferry_repo.specs.declared.fault.RepoFault.TheVariants as Repos
 use Rattle.ferry_repo.specs.declared.secret.Secret.{Secret}
 use Rattle.ferry_status.specs.Status.{carry_status}
-use Rattle.ferry_stops.specs.Tells.{lines_of}
 use Rattle.ferry_store.specs.Key.{RefusesGiven}
 use Rattle.ferry_store.specs.Store.{RefusesFiles, RefusesInit}
 use Rattle.ferry_store.specs.declared.fault.StoreRefusal.{StoreRefusal}
@@ -29,55 +28,55 @@ abbrev pub IsUnkeyed : Secret → Type 0
 IsUnkeyed secret = (fault : RepoFault) → RefusesGiven secret (Stores.Repo fault) → ⊥
 
 -- a repository that isn't made
-pub init_ends : (secret : Secret) (source start image : Files) (lines : List (List ℕ)) → IsUnkeyed secret → IsFree start → (refusal : StoreRefusal)
-    → RefusesFiles secret drill_time start refusal → IsDoneUnless source start lines image (carry_status (target_fault refusal))
-init_ends secret source start image lines unkeyed free (Stores.Repo Repos.NoCommit) refused = absurd (unkeyed Repos.NoCommit refused.1)
-init_ends secret source start image lines unkeyed free (Stores.Repo (Repos.Damaged segment at)) refused = absurd (unkeyed (Repos.Damaged segment at) refused.1)
-init_ends secret source start image lines unkeyed free (Stores.Repo (Repos.Config cause)) refused = absurd (unkeyed (Repos.Config cause) refused.1)
-init_ends secret source start image lines unkeyed free (Stores.Repo (Repos.Key cause)) refused = absurd (unkeyed (Repos.Key cause) refused.1)
-init_ends secret source start image lines unkeyed free (Stores.Repo (Repos.Missing id)) refused = absurd (unkeyed (Repos.Missing id) refused.1)
-init_ends secret source start image lines unkeyed free (Stores.Repo (Repos.Blob id cause)) refused = absurd (unkeyed (Repos.Blob id cause) refused.1)
-init_ends secret source start image lines unkeyed free (Stores.Repo (Repos.Manifest cause)) refused = absurd (unkeyed (Repos.Manifest cause) refused.1)
-init_ends secret source start image lines unkeyed free (Stores.Repo (Repos.Archive id cause)) refused = absurd (unkeyed (Repos.Archive id cause) refused.1)
-init_ends secret source start image lines unkeyed free (Stores.Repo (Repos.Item id cause)) refused = absurd (unkeyed (Repos.Item id cause) refused.1)
-init_ends secret source start image lines unkeyed free (Stores.Repo (Repos.Size id)) refused = absurd (unkeyed (Repos.Size id) refused.1)
-init_ends secret source start image lines unkeyed free (Stores.Repo (Repos.KeyFile cause)) refused = absurd (unkeyed (Repos.KeyFile cause) refused.1)
-init_ends secret source start image lines unkeyed free (Stores.Repo (Repos.Other file config)) refused = absurd (unkeyed (Repos.Other file config) refused.1)
-init_ends secret source start image lines unkeyed free (Stores.Repo Repos.NoKey) refused = absurd (unkeyed Repos.NoKey refused.1)
-init_ends secret source start image lines unkeyed free (Stores.Repo Repos.Device) refused = tt
-init_ends secret source start image lines unkeyed free (Stores.Repo Repos.Memory) refused = tt
-init_ends secret source start image lines unkeyed free (Stores.Write Writes.Device) refused = tt
-init_ends secret source start image lines unkeyed free (Stores.Write Writes.Memory) refused = tt
-init_ends secret source start image lines unkeyed free (Stores.Write Writes.Numbers) refused = absurd refused
-init_ends secret source start image lines unkeyed free (Stores.Nonce Nonces.Missing) refused = absurd refused.1
-init_ends secret source start image lines unkeyed free (Stores.Nonce Nonces.Text) refused = absurd (refused.1 free.number free.counted)
-init_ends secret source start image lines unkeyed free (Stores.Nonce Nonces.Exhausted) refused = inl refused.1
-init_ends secret source start image lines unkeyed free (Stores.Nonce Nonces.Device) refused = tt
-init_ends secret source start image lines unkeyed free (Stores.Nonce Nonces.Memory) refused = tt
-init_ends secret source start image lines unkeyed free Stores.Committed refused = absurd (refused free.uncommitted)
-init_ends secret source start image lines unkeyed free Stores.TooLarge refused = absurd (first_small refused.1)
-init_ends secret source start image lines unkeyed free Stores.Entropy refused = tt
-init_ends secret source start image lines unkeyed free Stores.Memory refused = tt
+pub init_ends : (secret : Secret) (start image : Files) → IsUnkeyed secret → IsFree start → (refusal : StoreRefusal)
+    → RefusesFiles secret drill_time start refusal → IsDoneUnless start image (carry_status (target_fault refusal))
+init_ends secret start image unkeyed free (Stores.Repo Repos.NoCommit) refused = absurd (unkeyed Repos.NoCommit refused.1)
+init_ends secret start image unkeyed free (Stores.Repo (Repos.Damaged segment at)) refused = absurd (unkeyed (Repos.Damaged segment at) refused.1)
+init_ends secret start image unkeyed free (Stores.Repo (Repos.Config cause)) refused = absurd (unkeyed (Repos.Config cause) refused.1)
+init_ends secret start image unkeyed free (Stores.Repo (Repos.Key cause)) refused = absurd (unkeyed (Repos.Key cause) refused.1)
+init_ends secret start image unkeyed free (Stores.Repo (Repos.Missing id)) refused = absurd (unkeyed (Repos.Missing id) refused.1)
+init_ends secret start image unkeyed free (Stores.Repo (Repos.Blob id cause)) refused = absurd (unkeyed (Repos.Blob id cause) refused.1)
+init_ends secret start image unkeyed free (Stores.Repo (Repos.Manifest cause)) refused = absurd (unkeyed (Repos.Manifest cause) refused.1)
+init_ends secret start image unkeyed free (Stores.Repo (Repos.Archive id cause)) refused = absurd (unkeyed (Repos.Archive id cause) refused.1)
+init_ends secret start image unkeyed free (Stores.Repo (Repos.Item id cause)) refused = absurd (unkeyed (Repos.Item id cause) refused.1)
+init_ends secret start image unkeyed free (Stores.Repo (Repos.Size id)) refused = absurd (unkeyed (Repos.Size id) refused.1)
+init_ends secret start image unkeyed free (Stores.Repo (Repos.KeyFile cause)) refused = absurd (unkeyed (Repos.KeyFile cause) refused.1)
+init_ends secret start image unkeyed free (Stores.Repo (Repos.Other file config)) refused = absurd (unkeyed (Repos.Other file config) refused.1)
+init_ends secret start image unkeyed free (Stores.Repo Repos.NoKey) refused = absurd (unkeyed Repos.NoKey refused.1)
+init_ends secret start image unkeyed free (Stores.Repo Repos.Device) refused = tt
+init_ends secret start image unkeyed free (Stores.Repo Repos.Memory) refused = tt
+init_ends secret start image unkeyed free (Stores.Write Writes.Device) refused = tt
+init_ends secret start image unkeyed free (Stores.Write Writes.Memory) refused = tt
+init_ends secret start image unkeyed free (Stores.Write Writes.Numbers) refused = absurd refused
+init_ends secret start image unkeyed free (Stores.Nonce Nonces.Missing) refused = absurd refused.1
+init_ends secret start image unkeyed free (Stores.Nonce Nonces.Text) refused = absurd (refused.1 free.number free.counted)
+init_ends secret start image unkeyed free (Stores.Nonce Nonces.Exhausted) refused = inl refused.1
+init_ends secret start image unkeyed free (Stores.Nonce Nonces.Device) refused = tt
+init_ends secret start image unkeyed free (Stores.Nonce Nonces.Memory) refused = tt
+init_ends secret start image unkeyed free Stores.Committed refused = absurd (refused free.uncommitted)
+init_ends secret start image unkeyed free Stores.TooLarge refused = absurd (first_small refused.1)
+init_ends secret start image unkeyed free Stores.Entropy refused = tt
+init_ends secret start image unkeyed free Stores.Memory refused = tt
 
 -- the same, where the target tells its files
-pub unmade_ends : (secret : Secret) (timestamp : List ℕ) (source : Files) (a b : Option Told) → IsUnkeyed secret → timestamp ≡ drill_time
-    → (refusal : StoreRefusal) → IfSome a (λ t. RefusesInit secret timestamp t.history refusal) → EndsCopy source a b (target_fault refusal)
-unmade_ends secret timestamp source None b unkeyed time refusal refused = tt
-unmade_ends secret timestamp source (Some s) None unkeyed time refusal refused = tt
-unmade_ends secret timestamp source (Some s) (Some t) unkeyed time refusal refused = λ begun free.
-    init_ends secret source (told_files s) (told_files t) (lines_of t.history.acts) unkeyed free refusal
+pub unmade_ends : (secret : Secret) (timestamp : List ℕ) (a b : Option Told) → IsUnkeyed secret → timestamp ≡ drill_time
+    → (refusal : StoreRefusal) → IfSome a (λ t. RefusesInit secret timestamp t.history refusal) → EndsCopy a b (target_fault refusal)
+unmade_ends secret timestamp None b unkeyed time refusal refused = tt
+unmade_ends secret timestamp (Some s) None unkeyed time refusal refused = tt
+unmade_ends secret timestamp (Some s) (Some t) unkeyed time refusal refused = λ begun free.
+    init_ends secret (told_files s) (told_files t) unkeyed free refusal
     (subst (λ (l : List ℕ). RefusesFiles secret l (told_files s) refusal) time (refused begun))
 
 -- a fault that may come at any time
-pub ends_anyway : (source : Files) (a b : Option Told) (fault : CarryFault)
-    → ((start image : Files) (lines : List (List ℕ)) → IsDoneUnless source start lines image (carry_status fault)) → EndsCopy source a b fault
-ends_anyway source None b fault any = tt
-ends_anyway source (Some s) None fault any = tt
-ends_anyway source (Some s) (Some t) fault any = λ begun free. any (told_files s) (told_files t) (lines_of t.history.acts)
+pub ends_anyway : (a b : Option Told) (fault : CarryFault)
+    → ((start image : Files) → IsDoneUnless start image (carry_status fault)) → EndsCopy a b fault
+ends_anyway None b fault any = tt
+ends_anyway (Some s) None fault any = tt
+ends_anyway (Some s) (Some t) fault any = λ begun free. any (told_files s) (told_files t)
 
 pub ends_from_anyway : (source : Files) (a b : Option Told) (fault : CarryFault)
-    → ((start image : Files) (lines : List (List ℕ)) → IsDoneUnless source start lines image (carry_status fault)) → EndsFrom source a b fault
-ends_from_anyway source a b fault any = λ count most is apart. ends_anyway source a b fault any
+    → ((start image : Files) → IsDoneUnless start image (carry_status fault)) → EndsFrom source a b fault
+ends_from_anyway source a b fault any = λ count most is plain apart. ends_anyway a b fault any
 
 -- a source that was made opens
 pub opened_ends : (source : Files) (a b : Option Told) (repo : RepoState) (fault : RepoFault) → OpensFilesTo source source_secret repo
@@ -103,4 +102,4 @@ opened_ends source a b repo (Repos.Other file config) opens still refused =
     absurd (repo_apart source source_secret repo (Repos.Other file config) opens tt (refused tt))
 opened_ends source a b repo Repos.NoKey opens still refused = absurd (repo_apart source source_secret repo Repos.NoKey opens tt (refused tt))
 opened_ends source a b repo Repos.Device opens still refused = absurd (let no : ⊥ = cc in no)
-opened_ends source a b repo Repos.Memory opens still refused = ends_from_anyway source a b Carry.Memory (λ start image lines. tt)
+opened_ends source a b repo Repos.Memory opens still refused = ends_from_anyway source a b Carry.Memory (λ start image. tt)

@@ -4,7 +4,7 @@ use Rattle.ferry_carry.specs.Carrying.{Origin}
 use Rattle.ferry_carry.specs.Refusals.{RefusesNames}
 use Rattle.ferry_carry.specs.Telling.{KeepsReported, ReportsWhole}
 use Rattle.ferry_carry.specs.declared.options.Carried.{Carried}
-use Rattle.ferry_disk.proofs.MomentLemmas.{between_then}
+use Rattle.ferry_disk.proofs.MomentLemmas.{between_map, between_then}
 use Rattle.ferry_disk.specs.Act.{History}
 use Rattle.ferry_disk.specs.Device.{HasCause, Heard, RoseWhere, Told, heard, heard_of, told_files}
 use Rattle.ferry_disk.specs.Files.{Files}
@@ -23,7 +23,7 @@ use Rattle.ferry_repo.specs.declared.secret.Secret.{Secret}
 use Rattle.ferry_run_transfer.specs.Transfer.{chosen_of}
 use Rattle.ferry_status.specs.Status.{carry_status}
 use Rattle.ferry_store.proofs.StepLemmas.{known_end}
-use Rattle.ferry_store.specs.Store.{RefusesInit, StoreFits}
+use Rattle.ferry_store.specs.Store.{InitEach, InitLeaves, RefusesInit, StoreFits}
 use Rattle.ferry_store.specs.declared.fault.StoreRefusal.{StoreRefusal}
 use Rattle.ferry_store.specs.declared.store.Store.{Store}
 use Rattle.ferry_write.specs.Script.{AllDone}
@@ -157,7 +157,20 @@ pub copied_start : (source : Files) (repo : RepoState) (names : List (List ℕ))
 copied_start source repo names carried None b n m P works says = tt
 copied_start source repo names carried (Some s) b n m P works says = says (told_files s) works.end.2.1.made.uncommitted
 
--- the first act stays the first where nothing is done behind
-pub first_read : (a b c : Option Told) → Between a b SettlesFirst → Between b c (λ before now. now ≡ before) → Between a c SettlesFirst
-first_read a b c first read =
-    between_then a b c SettlesFirst (λ before now. now ≡ before) SettlesFirst (λ h g i e same. subst (SettlesFirst h) (sym same) e) first read
+-- what holds stays so where nothing is done behind
+pub each_read : (P : History → History → Type 0) (a b c : Option Told) → Between a b P → Between b c (λ before now. now ≡ before) → Between a c P
+each_read P a b c each read = between_then a b c P (λ before now. now ≡ before) P (λ h g i e same. subst (P h) (sym same) e) each read
+
+-- ---- a target that was committed
+
+pub leaves_here : (h : History) → InitLeaves h h
+leaves_here h committed = refl
+
+pub init_leaves : (secret : Secret) (a b : Option Told) → Between a b (InitEach secret) → Between a b InitLeaves
+init_leaves secret a b each = between_map a b (InitEach secret) InitLeaves (λ h g e. e.0.1) each
+
+-- none was where a store was made
+pub made_leaves : (store : Store) (a b c : Option Told) (n m : ℕ) (P : History → History → Type 0) → Works SettlesFirst IsMadeNew a b n m (Ok store)
+    → Between b c P → Between a c InitLeaves
+made_leaves store a b c n m P made each =
+    between_then a b c (λ h g. AllDone h g × IsMadeNew store h g) P InitLeaves (λ h g i e p committed. absurd (committed e.1.uncommitted)) made.end each

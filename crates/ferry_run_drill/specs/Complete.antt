@@ -1,24 +1,19 @@
 -- What a drill asks, and that it is done where that is so.
-use Rattle.std.specs.Prelude.{◌≡◌, ◌≤◌, ◌⊎◌, ℕ, List, [], Option, None, IfSome}
-use Rattle.ferry_carry.specs.Accepting.{LimitsNames}
-use Rattle.ferry_carry.specs.Telling.{AreLines}
+use Rattle.std.specs.Prelude.{◌≡◌, ◌≤◌, ◌⊎◌, ℕ, [], Option, IfSome}
 use Rattle.ferry_carry.specs.declared.options.Carried.{Carried}
 use Rattle.ferry_disk.specs.Device.{Told, told_files}
 use Rattle.ferry_disk.specs.Files.{Files, file_at}
 use Rattle.ferry_disk.specs.declared.name.Name.TheVariants.{Nonce as NonceFile}
 use Rattle.ferry_gen.specs.Archives.{HasArchives}
-use Rattle.ferry_gen.specs.Source.{IsSource, source_secret}
+use Rattle.ferry_gen.specs.Source.{HasPlain, IsSource}
 use Rattle.ferry_log.specs.Log.{IsUncommitted}
 use Rattle.ferry_piece.specs.declared.fault.CarryFault.{CarryFault}
-use Rattle.ferry_repo.specs.Opening.{OpensFilesTo, RepoState}
-use Rattle.ferry_run_transfer.specs.Transfer.{chosen_of}
 use Rattle.ferry_status.specs.Status.{carry_status}
 use Rattle.ferry_status.specs.declared.status.Limit.{Limit as LimitKind}
 use Rattle.ferry_status.specs.declared.status.Limit.TheVariants as Limits
 use Rattle.ferry_status.specs.declared.status.Status.{Status}
 use Rattle.ferry_status.specs.declared.status.Status.TheVariants as Statuses
 use Rattle.ferry_stops.specs.Counters.{IsNonce}
-use Rattle.ferry_stops.specs.Tells.{lines_of}
 use Rattle.ferry_store.specs.Causes.{HasFewBlocks, HasLastSegment}
 use Rattle.ferry_store.specs.Init.{HasNoBlocks}
 use Rattle.ferry_run_drill.specs.Drill.{HasCopied, NoneCollide, drill_time, target_block, target_secret}
@@ -37,34 +32,23 @@ AreApartIn count files = (has : HasArchives target_secret target_block count fil
 
 -- ---- limits
 
--- The manifest of the new repository, behind archives that these lines tell, and nothing else, is too large with the next one.
-pub record HasLargeManifest (source : Files) (lines : List (List ℕ)) : Type 0 where
-  pub repo : RepoState
-  pub opens : OpensFilesTo source source_secret repo
-  pub made : Files
-  pub new : RepoState
-  pub new_opens : OpensFilesTo made target_secret new
-  pub new_archives : new.manifest.archives ≡ []
-  pub limits : LimitsNames None repo.manifest new.keys new.manifest (chosen_of [] repo.manifest) (AreLines new.manifest [] lines)
-
--- a limit that is met. No record and no item of the drill is too large.
-abbrev pub MeetsLimit : Files → Files → List (List ℕ) → Files → LimitKind → Type 0
-MeetsLimit source start lines image Limits.Nonce = HasNoBlocks drill_time start ⊎ HasFewBlocks start image
-MeetsLimit source start lines image Limits.Segment = HasLastSegment image
-MeetsLimit source start lines image Limits.Manifest = HasLargeManifest source lines
-MeetsLimit source start lines image limit = ⊥
+-- a limit that is met: no item, no record and no manifest of the drill is too large
+abbrev pub MeetsLimit : Files → Files → LimitKind → Type 0
+MeetsLimit start image Limits.Nonce = HasNoBlocks drill_time start ⊎ HasFewBlocks start image
+MeetsLimit start image Limits.Segment = HasLastSegment image
+MeetsLimit start image limit = ⊥
 
 -- ---- where it is done
 
 -- It is done, unless memory was refused, the target, the source of random bytes or the output failed, or a limit was met.
-abbrev pub IsDoneUnless : Files → Files → List (List ℕ) → Files → Status → Type 0
-IsDoneUnless source start lines image Statuses.Done = Unit {0}
-IsDoneUnless source start lines image Statuses.Memory = Unit {0}
-IsDoneUnless source start lines image Statuses.TargetDevice = Unit {0}
-IsDoneUnless source start lines image Statuses.EntropyDevice = Unit {0}
-IsDoneUnless source start lines image Statuses.OutputDevice = Unit {0}
-IsDoneUnless source start lines image (Statuses.Limit limit) = MeetsLimit source start lines image limit
-IsDoneUnless source start lines image status = ⊥
+abbrev pub IsDoneUnless : Files → Files → Status → Type 0
+IsDoneUnless start image Statuses.Done = Unit {0}
+IsDoneUnless start image Statuses.Memory = Unit {0}
+IsDoneUnless start image Statuses.TargetDevice = Unit {0}
+IsDoneUnless start image Statuses.EntropyDevice = Unit {0}
+IsDoneUnless start image Statuses.OutputDevice = Unit {0}
+IsDoneUnless start image (Statuses.Limit limit) = MeetsLimit start image limit
+IsDoneUnless start image status = ⊥
 
 -- Behind a copy that came it is done, unless memory was refused, or the target or the output failed.
 abbrev pub IsFinished : Status → Type 0
@@ -74,18 +58,18 @@ IsFinished Statuses.TargetDevice = Unit {0}
 IsFinished Statuses.OutputDevice = Unit {0}
 IsFinished status = ⊥
 
--- What holds of the files that a target had, of the lines that a run told, and of its files at the end, where the run had made no act and the files are free.
-abbrev pub WhereFree : Option Told → Option Told → (Files → List (List ℕ) → Files → Type 0) → Type 0
-WhereFree before now P = IfSome before (λ b. IfSome now (λ t. b.history.acts ≡ [] → IsFree (told_files b)
-    → P (told_files b) (lines_of t.history.acts) (told_files t)))
+-- What holds of the files that a target had, and of those at the end, where the run had made no act and the files were free.
+abbrev pub WhereFree : Option Told → Option Told → (Files → Files → Type 0) → Type 0
+WhereFree before now P = IfSome before (λ b. IfSome now (λ t. b.history.acts ≡ [] → IsFree (told_files b) → P (told_files b) (told_files t)))
 
--- A copy from a source ends with a fault, so.
-abbrev pub EndsCopy : Files → Option Told → Option Told → CarryFault → Type 0
-EndsCopy source before now fault = WhereFree before now (λ start lines image. IsDoneUnless source start lines image (carry_status fault))
+-- A copy ends with a fault, so.
+abbrev pub EndsCopy : Option Told → Option Told → CarryFault → Type 0
+EndsCopy before now fault = WhereFree before now (λ start image. IsDoneUnless start image (carry_status fault))
 
 -- The same where the source was made, and none of its contents collide.
 abbrev pub EndsFrom : Files → Option Told → Option Told → CarryFault → Type 0
-EndsFrom source before now fault = (count : ℕ) → count ≤ 64 → (is : IsSource count source) → NoneCollide is → EndsCopy source before now fault
+EndsFrom source before now fault =
+    (count : ℕ) → count ≤ 64 → (is : IsSource count source) → HasPlain source → NoneCollide is → EndsCopy before now fault
 
 -- Behind a copy that came a drill ends with a status, so: where no contents of its source collide, nor any of the target's archives.
 abbrev pub EndsChecked : ℕ → Carried → Option Told → Status → Type 0
@@ -97,8 +81,7 @@ EndsChecked count carried now status = IfSome now (λ t. (copied : HasCopied cou
 pub record EndsDone (count : ℕ) (before now : Option Told) (status : Status) : Type 0 where
   pub source : Files
   pub source_is : IsSource count source
-  pub ends : NoneCollide source_is
-      → WhereFree before now (λ start lines image. AreApartIn count image → IsDoneUnless source start lines image status)
+  pub ends : NoneCollide source_is → WhereFree before now (λ start image. AreApartIn count image → IsDoneUnless start image status)
 
 -- Memory was refused before a source was made, or that.
 abbrev pub Completes : ℕ → Option Told → Option Told → Status → Type 0

@@ -4,16 +4,18 @@ use Rattle.ferry_disk.specs.Device.{told_files}
 use Rattle.ferry_disk.specs.Moments.{Between}
 use Rattle.ferry_status.specs.Devices.{Devices}
 use Rattle.ferry_status.specs.declared.status.Status.{Status}
+use Rattle.ferry_store.specs.Store.{InitLeaves}
 use Rattle.ferry_write.specs.Session.{SettlesFirst}
 use Rattle.ferry_run_drill.specs.Complete.{Completes}
 use Rattle.ferry_run_drill.specs.Drill.{PrintsDrill, TellsStart}
 
 -- A source of so many archives is made in memory, and copied into a new repository in the target, which is checked. The line says that it is done, or the first
--- fault of a target that doesn't verify. The source that was handed in is not used. Where a segment of the target is committed, it is refused;
--- else it is done where no contents collide, unless memory was refused, a device failed, or a limit was met.
+-- fault of a target that doesn't verify. The source that was handed in is not used. Where a segment of the target is committed, it is refused, and nothing is
+-- done there; else it is done where no contents collide, unless memory was refused, a device failed, or a limit was met.
 pub record DrillsTarget (count : ℕ) (before : Devices) (status : Status) (after : Devices) : Type 0 where
   pub source : after.source ≡ before.source
   pub prints : PrintsDrill count after.target.told before.output status after.output
   pub start : IfSome before.target.told (λ t. TellsStart (told_files t) status)
   pub first : Between before.target.told after.target.told SettlesFirst
+  pub kept : Between before.target.told after.target.told InitLeaves
   pub completes : Completes count before.target.told after.target.told status

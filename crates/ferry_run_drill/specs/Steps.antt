@@ -18,12 +18,12 @@ use Rattle.ferry_status.specs.declared.status.Status.{Status}
 use Rattle.ferry_status.specs.declared.status.Status.TheVariants as Statuses
 use Rattle.ferry_stops.specs.Tells.{lines_of}
 use Rattle.ferry_store.specs.Commit.{IsSettled, accepted_in}
-use Rattle.ferry_store.specs.New.{OpensNew}
+use Rattle.ferry_store.specs.New.{OpensNew, first_manifest}
 use Rattle.ferry_store.specs.Store.{StoreFits}
 use Rattle.ferry_store.specs.declared.fault.StoreRefusal.{StoreRefusal}
 use Rattle.ferry_store.specs.declared.fault.StoreRefusal.TheVariants as Stores
 use Rattle.ferry_store.specs.declared.store.Store.{Store}
-use Rattle.ferry_run_drill.specs.Drill.{bad_line, done_line, target_block, target_secret}
+use Rattle.ferry_run_drill.specs.Drill.{bad_line, done_line, drill_time, target_block, target_secret}
 
 -- how many pieces are put before what is done is committed
 abbrev pub drill_checkpoint : ℕ
@@ -38,6 +38,7 @@ pub record IsMadeNew (store : Store) (before begun : History) : Type 0 where
   pub uncommitted : IsUncommitted (files_now before)
   pub untold : lines_of begun.acts ≡ []
   pub new : OpensNew target_secret (files_now begun)
+  pub first : new.repo.manifest ≡ first_manifest drill_time
   pub opens : OpensFilesTo (files_now begun) target_secret (repo_view store.repo)
   pub fits : StoreFits false store begun
   pub settled : IsSettled store

@@ -1,4 +1,4 @@
-//! The command that shows that all works.
+//! The command that copies a source of its own, and checks the copy.
 ghost use Rattle.std.specs.Prelude.{◌≡◌, ◌≤◌, ℕ, [], false, IfErr, IfOk, IfSome, MatchOption};
 ghost use Rattle.ferry_carry.specs.declared.options.Carried.{Carried};
 ghost use Rattle.ferry_check.specs.Verify.{FilesVerify};
@@ -14,6 +14,7 @@ ghost use Rattle.ferry_status.specs.Devices.{written};
 ghost use Rattle.ferry_status.specs.Status.{entropy_failed, source_failed, store_status, target_failed};
 ghost use Rattle.ferry_status.specs.declared.status.Status.TheVariants as Statuses;
 ghost use Rattle.ferry_store.specs.Fault.{depot_failed};
+ghost use Rattle.ferry_store.specs.Store.{InitLeaves};
 ghost use Rattle.ferry_write.specs.Session.{SettlesFirst};
 
 use crate::fill::{copy_source, own_source, target_secret};
@@ -48,6 +49,7 @@ pub fn drill<D: Depot, E: Entropy, K: Sink>(
     ensures start { IfSome (D.told target.old) (λ t. TellsStart (told_files t) result) }
     ensures completes { Completes count (D.told target.old) (D.told target.new) result }
     ensures first { Between (D.told target.old) (D.told target.new) SettlesFirst }
+    ensures kept { Between (D.told target.old) (D.told target.new) InitLeaves }
     ensures own { source_failed result ≡ false }
     ensures used { (n : ℕ) → result ≡ Statuses.Usage n → ⊥ }
     ensures ends { FailedWhere (target_failed result) (D.told target.old) (D.told target.new) }

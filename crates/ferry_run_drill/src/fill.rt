@@ -3,8 +3,8 @@ ghost use Rattle.std.specs.Prelude.{◌≡◌, ◌≤◌, [], false, IfErr, IfOk
 ghost use Rattle.ferry_disk.specs.Act.{files_now};
 ghost use Rattle.ferry_disk.specs.Device.{HasCause, told_files};
 ghost use Rattle.ferry_disk.specs.Faults.{EndsAtFault};
-ghost use Rattle.ferry_disk.specs.Files.{Files};
-ghost use Rattle.ferry_gen.specs.Source.{IsSource, source_secret};
+ghost use Rattle.ferry_disk.specs.Moments.{Between};
+ghost use Rattle.ferry_gen.specs.Source.{HasPlain, IsSource, source_secret};
 ghost use Rattle.ferry_piece.specs.Fault.{random_failed, shelf_failed, target_failed};
 ghost use Rattle.ferry_piece.specs.Work.{Works};
 ghost use Rattle.ferry_repo.specs.Opening.{FitsRepo, OpensFilesTo, RepoState, cached_in, repo_view};
@@ -15,7 +15,7 @@ ghost use Rattle.ferry_run_transfer.specs.Transfer.{chosen_of};
 ghost use Rattle.ferry_manifest.specs.Manifest.Writing.{IsPackable};
 ghost use Rattle.ferry_status.specs.Status.{carry_status};
 ghost use Rattle.ferry_store.specs.Commit.{IsSettled, accepted_in};
-ghost use Rattle.ferry_store.specs.Store.{IsUnspent};
+ghost use Rattle.ferry_store.specs.Store.{InitLeaves, IsUnspent};
 ghost use Rattle.ferry_write.specs.Session.{SettlesFirst};
 
 use crate::device::OwnDepot;
@@ -45,6 +45,7 @@ pub(crate) fn own_source(alloc: Global, count: u32) -> Option<OwnDepot>
     requires least { 1 ≤ count }
     requires most { count ≤ 64 }
     ensures source { IfSome result (λ source. IsSource count (files_now source.history)) }
+    ensures plain { IfSome result (λ source. HasPlain (files_now source.history)) }
 {
     let Ok(mut source) = OwnDepot::new(alloc) else {
         return None;
@@ -79,6 +80,7 @@ pub(crate) fn copy_source<D: Depot, E: Entropy>(
         × Works SettlesFirst (λ carried. CopiesNames (files_now source.old.history) repo (chosen_of [] repo.manifest) carried)
         (D.told target.old) (D.told target.new) (D.faults target.old) (D.faults target.new) result) }
     ensures start { IfErr result (λ fault. IfSome (D.told target.old) (λ t. TellsStart (told_files t) (carry_status fault))) }
+    ensures kept { Between (D.told target.old) (D.told target.new) InitLeaves }
     ensures own { IfErr result (λ fault. shelf_failed fault ≡ false) }
     ensures completes { IfErr result (EndsFrom (files_now source.old.history) (D.told target.old) (D.told target.new)) }
     ensures entropy { HasCause random_failed (E.faults entropy.old) (E.faults entropy.new) result }
@@ -103,6 +105,7 @@ fn copy_all<D: Depot, E: Entropy>(
         (chosen_of [] (repo_view repo.old).manifest) carried)
         (D.told target.old) (D.told target.new) (D.faults target.old) (D.faults target.new) result }
     ensures start { IfErr result (λ fault. IfSome (D.told target.old) (λ t. TellsStart (told_files t) (carry_status fault))) }
+    ensures kept { Between (D.told target.old) (D.told target.new) InitLeaves }
     ensures own { IfErr result (λ fault. shelf_failed fault ≡ false) }
     ensures completes { IfErr result (λ fault. OpensFilesTo (files_now source.old.history) source_secret (repo_view repo.old)
         → EndsFrom (files_now source.old.history) (D.told target.old) (D.told target.new) fault) }
@@ -127,6 +130,7 @@ fn copy_names<D: Depot, E: Entropy>(
     ensures works { Works SettlesFirst (λ carried. CopiesNames (files_now source.old.history) (repo_view repo.old) names.now carried)
         (D.told target.old) (D.told target.new) (D.faults target.old) (D.faults target.new) result }
     ensures start { IfErr result (λ fault. IfSome (D.told target.old) (λ t. TellsStart (told_files t) (carry_status fault))) }
+    ensures kept { Between (D.told target.old) (D.told target.new) InitLeaves }
     ensures own { IfErr result (λ fault. shelf_failed fault ≡ false) }
     ensures completes { IfErr result (λ fault. OpensFilesTo (files_now source.old.history) source_secret (repo_view repo.old)
         → names.now ≡ chosen_of [] (repo_view repo.old).manifest
@@ -159,8 +163,9 @@ fn make_target<D: Depot, E: Entropy>(
     ensures unspent { IfOk result IsUnspent }
     ensures settled { IfOk result IsSettled }
     ensures start { IfErr result (λ fault. IfSome (D.told target.old) (λ t. TellsStart (told_files t) (carry_status fault))) }
+    ensures kept { Between (D.told target.old) (D.told target.new) InitLeaves }
     ensures own { IfErr result (λ fault. shelf_failed fault ≡ false) }
-    ensures completes { IfErr result (λ fault. (files : Files) → EndsCopy files (D.told target.old) (D.told target.new) fault) }
+    ensures completes { IfErr result (EndsCopy (D.told target.old) (D.told target.new)) }
     ensures entropy { HasCause random_failed (E.faults entropy.old) (E.faults entropy.new) result }
 {
     let mut dropped = [0u8; DROPPED];

@@ -647,37 +647,38 @@ first_both secret settings session now counter drawn entry a b c n m k result p 
     f counts (with_settings (nothing_written config readme) (config_text settings)) (takes session counter counts (nothing_written config readme) u))
     p q
 
-new_shown : (secret : Secret) (text blob : List ℕ) (image : Files) → IsOpenable secret text blob
+new_shown : (secret : Secret) (timestamp text blob : List ℕ) (image : Files) → IsOpenable secret timestamp text blob
     → (Shows image None × (image.config ≡ Some text)) ⊎ (Shows image (Some (new_entries blob)) × (image.config ≡ Some text)) → ShowsNew secret image
-new_shown secret text blob image opens (inl none) = inl none.0
-new_shown secret text blob image opens (inr new) = inr (opens_new secret image text blob opens new.1 new.0, (_, new.0))
+new_shown secret timestamp text blob image opens (inl none) = inl none.0
+new_shown secret timestamp text blob image opens (inr new) = inr ((opens_new secret image timestamp text blob opens new.1 new.0).0, (_, new.0))
 
 -- of a commit that ends, or is stopped, is shown nothing or the new repository
-committed_shown : (secret : Secret) (text blob : List ℕ) (readme : Option (List ℕ)) (counts : Bool) (h g : History) → IsOpenable secret text blob
+committed_shown : (secret : Secret) (timestamp text blob : List ℕ) (readme : Option (List ℕ)) (counts : Bool) (h g : History)
+    → IsOpenable secret timestamp text blob
     → Moments (IsSound (ShowsEither (record { committed = None; pending = PutEntry zero_id blob ∷ []; config = Some text; readme = readme })) counts) h g
     → Moments (IsSound (ShowsNew secret) counts) h g
-committed_shown secret text blob readme counts h g opens m =
+committed_shown secret timestamp text blob readme counts h g opens m =
     moments_map (IsSound (ShowsEither (record { committed = None; pending = PutEntry zero_id blob ∷ []; config = Some text; readme = readme })) counts)
     (IsSound (ShowsNew secret) counts) h g
     (λ k s. record {
-      shows = λ image left. new_shown secret text blob image opens (s.shows image left);
+      shows = λ image left. new_shown secret timestamp text blob image opens (s.shows image left);
       traced = s.traced;
       numbers = s.numbers;
       fresh = s.fresh;
     }) m
 
-pub first_commit : (secret : Secret) (settings : Config) (blob : List ℕ) (session now done : Session) (counter drawn : Counter) (a b c : Option Told)
-    (n m k : ℕ) (result : Result (Unit {0}) StoreRefusal) → IsOpenable secret (config_text settings) blob
+pub first_commit : (secret : Secret) (timestamp : List ℕ) (settings : Config) (blob : List ℕ) (session now done : Session) (counter drawn : Counter)
+    (a b c : Option Told) (n m k : ℕ) (result : Result (Unit {0}) StoreRefusal) → IsOpenable secret timestamp (config_text settings) blob
     → Did {T = Unit {0}} (FirstSound secret session counter) (λ _. HasFirst settings session counter (PutEntry zero_id blob) now drawn) a b n m (Ok tt)
     → Did {T = Unit {0}} (CommitsSound now drawn) (λ _. TakesCommit now drawn done) b c m k result
     → Did {T = Unit {0}} (FirstSound secret session counter) (λ _. TakesFirst settings blob session counter done drawn) a c n k result
-first_commit secret settings blob session now done counter drawn a b c n m k result opens p q =
+first_commit secret timestamp settings blob session now done counter drawn a b c n m k result opens p q =
     did_then (FirstSound secret session counter) (λ _. HasFirst settings session counter (PutEntry zero_id blob) now drawn)
     (CommitsSound now drawn) (λ _. TakesCommit now drawn done) (FirstSound secret session counter) (λ _. TakesFirst settings blob session counter done drawn)
     a b c n m k tt result
     (λ h g i e d has f counts config readme u.
     moments_then (IsSound (ShowsNew secret) counts) h g i (e counts config readme u) d
-    (committed_shown secret (config_text settings) blob (Some readme_text) counts g i opens (f counts _ (has counts config readme u))))
+    (committed_shown secret timestamp (config_text settings) blob (Some readme_text) counts g i opens (f counts _ (has counts config readme u))))
     (λ y h g i has f counts config readme u. f counts _ (has counts config readme u))
     p q
 

@@ -68,7 +68,7 @@ first_free counter n same some left = by_bool (ltb (2 ^ 64 - 1) (reserved_for co
 
 openable : (secret : Secret) (basis : Basis) (timestamp salt : List ℕ) (free : ℕ) → config_of (config_text basis.config) ≡ Ok basis.config
     → BasisOpens secret basis → manifest_of basis.keys (manifest_bytes basis timestamp salt) ≡ Ok (first_manifest timestamp) → free < 2 ^ 64
-    → IsOpenable secret (config_text basis.config) (manifest_blob basis timestamp salt free)
+    → IsOpenable secret timestamp (config_text basis.config) (manifest_blob basis timestamp salt free)
 openable secret basis timestamp salt free reads opens manifest fits = record {
   config = basis.config;
   reads = reads;
@@ -78,9 +78,7 @@ openable secret basis timestamp salt free reads opens manifest fits = record {
   content = manifest_bytes basis timestamp salt;
   blob_opens = subst (λ (k : Keys). OpensTo k zero_id (manifest_blob basis timestamp salt free) (manifest_bytes basis timestamp salt)) (sym opens.keys_are)
       (sealed-opens basis.keys (mode_of basis.config) free zero_id (manifest_bytes basis timestamp salt) fits (inl refl));
-  manifest = first_manifest timestamp;
   manifest_is = subst (λ (k : Keys). manifest_of k (manifest_bytes basis timestamp salt) ≡ Ok (first_manifest timestamp)) (sym opens.keys_are) manifest;
-  no_archives = refl;
 }
 
 -- ---- the first commit
@@ -125,11 +123,11 @@ first_committed basis timestamp salt session now done counter drawn a b c d n m 
     let blob = manifest_blob basis timestamp salt counter.free in
     let free = first_free counter (blocks (length bytes)) same (blocks_from (length bytes)) puts.fits.1 in
     record {
-      did = λ secret opens. first_commit secret basis.config blob session now done counter drawn a c d n k j r
+      did = λ secret opens. first_commit secret timestamp basis.config blob session now done counter drawn a c d n k j r
           (openable secret basis timestamp salt counter.free reads opens puts.reads free)
           (first_both secret basis.config session now counter drawn (PutEntry zero_id blob) a b c n m k (Ok tt) p puts.did) q;
       reads = always (config_of (config_text basis.config) ≡ Ok basis.config) r reads;
-      openable = λ secret opens. always (IsOpenable secret (config_text basis.config) blob) r
+      openable = λ secret opens. always (IsOpenable secret timestamp (config_text basis.config) blob) r
           (openable secret basis timestamp salt counter.free reads opens puts.reads free);
       fits = always ((length bytes ≤ content_limit) × (IsExhausted counter (blocks (length bytes)) → ⊥)) r puts.fits;
       refused = target_of session counter (length bytes) r is;

@@ -23,7 +23,7 @@ use Rattle.ferry_repo.specs.declared.secret.Secret.{Secret}
 use Rattle.ferry_segment.specs.Entry.{LogEntry, PutEntry, CommitEntry}
 use Rattle.ferry_stops.proofs.EntryLemmas.{shown_log}
 use Rattle.ferry_stops.specs.Entries.{Shows}
-use Rattle.ferry_store.specs.New.{IsOpenable, OpensNew, new_entries}
+use Rattle.ferry_store.specs.New.{IsOpenable, OpensNew, first_manifest, new_entries}
 
 -- ---- the log of the manifest alone
 
@@ -91,40 +91,46 @@ opened_place : (places : Places) (id : List ℕ) (place : Place) → first_place
     → get places id ≡ Some place
 opened_place places id place e = sym (ap (λ (o : Option Place). first_place o (get places id)) (get-empty _ id)) ∙ e
 
-opens_log : (secret : Secret) (files : Files) (text blob : List ℕ) (t : ℕ) (log : List Located) → IsOpenable secret text blob → files.config ≡ Some text
-    → IsLog files t log → map (λ (e : Located). e.entry) log ≡ new_entries blob → OpensNew secret files
-opens_log secret files text blob t log o config is entries =
+-- The files open as a new repository, by its first manifest.
+abbrev pub OpensFirst : Secret → List ℕ → Files → Type 0
+OpensFirst secret timestamp files = (new : OpensNew secret files) × (new.repo.manifest ≡ first_manifest timestamp)
+
+opens_log : (secret : Secret) (files : Files) (timestamp text blob : List ℕ) (t : ℕ) (log : List Located) → IsOpenable secret timestamp text blob
+    → files.config ≡ Some text → IsLog files t log → map (λ (e : Located). e.entry) log ≡ new_entries blob → OpensFirst secret timestamp files
+opens_log secret files timestamp text blob t log o config is entries =
     let opened = placed_all empty log in
     let state : LogState = record { transaction = t; opened = opened; extents = extents_of files opened (numbers_up_to files t); learnt = empty } in
     let is_state : IsStateOf files state =
     record { log = log; is = is; places = record { live = places_all empty [] log places_none; extents_are = refl }; learnt = refl } in
     let two = two_located log blob entries in
-    let live : live_blob zero_id log ≡ Some blob = ap (live_blob zero_id) two.4 ∙ blob_in_two two.0 two.1 two.2 two.3 blob in
-    record {
-      repo = record { log = state; config = o.config; keys = o.key.keys; manifest = o.manifest };
-      opens = record {
+    let live : live_blob zero_id log ≡ Some blob = ap (live_blob zero_id) two.4 ∙ blob_in_two two.0 two.1 two.2 two.3 blob in (
+      record {
+        repo = record { log = state; config = o.config; keys = o.key.keys; manifest = first_manifest timestamp };
         opens = record {
-          unlocks = record {
-            reads = is_state;
-            iterations = o.iterations;
-            key = o.key;
-            unlocks = subst (λ (x : List ℕ). UnlocksTo x secret o.config o.iterations o.key) (sym (contents_are files text config))
-                (unlocks_by text secret o.config o.iterations o.key o.reads o.key_opens);
-            keys_are = refl;
+          opens = record {
+            unlocks = record {
+              reads = is_state;
+              iterations = o.iterations;
+              key = o.key;
+              unlocks = subst (λ (x : List ℕ). UnlocksTo x secret o.config o.iterations o.key) (sym (contents_are files text config))
+                  (unlocks_by text secret o.config o.iterations o.key o.reads o.key_opens);
+              keys_are = refl;
+            };
+            content = o.content;
+            object = record { blob = blob; has = has_live files state is_state zero_id blob live; opens = o.blob_opens };
+            manifest_is = o.manifest_is;
           };
-          content = o.content;
-          object = record { blob = blob; has = has_live files state is_state zero_id blob live; opens = o.blob_opens };
-          manifest_is = o.manifest_is;
         };
-      };
-      no_archives = o.no_archives;
-      alone = λ id place placed.
-          alone_in_two opened (place_at two.0 two.1 blob) id place (ap (placed_all empty) two.4 ∙ placed_two two.0 two.1 two.2 two.3 blob)
-          (opened_place opened id place placed);
-    }
+        no_archives = refl;
+        alone = λ id place placed.
+            alone_in_two opened (place_at two.0 two.1 blob) id place (ap (placed_all empty) two.4 ∙ placed_two two.0 two.1 two.2 two.3 blob)
+            (opened_place opened id place placed);
+      },
+      refl,
+    )
 
-pub opens_new : (secret : Secret) (files : Files) (text blob : List ℕ) → IsOpenable secret text blob → files.config ≡ Some text
-    → Shows files (Some (new_entries blob)) → OpensNew secret files
-opens_new secret files text blob o config shows =
+pub opens_new : (secret : Secret) (files : Files) (timestamp text blob : List ℕ) → IsOpenable secret timestamp text blob → files.config ≡ Some text
+    → Shows files (Some (new_entries blob)) → OpensFirst secret timestamp files
+opens_new secret files timestamp text blob o config shows =
     let log = shown_log files shows.0 (new_entries blob) shows.1 in
-    opens_log secret files text blob log.0 log.1 o config log.3 log.4
+    opens_log secret files timestamp text blob log.0 log.1 o config log.3 log.4

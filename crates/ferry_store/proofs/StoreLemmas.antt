@@ -124,6 +124,7 @@ makes_files secret iterations timestamp bytes counter session h g none made e =
     let u = made.makes false (begun_by false h e none (λ c. absurd (let no : ⊥ = cc in no))) in
     let shows = fits_now session _ [] g u.fits in
     let config = config_now g _ u.config in
+    let new = opens_new secret (files_now g) timestamp _ _ made.openable config (_, shows) in
     record {
       uncommitted = none;
       free = made.free;
@@ -139,7 +140,8 @@ makes_files secret iterations timestamp bytes counter session h g none made e =
         readme = readme_now g _ u.readme;
         entries = (_, shows);
       };
-      opens = opens_new secret (files_now g) _ _ made.openable config (_, shows);
+      opens = new.0;
+      first = new.1;
     }
 
 pub store_fits : (secret : Secret) (iterations : ℕ) (timestamp bytes : List ℕ) (store : Store) (h g : History) → IsUncommitted (files_now h)

@@ -29,7 +29,7 @@ pub record MakesFirst (basis : Basis) (timestamp salt : List ℕ) (session : Ses
       (λ _. TakesFirst basis.config (manifest_blob basis timestamp salt counter.free) session counter session_now counter_now) before now count after result
   pub reads : OnOk result (config_of (config_text basis.config) ≡ Ok basis.config)
   pub openable : (secret : Secret) → BasisOpens secret basis
-      → OnOk result (IsOpenable secret (config_text basis.config) (manifest_blob basis timestamp salt counter.free))
+      → OnOk result (IsOpenable secret timestamp (config_text basis.config) (manifest_blob basis timestamp salt counter.free))
   pub fits : OnOk result ((length (manifest_bytes basis timestamp salt) ≤ content_limit)
       × (IsExhausted counter (blocks (length (manifest_bytes basis timestamp salt))) → ⊥))
   pub refused : IfErr result (RefusesFirst session counter (length (manifest_bytes basis timestamp salt)))
@@ -47,7 +47,7 @@ pub record IsMadeBy (secret : Secret) (iterations : ℕ) (timestamp : List ℕ) 
   pub bytes_are : bytes ≡ basis_bytes ++ salt
   pub free : ℕ
   pub number : IsNonce (file_at (files_now before) NonceFile) free
-  pub openable : IsOpenable secret (config_text basis.config) (manifest_blob basis timestamp salt free)
+  pub openable : IsOpenable secret timestamp (config_text basis.config) (manifest_blob basis timestamp salt free)
   pub makes : Makes basis.config (manifest_blob basis timestamp salt free) counter session before now
   pub reads : config_of (config_text basis.config) ≡ Ok basis.config
   pub limit : session.limit ≡ basis.config.limit

@@ -58,8 +58,8 @@ new_entries blob = PutEntry zero_id blob ∷ CommitEntry ∷ []
 
 -- ---- opening
 
--- A text is that of a file `config`, whose key the secret opens, and a blob opens under this key to a manifest without archives.
-pub record IsOpenable (secret : Secret) (text blob : List ℕ) : Type 0 where
+-- A text is that of a file `config`, whose key the secret opens, and a blob opens under this key to the first manifest.
+pub record IsOpenable (secret : Secret) (timestamp text blob : List ℕ) : Type 0 where
   pub config : Config
   pub reads : config_of text ≡ Ok config
   pub iterations : ℕ
@@ -67,9 +67,7 @@ pub record IsOpenable (secret : Secret) (text blob : List ℕ) : Type 0 where
   pub key_opens : opened_key config secret ≡ Ok (record { iterations = iterations; key = key })
   pub content : List ℕ
   pub blob_opens : OpensTo key.keys zero_id blob content
-  pub manifest : ManifestText
-  pub manifest_is : manifest_of key.keys content ≡ Ok manifest
-  pub no_archives : manifest.archives ≡ []
+  pub manifest_is : manifest_of key.keys content ≡ Ok (first_manifest timestamp)
 
 -- The files open under the secret to a repository without archives, in which nothing is live but the manifest.
 pub record OpensNew (secret : Secret) (files : Files) : Type 0 where

@@ -24,7 +24,7 @@ use Rattle.ferry_stops.specs.Entries.{Shows}
 use Rattle.ferry_store.specs.Content.{IsThere}
 use Rattle.ferry_store.specs.Init.{RefusesMaking}
 use Rattle.ferry_store.specs.Key.{RefusesGiven}
-use Rattle.ferry_store.specs.New.{IsMade, IsNothingOrNew, OpensNew}
+use Rattle.ferry_store.specs.New.{IsMade, IsNothingOrNew, OpensNew, first_manifest}
 use Rattle.ferry_store.specs.Standing.{CommitsManifest, HoldsLive, Keeps, committed_of, entries_of, live_in}
 use Rattle.ferry_store.specs.State.{IsUnderWay, RefusesBegin, ShowsStanding, Written, found}
 use Rattle.ferry_store.specs.declared.fault.StoreRefusal.{StoreRefusal}
@@ -81,6 +81,7 @@ pub record MakesFiles (secret : Secret) (iterations : ℕ) (timestamp bytes : Li
   pub number : IsNonce (file_at (files_now before) NonceFile) free
   pub made : IsMade secret iterations timestamp free bytes (files_now now)
   pub opens : OpensNew secret (files_now now)
+  pub first : opens.repo.manifest ≡ first_manifest timestamp
 
 abbrev pub InitMakes : Secret → ℕ → List ℕ → List ℕ → History → History → Type 0
 InitMakes secret iterations timestamp bytes before now = before.acts ≡ [] → MakesFiles secret iterations timestamp bytes before now

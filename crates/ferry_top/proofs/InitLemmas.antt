@@ -19,7 +19,7 @@ use Rattle.ferry_repo.specs.declared.fault.RepoFault.TheVariants as Repo
 use Rattle.ferry_repo.specs.declared.secret.Secret.{Secret}
 use Rattle.ferry_store.proofs.StepLemmas.{before_same, did_then}
 use Rattle.ferry_store.specs.Fault.{depot_failed, repo_refusal}
-use Rattle.ferry_store.specs.New.{IsMade, IsNothingOrNew, OpensNew}
+use Rattle.ferry_store.specs.New.{IsMade, IsNothingOrNew, OpensNew, first_manifest}
 use Rattle.ferry_store.specs.State.{Did, IsStep}
 use Rattle.ferry_store.specs.Store.{InitEach, InitFits, InitMakes, InitShows, RefusesFiles, RefusesInit}
 use Rattle.ferry_store.specs.declared.fault.StoreRefusal.{StoreRefusal}
@@ -80,7 +80,8 @@ one_config bytes secret a b m n k l x y = ap (config_in a) (sym x ∙ y)
 -- what a line says of a new repository
 abbrev Tells : Secret → ℕ → List ℕ → ℕ → List ℕ → History → History → Files → Type 0
 Tells secret iterations timestamp free bytes made now files = IsMade secret iterations timestamp free bytes files
-    × ((opens : OpensNew secret files) × (now ≡ with_act (TellOf (initialized_line opens.repo.config.id)) true made))
+    × ((opens : OpensNew secret files) × ((opens.repo.manifest ≡ first_manifest timestamp)
+    × (now ≡ with_act (TellOf (initialized_line opens.repo.config.id)) true made)))
 
 -- A file `config` unlocks with this id.
 pub record HasId (secret : Secret) (id : List ℕ) (files : Files) : Type 0 where
@@ -102,11 +103,11 @@ tells_then secret iterations timestamp bytes id h g i makes has is e =
     is ∙ ap (λ (d : List ℕ). with_act (TellOf (initialized_line d)) true g) same in
     let files : files_now i ≡ files_now g = ap files_now is ∙ tells_same (initialized_line id) g in
     let all : Tells secret iterations timestamp m.free bytes g i (files_now i) =
-    subst (Tells secret iterations timestamp m.free bytes g i) (sym files) (m.made, (m.opens, told)) in
+    subst (Tells secret iterations timestamp m.free bytes g i) (sym files) (m.made, (m.opens, (m.first, told))) in
     record {
-      makes = record { uncommitted = m.uncommitted; free = m.free; number = m.number; made = all.0; opens = all.1.0 };
+      makes = record { uncommitted = m.uncommitted; free = m.free; number = m.number; made = all.0; opens = all.1.0; first = all.1.1.0 };
       made = g;
-      tells = all.1.1;
+      tells = all.1.1.1;
     }
 
 -- ---- all of it

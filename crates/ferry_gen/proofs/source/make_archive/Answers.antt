@@ -28,8 +28,9 @@ returns-clause-made g c =
     let all = archive_made c.args.archive c.args.store.now middle named c.commit.new.self c.in_ok-entry.entry _
     (blob_for (repo_view named.repo) named.counter (manifest_text (repo_view named.repo).keys made.0 text)) c.in_ok-id.id (g.D.Shelf.told c.args.depot.now)
     (g.D.Shelf.told c.put_archive.new.depot) (g.D.Shelf.told c.commit.new.depot)
-    (g.D.Shelf.faults c.put_archive.new.depot) (g.D.Shelf.faults c.commit.new.depot) _ c.requires.archive c.requires.fits c.requires.made c.requires.settled
-    c.in_ok-id.ensures.rest c.in_ok-id.ensures.puts c.in_ok-entry.ensures.entry c.name_archive.ensures.rest c.in_ok-name_archive.ensures.named made.1.2
+    (g.D.Shelf.faults c.put_archive.new.depot) (g.D.Shelf.faults c.commit.new.depot) _ refl c.requires.archive c.requires.fits c.requires.made
+    c.requires.settled c.in_ok-id.ensures.rest c.in_ok-id.ensures.puts c.in_ok-entry.ensures.entry c.name_archive.ensures.rest
+    c.in_ok-name_archive.ensures.named made.1.2
     c.in_ok-commit.ensures.repo c.in_ok-commit.ensures.accepted in
     next_has (c.args.archive + 1) c.commit.new.self (g.D.Shelf.told c.args.depot.now) (g.D.Shelf.told c.commit.new.depot) c.requires.told
     (subst (λ (n : ℕ). Between (g.D.Shelf.told c.args.depot.now) (g.D.Shelf.told c.commit.new.depot) (λ h k. HasMade n c.commit.new.self k × StoreFits false
@@ -44,8 +45,9 @@ returns-clause-fits g c =
     let all = archive_made c.args.archive c.args.store.now middle named c.commit.new.self c.in_ok-entry.entry _
     (blob_for (repo_view named.repo) named.counter (manifest_text (repo_view named.repo).keys made.0 text)) c.in_ok-id.id (g.D.Shelf.told c.args.depot.now)
     (g.D.Shelf.told c.put_archive.new.depot) (g.D.Shelf.told c.commit.new.depot)
-    (g.D.Shelf.faults c.put_archive.new.depot) (g.D.Shelf.faults c.commit.new.depot) _ c.requires.archive c.requires.fits c.requires.made c.requires.settled
-    c.in_ok-id.ensures.rest c.in_ok-id.ensures.puts c.in_ok-entry.ensures.entry c.name_archive.ensures.rest c.in_ok-name_archive.ensures.named made.1.2
+    (g.D.Shelf.faults c.put_archive.new.depot) (g.D.Shelf.faults c.commit.new.depot) _ refl c.requires.archive c.requires.fits c.requires.made
+    c.requires.settled c.in_ok-id.ensures.rest c.in_ok-id.ensures.puts c.in_ok-entry.ensures.entry c.name_archive.ensures.rest
+    c.in_ok-name_archive.ensures.named made.1.2
     c.in_ok-commit.ensures.repo c.in_ok-commit.ensures.accepted in
     next_fits (suc c.args.archive) c.commit.new.self (g.D.Shelf.told c.args.depot.now) (g.D.Shelf.told c.commit.new.depot) c.requires.told all
 
@@ -58,8 +60,9 @@ returns-clause-told g c =
     let all = archive_made c.args.archive c.args.store.now middle named c.commit.new.self c.in_ok-entry.entry _
     (blob_for (repo_view named.repo) named.counter (manifest_text (repo_view named.repo).keys made.0 text)) c.in_ok-id.id (g.D.Shelf.told c.args.depot.now)
     (g.D.Shelf.told c.put_archive.new.depot) (g.D.Shelf.told c.commit.new.depot)
-    (g.D.Shelf.faults c.put_archive.new.depot) (g.D.Shelf.faults c.commit.new.depot) _ c.requires.archive c.requires.fits c.requires.made c.requires.settled
-    c.in_ok-id.ensures.rest c.in_ok-id.ensures.puts c.in_ok-entry.ensures.entry c.name_archive.ensures.rest c.in_ok-name_archive.ensures.named made.1.2
+    (g.D.Shelf.faults c.put_archive.new.depot) (g.D.Shelf.faults c.commit.new.depot) _ refl c.requires.archive c.requires.fits c.requires.made
+    c.requires.settled c.in_ok-id.ensures.rest c.in_ok-id.ensures.puts c.in_ok-entry.ensures.entry c.name_archive.ensures.rest
+    c.in_ok-name_archive.ensures.named made.1.2
     c.in_ok-commit.ensures.repo c.in_ok-commit.ensures.accepted in
     told_on (λ h k. HasMade (suc c.args.archive) c.commit.new.self k × StoreFits false c.commit.new.self k) (g.D.Shelf.told c.args.depot.now)
     (g.D.Shelf.told c.commit.new.depot) c.requires.told all

@@ -9,10 +9,11 @@ use Rattle.ferry_status.specs.Status.{target_failed}
 use Rattle.ferry_status.specs.declared.status.Status.{Status}
 use Rattle.ferry_store.proofs.CallLemmas.{first_here}
 use Rattle.ferry_store.proofs.StepLemmas.{failed_then, here_each}
+use Rattle.ferry_store.specs.Store.{InitLeaves}
 use Rattle.ferry_write.specs.Session.{SettlesFirst}
 use Rattle.ferry_run_drill.proofs.CompleteLemmas.{finished_completes, refused_completes}
 use Rattle.ferry_run_drill.proofs.PrintLemmas.{of_fault}
-use Rattle.ferry_run_drill.proofs.WorkLemmas.{copied_drill, copied_start, first_read}
+use Rattle.ferry_run_drill.proofs.WorkLemmas.{copied_drill, copied_start, each_read, leaves_here}
 use Rattle.ferry_run_drill.proofs.command.drill.Goals as goal
 use Rattle.ferry_run_drill.specs.Complete.{Completes}
 use Rattle.ferry_run_drill.specs.Drill.{PrintsDrill, TellsStart}
@@ -38,8 +39,16 @@ returns-in-Ok-clause-start g c =
 
 pub returns-in-Ok-clause-first : goal.returns-in-Ok-clause-first
 returns-in-Ok-clause-first g c =
-    first_read (g.D.Shelf.told c.args.target.now) (g.D.Shelf.told c.copy_source.new.target) (g.D.Shelf.told c.finish.new.target)
+    each_read SettlesFirst (g.D.Shelf.told c.args.target.now) (g.D.Shelf.told c.copy_source.new.target) (g.D.Shelf.told c.finish.new.target)
     c.in-Ok.ensures.works.1.1.each c.finish.ensures.read
+
+pub returns-in_default-clause-kept : goal.returns-in_default-clause-kept
+returns-in_default-clause-kept g c = here_each InitLeaves (g.D.Shelf.told c.args.target.now) leaves_here
+
+pub returns-in-Ok-clause-kept : goal.returns-in-Ok-clause-kept
+returns-in-Ok-clause-kept g c =
+    each_read InitLeaves (g.D.Shelf.told c.args.target.now) (g.D.Shelf.told c.copy_source.new.target) (g.D.Shelf.told c.finish.new.target)
+    c.copy_source.ensures.kept c.finish.ensures.read
 
 pub returns-in-Ok-clause-ends : goal.returns-in-Ok-clause-ends
 returns-in-Ok-clause-ends g c =
@@ -71,7 +80,8 @@ returns-clause-completes g c =
     let a = g.D.Shelf.told c.args.target.now in
     let d = g.D.Shelf.told c.copy_source.new.target in
     subst (Completes c.args.count a d) (sym c.of_carry.ensures)
-    (refused_completes c.args.count (files_now c.in-Some.source.history) a d c.in-Err.fault c.requires.most c.in-Some.ensures.source c.in-Err.ensures.completes)
+    (refused_completes c.args.count (files_now c.in-Some.source.history) a d c.in-Err.fault c.requires.most c.in-Some.ensures.source c.in-Some.ensures.plain
+    c.in-Err.ensures.completes)
 
 pub returns-clause-used : goal.returns-clause-used
 returns-clause-used g c n is = used_of_carry c.in-Err.fault n (sym c.of_carry.ensures ∙ is)

@@ -9,8 +9,10 @@ use Rattle.ferry_repo.specs.Opening.{repo_view, OpensFilesTo}
 use Rattle.ferry_run_transfer.specs.Transfer.{chosen_of}
 use Rattle.ferry_status.specs.Status.{carry_status}
 use Rattle.ferry_store.proofs.CallLemmas.{first_here}
+use Rattle.ferry_store.proofs.StepLemmas.{here_each}
+use Rattle.ferry_store.specs.Store.{InitLeaves}
 use Rattle.ferry_write.specs.Session.{SettlesFirst}
-use Rattle.ferry_run_drill.proofs.WorkLemmas.{says_all}
+use Rattle.ferry_run_drill.proofs.WorkLemmas.{leaves_here, says_all}
 use Rattle.ferry_run_drill.specs.Drill.{TellsStart}
 use Rattle.ferry_run_drill.specs.Steps.{CopiesNames}
 use Rattle.ferry_gen.specs.Source.{source_secret}
@@ -51,10 +53,13 @@ returns-in_err-names-clause-completes g c =
     let repo = repo_view c.args.repo.now in
     err_is c.from_residual.result Carry.Memory
     (λ (r : Result Carried CarryFault). IfErr r (λ (f : CarryFault). OpensFilesTo files source_secret repo → EndsFrom files a a f)) c.from_residual.ensures.1
-    (λ opens. ends_from_anyway files a a Carry.Memory (λ start image lines. tt))
+    (λ opens. ends_from_anyway files a a Carry.Memory (λ start image. tt))
 
 pub returns-clause-completes : goal.returns-clause-completes
 returns-clause-completes g c =
     chosen_ends c.copy_names.result (files_now c.args.source.now.history) (repo_view c.args.repo.now) c.deref.result.now
     (g.D.Shelf.told c.args.target.now) (g.D.Shelf.told c.copy_names.new.target) (c.deref.ensures.value ∙ c.in_ok-names.ensures.chosen)
     c.copy_names.ensures.completes
+
+pub returns-in_err-names-clause-kept : goal.returns-in_err-names-clause-kept
+returns-in_err-names-clause-kept g c = here_each InitLeaves (g.D.Shelf.told c.args.target.now) leaves_here

@@ -1,4 +1,5 @@
 use Rattle.std.proofs.Common.{◌≡◌, [], Result, IfErr}
+use Rattle.ferry_carry.specs.Telling.{KeepsReported}
 use Rattle.ferry_carry.specs.declared.options.Carried.{Carried}
 use Rattle.ferry_disk.specs.Act.{files_now}
 use Rattle.ferry_piece.proofs.WorkLemmas.{err_is}
@@ -7,8 +8,8 @@ use Rattle.ferry_piece.specs.declared.fault.CarryFault.{CarryFault}
 use Rattle.ferry_repo.specs.Opening.{repo_view, OpensFilesTo}
 use Rattle.ferry_write.specs.Session.{SettlesFirst}
 use Rattle.ferry_run_drill.proofs.CopyLemmas.{copied_works}
-use Rattle.ferry_run_drill.proofs.WorkLemmas.{copied_tells, made_fits, never_failed, unmade_works}
-use Rattle.ferry_run_drill.specs.Steps.{CopiesNames}
+use Rattle.ferry_run_drill.proofs.WorkLemmas.{copied_tells, made_fits, made_leaves, never_failed, unmade_works}
+use Rattle.ferry_run_drill.specs.Steps.{CopiesNames, drill_origin}
 use Rattle.ferry_gen.specs.Source.{source_secret}
 use Rattle.ferry_run_transfer.specs.Transfer.{chosen_of}
 use Rattle.ferry_run_drill.proofs.DoneLemmas.{carried_ends}
@@ -47,6 +48,13 @@ returns-clause-start g c =
     (g.E.Entropy.drawn c.make_target.new.entropy) (g.E.Entropy.drawn c.carry.new.entropy) c.carry.result c.in_ok-store.ensures.works c.carry.ensures.works
     c.carry.ensures.refused
 
+pub returns-clause-kept : goal.returns-clause-kept
+returns-clause-kept g c =
+    made_leaves c.in_ok-store.store (g.D.Shelf.told c.args.target.now) (g.D.Shelf.told c.make_target.new.target) (g.D.Shelf.told c.carry.new.depot)
+    (g.D.Shelf.faults c.args.target.now) (g.D.Shelf.faults c.make_target.new.target)
+    (KeepsReported (drill_origin (files_now c.args.source.now.history) (repo_view c.args.repo.now)) c.args.names.now c.in_ok-store.store
+    c.carry.ensures.works.added) c.in_ok-store.ensures.works c.carry.ensures.works.works.each
+
 pub returns-clause-own : goal.returns-clause-own
 returns-clause-own g c = never_failed c.carry.result c.carry.ensures.cause
 
@@ -58,7 +66,7 @@ returns-in_err-store-clause-completes g c =
     let repo = repo_view c.args.repo.now in
     err_is c.from_residual.result c.in_err-store.field-0.0
     (λ (r : Result Carried CarryFault). IfErr r (λ (f : CarryFault). OpensFilesTo files source_secret repo → c.args.names.now ≡ chosen_of [] repo.manifest
-    → EndsFrom files a b f)) c.from_residual.ensures.1 (λ opens chosen count most is apart. c.in_err-store.ensures.completes files)
+    → EndsFrom files a b f)) c.from_residual.ensures.1 (λ opens chosen count most is plain apart. c.in_err-store.ensures.completes)
 
 pub returns-clause-completes : goal.returns-clause-completes
 returns-clause-completes g c =

@@ -20,10 +20,12 @@ use Rattle.ferry_run_transfer.proofs.SourceLemmas.{files_kept, source_fits, sour
 use Rattle.ferry_run_transfer.specs.Transfer.{chosen_of}
 use Rattle.ferry_status.specs.Status.{carry_status}
 use Rattle.ferry_store.proofs.CallLemmas.{first_here}
+use Rattle.ferry_store.proofs.StepLemmas.{here_each}
+use Rattle.ferry_store.specs.Store.{InitLeaves}
 use Rattle.ferry_write.specs.Session.{SettlesFirst}
 use Rattle.ferry_run_drill.proofs.DoneLemmas.{source_copied}
 use Rattle.ferry_run_drill.proofs.UnmadeLemmas.{ends_from_anyway, opened_ends}
-use Rattle.ferry_run_drill.proofs.WorkLemmas.{ok_all, opened_tells, opens_apart, still}
+use Rattle.ferry_run_drill.proofs.WorkLemmas.{leaves_here, ok_all, opened_tells, opens_apart, still}
 use Rattle.ferry_run_drill.proofs.fill.copy_source.Goals as goal
 use Rattle.ferry_run_drill.specs.Complete.{EndsFrom}
 use Rattle.ferry_run_drill.specs.Drill.{TellsStart}
@@ -34,7 +36,7 @@ returns-in_err-secret-clause-completes g c =
     let a = g.D.Shelf.told c.args.target.now in
     let files = files_now c.args.source.now.history in
     err_is c.from_residual.result Carry.Memory (λ (r : Result Carried CarryFault). IfErr r (EndsFrom files a a)) c.from_residual.ensures.1
-    (ends_from_anyway files a a Carry.Memory (λ start image lines. tt))
+    (ends_from_anyway files a a Carry.Memory (λ start image. tt))
 
 pub returns-in_err-repo-clause-completes : goal.returns-in_err-repo-clause-completes
 returns-in_err-repo-clause-completes g c =
@@ -116,3 +118,9 @@ returns-clause-works g c =
             (g.D.Shelf.faults c.copy_all.new.target) c.copy_all.result) same c.copy_all.ensures.works,
       ),
     )
+
+pub returns-in_err-secret-clause-kept : goal.returns-in_err-secret-clause-kept
+returns-in_err-secret-clause-kept g c = here_each InitLeaves (g.D.Shelf.told c.args.target.now) leaves_here
+
+pub returns-in_err-repo-clause-kept : goal.returns-in_err-repo-clause-kept
+returns-in_err-repo-clause-kept g c = here_each InitLeaves (g.D.Shelf.told c.args.target.now) leaves_here

@@ -6,14 +6,14 @@ use Rattle.ferry_piece.specs.Work.{Works}
 use Rattle.ferry_piece.specs.declared.fault.CarryFault.{CarryFault}
 use Rattle.ferry_status.specs.Status.{carry_status}
 use Rattle.ferry_store.proofs.CallLemmas.{first_here}
-use Rattle.ferry_store.specs.Store.{InitEach, InitFits}
+use Rattle.ferry_store.proofs.StepLemmas.{here_each}
+use Rattle.ferry_store.specs.Store.{InitEach, InitFits, InitLeaves}
 use Rattle.ferry_store.specs.declared.store.Store.{Store}
 use Rattle.ferry_write.specs.Session.{SettlesFirst}
 use Rattle.ferry_run_drill.proofs.CopyLemmas.{made_works}
-use Rattle.ferry_run_drill.proofs.WorkLemmas.{says_all, unmade_tells}
+use Rattle.ferry_run_drill.proofs.WorkLemmas.{init_leaves, leaves_here, says_all, unmade_tells}
 use Rattle.ferry_run_drill.specs.Drill.{TellsStart, drill_time}
 use Rattle.ferry_run_drill.specs.Steps.{IsMadeNew}
-use Rattle.ferry_disk.specs.Files.{Files}
 use Rattle.ferry_run_drill.proofs.KeyLemmas.{no_key}
 use Rattle.ferry_run_drill.proofs.UnmadeLemmas.{ends_anyway, unmade_ends}
 use Rattle.ferry_run_drill.specs.Complete.{EndsCopy}
@@ -52,7 +52,7 @@ pub returns-clause-works : goal.returns-clause-works
 returns-clause-works g c =
     let made = c.in_ok-store.ensures.made in
     made_works c.in_ok-store.store _ made.0 c.in_ok-secret.secret (g.D.Shelf.told c.args.target.now) (g.D.Shelf.told c.init.new.depot)
-    (g.D.Shelf.faults c.args.target.now) (g.D.Shelf.faults c.init.new.depot) c.in_ok-secret.ensures.secret c.requires.begun c.in_ok-store.ensures.did
+    (g.D.Shelf.faults c.args.target.now) (g.D.Shelf.faults c.init.new.depot) c.in_ok-secret.ensures.secret refl c.requires.begun c.in_ok-store.ensures.did
     made.1.1 c.in_ok-store.ensures.untold c.in_ok-store.ensures.opened c.in_ok-store.ensures.accepted c.in_ok-store.ensures.fresh.1
 
 pub returns-in_err-fill-clause-start : goal.returns-in_err-fill-clause-start
@@ -78,19 +78,33 @@ returns-in_err-store-clause-start g c =
     c.from_residual-in_err-store.ensures.1
     (unmade_tells c.in_ok-secret.secret _ a refusal c.requires.begun c.in_err-store.ensures.refused)
 
+pub returns-in_err-fill-clause-kept : goal.returns-in_err-fill-clause-kept
+returns-in_err-fill-clause-kept g c = here_each InitLeaves (g.D.Shelf.told c.args.target.now) leaves_here
+
+pub returns-in_err-secret-clause-kept : goal.returns-in_err-secret-clause-kept
+returns-in_err-secret-clause-kept g c = here_each InitLeaves (g.D.Shelf.told c.args.target.now) leaves_here
+
+pub returns-in_err-store-clause-kept : goal.returns-in_err-store-clause-kept
+returns-in_err-store-clause-kept g c =
+    init_leaves c.in_ok-secret.secret (g.D.Shelf.told c.args.target.now) (g.D.Shelf.told c.init.new.depot) c.in_err-store.ensures.did.each
+
+pub returns-clause-kept : goal.returns-clause-kept
+returns-clause-kept g c =
+    init_leaves c.in_ok-secret.secret (g.D.Shelf.told c.args.target.now) (g.D.Shelf.told c.init.new.depot) c.in_ok-store.ensures.did.each
+
 pub returns-in_err-fill-clause-completes : goal.returns-in_err-fill-clause-completes
 returns-in_err-fill-clause-completes g c =
     let a = g.D.Shelf.told c.args.target.now in
     err_is c.from_residual.result (Carry.Target Stores.Entropy)
-    (λ (r : Result Store CarryFault). IfErr r (λ (f : CarryFault). (files : Files) → EndsCopy files a a f)) c.from_residual.ensures.1
-    (λ files. ends_anyway files a a (Carry.Target Stores.Entropy) (λ start image lines. tt))
+    (λ (r : Result Store CarryFault). IfErr r (EndsCopy a a)) c.from_residual.ensures.1
+    (ends_anyway a a (Carry.Target Stores.Entropy) (λ start image. tt))
 
 pub returns-in_err-secret-clause-completes : goal.returns-in_err-secret-clause-completes
 returns-in_err-secret-clause-completes g c =
     let a = g.D.Shelf.told c.args.target.now in
     err_is c.from_residual-in_err-secret.result Carry.Memory
-    (λ (r : Result Store CarryFault). IfErr r (λ (f : CarryFault). (files : Files) → EndsCopy files a a f)) c.from_residual-in_err-secret.ensures.1
-    (λ files. ends_anyway files a a Carry.Memory (λ start image lines. tt))
+    (λ (r : Result Store CarryFault). IfErr r (EndsCopy a a)) c.from_residual-in_err-secret.ensures.1
+    (ends_anyway a a Carry.Memory (λ start image. tt))
 
 pub returns-in_err-store-clause-completes : goal.returns-in_err-store-clause-completes
 returns-in_err-store-clause-completes g c =
@@ -98,6 +112,6 @@ returns-in_err-store-clause-completes g c =
     let b = g.D.Shelf.told c.init.new.depot in
     let refusal = c.in_err-store.field-0.0 in
     err_is c.from_residual-in_err-store.result (target_fault refusal)
-    (λ (r : Result Store CarryFault). IfErr r (λ (f : CarryFault). (files : Files) → EndsCopy files a b f)) c.from_residual-in_err-store.ensures.1
-    (λ files. unmade_ends c.in_ok-secret.secret drill_time files a b (no_key c.in_ok-secret.secret c.in_ok-secret.ensures.secret) refl
-    refusal c.in_err-store.ensures.refused)
+    (λ (r : Result Store CarryFault). IfErr r (EndsCopy a b)) c.from_residual-in_err-store.ensures.1
+    (unmade_ends c.in_ok-secret.secret drill_time a b (no_key c.in_ok-secret.secret c.in_ok-secret.ensures.secret) refl refusal
+    c.in_err-store.ensures.refused)
