@@ -24,7 +24,7 @@ use Rattle.ferry_store.proofs.StepLemmas.{moments_begin, moments_both, moments_h
 use Rattle.ferry_store.specs.State.{IsStep}
 use Rattle.ferry_status.proofs.LeftLemmas.{now_left}
 use Rattle.ferry_run_compact.specs.Compact.{CompactRemoves, CompactsTarget, IsCompactingRefused, RemovesThenTells}
-use Rattle.ferry_run_compact.specs.Compact.{CompactEach, CompactLeaves, CompactShows, KeepsObjects}
+use Rattle.ferry_run_compact.specs.Compact.{CompactEach, CompactLeaves, CompactShows, CompactShut, KeepsObjects}
 use Rattle.ferry_write.specs.Session.{BeginBySettle, KeepsPlain, SettlesFirst, rests_at}
 use Rattle.ferry_run_compact.proofs.PlainLemmas.{config_left, plain_begun}
 
@@ -117,6 +117,7 @@ compacts_nothing threshold before =
       ended = λ e. absurd (let no : ⊥ = cc in no);
       left = between_map told told CompactEach CompactLeaves each_leaves each;
       removed = here_told (CompactRemoves threshold) told (here_removes threshold);
+      shut = here_told CompactShut told (λ h shut. refl);
       each = each;
     } where
       here_told : (E : History → History → Type 0) (told : Option Told) → ((h : History) → E h h) → Between told told E

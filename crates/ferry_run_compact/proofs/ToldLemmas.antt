@@ -22,7 +22,7 @@ use Rattle.ferry_store.specs.State.{Did, IsStep}
 use Rattle.ferry_store.specs.declared.fault.StoreRefusal.{StoreRefusal}
 use Rattle.ferry_status.proofs.TellLemmas.{AreSome, fail_as, first_then, keeps_then, numbers_then, rose_as, stops_then}
 use Rattle.ferry_run_compact.specs.Compact.{CompactRemoves}
-use Rattle.ferry_run_compact.specs.Compact.{CompactEach, CompactEnds, KeepsObjects}
+use Rattle.ferry_run_compact.specs.Compact.{CompactEach, CompactEnds, CompactShut, KeepsObjects}
 use Rattle.ferry_run_compact.specs.Compact.{compact_refusal, compacted_line}
 use Rattle.ferry_write.specs.Script.{AllDone}
 use Rattle.ferry_write.specs.Session.{KeepsPlain, SettlesFirst}
@@ -170,3 +170,16 @@ pub line_removes : (state : LogState) (threshold : ℕ) (line : List ℕ) (a c d
 line_removes state threshold line a c d went tells =
     between_then a c d (Went state (chosen_in threshold state.extents)) (IsStep (TellOf line)) (CompactRemoves threshold)
     (λ h g i went tells. went_removes state threshold line h g i went tells) went tells
+
+-- ---- where the log or the settings don't read
+
+pub shut_same : (a b : Option Told) → Between a b (λ h g. g ≡ h) → Between a b CompactShut
+shut_same a b same = between_map a b (λ h g. g ≡ h) CompactShut (λ h g e shut. e) same
+
+pub shut_read : (state : LogState) (a b d : Option Told) (E F : History → History → Type 0) → IfSome a (λ t. IsStateOf (told_files t) state)
+    → IfSome a (λ t. (config : Config) × (config_of (contents_at (told_files t) ConfigFile) ≡ Ok config)) → Between a b E → Between b d F
+    → Between a d CompactShut
+shut_read state None b d E F reads settings p q = tt
+shut_read state (Some s) b d E F reads settings p q =
+    let each = between_then (Some s) b d E F (λ h g. Unit {0}) (λ h g i e f. tt) p q in
+    (each.0, each.1, λ shut. absurd (shut ((state, reads), settings)))

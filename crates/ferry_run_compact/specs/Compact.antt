@@ -85,6 +85,15 @@ abbrev pub CompactRemoves : ℕ → History → History → Type 0
 CompactRemoves threshold before now = before.acts ≡ [] → (state : LogState) → IsStateOf (files_now before) state
     → RemovesThenTells state.transaction (chosen_in threshold state.extents) before now
 
+-- The log of files reads, and their settings.
+abbrev pub ReadsTarget : Files → Type 0
+ReadsTarget files =
+    ((state : LogState) × IsStateOf files state) × ((config : Config) × (config_of (contents_at files ConfigFile) ≡ Ok config))
+
+-- Where they don't, nothing is done.
+abbrev pub CompactShut : History → History → Type 0
+CompactShut before now = (ReadsTarget (files_now before) → ⊥) → now ≡ before
+
 -- ---- refusals
 
 -- what a fault of compacting is as a refusal of a store
@@ -119,10 +128,11 @@ IsCompactingRefused before now status = IfSome before (λ b. IfSome now (λ t. R
 
 -- ---- the whole of what is claimed
 
--- The segments of the target are compacted of which so many hundredths or more are unused. Where its log and its settings read that is done, unless memory is
--- refused, the device fails or the numbers of segments are used up, as the refusal says; where it is done, it is as `HasCompacted` has it. However it ends,
--- segments are removed as `CompactRemoves` has it; and whatever a stop leaves at any moment, each object is there that was, and no other; the counter blocks
--- of the runs before stay apart, and no number of the file `nonce` is below the one that it began with. Source, output and random bytes are not used.
+-- The segments of the target are compacted of which so many hundredths or more are unused. Where its log and its settings read that is done, unless memory
+-- is refused, the device fails or the numbers of segments are used up, as the refusal says; where they don't read, nothing is done; where it is done, it is
+-- as `HasCompacted` has it. However it ends, segments are removed as `CompactRemoves` has it; and whatever a stop leaves at any moment, each object is
+-- there that was, and no other; the counter blocks of the runs before stay apart, and no number of the file `nonce` is below the one that it began with.
+-- Source, output and random bytes are not used.
 pub record CompactsTarget (threshold : ℕ) (before : Devices) (status : Status) (after : Devices) : Type 0 where
   pub source : after.source ≡ before.source
   pub output : after.output ≡ before.output
@@ -131,6 +141,7 @@ pub record CompactsTarget (threshold : ℕ) (before : Devices) (status : Status)
   pub ended : status ≡ Statuses.Done → Between before.target.told after.target.told (CompactEnds threshold)
   pub left : Between before.target.told after.target.told CompactLeaves
   pub removed : Between before.target.told after.target.told (CompactRemoves threshold)
+  pub shut : Between before.target.told after.target.told CompactShut
   pub each : Between before.target.told after.target.told CompactEach
 
 -- ---- where nothing refuses

@@ -13,7 +13,7 @@ ghost use Rattle.ferry_log.specs.State.{IsStateOf};
 ghost use Rattle.ferry_repo.specs.Fault.{repo_failed};
 ghost use Rattle.ferry_store.specs.Fault.{source_failed};
 ghost use Rattle.ferry_store.specs.State.{Did, IsStep};
-ghost use Rattle.ferry_run_compact.specs.Compact.{CompactEach, CompactEnds, CompactLeaves, CompactRemoves, IsCompactingRefused};
+ghost use Rattle.ferry_run_compact.specs.Compact.{CompactEach, CompactEnds, CompactLeaves, CompactRemoves, CompactShut, IsCompactingRefused};
 ghost use Rattle.ferry_run_compact.specs.Compact.{RefusesSettings, compact_refusal, compacted_line};
 ghost use Rattle.ferry_status.specs.Telling.{RefusesTelling};
 ghost use Rattle.ferry_status.specs.Status.{entropy_failed, output_failed, source_failed as of_source, store_status, target_failed};
@@ -43,6 +43,7 @@ pub fn compact<D: Depot>(alloc: Global, threshold: u8, target: &mut D) -> Status
     ensures ended { result ≡ TheStatus.Done → Between (D.told target.old) (D.told target.new) (CompactEnds threshold) }
     ensures left { Between (D.told target.old) (D.told target.new) CompactLeaves }
     ensures removed { Between (D.told target.old) (D.told target.new) (CompactRemoves threshold) }
+    ensures shut { Between (D.told target.old) (D.told target.new) CompactShut }
     ensures refused { (result ≡ TheStatus.Done) ⊎ IsCompactingRefused (D.told target.old) (D.told target.new) result }
     ensures ends { FailedWhere (target_failed result) (D.told target.old) (D.told target.new) }
     ensures cause { RoseWhere (target_failed result) (D.faults target.old) (D.faults target.new) }
@@ -66,6 +67,7 @@ fn compact_target<D: Depot>(
     ensures did { Did CompactEach (λ _. CompactEnds threshold) (D.told target.old) (D.told target.new) (D.faults target.old) (D.faults target.new)
         result }
     ensures removed { Between (D.told target.old) (D.told target.new) (CompactRemoves threshold) }
+    ensures shut { Between (D.told target.old) (D.told target.new) CompactShut }
     ensures refused { IfErr result (λ refusal. IsCompactingRefused (D.told target.old) (D.told target.new) (store_status refusal)) }
     ensures drawn { IfErr result (λ refusal. source_failed refusal ≡ false) }
 {

@@ -3,6 +3,7 @@ use Rattle.std.proofs.Common.{◌≡◌, inr, inl, true, false, Option, Some, No
 use Rattle.ferry_disk.specs.Device.{Told}
 use Rattle.ferry_disk.specs.Moments.{Between}
 use Rattle.ferry_piece.specs.declared.fault.CarryFault.TheVariants as Carry
+use Rattle.ferry_status.proofs.OpenedLemmas.{shut_here}
 use Rattle.ferry_run_delete.proofs.CauseLemmas.{deletes_done}
 use Rattle.ferry_run_delete.proofs.ShowLemmas.{each_opened, some_left}
 use Rattle.ferry_run_delete.specs.Delete.{DeleteEach, DeleteLeaves, DeletesArchive, Deletion, IsDeletionRefused, RefusesDeletion}
@@ -30,5 +31,6 @@ deletes_nothing asked all =
       ended = λ done. absurd (let no : ⊥ = cc in no);
       left = here_each (DeleteLeaves asked) told (λ h. some_left asked h h (each_opened asked h h (each_here h)).0);
       kept = λ work. absurd (let no : ⊥ = cc in no);
+      shut = shut_here asked.secret told;
       each = here_each (DeleteEach asked) told (λ h. (each_opened asked h h (each_here h)).0);
     }

@@ -16,7 +16,7 @@ use Rattle.ferry_stops.specs.Chance.{EachStop}
 use Rattle.ferry_stops.specs.Counters.{SpellsNumber}
 use Rattle.ferry_stops.specs.Tells.{lines_of}
 use Rattle.ferry_store.specs.Causes.{HasLastSegment}
-use Rattle.ferry_store.specs.Store.{RefusesOpen, WritesEach}
+use Rattle.ferry_store.specs.Store.{OpenLeaves, RefusesOpen, WritesEach}
 use Rattle.ferry_store.specs.declared.fault.StoreRefusal.{StoreRefusal}
 use Rattle.ferry_text.specs.Text.{escaped}
 use Rattle.ferry_status.specs.Devices.{Devices, IsRefusedBy}
@@ -140,11 +140,11 @@ DeletesDone asked before now status = IfSome before (λ b. IfSome now (λ t. b.h
 
 -- ---- the whole of what is claimed
 
--- An archive of the target is deleted with the chunks that no other uses. Where it is there, and the record and the stream of each archive read, that is done,
--- unless memory is refused, a device fails or a limit is met; where it isn't done, the refusal says why. However it ends, each other archive is unchanged;
--- where it is refused, but for a device that failed and want of memory, so is this one. Whatever a stop leaves at any moment opens with all archives or
--- without this one; the counter blocks of the runs before stay apart, and none of this run's, and no number of the file `nonce`, is below the one that it
--- began with. Source and output are not used.
+-- An archive of the target is deleted with the chunks that no other uses. Where it is there, and the record and the stream of each archive read, that is
+-- done, unless memory is refused, a device fails or a limit is met; where it isn't done, the refusal says why. However it ends, each other archive is
+-- unchanged; where it is refused, but for a device that failed and want of memory, so is this one; where the target doesn't open, nothing is done. Whatever
+-- a stop leaves at any moment opens with all archives or without this one; the counter blocks of the runs before stay apart, and none of this run's, and no
+-- number of the file `nonce`, is below the one that it began with. Source and output are not used.
 pub record DeletesArchive (asked : Deletion) (before : Devices) (status : Status) (after : Devices) : Type 0 where
   pub source : after.source ≡ before.source
   pub output : after.output ≡ before.output
@@ -153,4 +153,5 @@ pub record DeletesArchive (asked : Deletion) (before : Devices) (status : Status
   pub ended : status ≡ Statuses.Done → Between before.target.told after.target.told (DeleteEnds asked)
   pub left : Between before.target.told after.target.told (DeleteLeaves asked)
   pub kept : is_of_work status ≡ true → Between before.target.told after.target.told (LeavesAll asked)
+  pub shut : Between before.target.told after.target.told (OpenLeaves asked.secret)
   pub each : Between before.target.told after.target.told (DeleteEach asked)

@@ -9,6 +9,7 @@ ghost use Rattle.ferry_disk.specs.Faults.{FailedWhere};
 ghost use Rattle.ferry_disk.specs.Moments.{Between};
 ghost use Rattle.ferry_store.specs.Fault.{source_failed};
 ghost use Rattle.ferry_store.specs.State.{Did, IsStep};
+ghost use Rattle.ferry_store.specs.Store.{OpenLeaves};
 ghost use Rattle.ferry_run_delete.specs.Delete.{DeleteEach, DeleteEnds, DeleteLeaves, DeletesDone, IsDeletionRefused, LeavesAll, RefusesDeletion};
 ghost use Rattle.ferry_run_delete.specs.Delete.{deleted_line, deletion};
 ghost use Rattle.ferry_run_delete.specs.Steps.{GoesAway};
@@ -45,6 +46,8 @@ pub fn delete<D: Depot, E: Entropy>(
     ensures each { Between (D.told target.old) (D.told target.new) (DeleteEach (deletion secret.now name timestamp)) }
     ensures ended { result ≡ TheStatus.Done → Between (D.told target.old) (D.told target.new) (DeleteEnds (deletion secret.now name timestamp)) }
     ensures left { Between (D.told target.old) (D.told target.new) (DeleteLeaves (deletion secret.now name timestamp)) }
+    // Where the target doesn't open, nothing is done.
+    ensures shut { Between (D.told target.old) (D.told target.new) (OpenLeaves secret.now) }
     ensures kept { is_of_work result ≡ true → Between (D.told target.old) (D.told target.new) (LeavesAll (deletion secret.now name timestamp)) }
     ensures refused { (result ≡ TheStatus.Done) ⊎ IsDeletionRefused (deletion secret.now name timestamp) (D.told target.old) (D.told target.new) result }
     ensures completes { DeletesDone (deletion secret.now name timestamp) (D.told target.old) (D.told target.new) result }
@@ -77,6 +80,7 @@ fn delete_and_tell<D: Depot, E: Entropy>(
     ensures refused { IfErr result (RefusesDeletion (deletion secret.now name.now timestamp.now) (D.told target.old) (D.told target.new)) }
     ensures kept { IfErr result (λ fault. IsOfWork fault
         → Between (D.told target.old) (D.told target.new) (LeavesAll (deletion secret.now name.now timestamp.now))) }
+    ensures shut { Between (D.told target.old) (D.told target.new) (OpenLeaves secret.now) }
     ensures shelf { IfErr result (λ fault. shelf_failed fault ≡ false) }
     ensures entropy { HasCause random_failed (E.faults entropy.old) (E.faults entropy.new) result }
 {
@@ -101,6 +105,7 @@ fn delete_archive<D: Depot, E: Entropy>(
     ensures refused { IfErr result (RefusesDeletion (deletion secret.now name.now timestamp.now) (D.told target.old) (D.told target.new)) }
     ensures kept { IfErr result (λ fault. IsOfWork fault
         → Between (D.told target.old) (D.told target.new) (LeavesAll (deletion secret.now name.now timestamp.now))) }
+    ensures shut { Between (D.told target.old) (D.told target.new) (OpenLeaves secret.now) }
     ensures shelf { IfErr result (λ fault. shelf_failed fault ≡ false) }
     ensures entropy { HasCause random_failed (E.faults entropy.old) (E.faults entropy.new) result }
 {

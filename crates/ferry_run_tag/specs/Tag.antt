@@ -25,7 +25,7 @@ use Rattle.ferry_stops.specs.Chance.{EachStop}
 use Rattle.ferry_stops.specs.Counters.{SpellsNumber}
 use Rattle.ferry_stops.specs.Tells.{lines_of}
 use Rattle.ferry_store.specs.Causes.{BreaksLive, HasFewBlocks, HasLastSegment}
-use Rattle.ferry_store.specs.Store.{RefusesOpen, WritesEach}
+use Rattle.ferry_store.specs.Store.{OpenLeaves, RefusesOpen, WritesEach}
 use Rattle.ferry_store.specs.declared.fault.StoreRefusal.{StoreRefusal}
 
 -- what a tagging is asked for: the target's secret, and the time of the manifest, where it is given
@@ -148,9 +148,10 @@ TagsDone asked before now status = IfSome before (λ b. IfSome now (λ t. b.hist
 -- Each record of an archive gets an authentication tag that has none; how many these were is told. Where the target opens, and the record and the stream of
 -- each archive read, that is done, unless memory is refused, a device fails, a limit is met, or a chunk is live under the id of a new record and doesn't
 -- open; where it isn't done, the refusal says why. However it ends, each archive that was whole is whole and says the same, where no contents collide among
--- the new records and what was live, under the same names with the same times; where it is refused, but for a device that failed and want of memory, nothing
--- is committed. Whatever a stop leaves at any moment opens with all archives, with the tags that they had or with all; the counter blocks of the runs before
--- stay apart, and none of this run's, and no number of the file `nonce`, is below the one that it began with. Source and output are not used.
+-- the new records and what was live, under the same names with the same times; where it is refused, but for a device that failed and want of memory,
+-- nothing is committed; where the target doesn't open, nothing is done. Whatever a stop leaves at any moment opens with all archives, with the tags that
+-- they had or with all; the counter blocks of the runs before stay apart, and none of this run's, and no number of the file `nonce`, is below the one that
+-- it began with. Source and output are not used.
 pub record TagsArchives (asked : Tagging) (before : Devices) (status : Status) (after : Devices) : Type 0 where
   pub source : after.source ≡ before.source
   pub output : after.output ≡ before.output
@@ -159,4 +160,5 @@ pub record TagsArchives (asked : Tagging) (before : Devices) (status : Status) (
   pub ended : status ≡ Statuses.Done → Between before.target.told after.target.told (TagEnds asked)
   pub left : Between before.target.told after.target.told (TagLeaves asked)
   pub kept : is_of_work status ≡ true → Between before.target.told after.target.told (LeavesAll asked)
+  pub shut : Between before.target.told after.target.told (OpenLeaves asked.secret)
   pub each : Between before.target.told after.target.told (TagEach asked)

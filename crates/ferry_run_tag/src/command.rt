@@ -9,6 +9,7 @@ ghost use Rattle.ferry_disk.specs.Faults.{FailedWhere};
 ghost use Rattle.ferry_disk.specs.Moments.{Between};
 ghost use Rattle.ferry_store.specs.Fault.{source_failed};
 ghost use Rattle.ferry_store.specs.State.{Did, IsStep};
+ghost use Rattle.ferry_store.specs.Store.{OpenLeaves};
 ghost use Rattle.ferry_run_tag.specs.Tag.{IsTaggingRefused, LeavesAll, RefusesTags, TagEach, TagEnds, TagLeaves, TagsDone};
 ghost use Rattle.ferry_run_tag.specs.Tag.{tagged_line, tagging};
 ghost use Rattle.ferry_run_tag.specs.Steps.{GetsTags};
@@ -43,6 +44,8 @@ pub fn tag_archives<D: Depot, E: Entropy>(
     ensures each { Between (D.told target.old) (D.told target.new) (TagEach (tagging secret.now timestamp)) }
     ensures ended { result ≡ TheStatus.Done → Between (D.told target.old) (D.told target.new) (TagEnds (tagging secret.now timestamp)) }
     ensures left { Between (D.told target.old) (D.told target.new) (TagLeaves (tagging secret.now timestamp)) }
+    // Where the target doesn't open, nothing is done.
+    ensures shut { Between (D.told target.old) (D.told target.new) (OpenLeaves secret.now) }
     ensures kept { is_of_work result ≡ true → Between (D.told target.old) (D.told target.new) (LeavesAll (tagging secret.now timestamp)) }
     ensures refused { (result ≡ TheStatus.Done) ⊎ IsTaggingRefused (tagging secret.now timestamp) (D.told target.old) (D.told target.new) result }
     ensures completes { TagsDone (tagging secret.now timestamp) (D.told target.old) (D.told target.new) result }
@@ -74,6 +77,7 @@ fn tag_and_tell<D: Depot, E: Entropy>(
     ensures refused { IfErr result (RefusesTags (tagging secret.now timestamp.now) (D.told target.old) (D.told target.new)) }
     ensures kept { IfErr result (λ fault. IsOfWork fault
         → Between (D.told target.old) (D.told target.new) (LeavesAll (tagging secret.now timestamp.now))) }
+    ensures shut { Between (D.told target.old) (D.told target.new) (OpenLeaves secret.now) }
     ensures shelf { IfErr result (λ fault. shelf_failed fault ≡ false) }
     ensures entropy { HasCause random_failed (E.faults entropy.old) (E.faults entropy.new) result }
 {
@@ -97,6 +101,7 @@ fn tag_target<D: Depot, E: Entropy>(
     ensures refused { IfErr result (RefusesTags (tagging secret.now timestamp.now) (D.told target.old) (D.told target.new)) }
     ensures kept { IfErr result (λ fault. IsOfWork fault
         → Between (D.told target.old) (D.told target.new) (LeavesAll (tagging secret.now timestamp.now))) }
+    ensures shut { Between (D.told target.old) (D.told target.new) (OpenLeaves secret.now) }
     ensures shelf { IfErr result (λ fault. shelf_failed fault ≡ false) }
     ensures entropy { HasCause random_failed (E.faults entropy.old) (E.faults entropy.new) result }
 {

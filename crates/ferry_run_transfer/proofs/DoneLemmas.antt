@@ -25,6 +25,7 @@ use Rattle.ferry_stops.specs.Tells.{lines_of}
 use Rattle.ferry_store.specs.Store.{RefusesOpen}
 use Rattle.ferry_store.specs.declared.fault.StoreRefusal.{StoreRefusal}
 use Rattle.ferry_store.specs.declared.fault.StoreRefusal.TheVariants as Store
+use Rattle.ferry_status.proofs.OpenedLemmas.{shut_here}
 use Rattle.ferry_run_transfer.proofs.RerunLemmas.{chosen_again}
 use Rattle.ferry_run_transfer.specs.Rerun.{EachChosen, IsAbsentOrEqual}
 use Rattle.ferry_status.specs.Status.{carry_status, repo_status, store_status, target_status}
@@ -275,6 +276,7 @@ transfers_nothing request all =
       ended = λ e. absurd (let no : ⊥ = cc in no);
       untouched = if_some request.source _ (λ source told none. (refl, refl));
       left = between_map told told (TransferEach request) (TransferLeaves request) (left_of request) (each_told request told);
+      shut = shut_here request.secrets.target told;
       only_told = λ e. absurd (let no : ⊥ = cc in no);
       put = λ e. absurd (let no : ⊥ = cc in no);
       each = each_told request told;

@@ -11,6 +11,7 @@ ghost use Rattle.ferry_status.specs.Devices.{drawn, store};
 ghost use Rattle.ferry_run_transfer.specs.Putting.{LeavesFirst, is_spared};
 ghost use Rattle.ferry_status.specs.Status.{carry_status, entropy_failed, is_of_work, output_failed, source_failed, target_failed};
 ghost use Rattle.ferry_run_transfer.specs.Transfer.{LeavesTold, TransferEach, TransferEnds, TransferLeaves, asked, drawn_from};
+ghost use Rattle.ferry_store.specs.Store.{OpenLeaves};
 ghost use Rattle.ferry_run_transfer.specs.TransferCauses.{EndsDone, IsFound, IsRefusedSo, RefusesAsked};
 
 use crate::names::{chosen_names, find_names};
@@ -58,6 +59,8 @@ pub fn transfer<S: Shelf, D: Depot, E: Entropy>(
         (drawn_from (E.drawn entropy.old) (E.drawn entropy.new)) (D.told target.old) (D.told target.new) result }
     ensures left { Between (D.told target.old) (D.told target.new)
         (TransferLeaves (asked secrets.now options.now names.now (S.told source.old))) }
+    // Where the target doesn't open, nothing is done.
+    ensures shut { Between (D.told target.old) (D.told target.new) (OpenLeaves secrets.now.target) }
     ensures only_told { is_of_work result ≡ true → Between (D.told target.old) (D.told target.new)
         (LeavesTold (asked secrets.now options.now names.now (S.told source.old))) }
     // All that it put, also behind the last commit, is the first of what is added for the chosen names, and nothing else.
@@ -99,6 +102,7 @@ fn copy<S: Shelf, D: Depot, E: Entropy>(
         × (drawn (E.drawn entropy.new) (E.faults entropy.new) ≡ drawn (E.drawn entropy.old) (E.faults entropy.old))) }
     ensures refused { IfErr result (RefusesAsked (asked secrets.now options.now names.now (S.told source.old))
         (drawn_from (E.drawn entropy.old) (E.drawn entropy.new)) (D.told target.old) (D.told target.new)) }
+    ensures shut { Between (D.told target.old) (D.told target.new) (OpenLeaves secrets.now.target) }
     ensures only_told { IfErr result (λ fault. IsOfWork fault → Between (D.told target.old) (D.told target.new)
         (LeavesTold (asked secrets.now options.now names.now (S.told source.old)))) }
     ensures put { IfErr result (λ fault. is_spared (carry_status fault) ≡ true → Between (D.told target.old) (D.told target.new)
@@ -138,6 +142,7 @@ fn copy_into<S: Shelf, D: Depot, E: Entropy>(
         × (drawn (E.drawn entropy.new) (E.faults entropy.new) ≡ drawn (E.drawn entropy.old) (E.faults entropy.old))) }
     ensures refused { IfErr result (RefusesAsked (asked secrets.now options.now names.now (S.told source.old))
         (drawn_from (E.drawn entropy.old) (E.drawn entropy.new)) (D.told target.old) (D.told target.new)) }
+    ensures shut { Between (D.told target.old) (D.told target.new) (OpenLeaves secrets.now.target) }
     ensures only_told { IfErr result (λ fault. IsOfWork fault → Between (D.told target.old) (D.told target.new)
         (LeavesTold (asked secrets.now options.now names.now (S.told source.old)))) }
     ensures put { IfErr result (λ fault. is_spared (carry_status fault) ≡ true → Between (D.told target.old) (D.told target.new)

@@ -1,3 +1,4 @@
 pub mod StatusLemmas
 pub mod TellLemmas
 pub mod LeftLemmas
+pub mod OpenedLemmas

@@ -41,7 +41,7 @@ use Rattle.ferry_store.proofs.StoreLemmas.{keeps_here, numbers_here, repo_is}
 use Rattle.ferry_store.specs.Dropping.{BareFits, FitsBare, OpenBareFits}
 use Rattle.ferry_store.specs.Fault.{depot_failed, repo_refusal}
 use Rattle.ferry_store.specs.State.{Begins, BeginsSound, Did, IsBegun, IsSound, ShowsStanding, found}
-use Rattle.ferry_store.specs.Store.{InitKeeps, NumbersOn, OpenEach, OpenFits, OpenShows}
+use Rattle.ferry_store.specs.Store.{InitKeeps, NumbersOn, OpenEach, OpenFits, OpenLeaves, OpenShows}
 use Rattle.ferry_store.specs.declared.fault.StoreRefusal.{StoreRefusal}
 use Rattle.ferry_store.specs.declared.store.Store.{Store}
 use Rattle.ferry_write.proofs.LawLemmas.{fits_now}
@@ -336,3 +336,13 @@ bare_begun secret store fault a b c n m k same caused opens empty behind_log non
     (λ f o. bare_reads f secret (repo_view store.repo) fault o)
     (λ h g o begins cleared. bare_ends secret store fault h g o empty begins cleared behind_log none uncounted)
     same caused opens first clears p
+
+-- ---- files that don't open
+
+pub same_leaves : (secret : Secret) (a b : Option Told) → Between a b (λ h g. g ≡ h) → Between a b (OpenLeaves secret)
+same_leaves secret a b same = between_map a b (λ h g. g ≡ h) (OpenLeaves secret) (λ h g e shut. e) same
+
+pub opened_leaves : (secret : Secret) (repo : RepoState) (a d : Option Told) (E : History → History → Type 0)
+    → IfSome a (λ t. OpensFilesTo (told_files t) secret repo) → Between a d E → Between a d (OpenLeaves secret)
+opened_leaves secret repo None d E opens each = tt
+opened_leaves secret repo (Some s) d E opens each = (each.0, each.1, λ shut. absurd (shut repo opens))

@@ -154,6 +154,10 @@ OpenFits store before now = (counts : Bool) → before.acts ≡ [] → (counts �
 abbrev pub OpenEach : History → History → Type 0
 OpenEach before now = WritesEach OpenShows before now
 
+-- Where the files don't open under the secret, nothing is done.
+abbrev pub OpenLeaves : Secret → History → History → Type 0
+OpenLeaves secret before now = ((repo : RepoState) → OpensFilesTo (files_now before) secret repo → ⊥) → now ≡ before
+
 -- Why files don't open to be written, by why their repository doesn't open to be read, and by what says that it does. `Nonce` says as well that it
 -- does.
 abbrev pub RefusesOpenBy : (RepoFault → Type 0) → Type 0 → Files → StoreRefusal → Type 0

@@ -28,7 +28,8 @@ ghost use Rattle.ferry_store.specs.Limits.{LeavesBoth, LimitsManifest, LimitsPut
 ghost use Rattle.ferry_store.specs.Standing.{with_manifest};
 ghost use Rattle.ferry_store.specs.Piece.{HasSize, IsPrepared, Prepares, content_in};
 ghost use Rattle.ferry_store.specs.State.{CommitsSound, Did, KeepsSound, RefusesCommit};
-ghost use Rattle.ferry_store.specs.Store.{HasLimit, InitEach, InitFits, InitMakes, IsKnown, IsUnspent, OpenEach, OpenFits, RefusesInit, RefusesOpen, StoreFits};
+ghost use Rattle.ferry_store.specs.Store.{HasLimit, InitEach, InitFits, InitMakes, IsKnown, IsUnspent};
+ghost use Rattle.ferry_store.specs.Store.{OpenEach, OpenFits, OpenLeaves, RefusesInit, RefusesOpen, StoreFits};
 ghost use Rattle.ferry_store.specs.Store.{RefusesOpenBare};
 ghost use Rattle.ferry_store.specs.contracts.store.Store.{the_row};
 ghost use Rattle.ferry_store.specs.declared.fault.StoreRefusal.TheVariants as Refusal;
@@ -149,6 +150,8 @@ impl Store {
         ensures numbered { OnOk result (IfSome (D.told depot.old) (λ t. IsSome (file_at (told_files t) FileName.Nonce))) }
         // Each stop shows what is committed, with the settings as they are, and counter blocks are kept; the store fits with what was committed.
         ensures did { Did OpenEach OpenFits (D.told depot.old) (D.told depot.new) (D.faults depot.old) (D.faults depot.new) result }
+        // Where the files don't open, nothing is done.
+        ensures kept { Between (D.told depot.old) (D.told depot.new) (OpenLeaves secret.now) }
         // No line is told, also by a call that fails.
         ensures untold { Between (D.told depot.old) (D.told depot.new) TellsNothing }
         // The repository doesn't open; or it does, and the file `nonce` is absent or has no number; or a device failed.

@@ -1,15 +1,16 @@
-use Rattle.std.proofs.Common.{Result, Ok, Err, sym, subst}
+use Rattle.std.proofs.Common.{◌≡◌, Result, Ok, Err, sym, subst}
 use Rattle.ferry_compact.specs.Choice.{chosen_in}
 use Rattle.ferry_disk.proofs.FaultLemmas.{keeps_end}
 use Rattle.ferry_repo.specs.Fault.{repo_failed}
-use Rattle.ferry_store.proofs.StepLemmas.{err_is, same_told}
+use Rattle.ferry_store.proofs.StepLemmas.{after_same, err_is, same_told}
 use Rattle.ferry_store.specs.Fault.{repo_refusal}
 use Rattle.ferry_store.specs.State.{Did}
 use Rattle.ferry_store.specs.declared.fault.StoreRefusal.{StoreRefusal}
-use Rattle.ferry_run_compact.proofs.ToldLemmas.{did_compact, did_read, did_stop, line_removes, stop_removes, told_removes, went_all}
+use Rattle.ferry_run_compact.proofs.ToldLemmas.{did_compact, did_read, did_stop, line_removes, shut_read, shut_same, stop_removes, told_removes, went_all}
 use Rattle.ferry_status.proofs.TellLemmas.{repo_is}
 use Rattle.ferry_run_compact.proofs.command.compact_target.Goals as goal
 use Rattle.ferry_run_compact.specs.Compact.{CompactEach, CompactEnds, compacted_line}
+use Rattle.ferry_write.specs.Session.{SettlesFirst}
 
 pub returns-in_err-log-clause-did : goal.returns-in_err-log-clause-did
 returns-in_err-log-clause-did g c =
@@ -85,3 +86,27 @@ returns-clause-removed g c =
     line_removes state c.args.threshold (compacted_line c.in-Ok.count) a d (g.D.Shelf.told c.tell_compacted.new.target)
     (went_all state (chosen_in c.args.threshold state.extents) a b d (same_told {T = Unit {0}} repo_failed a b (Ok tt) c.in_ok-log.ensures.same)
     c.in_ok-log.ensures.log h.live h.kept h.numbers h.first h.removes h.plain) c.tell_compacted.ensures.did.each
+
+pub returns-in_err-log-clause-shut : goal.returns-in_err-log-clause-shut
+returns-in_err-log-clause-shut g c =
+    let a = g.D.Shelf.told c.args.target.now in
+    let b = g.D.Shelf.told c.read_target.new.target in
+    shut_same a b (same_told repo_failed a b c.read_target.result c.read_target.ensures.same)
+
+pub returns-in-Err-clause-shut : goal.returns-in-Err-clause-shut
+returns-in-Err-clause-shut g c =
+    let a = g.D.Shelf.told c.args.target.now in
+    let b = g.D.Shelf.told c.read_target.new.target in
+    let d = g.D.Shelf.told c.compact.new.depot in
+    shut_read c.in_ok-log.log a b d (λ h k. k ≡ h) SettlesFirst c.in_ok-log.ensures.log c.in_ok-log.ensures.settings
+    (same_told repo_failed a b c.read_target.result c.read_target.ensures.same) c.in-Err.ensures.first
+
+pub returns-clause-shut : goal.returns-clause-shut
+returns-clause-shut g c =
+    let a = g.D.Shelf.told c.args.target.now in
+    let b = g.D.Shelf.told c.read_target.new.target in
+    let d = g.D.Shelf.told c.compact.new.depot in
+    let e = g.D.Shelf.told c.tell_compacted.new.target in
+    let same = same_told repo_failed a b c.read_target.result c.read_target.ensures.same in
+    shut_read c.in_ok-log.log a d e SettlesFirst _ c.in_ok-log.ensures.log c.in_ok-log.ensures.settings
+    (after_same SettlesFirst a b d same c.in-Ok.ensures.first) c.tell_compacted.ensures.did.each

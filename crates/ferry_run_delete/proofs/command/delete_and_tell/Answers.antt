@@ -6,6 +6,9 @@ use Rattle.ferry_piece.specs.declared.fault.CarryFault.{CarryFault}
 use Rattle.ferry_run_delete.proofs.EndLemmas.{all_works, untold_works}
 use Rattle.ferry_run_delete.proofs.command.delete_and_tell.Goals as goal
 use Rattle.ferry_run_delete.specs.Delete.{DeleteEach, DeleteEnds, deletion}
+use Rattle.ferry_run_delete.specs.Steps.{GoesAway}
+use Rattle.ferry_status.proofs.OpenedLemmas.{known_then}
+use Rattle.ferry_write.specs.Script.{AllDone}
 
 pub returns-in_err-tell_deleted-clause-works : goal.returns-in_err-tell_deleted-clause-works
 returns-in_err-tell_deleted-clause-works g c =
@@ -27,3 +30,17 @@ returns-clause-works g c =
     all_works asked c.in_ok-count.count (g.D.Shelf.told c.args.target.now) (g.D.Shelf.told c.delete_archive.new.target)
     (g.D.Shelf.told c.tell_deleted.new.target) (g.D.Shelf.faults c.args.target.now) (g.D.Shelf.faults c.delete_archive.new.target)
     (g.D.Shelf.faults c.tell_deleted.new.target) c.in_ok-count.ensures.works c.in_ok-tell_deleted.ensures.did
+
+pub returns-in_err-tell_deleted-clause-shut : goal.returns-in_err-tell_deleted-clause-shut
+returns-in_err-tell_deleted-clause-shut g c =
+    let asked = deletion c.args.secret.now c.args.name.now c.args.timestamp.now in
+    known_then c.args.secret.now (g.D.Shelf.told c.args.target.now) (g.D.Shelf.told c.delete_archive.new.target) (g.D.Shelf.told c.tell_deleted.new.target)
+    (λ h k. AllDone h k × GoesAway asked c.in_ok-count.count h k) _ c.requires.begun (λ h k acts e. let gone = e.1 acts in (gone.repo, gone.opens))
+    c.in_ok-count.ensures.works.end c.in_err-tell_deleted.ensures.did.each
+
+pub returns-clause-shut : goal.returns-clause-shut
+returns-clause-shut g c =
+    let asked = deletion c.args.secret.now c.args.name.now c.args.timestamp.now in
+    known_then c.args.secret.now (g.D.Shelf.told c.args.target.now) (g.D.Shelf.told c.delete_archive.new.target) (g.D.Shelf.told c.tell_deleted.new.target)
+    (λ h k. AllDone h k × GoesAway asked c.in_ok-count.count h k) _ c.requires.begun (λ h k acts e. let gone = e.1 acts in (gone.repo, gone.opens))
+    c.in_ok-count.ensures.works.end c.in_ok-tell_deleted.ensures.did.each

@@ -14,6 +14,7 @@ use Rattle.ferry_run_delete.proofs.EndLemmas.{archived_works, named_then, undele
 use Rattle.ferry_run_delete.proofs.command.delete_archive.Goals as goal
 use Rattle.ferry_run_delete.specs.Delete.{DeleteEach, LeavesAll, deletion}
 use Rattle.ferry_run_delete.specs.Steps.{GoesAway}
+use Rattle.ferry_status.proofs.OpenedLemmas.{opened_then}
 use Rattle.ferry_store.proofs.UseLemmas.{fits_opened}
 use Rattle.ferry_store.specs.Store.{OpenEach, OpenFits}
 
@@ -94,3 +95,11 @@ returns-clause-kept g c =
     (λ fault keeps work. undeleted_left asked store a b d n m c.in_ok-store.ensures.opened c.in_ok-store.ensures.untold c.in_ok-store.ensures.did
     c.delete.ensures.untold (keeps work) works.each)
     c.delete.ensures.keeps
+
+pub returns-in_err-store-clause-shut : goal.returns-in_err-store-clause-shut
+returns-in_err-store-clause-shut g c = c.open.ensures.kept
+
+pub returns-clause-shut : goal.returns-clause-shut
+returns-clause-shut g c =
+    opened_then c.args.secret.now (repo_view c.in_ok-store.store.repo) (g.D.Shelf.told c.args.target.now) (g.D.Shelf.told c.open.new.depot)
+    (g.D.Shelf.told c.delete.new.depot) _ _ c.in_ok-store.ensures.opened c.in_ok-store.ensures.did.each c.delete.ensures.works.each

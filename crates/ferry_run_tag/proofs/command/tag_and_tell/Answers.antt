@@ -5,7 +5,10 @@ use Rattle.ferry_piece.specs.Work.{Works}
 use Rattle.ferry_piece.specs.declared.fault.CarryFault.{CarryFault}
 use Rattle.ferry_run_tag.proofs.EndLemmas.{all_works, untold_works}
 use Rattle.ferry_run_tag.proofs.command.tag_and_tell.Goals as goal
+use Rattle.ferry_run_tag.specs.Steps.{GetsTags}
 use Rattle.ferry_run_tag.specs.Tag.{TagEach, TagEnds, tagging}
+use Rattle.ferry_status.proofs.OpenedLemmas.{known_then}
+use Rattle.ferry_write.specs.Script.{AllDone}
 
 pub returns-in_err-tell_tagged-clause-works : goal.returns-in_err-tell_tagged-clause-works
 returns-in_err-tell_tagged-clause-works g c =
@@ -27,3 +30,17 @@ returns-clause-works g c =
     all_works asked c.in_ok-count.count (g.D.Shelf.told c.args.target.now) (g.D.Shelf.told c.tag_target.new.target)
     (g.D.Shelf.told c.tell_tagged.new.target) (g.D.Shelf.faults c.args.target.now) (g.D.Shelf.faults c.tag_target.new.target)
     (g.D.Shelf.faults c.tell_tagged.new.target) c.in_ok-count.ensures.works c.in_ok-tell_tagged.ensures.did
+
+pub returns-in_err-tell_tagged-clause-shut : goal.returns-in_err-tell_tagged-clause-shut
+returns-in_err-tell_tagged-clause-shut g c =
+    let asked = tagging c.args.secret.now c.args.timestamp.now in
+    known_then c.args.secret.now (g.D.Shelf.told c.args.target.now) (g.D.Shelf.told c.tag_target.new.target) (g.D.Shelf.told c.tell_tagged.new.target)
+    (λ h k. AllDone h k × GetsTags asked c.in_ok-count.count h k) _ c.requires.begun (λ h k acts e. let tagged = e.1 acts in (tagged.repo, tagged.opens))
+    c.in_ok-count.ensures.works.end c.in_err-tell_tagged.ensures.did.each
+
+pub returns-clause-shut : goal.returns-clause-shut
+returns-clause-shut g c =
+    let asked = tagging c.args.secret.now c.args.timestamp.now in
+    known_then c.args.secret.now (g.D.Shelf.told c.args.target.now) (g.D.Shelf.told c.tag_target.new.target) (g.D.Shelf.told c.tell_tagged.new.target)
+    (λ h k. AllDone h k × GetsTags asked c.in_ok-count.count h k) _ c.requires.begun (λ h k acts e. let tagged = e.1 acts in (tagged.repo, tagged.opens))
+    c.in_ok-count.ensures.works.end c.in_ok-tell_tagged.ensures.did.each

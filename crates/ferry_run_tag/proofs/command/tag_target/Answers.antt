@@ -15,6 +15,7 @@ use Rattle.ferry_run_tag.proofs.EndLemmas.{tagged_works, unopened_left, unopened
 use Rattle.ferry_run_tag.proofs.command.tag_target.Goals as goal
 use Rattle.ferry_run_tag.specs.Tag.{TagEach, LeavesAll, tagging}
 use Rattle.ferry_run_tag.specs.Steps.{GetsTags}
+use Rattle.ferry_status.proofs.OpenedLemmas.{opened_then}
 use Rattle.ferry_store.proofs.UseLemmas.{fits_opened}
 use Rattle.ferry_store.specs.Store.{OpenEach, OpenFits}
 
@@ -95,3 +96,11 @@ returns-clause-kept g c =
     (λ fault keeps work. untagged_left asked store a b d n m c.in_ok-store.ensures.opened c.in_ok-store.ensures.untold c.in_ok-store.ensures.did
     c.tag_archives.ensures.untold (keeps work) works.each)
     c.tag_archives.ensures.keeps
+
+pub returns-in_err-store-clause-shut : goal.returns-in_err-store-clause-shut
+returns-in_err-store-clause-shut g c = c.open.ensures.kept
+
+pub returns-clause-shut : goal.returns-clause-shut
+returns-clause-shut g c =
+    opened_then c.args.secret.now (repo_view c.in_ok-store.store.repo) (g.D.Shelf.told c.args.target.now) (g.D.Shelf.told c.open.new.depot)
+    (g.D.Shelf.told c.tag_archives.new.depot) _ _ c.in_ok-store.ensures.opened c.in_ok-store.ensures.did.each c.tag_archives.ensures.works.each

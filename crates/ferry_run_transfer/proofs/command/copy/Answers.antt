@@ -8,6 +8,7 @@ use Rattle.ferry_disk.specs.Moments.{Between}
 use Rattle.ferry_repo.specs.Fault.{repo_failed}
 use Rattle.ferry_repo.specs.declared.fault.RepoFault.{RepoFault}
 use Rattle.ferry_repo.specs.declared.repo.Repo.{Repo}
+use Rattle.ferry_status.proofs.OpenedLemmas.{shut_here}
 use Rattle.ferry_run_transfer.proofs.PuttingLemmas.{untouched_first}
 use Rattle.ferry_run_transfer.proofs.ToldLemmas.{untouched_told}
 use Rattle.ferry_run_transfer.specs.Putting.{LeavesFirst, is_spared}
@@ -114,3 +115,6 @@ returns-clause-untouched g c =
     ≡ drawn_of (g.E.Entropy.drawn c.args.entropy.now) (g.E.Entropy.faults c.args.entropy.now))))
     (asked_kept {T = Repo} {F = RepoFault} c.args.secrets.now c.args.options.now c.args.names.now repo_failed (g.S.Shelf.told c.args.source.now)
     (g.S.Shelf.told c.open.new.shelf) c.in_ok-repo.repo c.in_ok-repo.ensures.same) c.copy_into.ensures.untouched
+
+pub returns-in_err-repo-clause-shut : goal.returns-in_err-repo-clause-shut
+returns-in_err-repo-clause-shut g c = shut_here c.args.secrets.now.target (g.D.Shelf.told c.args.target.now)

@@ -8,6 +8,7 @@ use Rattle.ferry_disk.specs.Moments.{Between}
 use Rattle.ferry_repo.specs.Opening.{repo_view}
 use Rattle.ferry_store.proofs.UseLemmas.{fits_opened}
 use Rattle.ferry_store.specs.Store.{OpenEach, OpenFits}
+use Rattle.ferry_status.proofs.OpenedLemmas.{opened_then, shut_here}
 use Rattle.ferry_run_transfer.proofs.PuttingLemmas.{stopped_first, unopened_first, untouched_first}
 use Rattle.ferry_run_transfer.proofs.ToldLemmas.{stopped_told, unopened_told, untouched_told}
 use Rattle.ferry_run_transfer.specs.Putting.{LeavesFirst, is_spared}
@@ -290,3 +291,22 @@ returns-clause-untouched g c =
     found_apart request _
     (names_found c.args.secrets.now c.args.options.now c.args.names.now (repo_view c.args.repo.now) (g.S.Shelf.told c.args.source.now)
     c.deref.result.now c.requires.source_opens (c.deref.ensures.value ∙ c.in_ok-chosen.ensures.chosen) c.in_ok-find_names.ensures.found)
+
+pub returns-in_err-chosen-clause-shut : goal.returns-in_err-chosen-clause-shut
+returns-in_err-chosen-clause-shut g c = shut_here c.args.secrets.now.target (g.D.Shelf.told c.args.target.now)
+
+pub returns-in_err-find_names-clause-shut : goal.returns-in_err-find_names-clause-shut
+returns-in_err-find_names-clause-shut g c = shut_here c.args.secrets.now.target (g.D.Shelf.told c.args.target.now)
+
+pub returns-in_err-store-clause-shut : goal.returns-in_err-store-clause-shut
+returns-in_err-store-clause-shut g c = c.open.ensures.kept
+
+pub returns-in_err-carry-clause-shut : goal.returns-in_err-carry-clause-shut
+returns-in_err-carry-clause-shut g c =
+    opened_then c.args.secrets.now.target (repo_view c.in_ok-store.store.repo) (g.D.Shelf.told c.args.target.now) (g.D.Shelf.told c.open.new.depot)
+    (g.D.Shelf.told c.carry.new.depot) _ _ c.in_ok-store.ensures.opened c.in_ok-store.ensures.did.each c.carry.ensures.works.works.each
+
+pub returns-clause-shut : goal.returns-clause-shut
+returns-clause-shut g c =
+    opened_then c.args.secrets.now.target (repo_view c.in_ok-store.store.repo) (g.D.Shelf.told c.args.target.now) (g.D.Shelf.told c.open.new.depot)
+    (g.D.Shelf.told c.carry.new.depot) _ _ c.in_ok-store.ensures.opened c.in_ok-store.ensures.did.each c.carry.ensures.works.works.each

@@ -28,6 +28,7 @@ returns-in-Transfer-clause-does g c =
       ended = e.ended;
       untouched = e.untouched;
       left = e.left;
+      shut = e.shut;
       only_told = e.only_told;
       put = e.put;
       each = e.each;

@@ -6,9 +6,9 @@ use Rattle.ferry_repo.specs.Fault.{repo_failed}
 use Rattle.ferry_repo.specs.Opening.{OpensFilesTo, repo_view}
 use Rattle.ferry_repo.specs.declared.repo.Repo.{Repo}
 use Rattle.ferry_stops.proofs.TellLemmas.{told_both, told_kept}
-use Rattle.ferry_store.proofs.OpenLemmas.{open_begun, open_unbegun, open_uncopied, open_unread}
+use Rattle.ferry_store.proofs.OpenLemmas.{open_begun, open_unbegun, open_uncopied, open_unread, opened_leaves, same_leaves}
 use Rattle.ferry_store.proofs.UnopenedLemmas.{begin_told, there_told}
-use Rattle.ferry_store.proofs.StepLemmas.{err_is, same_told}
+use Rattle.ferry_store.proofs.StepLemmas.{after_same, err_is, same_told}
 use Rattle.ferry_store.proofs.store.Store.open.Goals as goal
 use Rattle.ferry_store.specs.Fault.{repo_refusal}
 use Rattle.ferry_store.specs.State.{Begins, BeginsSound, Did}
@@ -124,3 +124,31 @@ returns-clause-numbered g c =
     let a = g.D.Shelf.told c.args.depot.now in
     let b = g.D.Shelf.told c.open.new.shelf in
     there_told a b (same_told repo_failed a b (Ok c.in_ok-repo.repo) c.in_ok-repo.ensures.same) c.in_ok-counter.ensures.there
+
+pub returns-in_err-repo-clause-kept : goal.returns-in_err-repo-clause-kept
+returns-in_err-repo-clause-kept g c =
+    let a = g.D.Shelf.told c.args.depot.now in
+    let b = g.D.Shelf.told c.open.new.shelf in
+    same_leaves c.args.secret.now a b (same_told repo_failed a b c.open.result c.open.ensures.same)
+
+pub returns-in_err-accepted-clause-kept : goal.returns-in_err-accepted-clause-kept
+returns-in_err-accepted-clause-kept g c =
+    let a = g.D.Shelf.told c.args.depot.now in
+    let b = g.D.Shelf.told c.open.new.shelf in
+    same_leaves c.args.secret.now a b (same_told repo_failed a b (Ok c.in_ok-repo.repo) c.in_ok-repo.ensures.same)
+
+pub returns-in_err-counter-clause-kept : goal.returns-in_err-counter-clause-kept
+returns-in_err-counter-clause-kept g c =
+    let a = g.D.Shelf.told c.args.depot.now in
+    let b = g.D.Shelf.told c.open.new.shelf in
+    let d = g.D.Shelf.told c.begin_at.new.depot in
+    opened_leaves c.args.secret.now (repo_view c.in_ok-repo.repo) a d _ c.in_ok-repo.ensures.repository
+    (after_same _ a b d (same_told repo_failed a b (Ok c.in_ok-repo.repo) c.in_ok-repo.ensures.same) c.in_err-counter.ensures.did.each)
+
+pub returns-clause-kept : goal.returns-clause-kept
+returns-clause-kept g c =
+    let a = g.D.Shelf.told c.args.depot.now in
+    let b = g.D.Shelf.told c.open.new.shelf in
+    let d = g.D.Shelf.told c.begin_at.new.depot in
+    opened_leaves c.args.secret.now (repo_view c.in_ok-repo.repo) a d _ c.in_ok-repo.ensures.repository
+    (after_same _ a b d (same_told repo_failed a b (Ok c.in_ok-repo.repo) c.in_ok-repo.ensures.same) c.in_ok-counter.ensures.did.each)
