@@ -58,6 +58,7 @@ use Rattle.ferry_carry.specs.Grow.{AcceptsMore, Grows, KeepsGrowing, KeepsNames}
 use Rattle.ferry_piece.specs.Puts.{Addition, AtBegin, Within, border_behind}
 use Rattle.ferry_piece.specs.Work.{Works}
 use Rattle.ferry_piece.specs.declared.fault.CarryFault.TheVariants.{Target}
+use Rattle.ferry_piece.proofs.FewLemmas.{begun_kept, begun_none, begun_nothing, used_up}
 
 -- ---- faults of a comparison
 
@@ -150,6 +151,12 @@ fits_read {T} store repo a b result same kept repo_fits fits = by_end b repo_fit
   by_end None r f = tt
   by_end (Some told) r f = read_fits false store repo told.history same r f
 
+-- a fault of a comparison isn't that of used up numbers
+compared_unused : (fault : CompareFault) → compare_fault fault ≡ used_up → ⊥
+compared_unused (Compares.Source f) e = let no : ⊥ = cc in no
+compared_unused (Compares.Target f) e = let no : ⊥ = cc in no
+compared_unused Compares.Memory e = let no : ⊥ = cc in no
+
 -- such a call as a body of a flight
 pub works_read : {T U : Type 0} (most : ℕ) (store : Store) (repo : Repo) (a b : Option Told) (n m : ℕ) (x : T) (y : U) → repo_view repo ≡ repo_view store.repo
     → KeepsTold {F = CompareFault} other_failed a b (Ok x) → m ≡ n → IfSome b (λ t. FitsRepo (told_files t) (repo_view repo) (cached_in repo))
@@ -170,6 +177,7 @@ works_read {T} {U} most store repo a b n m x y same kept caused repo_fits =
       unspent = λ was. record { session = was.session; counter = was.counter; itself = was.itself };
       last = tt;
       held = tt;
+      few = begun_kept {T = U} store store (with_repo store repo) 0 (Ok y) refl (begun_none {T = U} 0 store y);
     }
 
 pub works_unread : {U : Type 0} (T : Type 0) (most : ℕ) (store : Store) (repo : Repo) (a b : Option Told) (n m : ℕ) (fault : CompareFault)
@@ -197,6 +205,8 @@ works_unread {U} T most store repo a b n m fault same kept caused refused repo_f
             (λ h g e. gathers_all most store now [] h g (read_gathers most store repo h g same e))
             (between_end (λ h. FitsRepo (files_now h) (repo_view repo) (cached_in repo)) (λ h g. g ≡ h) a b repo_fits reads)),
       );
+      few = begun_kept {T = U} store store now 0 (Err (compare_fault fault)) refl
+          (begun_nothing {T = U} 0 store (compare_fault fault) (compared_unused fault));
     }
 
 -- what was compared is the same still

@@ -1,7 +1,7 @@
 -- Turns of a flight, one after another.
 use Rattle.std.proofs.Common.{◌≡◌, ◌≢◌, ◌⊎◌, inl, inr, Bool, true, false, ℕ, List, [], ◌∷◌, ◌++◌}
 use Rattle.std.proofs.Common.{Option, Some, None, Result, Ok, Err, IfErr, IfOk, IfSome, IsErrAnd, IsSome, MatchResult, OnOk}
-use Rattle.std.proofs.Common.{refl, sym, ◌∙◌, ap, subst}
+use Rattle.std.proofs.Common.{refl, sym, ◌∙◌, ap, subst, ◌+◌, ◌*◌, length, length-append, arith}
 use Rattle.std.proofs.lemmas.List.{append-nil, append_assoc}
 use Rattle.ferry_disk.proofs.MomentLemmas.{between_both, between_map, between_then}
 use Rattle.ferry_disk.specs.Act.{History, files_now}
@@ -31,13 +31,13 @@ use Rattle.ferry_carry.proofs.GrowLemmas.{growing_here}
 use Rattle.ferry_carry.proofs.HeldLemmas.{grows_all, heard_apart, heard_back, heard_each, heard_map, held_then, holds_within}
 use Rattle.ferry_carry.proofs.HeldLemmas.{known_back}
 use Rattle.ferry_piece.proofs.PutsLemmas.{adds_at, adds_here, allows_within, border_append, front_all, goes_at, goes_same}
-use Rattle.ferry_piece.specs.Adding.{AddsOn, HoldsRefused, IsNoChunk, StopsLast}
+use Rattle.ferry_piece.specs.Adding.{AddsOn, HoldsRefused, IsNoChunk, StopsLast, BeginsSegments}
 use Rattle.ferry_carry.specs.Naming.{TaggedRecord, records_in}
 use Rattle.ferry_carry.specs.declared.options.Options.{Options}
 use Rattle.ferry_carry.specs.Carrying.{Origin, origin}
 use Rattle.ferry_carry.specs.Counting.{CountsOf, nothing_carried}
 use Rattle.ferry_carry.specs.Flight.{BeginsDone, Flies, FlightFits, IsSame, ListsDone, TakesAll, TakesTurn, TurnLists, TurnStands, WorkFits}
-use Rattle.ferry_carry.specs.Flight.{carried_by, flown_from, origin_of}
+use Rattle.ferry_carry.specs.Flight.{carried_by, flown_from, origin_of, end_segments}
 use Rattle.ferry_piece.specs.Gather.{Gathers, GathersAt, KeepsRest, KeepsStanding, KeepsStandingAt, StandsFrom}
 use Rattle.ferry_carry.specs.Grow.{AcceptsMore, Grows, KeepsGrowing}
 use Rattle.ferry_piece.specs.Fault.{IsOfSource, IsOfWork, target_failed}
@@ -63,6 +63,7 @@ use Rattle.ferry_stops.specs.Tells.{TellsNothing}
 use Rattle.ferry_store.specs.Adding.{Checkpoints}
 use Rattle.ferry_store.specs.Store.{IsUnspent}
 use Rattle.ferry_write.specs.Script.{AllDone}
+use Rattle.ferry_piece.proofs.FewLemmas.{begun_as, begun_fault, begun_none, begun_same, begun_then, memory_unused, used_up}
 
 -- ---- a source
 
@@ -190,6 +191,10 @@ taken_still fault name (inr e) = ap target_failed e
 pub taken_unbroken : (fault : CarryFault) (name : List ℕ) → (fault ≡ Taken name) ⊎ (fault ≡ Memory) → IsNoChunk fault
 taken_unbroken fault name (inl e) = subst IsNoChunk (sym e) tt
 taken_unbroken fault name (inr e) = subst IsNoChunk (sym e) tt
+
+pub taken_unused : (fault : CarryFault) (name : List ℕ) → (fault ≡ Taken name) ⊎ (fault ≡ Memory) → fault ≡ used_up → ⊥
+taken_unused fault name (inl e) used = let both = sym e ∙ used in let no : ⊥ = cc in no
+taken_unused fault name (inr e) used = let both = sym e ∙ used in let no : ⊥ = cc in no
 
 -- an archive that isn't named is none of the source
 pub end_apart : (from : Origin) (heard : Option Told) (keys : Keys) (name : List ℕ) (fault : CarryFault) → RefusesEnd from heard keys name fault
@@ -552,6 +557,14 @@ pending_uncommitted {T} {U} most store now a b n m fault some p =
     (KeepsStandingAt AtBegin most store []) (λ (_ : U). GathersAt AtBegin most store [] now) a b n m fault
     (λ h g e. checkpoint_stands most store [] h g some e.0 e.1) p
 
+-- the segments of it, where it ends a flight
+pub present_few : (store now : Store) (result : Result Turn CarryFault) → IfOk result (λ turn. turn ≡ Present) → BeginsSegments 2 store now result
+    → BeginsSegments (0 + end_segments result) store now result
+present_few store now (Ok turn) present few =
+    subst (λ (t : Turn). BeginsSegments (0 + end_segments (Ok t)) store now (Ok t)) (sym present)
+    (subst (λ (t : Turn). BeginsSegments 2 store now (Ok t)) present few)
+present_few store now (Err fault) present few = few
+
 -- a refusal that was handed on, of a turn
 pub turned_err : (told : Option Told) (source : RepoState) (from : Origin) (name : List ℕ) (added more : List Addition) (records : List TaggedRecord) (store
     now : Store)
@@ -591,6 +604,8 @@ turned_behind {T} told later seen source after given block most time name store 
           (KeepsStanding most store []) a b p.works.each same rest.keys rest.accepted refl refl q.fills;
       lists = turns_before seen given c now flight from other keys others [] more records result (KeepsStanding most store []) a b p.works.each same rest.keys
           q.lists;
+      few = begun_then {T = T} {U = Turn} 0 (2 * length more + end_segments result) (2 * length more + end_segments result) store middle now (Ok x) result
+          (omega arith) p.few q.few;
     }
 
 -- the end of an archive behind a step that added nothing
@@ -604,10 +619,10 @@ pub turn_ended : {T : Type 0} (from : Origin) (name : List ℕ) (added more : Li
     → StopsLast b (repo_view middle.repo).keys more result → HoldsRefused (border_behind AtBegin added) from.most middle more now b c result
     → IfErr result (λ fault. IsOfSource fault → ⊥)
     → IfOk result (λ turn. (turn ≡ Named) × TurnLists told source c now flight a from (repo_view store.repo).keys added more records Named)
-    → TakesTurn told source from name added more records store now flight a c n k result
+    → BeginsSegments (2 * length more + 2) middle now result → TakesTurn told source from name added more records store now flight a c n k result
 unfolding border_behind
 turn_ended {T} from name added more records store middle now told source flight a b c n m k x result accepts rest unnamed p flies begun stands last held apart
-    lists = record {
+    lists few = record {
       flies = carried_by_then {T = T} {U = Turn} added from [] (name ∷ []) (λ turn. carried_by turn name) [] more store middle now a b c n m k x result
           (carried_from {T = T} {U = T} added from (name ∷ []) store middle [] a b n m x x accepts rest p)
           (subst (λ (earlier : List Addition). Flies earlier from name more middle now b c m k result) (sym (append-nil added)) flies);
@@ -620,6 +635,7 @@ turn_ended {T} from name added more records store middle now told source flight 
           (added_all {T = T} at from.most store middle [] a b n m x p) held;
       fills = filled_apart {T = Turn} a from (repo_view store.repo).keys (accepted_in store) name (added ++ more) result apart;
       lists = listed result lists;
+      few = begins result lists few;
     } where
       at : Border
       at = border_behind AtBegin added
@@ -637,6 +653,16 @@ turn_ended {T} from name added more records store middle now told source flight 
       listed (Ok turn) named = subst (TurnLists told source c now flight a from (repo_view store.repo).keys added more records) (sym named.0) named.1
       listed (Err fault) named = tt
 
+      begins : (r : Result Turn CarryFault)
+          → IfOk r (λ turn. (turn ≡ Named) × TurnLists told source c now flight a from (repo_view store.repo).keys added more records Named)
+          → BeginsSegments (2 * length more + 2) middle now r → BeginsSegments (2 * length more + end_segments r) store now r
+      begins (Ok turn) named after =
+          let all = begun_then {T = T} {U = Turn} 0 (2 * length more + 2) (2 * length more + 2) store middle now (Ok x) (Ok turn) (omega arith) p.few after in
+          subst (λ (t : Turn). BeginsSegments (2 * length more + end_segments (Ok t)) store now (Ok t)) (sym named.0)
+          (subst (λ (t : Turn). BeginsSegments (2 * length more + 2) store now (Ok t)) named.0 all)
+      begins (Err fault) named after =
+          begun_then {T = T} {U = Turn} 0 (2 * length more + 2) (2 * length more + 2) store middle now (Ok x) (Err fault) (omega arith) p.few after
+
 -- ---- turns, up to the last
 
 -- Turns of a flight, each of which took a further item, added these behind what was added before, and it fits with all.
@@ -647,6 +673,7 @@ pub record TakesOn (told : Option Told) (source : RepoState) (from : Origin) (na
   pub added : fits.added ≡ start ++ more
   pub stands : Between a b (KeepsGrowing start from [] store more)
   pub works : Works {T = Unit {0}} (KeepsGrowing start from (name ∷ []) store more) (λ _. Grows start from [] more store now) a b n m (Ok tt)
+  pub few : BeginsSegments {T = Unit {0}} (2 * length more) store now (Ok tt)
 
 -- none was taken
 pub takes_none : (told : Option Told) (source : RepoState) (from : Origin) (name : List ℕ) (store : Store) (flight : Flight) (a : Option Told) (n : ℕ)
@@ -657,6 +684,7 @@ takes_none told source from name store flight a n fits accepts = record {
   added = sym (append-nil fits.added);
   stands = here_each (KeepsGrowing fits.added from [] store []) a (λ h. growing_here fits.added from [] store [] h accepts);
   works = carried_none {T = Unit {0}} fits.added from (name ∷ []) store a n tt accepts;
+  few = begun_none {T = Unit {0}} 0 store tt;
 }
 
 -- all that was added by turns so far, and by one more
@@ -684,6 +712,10 @@ takes_more told later source after from other name called start more records sto
       works = flown_as {U = Unit {0}} start from name [] (before.more ++ more) store now a c n k More tt refl
           (flown_then start from other name called before.more more store middle now a b c n m k (Ok More) is names before.works
           (subst (λ (l : List Addition). Flies l other called more middle now b c m k (Ok More)) before.added turn.flies));
+      few = let size = length-append before.more more in
+          begun_as {T = Turn} {U = Unit {0}} (2 * length (before.more ++ more)) (2 * length (before.more ++ more)) store now More tt (omega arith)
+          (begun_then {T = Unit {0}} {U = Turn} (2 * length before.more) (2 * length more + 0) (2 * length (before.more ++ more)) store middle now (Ok tt)
+          (Ok More) (omega (arith, size)) before.few turn.few);
     }
 
 -- what all of them added, as far as it came
@@ -705,6 +737,10 @@ takes_begun told later source after from other name called start more records st
 abbrev pub last_turn : Bool → Turn
 last_turn true = Named
 last_turn false = Present
+
+last_segments : (copied : Bool) → end_segments (Ok (last_turn copied)) ≡ 2
+last_segments true = refl
+last_segments false = refl
 
 carried_last : (copied : Bool) (name : List ℕ) → carried_by (last_turn copied) name ≡ name ∷ []
 carried_last true name = refl
@@ -747,6 +783,11 @@ takes_last told later source after from other name called start more records sto
             (subst (λ (l : List ℕ). ListsDone b other others l records (before.fits.added ++ more) copied) named lists.0),
         subst (λ (l : List Addition). CountsOf l flight_now.put) all lists.1,
       );
+      few = let size = length-append before.more more in let end = last_segments copied in
+          begun_as {T = Turn} {U = Bool} (2 * length (before.more ++ more) + 2) (2 * length (before.more ++ more) + 2) store now (last_turn copied) copied
+          (omega arith)
+          (begun_then {T = Unit {0}} {U = Turn} (2 * length before.more) (2 * length more + end_segments (Ok (last_turn copied)))
+          (2 * length (before.more ++ more) + 2) store middle now (Ok tt) (Ok (last_turn copied)) (omega (arith, size, end)) before.few turn.few);
     }
 
 -- what turns added, all of it
@@ -790,6 +831,10 @@ takes_refused told later source after from other name called start more records 
           (start ++ (before.more ++ more)) (before.fits.added ++ more) fault (KeepsGrowing start from [] store before.more) a b before.stands is keys accepted
           names (takes_added told source from name start more store middle flight a b n m before) turn.fills;
       lists = tt;
+      few = let size = length-append before.more more in
+          begun_same {T = Turn} {U = Bool} (2 * length (before.more ++ more) + 2) (2 * length (before.more ++ more) + 2) store now fault (omega arith)
+          (begun_then {T = Unit {0}} {U = Turn} (2 * length before.more) (2 * length more + 2) (2 * length (before.more ++ more) + 2) store middle now (Ok tt)
+          (Err fault) (omega (arith, size)) before.few turn.few);
     }
 
 -- a refusal that was handed on
@@ -825,4 +870,6 @@ takes_end told source cached from name start store now flight a b n m is named a
   held = λ spares. absurd spares;
   fills = tt;
   lists = tt;
+  few = begun_fault {T = Unit {0}} {U = Bool} (2 * length before.more) (2 * length before.more + 2) store now tt Memory (omega arith) memory_unused
+      before.few;
 }

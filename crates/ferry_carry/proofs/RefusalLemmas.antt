@@ -30,6 +30,7 @@ use Rattle.ferry_carry.specs.Refusals.{HasLongItem, IsTooLong, RefusesContents, 
 use Rattle.ferry_carry.specs.declared.copy.Copy.{Copy}
 use Rattle.ferry_piece.specs.declared.fault.CarryFault.{CarryFault}
 use Rattle.ferry_piece.specs.declared.fault.CarryFault.TheVariants.{Source, Target, Taken, NotFound, Pieces, Memory, Record}
+use Rattle.ferry_piece.proofs.FewLemmas.{used_up}
 
 -- ---- the contents of an item
 
@@ -185,3 +186,6 @@ next_unbroken told source walk (NotFound name) refused = tt
 next_unbroken told source walk Pieces refused = tt
 next_unbroken told source walk Memory refused = tt
 next_unbroken told source walk Record refused = tt
+
+pub next_unused : (told : Option Told) (source : RepoState) (walk : WalkState) (fault : CarryFault) → RefusesNext told source walk fault → fault ≡ used_up → ⊥
+next_unused told source walk fault refused e = subst (RefusesNext told source walk) e refused

@@ -1,6 +1,6 @@
 -- Lemmas on `Reports` and `ReportsWhole` of specs/Telling.antt: what bodies did that tell names, one after another.
 use Rattle.std.proofs.Common.{◌≡◌, inl, ℕ, Bool, true, false, List, [], ◌∷◌, ◌++◌, Option, Ok, Err, Result, refl, sym, ◌∙◌, ap, subst, ◌^◌, ◌≤◌, ◌<◌, ◌+◌}
-use Rattle.std.proofs.Common.{length, take, drop, get_or, IfErr, IfSome, OnOk}
+use Rattle.std.proofs.Common.{length, take, drop, get_or, IfErr, IfSome, OnOk, ◌*◌, length-append, arith}
 use Rattle.std.proofs.lemmas.List.{take-append-drop, take_all, take_more}
 use Rattle.ferry_disk.proofs.MomentLemmas.{between_map}
 use Rattle.ferry_disk.specs.Act.{TellOf, History}
@@ -27,7 +27,7 @@ use Rattle.ferry_carry.proofs.CountingLemmas.{counts_then, counts_none}
 use Rattle.ferry_carry.proofs.MomentLemmas.{reported_growing, reported_here, names_here, reported_wider, reported_then, names_then, reported_name, told_name}
 use Rattle.ferry_carry.proofs.MomentLemmas.{grows_told, carries_told, reported_whole, told_whole}
 use Rattle.ferry_carry.proofs.NextLemmas.{accepts_both, accepts_none, next_of}
-use Rattle.ferry_piece.specs.Adding.{IsNoChunk, SparesStore, StopsLast}
+use Rattle.ferry_piece.specs.Adding.{IsNoChunk, SparesStore, StopsLast, BeginsSegments}
 use Rattle.ferry_carry.specs.Carrying.{Origin}
 use Rattle.ferry_carry.specs.Chosen.{TellsLine}
 use Rattle.ferry_carry.specs.Counting.{CountsMore, TellsNew, nothing_carried}
@@ -46,6 +46,7 @@ use Rattle.ferry_piece.specs.declared.fault.CarryFault.{CarryFault}
 use Rattle.ferry_piece.specs.declared.fault.CarryFault.TheVariants as Carry
 use Rattle.ferry_carry.specs.declared.flight.Flight.{Flight}
 use Rattle.ferry_carry.specs.declared.options.Carried.{Carried}
+use Rattle.ferry_piece.proofs.FewLemmas.{begun_as, begun_fault, begun_more, begun_none, begun_nothing, begun_same, begun_then, memory_unused, used_up}
 
 -- ---- what bodies did
 
@@ -90,6 +91,7 @@ reports_none from store carried a n x accepts transferred present chunks bytes m
   last = tt;
   held = tt;
   fills = tt;
+  few = begun_none {T = Unit {0}} 0 store tt;
 }
 
 -- and nothing was added
@@ -102,9 +104,9 @@ reports_begin from store carried a n x accepts transferred present chunks bytes 
     (reports_none from store carried a n x accepts transferred present chunks bytes meta, inl refl)
 
 pub reports_nothing : (from : Origin) (names : List (List ℕ)) (store : Store) (carried after : Carried) (a : Option Told) (n : ℕ) (x y : Option (List ℕ))
-    (fault : CarryFault) → AcceptsMore store → target_failed fault ≡ false → IsNoChunk fault → (IsOfSource fault → ⊥)
+    (fault : CarryFault) → AcceptsMore store → target_failed fault ≡ false → IsNoChunk fault → (IsOfSource fault → ⊥) → (fault ≡ used_up → ⊥)
     → Reports from names store store carried after a a n n x y (Err fault)
-reports_nothing from names store carried after a n x y fault accepts still unbroken apart = record {
+reports_nothing from names store carried after a n x y fault accepts still unbroken apart unused = record {
   added = [];
   records = [];
   begins = all_nothing a from store names;
@@ -115,12 +117,13 @@ reports_nothing from names store carried after a n x y fault accepts still unbro
   last = stops_unbroken a (repo_view store.repo).keys [] fault unbroken;
   held = held_nothing AtBegin from.most store a fault;
   fills = heard_apart a fault (λ refusal. FillsNames from (repo_view store.repo).keys (accepted_in store) [] names refusal []) apart;
+  few = begun_nothing {T = Unit {0}} (0 + 2 * length names) store fault unused;
 }
 
 pub whole_nothing : (from : Origin) (names : List (List ℕ)) (store : Store) (a : Option Told) (n : ℕ) (x y : Option (List ℕ)) (fault : CarryFault)
-    → AcceptsMore store → target_failed fault ≡ false → IsNoChunk fault → (IsOfSource fault → ⊥)
+    → AcceptsMore store → target_failed fault ≡ false → IsNoChunk fault → (IsOfSource fault → ⊥) → (fault ≡ used_up → ⊥)
     → ReportsWhole from names store store a a n n x y (Err fault)
-whole_nothing from names store a n x y fault accepts still unbroken apart = record {
+whole_nothing from names store a n x y fault accepts still unbroken apart unused = record {
   added = [];
   records = [];
   begins = all_nothing a from store names;
@@ -130,6 +133,7 @@ whole_nothing from names store a n x y fault accepts still unbroken apart = reco
   last = stops_unbroken a (repo_view store.repo).keys [] fault unbroken;
   held = held_nothing AtBegin from.most store a fault;
   fills = heard_apart a fault (λ refusal. FillsNames from (repo_view store.repo).keys (accepted_in store) [] names refusal []) apart;
+  few = begun_nothing {T = Carried} (0 + 2 * length names) store fault unused;
 }
 
 -- a fault of a body that told nothing, and of one that told
@@ -150,6 +154,7 @@ reports_silent from name added store now flight carried after a b n m x y record
   last = p.last;
   held = p.held;
   fills = filled_one a from store name fault added p.fills;
+  few = begun_same {T = Bool} {U = Unit {0}} (2 * length added + 2) (2 * length added + 2) store now fault (omega arith) p.few;
 }
 
 pub whole_err : (from : Origin) (names : List (List ℕ)) (store now : Store) (carried after : Carried) (a b : Option Told) (n m : ℕ)
@@ -165,7 +170,19 @@ whole_err from names store now carried after a b n m x y fault p = record {
   last = p.last;
   held = p.held;
   fills = p.fills;
+  few = begun_same {T = Unit {0}} {U = Carried} (2 * length p.added + 2 * length names) (2 * length p.added + 2 * length names) store now fault (omega arith)
+      p.few;
 }
+
+-- where a line is told behind a body, no segment begins
+telling_unused : (fault : CarryFault) → is_of_telling fault ≡ true → fault ≡ used_up → ⊥
+telling_unused fault telling e = let told : false ≡ true = subst (λ (f : CarryFault). is_of_telling f ≡ true) e telling in let no : ⊥ = cc in no
+
+told_few : {T U : Type 0} (n : ℕ) (store middle : Store) (x : T) (result : Result U CarryFault) → IfErr result (λ fault. is_of_telling fault ≡ true)
+    → BeginsSegments {T = T} n store middle (Ok x) → BeginsSegments n store middle result
+told_few {T} {U} n store middle x (Ok y) telling few = begun_as {T = T} {U = U} n n store middle x y (omega arith) few
+told_few {T} {U} n store middle x (Err fault) telling few =
+    begun_fault {T = T} {U = U} n n store middle x fault (omega arith) (telling_unused fault telling) few
 
 -- a name that is told behind the body that carried its archive
 named_works : {T U : Type 0} (from : Origin) (copied : Bool) (name given : List ℕ) (records : List TaggedRecord) (added : List Addition) (store middle : Store)
@@ -209,12 +226,12 @@ pub reports_name : {T : Type 0} (from : Origin) (copied : Bool) (name given : Li
     → BeginsDone a from (repo_view store.repo).keys (accepted_in store) name added
     → OnOk result (AcceptsNames from (name ∷ []) records store middle y z)
     → OnOk result (CountsMore (accepted_in store) (name ∷ []) added carried after) → IfErr result (λ fault. SparesStore fault → ⊥)
-    → IfErr result (λ fault. IsOfSource fault → ⊥)
-    → Carries {T = T} [] from (name ∷ []) added store middle a b n m (Ok x)
+    → IfErr result (λ fault. IsOfSource fault → ⊥) → IfErr result (λ fault. is_of_telling fault ≡ true)
+    → BeginsSegments {T = T} (2 * length added + 2) store middle (Ok x) → Carries {T = T} [] from (name ∷ []) added store middle a b n m (Ok x)
     → Works (IsStep (TellOf (name_line (told_of copied) given))) (λ (_ : Unit {0}). TellsLine (name_line (told_of copied) given)) b c m k result
     → Reports from (name ∷ []) store middle carried after a c n k y z result
 reports_name {T} from copied name given records added store middle carried after a b c n m k y z x result is accepts new done begins taken counted spent
-    apart p q = record {
+    apart telling few p q = record {
       added = added;
       records = records;
       begins = all_one a from store name added begins;
@@ -224,6 +241,7 @@ reports_name {T} from copied name given records added store middle carried after
       last = told_unbroken a (repo_view store.repo).keys added result (spent_chunk {T = Unit {0}} result spent);
       held = held_spent {T = Unit {0}} AtBegin from.most store middle added a c result spent;
       fills = filled_apart {T = Unit {0}} a from store (name ∷ []) added result apart;
+      few = told_few {T = T} {U = Unit {0}} (2 * length added + 2) store middle x result telling few;
     }
 
 -- the whole, behind all names
@@ -255,14 +273,17 @@ reports_whole from carried names line store middle a b c n m k x y is settled ac
       last = tt;
       held = tt;
       fills = tt;
+      few = begun_as {T = Unit {0}} {U = Carried} (2 * length added + 2 * length names) (2 * length added + 2 * length names) store middle tt carried
+          (omega arith) p.few;
     }
 
 pub whole_untold : (from : Origin) (before carried : Carried) (names : List (List ℕ)) (line : List ℕ) (store middle : Store)
     (a b c : Option Told) (n m k : ℕ) (x y z : Option (List ℕ)) (fault : CarryFault) → line ≡ total_line carried → IsSettled store → AcceptsMore middle
     → Reports from names store middle before carried a b n m x y (Ok tt)
-    → (SparesStore fault → ⊥) → (IsOfSource fault → ⊥) → Works (IsStep (TellOf line)) (λ (_ : Unit {0}). TellsLine line) b c m k (Err fault)
+    → (SparesStore fault → ⊥) → (IsOfSource fault → ⊥) → is_of_telling fault ≡ true
+    → Works (IsStep (TellOf line)) (λ (_ : Unit {0}). TellsLine line) b c m k (Err fault)
     → ReportsWhole from names store middle a c n k x z (Err fault)
-whole_untold from before carried names line store middle a b c n m k x y z fault is settled accepts p spent apart q =
+whole_untold from before carried names line store middle a b c n m k x y z fault is settled accepts p spent apart telling q =
     let total = total_line carried in
     let added = p.added in
     let behind = subst (λ (l : List ℕ). Works (IsStep (TellOf l)) (λ (_ : Unit {0}). TellsLine l) b c m k (Err fault)) is q in
@@ -279,6 +300,7 @@ whole_untold from before carried names line store middle a b c n m k x y z fault
       last = stops_unbroken a (repo_view store.repo).keys added fault (spent_unbroken fault spent);
       held = λ spares. absurd (spent spares);
       fills = heard_apart a fault (λ refusal. FillsNames from (repo_view store.repo).keys (accepted_in store) [] names refusal added) apart;
+      few = told_few {T = Unit {0}} {U = Carried} (2 * length added + 2 * length names) store middle tt (Err fault) telling p.few;
     }
 
 -- memory is refused for that line
@@ -295,6 +317,8 @@ whole_unwritten from before carried names store middle a b n m x y p = record {
   held = λ spares. absurd spares;
   fills = heard_apart a Carry.Memory (λ refusal. FillsNames from (repo_view store.repo).keys (accepted_in store) [] names refusal p.added)
       (λ source. source);
+  few = begun_fault {T = Unit {0}} {U = Carried} (2 * length p.added + 2 * length names) (2 * length p.added + 2 * length names) store middle tt Carry.Memory
+      (omega arith) memory_unused p.few;
 }
 
 -- what was reported of one source was reported of another that is the same, under a name that is the same
@@ -372,6 +396,9 @@ reports_then from some more store middle now carried between after a b c n m k x
           (held_at {T = Unit {0}} AtBegin (border_behind AtBegin added) from.most middle now others b c result
           (λ h counts fits. follows_allows added counts middle h fits follows) q.held);
       fills = filled_all from store middle some more p.records added others a b result extends same p.works.end q.fills;
+      few = let contents = length-append added others in let names = length-append some more in
+          begun_then {T = Unit {0}} {U = Unit {0}} (2 * length added + 2 * length some) (2 * length others + 2 * length more)
+          (2 * length all + 2 * length (some ++ more)) store middle now (Ok tt) result (omega (arith, contents, names)) p.few q.few;
     }
 
 -- one archive more of those that were chosen
@@ -414,6 +441,9 @@ reports_front from names place store now carried after a b n m x y fault p =
       last = p.last;
       held = p.held;
       fills = filled_wider a from store some rest fault p.added p.fills;
+      few = let size = length-append some rest in
+          begun_more {T = Unit {0}} (2 * length p.added + 2 * length some) (2 * length p.added + 2 * length (some ++ rest)) store now (Err fault)
+          (omega (arith, size)) p.few;
     })
 
 -- all were told

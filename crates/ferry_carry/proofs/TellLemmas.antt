@@ -37,6 +37,7 @@ use Rattle.ferry_piece.specs.Puts.{Border}
 use Rattle.ferry_piece.specs.Work.{Works}
 use Rattle.ferry_piece.specs.declared.fault.CarryFault.{CarryFault}
 use Rattle.ferry_piece.specs.declared.fault.CarryFault.TheVariants.{NotFound, Memory}
+use Rattle.ferry_piece.proofs.FewLemmas.{used_up}
 
 -- ---- a line that is told, or isn't
 
@@ -157,3 +158,7 @@ begin_still fault name P (inr e) = ap target_failed e.0
 pub begin_unbroken : (fault : CarryFault) (name : List ℕ) (P : Type 0) → (fault ≡ Memory) ⊎ ((fault ≡ NotFound name) × P) → IsNoChunk fault
 begin_unbroken fault name P (inl e) = subst IsNoChunk (sym e) tt
 begin_unbroken fault name P (inr e) = subst IsNoChunk (sym e.0) tt
+
+pub begin_unused : (fault : CarryFault) (name : List ℕ) (P : Type 0) → (fault ≡ Memory) ⊎ ((fault ≡ NotFound name) × P) → fault ≡ used_up → ⊥
+begin_unused fault name P (inl e) used = let both = sym e ∙ used in let no : ⊥ = cc in no
+begin_unused fault name P (inr e) used = let both = sym e.0 ∙ used in let no : ⊥ = cc in no

@@ -1,5 +1,6 @@
 -- An archive on its way, by what was begun of it.
-use Rattle.std.specs.Prelude.{◌≡◌, ◌≤◌, ℕ, Bool, true, false, List, [], ◌∷◌, ◌++◌, Option, Some, None, Result, Ok, Err, IfErr, IfOk, IfSome, IsSome}
+use Rattle.std.specs.Prelude.{◌≡◌, ◌≤◌, ◌+◌, ◌*◌, ℕ, Bool, true, false, List, [], ◌∷◌, ◌++◌, length, Option, Some, None, Result, Ok, Err, IfErr, IfOk, IfSome}
+use Rattle.std.specs.Prelude.{IsSome}
 use Rattle.ferry_compare.specs.Compare.{FitsTold, comparison_view}
 use Rattle.ferry_disk.specs.Device.{Told, told_files}
 use Rattle.ferry_disk.specs.Moments.{Between}
@@ -12,7 +13,7 @@ use Rattle.ferry_repo.specs.Walk.{FitsWalk, walk_view}
 use Rattle.ferry_repo.specs.Whole.{WholeArchive}
 use Rattle.ferry_store.specs.Commit.{accepted_in}
 use Rattle.ferry_store.specs.declared.store.Store.{Store}
-use Rattle.ferry_piece.specs.Adding.{HoldsRefused, StopsLast}
+use Rattle.ferry_piece.specs.Adding.{BeginsSegments, HoldsRefused, StopsLast}
 use Rattle.ferry_carry.specs.Carrying.{IsReadyToName, Origin, SaysIn, origin}
 use Rattle.ferry_carry.specs.Copying.{IsReady}
 use Rattle.ferry_carry.specs.Counting.{CountsOf, nothing_carried}
@@ -114,6 +115,11 @@ TurnStands at most store more before now (Ok More) = Between before now (KeepsSt
 TurnStands at most store more before now (Ok turn) = Unit {0}
 TurnStands at most store more before now (Err fault) = IsOfWork fault → Between before now (KeepsStandingAt at most store more)
 
+-- how many segments the end of an archive begins at most: one for its manifest and one for the commit, or one for a commit of what was pending
+abbrev pub end_segments : Result Turn CarryFault → ℕ
+end_segments (Ok More) = 0
+end_segments result = 2
+
 -- What a turn did of the archive of a name and added behind what was added before; the source and the flight are those behind it.
 pub record TakesTurn (told : Option Told) (source : RepoState) (from : Origin) (name : List ℕ) (added more : List Addition) (records : List TaggedRecord)
     (store store_now : Store) (flight : Flight) (before now : Option Told) (count after : ℕ) (result : Result Turn CarryFault) : Type 0 where
@@ -124,6 +130,7 @@ pub record TakesTurn (told : Option Told) (source : RepoState) (from : Origin) (
   pub held : HoldsRefused (border_behind AtBegin added) from.most store more store_now before now result
   pub fills : IfErr result (λ fault. FillsFlight before from (repo_view store.repo).keys (accepted_in store) name fault (added ++ more))
   pub lists : IfOk result (TurnLists told source now store_now flight before from (repo_view store.repo).keys added more records)
+  pub few : BeginsSegments (2 * length more + end_segments result) store store_now result
 
 -- What a flight did up to its end: it answers whether the archive was copied.
 pub record TakesAll (from : Origin) (name : List ℕ) (added more : List Addition) (records : List TaggedRecord) (store store_now : Store) (flight : Flight)
@@ -136,6 +143,7 @@ pub record TakesAll (from : Origin) (name : List ℕ) (added more : List Additio
   pub fills : IfErr result (λ fault. FillsFlight before from (repo_view store.repo).keys (accepted_in store) name fault (added ++ more))
   pub lists : IfOk result (λ copied. ListsDone before from (repo_view store.repo).keys name records (added ++ more) copied
       × CountsOf (added ++ more) flight.put)
+  pub few : BeginsSegments (2 * length more + 2) store store_now result
 
 -- What the end of an archive did, all of whose items were copied, and what it added behind what was added before.
 pub record EndsCopy (from : Origin) (name : List ℕ) (added more : List Addition) (records : List TaggedRecord) (store store_now : Store)
@@ -146,6 +154,7 @@ pub record EndsCopy (from : Origin) (name : List ℕ) (added more : List Additio
   pub last : StopsLast before (repo_view store.repo).keys more result
   pub held : HoldsRefused (border_behind AtBegin added) from.most store more store_now before now result
   pub lists : IfOk result (λ put. ListsDone before from (repo_view store.repo).keys name records (added ++ more) true × CountsOf (added ++ more) put)
+  pub few : BeginsSegments (2 * length more + 2) store store_now result
 
 -- The archive of a name is whole in the source and in the target, and says the same in both, where they tell their files.
 abbrev pub IsSame : Origin → Option Told → RepoState → List ℕ → Type 0

@@ -1,5 +1,5 @@
 -- What a transfer tells while archives come: a name is told only once each stop shows it carried.
-use Rattle.std.specs.Prelude.{◌≡◌, ◌++◌, ℕ, Bool, List, [], ◌∷◌, Option, Result, IfErr, IfSome, OnOk}
+use Rattle.std.specs.Prelude.{◌≡◌, ◌+◌, ◌*◌, ◌++◌, ℕ, Bool, List, [], ◌∷◌, length, Option, Result, IfErr, IfSome, OnOk}
 use Rattle.ferry_disk.specs.Act.{History}
 use Rattle.ferry_disk.specs.Device.{Told}
 use Rattle.ferry_disk.specs.Files.{Files}
@@ -11,7 +11,7 @@ use Rattle.ferry_store.specs.Commit.{accepted_in}
 use Rattle.ferry_store.specs.State.{IsSound, Written}
 use Rattle.ferry_store.specs.Store.{StoreFits}
 use Rattle.ferry_store.specs.declared.store.Store.{Store}
-use Rattle.ferry_piece.specs.Adding.{HoldsRefused, StopsLast}
+use Rattle.ferry_piece.specs.Adding.{BeginsSegments, HoldsRefused, StopsLast}
 use Rattle.ferry_carry.specs.Accepting.{AreNamedNext}
 use Rattle.ferry_carry.specs.Carrying.{Origin}
 use Rattle.ferry_carry.specs.Counting.{CountsMore, IsTotalOf, TellsNew}
@@ -101,7 +101,8 @@ AcceptsNames from chosen records store store_now drawn drawn_now =
 abbrev pub BeginsAll : Option Told → Origin → Store → List (List ℕ) → List Addition → Type 0
 BeginsAll before from store chosen begun = IfSome before (λ _. BeginsNames from (repo_view store.repo).keys (accepted_in store) [] chosen begun)
 
--- What was done of the archives of names, one after another, each of which was told behind it, and counted.
+-- What was done of the archives of names, one after another, each of which was told behind it, and counted. For each content that was added, and for each
+-- name, two segments were begun at most.
 pub record Reports (from : Origin) (chosen : List (List ℕ)) (store store_now : Store) (carried carried_now : Carried) (before now : Option Told)
     (count after : ℕ) (drawn drawn_now : Option (List ℕ)) (result : Result (Unit {0}) CarryFault) : Type 0 where
   pub added : List Addition
@@ -114,6 +115,7 @@ pub record Reports (from : Origin) (chosen : List (List ℕ)) (store store_now :
   pub last : StopsLast before (repo_view store.repo).keys added result
   pub held : HoldsRefused AtBegin from.most store added store_now before now result
   pub fills : IfErr result (λ fault. FillsAll before from store chosen fault added)
+  pub few : BeginsSegments (2 * length added + 2 * length chosen) store store_now result
 
 -- The same from the begin on, and behind them the whole was told.
 pub record ReportsWhole (from : Origin) (chosen : List (List ℕ)) (store store_now : Store) (before now : Option Told) (count after : ℕ)
@@ -128,6 +130,7 @@ pub record ReportsWhole (from : Origin) (chosen : List (List ℕ)) (store store_
   pub last : StopsLast before (repo_view store.repo).keys added result
   pub held : HoldsRefused AtBegin from.most store added store_now before now result
   pub fills : IfErr result (λ fault. FillsAll before from store chosen fault added)
+  pub few : BeginsSegments (2 * length added + 2 * length chosen) store store_now result
 
 -- ---- where it is refused
 

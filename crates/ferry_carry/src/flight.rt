@@ -1,6 +1,6 @@
 //! One archive, item by item.
 ghost use Rattle.std.specs.Prelude.{◌≡◌, ◌≢◌, ◌≤◌, ◌⊎◌, ℕ, List, Option, None, Ok, [], true, false, IfErr, IfOk, IfSome, IsSome, MatchResult, OnOk};
-ghost use Rattle.ferry_piece.specs.Adding.{AddsOn, IsNoChunk, SparesStore};
+ghost use Rattle.ferry_piece.specs.Adding.{AddsOn, BeginsSegments, IsNoChunk, SparesStore};
 ghost use Rattle.ferry_piece.specs.Fault.{random_failed, shelf_failed};
 ghost use Rattle.ferry_carry.specs.Accepting.{NamesNew};
 ghost use Rattle.ferry_carry.specs.Counting.{nothing_carried};
@@ -466,6 +466,7 @@ fn present<D: Depot>(store: &mut Store, depot: &mut D) -> Result<Turn, CarryFaul
     ensures works { (most : ℕ) → Works (KeepsStandingAt AtBegin most store.old []) (λ _. GathersAt AtBegin most store.old [] store.new)
         (D.told depot.old) (D.told depot.new) (D.faults depot.old) (D.faults depot.new) result }
     ensures spent { IfErr result (λ fault. SparesStore fault → ⊥) }
+    ensures few { BeginsSegments 1 store.old store.new result }
     ensures present { IfOk result (λ turn. turn ≡ Turn.Present) }
     ensures pending { OnOk result (store.new.pending ≡ 0) }
     ensures rest { OnOk result (KeepsRest store.old store.new) }

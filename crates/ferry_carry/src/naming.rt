@@ -3,7 +3,7 @@ ghost use Rattle.std.specs.Prelude.{◌≡◌, ◌≤◌, ◌⊎◌, ◌∷◌, 
 ghost use Rattle.std.specs.Prelude.{None, Ok, true, false, length, map, IfErr, IfOk, IfSome, MatchResult, OnOk};
 ghost use Rattle.ferry_base.specs.Limits.{content_limit};
 ghost use Rattle.ferry_blob.specs.Blob.{content_id};
-ghost use Rattle.ferry_piece.specs.Adding.{AddsOn, HoldsRefused, IsNoChunk};
+ghost use Rattle.ferry_piece.specs.Adding.{AddsOn, BeginsSegments, HoldsRefused, IsNoChunk, IsUsedUp};
 ghost use Rattle.ferry_carry.specs.Copying.{IsReady};
 ghost use Rattle.ferry_piece.specs.Fault.{IsOfWork, random_failed, shelf_failed, target_failed};
 ghost use Rattle.ferry_piece.specs.Gather.{KeepsRest, KeepsStanding, chunks_of};
@@ -103,6 +103,7 @@ fn record_text(
     ensures refused { IfErr result (RefusesRecordText keys.now (archive_view archive.now)) }
     ensures stops { IfErr result (λ fault. (now : Option Told) (secrets : Keys) → StopsPieces now secrets fault) }
     ensures unbroken { IfErr result (IsNoChunk) }
+    ensures unwritten { IsUsedUp result → ⊥ }
     ensures shelf { IfErr result (λ fault. shelf_failed fault ≡ false) }
     ensures still { IfErr result (λ fault. target_failed fault ≡ false) }
     ensures drawn { IfErr result (λ fault. random_failed fault ≡ false) }
@@ -130,6 +131,7 @@ fn tagged_record<E: Entropy>(
     ensures refused { IfErr result (RefusesRecordText keys.now (archive_view archive.now)) }
     ensures stops { IfErr result (λ fault. (now : Option Told) (secrets : Keys) → StopsPieces now secrets fault) }
     ensures unbroken { IfErr result (IsNoChunk) }
+    ensures unwritten { IsUsedUp result → ⊥ }
     ensures shelf { IfErr result (λ fault. shelf_failed fault ≡ false) }
     ensures still { IfErr result (λ fault. target_failed fault ≡ false) }
     ensures entropy { HasCause random_failed (E.faults entropy.old) (E.faults entropy.new) result }
@@ -300,6 +302,7 @@ fn name_record<D: Depot, E: Entropy>(
     // Where it is refused, but for a device that failed and want of memory, nothing is named.
     ensures stands { IfErr result (λ fault. IsOfWork fault
         → (most : ℕ) → Between (D.told depot.old) (D.told depot.new) (KeepsStanding most store.old [])) }
+    ensures few { BeginsSegments 2 store.old store.new result }
     // A refusal that doesn't spend the store leaves what is written as it was.
     ensures held { (at : Border) (most : ℕ) → HoldsRefused at most store.old [] store.new (D.told depot.old) (D.told depot.new) result }
     ensures most { OnOk result (KeepsMost store.old store.new) }
@@ -404,6 +407,7 @@ fn commit_named<D: Depot, E: Entropy>(
     // Where it is refused, but for a device that failed and want of memory, nothing is named.
     ensures stands { IfErr result (λ fault. IsOfWork fault
         → (most : ℕ) → Between (D.told depot.old) (D.told depot.new) (KeepsStanding most store.old [])) }
+    ensures few { BeginsSegments 2 store.old store.new result }
     // A refusal that doesn't spend the store leaves what is written as it was.
     ensures held { (at : Border) (most : ℕ) → HoldsRefused at most store.old [] store.new (D.told depot.old) (D.told depot.new) result }
     ensures most { OnOk result (KeepsMost store.old store.new) }
@@ -447,6 +451,7 @@ fn commit<D: Depot, E: Entropy>(
     // Where it is refused, but for a device that failed and want of memory, nothing is named.
     ensures stands { IfErr result (λ fault. IsOfWork fault
         → (most : ℕ) → Between (D.told depot.old) (D.told depot.new) (KeepsStanding most store.old [])) }
+    ensures few { BeginsSegments 2 store.old store.new result }
     // A refusal that doesn't spend the store leaves what is written as it was.
     ensures held { (at : Border) (most : ℕ) → HoldsRefused at most store.old [] store.new (D.told depot.old) (D.told depot.new) result }
     ensures most { OnOk result (KeepsMost store.old store.new) }

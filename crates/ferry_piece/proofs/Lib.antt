@@ -2,6 +2,7 @@ pub mod PutsLemmas
 pub mod AmongLemmas
 pub mod GatherLemmas
 pub mod AddingLemmas
+pub mod FewLemmas
 pub mod FaultLemmas
 pub mod WorkLemmas
 pub mod PieceLemmas

@@ -13,10 +13,11 @@ use Rattle.ferry_rechunk.proofs.FeedLemmas.{FedSoFar, next_round, none_yet, one_
 use Rattle.ferry_rechunk.specs.Cut.{cut}
 use Rattle.ferry_rechunk.specs.Cutting.{Cutting, IsFed}
 use Rattle.ferry_piece.proofs.AddingLemmas.{held_spent, spent_unbroken, stops_then, stops_unbroken, unspent_then}
+use Rattle.ferry_piece.proofs.FewLemmas.{begun_same, begun_then}
 use Rattle.ferry_piece.proofs.GatherLemmas.{each_room, room_makes, room_stands, room_then}
 use Rattle.ferry_piece.proofs.PutsLemmas.{adds_room, bytes_append, count_append, first_room}
 use Rattle.ferry_piece.proofs.WorkLemmas.{gathered_then, works_as, works_front, works_then}
-use Rattle.ferry_piece.specs.Adding.{AddsOn, HoldsRefused, HoldsUntil, SparesStore}
+use Rattle.ferry_piece.specs.Adding.{AddsOn, HoldsRefused, HoldsUntil, SparesStore, BeginsSegments}
 use Rattle.ferry_piece.specs.Gather.{Gathers, KeepsRest, KeepsStanding, MakesRoom, chunk_of, chunks_of}
 use Rattle.ferry_piece.specs.Piece.{BeginsOn, CountsOn, WritesOn}
 use Rattle.ferry_piece.specs.Puts.{Addition, AddsAll, AddsFirst, Content, IsCheckpoint, Kind, Record, Stream, Within, addition, is_piece, put_bytes, put_count}
@@ -269,10 +270,10 @@ held_room {U} most store middle now one a b c (Err fault) checkpoint same unspen
 
 -- a piece that was added behind what came before it
 pub room_added : {T U : Type 0} (most : ℕ) (store middle now : Store) (one : Addition) (a b c : Option Told) (n m k : ℕ) (x : T)
-    (result : Result U CarryFault) → IsCheckpoint most → KeepsRest store middle → IsUnspent middle
+    (result : Result U CarryFault) → IsCheckpoint most → KeepsRest store middle → IsUnspent middle → BeginsSegments {T = T} 1 store middle (Ok x)
     → Works (KeepsStanding most store (one ∷ [])) (λ (_ : T). MakesRoom most store one middle) a b n m (Ok x)
-    → AddsOn most middle (one ∷ []) now b c m k result → AddsOn most store (one ∷ []) now a c n k result
-room_added {T} {U} most store middle now one a b c n m k x result checkpoint rest unspent p q = record {
+    → BeginsSegments {T = U} 1 middle now result → AddsOn most middle (one ∷ []) now b c m k result → AddsOn most store (one ∷ []) now a c n k result
+room_added {T} {U} most store middle now one a b c n m k x result checkpoint rest unspent room p few q = record {
   works = works_then (KeepsStanding most store (one ∷ [])) (λ (_ : T). MakesRoom most store one middle) (KeepsStanding most middle (one ∷ []))
       (λ (_ : U). Gathers most middle (one ∷ []) now) (KeepsStanding most store (one ∷ [])) (λ (_ : U). Gathers most store (one ∷ []) now) a b c n m k x
       result (λ h g i e d f r. each_room most store middle one h g i checkpoint rest.keys e d f r)
@@ -280,19 +281,21 @@ room_added {T} {U} most store middle now one a b c n m k x result checkpoint res
   last = stops_then {T = U} a b (repo_view store.repo).keys (repo_view middle.repo).keys [] (one ∷ []) result p.ends rest.keys q.last;
   unspent = unspent_then {T = U} store middle now result (λ _. unspent) q.unspent;
   held = held_room {U = U} most store middle now one a b c result checkpoint rest.keys (λ _. unspent) p.end q.held;
+  few = begun_then {T = T} {U = U} 1 1 2 store middle now (Ok x) result (omega arith) room few;
 }
 
 -- where there was no room for it
 pub room_refused : {T U : Type 0} (most : ℕ) (store middle now : Store) (one : Addition) (a b : Option Told) (n m : ℕ) (fault : CarryFault)
-    → (SparesStore fault → ⊥)
+    → (SparesStore fault → ⊥) → BeginsSegments {T = T} 1 store now (Err fault)
     → Works (KeepsStanding most store (one ∷ [])) (λ (_ : T). MakesRoom most store one middle) a b n m (Err fault)
     → AddsOn {T = U} most store (one ∷ []) now a b n m (Err fault)
-room_refused {T} {U} most store middle now one a b n m fault spent p = record {
+room_refused {T} {U} most store middle now one a b n m fault spent room p = record {
   works = works_front (KeepsStanding most store (one ∷ [])) (λ (_ : T). MakesRoom most store one middle) (KeepsStanding most store (one ∷ []))
       (λ (_ : U). Gathers most store (one ∷ []) now) a b n m fault (λ h g e. e) p;
   last = stops_unbroken a (repo_view store.repo).keys (one ∷ []) fault (spent_unbroken fault spent);
   unspent = tt;
   held = held_spent {T = U} Within most store now (one ∷ []) a b (Err fault) spent;
+  few = begun_same {T = T} {U = U} 1 2 store now fault (omega arith) room;
 }
 
 -- ---- pieces that were added

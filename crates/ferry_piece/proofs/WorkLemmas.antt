@@ -1,5 +1,6 @@
 -- Bodies one after another: what holds at each moment of both, and at their end.
-use Rattle.std.proofs.Common.{◌≡◌, ℕ, Bool, false, List, [], ◌++◌, Option, Some, None, Result, Ok, Err, IfSome, OnOk, IsErrAnd, refl, sym, ◌∙◌, subst}
+use Rattle.std.proofs.Common.{◌≡◌, ◌*◌, ℕ, Bool, false, List, [], ◌++◌, length, Option, Some, None, Result, Ok, Err, IfSome, OnOk, IsErrAnd, refl, sym}
+use Rattle.std.proofs.Common.{◌∙◌, arith, subst}
 use Rattle.ferry_disk.proofs.MomentLemmas.{between_map, between_then, between_both}
 use Rattle.ferry_disk.specs.Act.{History}
 use Rattle.ferry_disk.specs.Device.{Told, RoseWhere}
@@ -13,6 +14,7 @@ use Rattle.ferry_stops.specs.Tells.{TellsNothing}
 use Rattle.ferry_write.specs.Script.{AllDone}
 use Rattle.ferry_piece.proofs.AddingLemmas.{held_gathered, held_here, held_then, held_until, stops_then, stops_unbroken}
 use Rattle.ferry_piece.proofs.FaultLemmas.{failed_target}
+use Rattle.ferry_piece.proofs.FewLemmas.{begun_all, begun_as, begun_fault, begun_none, begun_nothing, begun_same, used_up}
 use Rattle.ferry_piece.specs.Fault.{target_failed, target_fault}
 use Rattle.ferry_piece.proofs.GatherLemmas.{each_then, gathers_here, gathers_then, stands_here}
 use Rattle.ferry_piece.specs.Adding.{AddsOn, IsNoChunk}
@@ -158,6 +160,7 @@ gathered_then {T} {U} most store middle now some more a b c n m k x (Ok y) rest 
   last = tt;
   unspent = λ was. q.unspent (p.unspent was);
   held = tt;
+  few = begun_all {T = T} {U = U} store middle now some more (Ok x) (Ok y) p.few q.few;
 }
 gathered_then {T} {U} most store middle now some more a b c n m k x (Err fault) rest rest_now p q =
     let first = works_then (KeepsStanding most store some) (λ (_ : T). Gathers most store some middle) (KeepsStanding most middle more)
@@ -170,6 +173,7 @@ gathered_then {T} {U} most store middle now some more a b c n m k x (Err fault) 
       last = stops_then {T = U} a b (repo_view store.repo).keys (repo_view middle.repo).keys some more (Err fault) p.works.ends rest.keys q.last;
       unspent = tt;
       held = held_then {T = U} most store middle now some more a b c (Err fault) rest.keys p.unspent p.works.end q.held;
+      few = begun_all {T = T} {U = U} store middle now some more (Ok x) (Err fault) p.few q.few;
     }
 
 pub gathered_none : {T : Type 0} (most : ℕ) (store : Store) (a : Option Told) (n : ℕ) (x : T) → AddsOn {T = T} most store [] store a a n n (Ok x)
@@ -179,15 +183,17 @@ gathered_none {T} most store a n x = record {
   last = tt;
   unspent = λ was. was;
   held = tt;
+  few = begun_none {T = T} 0 store x;
 }
 
 pub gathered_nothing : {T : Type 0} (most : ℕ) (store : Store) (a : Option Told) (n : ℕ) (fault : CarryFault)
-    → target_failed fault ≡ false → IsNoChunk fault → AddsOn {T = T} most store [] store a a n n (Err fault)
-gathered_nothing {T} most store a n fault still unbroken = record {
+    → target_failed fault ≡ false → IsNoChunk fault → (fault ≡ used_up → ⊥) → AddsOn {T = T} most store [] store a a n n (Err fault)
+gathered_nothing {T} most store a n fault still unbroken unused = record {
   works = works_nothing (KeepsStanding most store []) (λ (_ : T). Gathers most store [] store) a n fault still (λ h. stands_here most store [] h);
   last = stops_unbroken a (repo_view store.repo).keys [] fault unbroken;
   unspent = tt;
   held = λ spares. (λ was. was, held_until (is_target fault) Within most store store [] a a (held_here most store a));
+  few = begun_nothing {T = T} 0 store fault unused;
 }
 
 -- the same of another value, and of a fault that is handed on
@@ -199,6 +205,7 @@ gathered_as {T} {U} most store now added a b n m x y p = record {
   last = tt;
   unspent = p.unspent;
   held = tt;
+  few = begun_as {T = T} {U = U} (2 * length added) (2 * length added) store now x y (omega arith) p.few;
 }
 
 pub gathered_err : {T U : Type 0} (most : ℕ) (store now : Store) (added : List Addition) (a b : Option Told) (n m : ℕ) (fault : CarryFault)
@@ -209,13 +216,14 @@ gathered_err {T} {U} most store now added a b n m fault p = record {
   unspent = tt;
   last = p.last;
   held = p.held;
+  few = begun_same {T = T} {U = U} (2 * length added) (2 * length added) store now fault (omega arith) p.few;
 }
 
 -- a fault of no chunk behind what was done
 pub gathered_fault : {T U : Type 0} (most : ℕ) (store now : Store) (added : List Addition) (a b : Option Told) (n m : ℕ) (x : T) (fault : CarryFault)
-    → target_failed fault ≡ false → IsNoChunk fault → AddsOn {T = T} most store added now a b n m (Ok x)
+    → target_failed fault ≡ false → IsNoChunk fault → (fault ≡ used_up → ⊥) → AddsOn {T = T} most store added now a b n m (Ok x)
     → AddsOn {T = U} most store added now a b n m (Err fault)
-gathered_fault {T} {U} most store now added a b n m x fault still unbroken p = record {
+gathered_fault {T} {U} most store now added a b n m x fault still unbroken unused p = record {
   works = record {
     each = p.works.each;
     end = tt;
@@ -225,6 +233,7 @@ gathered_fault {T} {U} most store now added a b n m x fault still unbroken p = r
   last = stops_unbroken a (repo_view store.repo).keys added fault unbroken;
   unspent = tt;
   held = λ spares. (p.unspent, held_until (is_target fault) Within most store now added a b (held_gathered most store now added a b p.works.end));
+  few = begun_fault {T = T} {U = U} (2 * length added) (2 * length added) store now x fault (omega arith) unused p.few;
 }
 
 -- a store fits from body to body

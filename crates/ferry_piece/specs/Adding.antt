@@ -1,5 +1,5 @@
 -- What a body did that adds contents, which of them stopped it, and what a refusal left of them in the store.
-use Rattle.std.specs.Prelude.{◌≡◌, ◌++◌, ℕ, Bool, true, false, List, [], ◌∷◌, Option, Result, IfErr, IfSome, OnOk}
+use Rattle.std.specs.Prelude.{◌≡◌, ◌++◌, ◌*◌, ℕ, Bool, true, false, List, [], ◌∷◌, length, Option, Result, IfErr, IfSome, IsErrOf, OnOk}
 use Rattle.ferry_blob.specs.Blob.{content_id}
 use Rattle.ferry_disk.specs.Act.{History}
 use Rattle.ferry_disk.specs.Device.{Told}
@@ -8,11 +8,13 @@ use Rattle.ferry_mac.specs.declared.keys.Keys.{Keys}
 use Rattle.ferry_repo.specs.Opening.{repo_view}
 use Rattle.ferry_repo.specs.declared.fault.RepoFault.TheVariants as Repos
 use Rattle.ferry_store.specs.Fault.{spends}
+use Rattle.ferry_store.specs.Limits.{BeginsFew}
 use Rattle.ferry_store.specs.Standing.{entries_of}
 use Rattle.ferry_store.specs.State.{IsUnderWay, Written}
 use Rattle.ferry_store.specs.Store.{IsUnspent, StoreFits}
 use Rattle.ferry_store.specs.declared.fault.StoreRefusal.TheVariants as Stores
 use Rattle.ferry_store.specs.declared.store.Store.{Store}
+use Rattle.ferry_write.specs.declared.fault.WriteFault.TheVariants as Writes
 use Rattle.ferry_piece.specs.Gather.{Gathers, KeepsStanding}
 use Rattle.ferry_piece.specs.Puts.{Addition, AddsAll, AddsFirst, Border, Within}
 use Rattle.ferry_piece.specs.Stops.{is_target}
@@ -34,6 +36,16 @@ IsNoChunk fault = Unit {0}
 -- The same where the target tells its files.
 abbrev pub StopsLast : {T : Type 0} → Option Told → Keys → List Addition → Result T CarryFault → Type 0
 StopsLast before keys added result = IfErr result (λ fault. IfSome before (λ _. IsOfLast keys added fault))
+
+-- ---- segments
+
+-- The numbers of segments are used up.
+abbrev pub IsUsedUp : {T : Type 0} → Result T CarryFault → Type 0
+IsUsedUp result = IsErrOf result (Target (Stores.Write Writes.Numbers))
+
+-- A body began so many segments of the target at most.
+abbrev pub BeginsSegments : {T : Type 0} → ℕ → Store → Store → Result T CarryFault → Type 0
+BeginsSegments count store store_now result = BeginsFew count store.session.last store_now.session.last (IsUsedUp result)
 
 -- ---- what a refusal left
 
@@ -58,10 +70,12 @@ HoldsRefused at most store added store_now before now result =
     IfErr result (λ fault. SparesStore fault
     → (IsUnspent store → IsUnspent store_now) × Between before now (HoldsUntil (is_target fault) at most store added store_now))
 
--- What a body did that added these, or was refused with the last of them: at each moment, at its end, and what stopped it.
+-- What a body did that added these, or was refused with the last of them: at each moment, at its end, and what stopped it. For each of them it began two
+-- segments at most: one for a checkpoint, and one for what is put.
 pub record AddsOn {T : Type 0} (most : ℕ) (store : Store) (more : List Addition) (store_now : Store) (before now : Option Told) (count after : ℕ)
     (result : Result T CarryFault) : Type 0 where
   pub works : Works (KeepsStanding most store more) (λ (_ : T). Gathers most store more store_now) before now count after result
   pub unspent : OnOk result (IsUnspent store → IsUnspent store_now)
   pub last : StopsLast before (repo_view store.repo).keys more result
   pub held : HoldsRefused Within most store more store_now before now result
+  pub few : BeginsSegments (2 * length more) store store_now result

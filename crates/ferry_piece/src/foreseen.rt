@@ -4,7 +4,7 @@ ghost use Rattle.std.specs.Prelude.{IfErr, IfOk, IfSome, IsTrue, OnOk};
 ghost use Rattle.ferry_blob.specs.Batch.{bytes_at, id_at};
 ghost use Rattle.ferry_blob.specs.Blob.{content_id};
 ghost use Rattle.ferry_base.specs.Limits.{content_limit};
-ghost use Rattle.ferry_piece.specs.Adding.{AddsOn, SparesStore};
+ghost use Rattle.ferry_piece.specs.Adding.{AddsOn, SparesStore, BeginsSegments};
 ghost use Rattle.ferry_piece.specs.Fault.{random_failed, shelf_failed};
 ghost use Rattle.ferry_piece.specs.Foreseen.{IsForeseen, pieces_in};
 ghost use Rattle.ferry_piece.specs.Gather.{KeepsRest, KeepsStanding, MakesRoom};
@@ -277,6 +277,7 @@ fn make_room_for<D: Depot>(
         → Works (KeepsStanding checkpoint store.old (one ∷ [])) (λ _. MakesRoom checkpoint store.old one store.new)
         (D.told depot.old) (D.told depot.new) (D.faults depot.old) (D.faults depot.new) result }
     ensures spent { IfErr result (λ fault. SparesStore fault → ⊥) }
+    ensures few { BeginsSegments 1 store.old store.new result }
     ensures pending { OnOk result (store.new.pending ≤ checkpoint) }
     ensures room { OnOk result (IsNew (repo_view store.new.repo) id.now → store.new.pending < checkpoint) }
     ensures rest { OnOk result (KeepsRest store.old store.new) }
@@ -312,6 +313,7 @@ fn add_prepared<D: Depot>(
     ensures pending { IfOk result (λ added. store.new.pending ≡ pending_after store.old.pending added.new) }
     ensures new { IfOk result (λ added. IsTrue added.new ↔ IsNew (repo_view store.old.repo)
         (id_under store.old (content_in (repo_view store.old.repo).keys is_blob buffer.old))) }
+    ensures few { BeginsSegments 1 store.old store.new result }
     ensures id { IfOk result (λ added. added.id ≡ content_id (repo_view store.old.repo).keys (content_in (repo_view store.old.repo).keys is_blob buffer.old)) }
     ensures rest { OnOk result (KeepsRest store.old store.new) }
     ensures fits { OnOk result (IfSome (D.told depot.new) (λ t. StoreFits false store.new t.history)) }

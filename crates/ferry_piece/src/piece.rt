@@ -3,7 +3,7 @@ ghost use Rattle.std.specs.Prelude.{◌≡◌, ◌≤◌, ◌<◌, ◌↔◌, �
 ghost use Rattle.std.specs.Prelude.{IfErr, IfOk, IfSome, IsTrue, OnOk};
 ghost use Rattle.ferry_base.specs.Limits.{content_limit};
 ghost use Rattle.ferry_blob.specs.Blob.{content_id};
-ghost use Rattle.ferry_piece.specs.Adding.{AddsOn, SparesStore};
+ghost use Rattle.ferry_piece.specs.Adding.{AddsOn, SparesStore, BeginsSegments};
 ghost use Rattle.ferry_piece.specs.Fault.{random_failed, shelf_failed};
 ghost use Rattle.ferry_piece.specs.Gather.{KeepsRest, KeepsStanding, MakesRoom, chunk_of, chunks_of};
 ghost use Rattle.ferry_piece.specs.Piece.{BeginsOn, CountsOn, HasRoom, WritesOn};
@@ -79,6 +79,7 @@ fn make_room<D: Depot>(
         → Works (KeepsStanding checkpoint store.old (one ∷ [])) (λ _. MakesRoom checkpoint store.old one store.new)
         (D.told depot.old) (D.told depot.new) (D.faults depot.old) (D.faults depot.new) result }
     ensures spent { IfErr result (λ fault. SparesStore fault → ⊥) }
+    ensures few { BeginsSegments 1 store.old store.new result }
     ensures pending { OnOk result (store.new.pending ≤ checkpoint) }
     ensures room { OnOk result (IsNew (repo_view store.new.repo) (id_under store.new piece.now) → store.new.pending < checkpoint) }
     ensures rest { OnOk result (KeepsRest store.old store.new) }
@@ -103,6 +104,7 @@ pub fn commit_pieces<D: Depot>(store: &mut Store, depot: &mut D) -> Result<(), C
     ensures works { Works (λ h g. TellsNothing h g × CommitsSound store.old.session store.old.counter h g) (λ _. Checkpoints store.old store.new)
         (D.told depot.old) (D.told depot.new) (D.faults depot.old) (D.faults depot.new) result }
     ensures spent { IfErr result (λ fault. SparesStore fault → ⊥) }
+    ensures few { BeginsSegments 1 store.old store.new result }
     ensures repo { OnOk result (store.new.repo ≡ store.old.repo) }
     ensures rest { OnOk result (KeepsRest store.old store.new) }
     ensures pending { OnOk result (store.new.pending ≡ 0) }
@@ -128,6 +130,7 @@ pub fn add<D: Depot>(store: &mut Store, depot: &mut D, content: &[u8]) -> Result
         (D.told depot.old) (D.told depot.new) (D.faults depot.old) (D.faults depot.new) result }
     ensures pending { IfOk result (λ added. store.new.pending ≡ pending_after store.old.pending added.new) }
     ensures new { IfOk result (λ added. IsTrue added.new ↔ IsNew (repo_view store.old.repo) (id_under store.old content.now)) }
+    ensures few { BeginsSegments 1 store.old store.new result }
     ensures id { IfOk result (λ added. added.id ≡ content_id (repo_view store.old.repo).keys content.now) }
     ensures rest { OnOk result (KeepsRest store.old store.new) }
     ensures fits { OnOk result (IfSome (D.told depot.new) (λ t. StoreFits false store.new t.history)) }

@@ -53,6 +53,7 @@ use Rattle.ferry_run_drill.proofs.NewLemmas.{PutsNew, puts_new}
 use Rattle.ferry_run_drill.proofs.TotalLemmas.{counts_all, totals_are}
 use Rattle.ferry_run_drill.specs.Drill.{HasCopied, NoneCollide, drill_time, target_block, target_secret}
 use Rattle.ferry_run_drill.specs.Steps.{CopiesNames, IsMadeNew, drill_checkpoint, drill_origin}
+use Rattle.ferry_write.specs.Room.{behind}
 
 -- ---- a source that was made and opened
 
@@ -205,8 +206,8 @@ pub made_works : (store : Store) (timestamp bytes : List ℕ) (secret : Secret) 
     → timestamp ≡ drill_time → IfSome a (λ t. t.history.acts ≡ []) → Did (InitEach secret) InitFits a b n m (Ok store)
     → Between a b (InitMakes secret 1 timestamp bytes) → Between a b TellsNothing
     → IfSome b (λ t. OpensFilesTo (told_files t) secret (repo_view store.repo)) → IsSettled store → store.pending ≡ 0
-    → Works SettlesFirst IsMadeNew a b n m (Ok store)
-made_works store timestamp bytes secret a b n m is time begun did makes untold opens settled none = record {
+    → behind store.session.last ≤ 2 → Works SettlesFirst IsMadeNew a b n m (Ok store)
+made_works store timestamp bytes secret a b n m is time begun did makes untold opens settled none few = record {
   each = between_map a b (InitEach secret) SettlesFirst (λ h g e. e.1.1.1) did.each;
   end = at_end a b begun did.end makes untold opens;
   ends = did.ends;
@@ -240,6 +241,7 @@ made_works store timestamp bytes secret a b n m is time begun did makes untold o
             fits = stands;
             settled = settled;
             none = none;
+            few = few;
           },
         ),
       )

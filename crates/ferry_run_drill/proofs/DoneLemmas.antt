@@ -1,6 +1,6 @@
 -- Lemmas on specs/Complete.antt: how a copy of the drill's source ends that is refused.
 use Rattle.std.proofs.Common.{◌≡◌, ◌≤◌, ◌<◌, ◌+◌, inl, inr, ℕ, false, List, [], ◌∷◌, ◌++◌, Option, Some, None, Result, Ok, Err, IfErr}
-use Rattle.std.proofs.Common.{IfSome, slice_get, refl, sym, ◌∙◌, ap, subst, arith}
+use Rattle.std.proofs.Common.{IfSome, slice_get, refl, sym, ◌∙◌, ap, subst, arith, ◌*◌, length}
 use Rattle.std.specs.List.{AllByRecursion}
 use Rattle.ferry_carry.specs.Accepting.{LimitsNames}
 use Rattle.ferry_carry.specs.Carrying.{Origin}
@@ -51,6 +51,9 @@ use Rattle.ferry_run_drill.proofs.SmallLemmas.{no_long, none_large}
 use Rattle.ferry_run_drill.specs.Complete.{EndsFrom, IsDoneUnless}
 use Rattle.ferry_run_drill.specs.Drill.{NoneCollide}
 use Rattle.ferry_run_drill.specs.Steps.{IsMadeNew, drill_origin}
+use Rattle.ferry_run_drill.proofs.FewLemmas.{never_used}
+use Rattle.ferry_carry.specs.Listing.{BeginsNames}
+use Rattle.ferry_piece.specs.Adding.{BeginsSegments}
 
 -- names of the drill's archives, from a source that was made, into a target that was made
 module _ (count : ℕ) (source : Files) (is : IsSource count source) (repo : RepoState) (opens : OpensFilesTo source source_secret repo) (most : count ≤ 64)
@@ -136,41 +139,42 @@ module _ (count : ℕ) (source : Files) (is : IsSource count source) (repo : Rep
 
   -- the target isn't written
   module _ (added : List Addition) (reported : KeepsReported From Names store added u.history t.history) where
-    stopped_ends : (refusal : StoreRefusal) → (refusal ≡ Stores.TooLarge → Limited)
+    stopped_ends : (refusal : StoreRefusal) → (refusal ≡ Stores.TooLarge → Limited) → (refusal ≡ Stores.Write Writes.Numbers → ⊥)
         → StopsAt (told_files s) (told_files t) (repo_view store.repo).keys refusal → Ends (Carry.Target refusal)
-    stopped_ends (Stores.Repo (Repos.Blob id fault)) limit stops =
+    stopped_ends (Stores.Repo (Repos.Blob id fault)) limit unused stops =
         absurd (none_breaks From Names store added s.history u.history t.history begun first done made reported id fault stops)
-    stopped_ends (Stores.Repo Repos.NoCommit) limit stops = absurd stops
-    stopped_ends (Stores.Repo (Repos.Damaged segment at)) limit stops = absurd stops
-    stopped_ends (Stores.Repo (Repos.Config cause)) limit stops = absurd stops
-    stopped_ends (Stores.Repo (Repos.Key cause)) limit stops = absurd stops
-    stopped_ends (Stores.Repo (Repos.Missing id)) limit stops = absurd stops
-    stopped_ends (Stores.Repo (Repos.Manifest cause)) limit stops = absurd stops
-    stopped_ends (Stores.Repo (Repos.Archive id cause)) limit stops = absurd stops
-    stopped_ends (Stores.Repo (Repos.Item id cause)) limit stops = absurd stops
-    stopped_ends (Stores.Repo (Repos.Size id)) limit stops = absurd stops
-    stopped_ends (Stores.Repo (Repos.KeyFile cause)) limit stops = absurd stops
-    stopped_ends (Stores.Repo (Repos.Other file config)) limit stops = absurd stops
-    stopped_ends (Stores.Repo Repos.NoKey) limit stops = absurd stops
-    stopped_ends (Stores.Repo Repos.Device) limit stops = tt
-    stopped_ends (Stores.Repo Repos.Memory) limit stops = tt
-    stopped_ends (Stores.Write Writes.Device) limit stops = tt
-    stopped_ends (Stores.Write Writes.Memory) limit stops = tt
-    stopped_ends (Stores.Write Writes.Numbers) limit stops = stops
-    stopped_ends (Stores.Nonce Nonces.Missing) limit stops = absurd stops
-    stopped_ends (Stores.Nonce Nonces.Text) limit stops = absurd stops
-    stopped_ends (Stores.Nonce Nonces.Exhausted) limit stops = inr stops
-    stopped_ends (Stores.Nonce Nonces.Device) limit stops = tt
-    stopped_ends (Stores.Nonce Nonces.Memory) limit stops = tt
-    stopped_ends Stores.Committed limit stops = absurd stops
-    stopped_ends Stores.TooLarge limit stops = absurd (never_large (limit refl))
-    stopped_ends Stores.Entropy limit stops = tt
-    stopped_ends Stores.Memory limit stops = tt
+    stopped_ends (Stores.Repo Repos.NoCommit) limit unused stops = absurd stops
+    stopped_ends (Stores.Repo (Repos.Damaged segment at)) limit unused stops = absurd stops
+    stopped_ends (Stores.Repo (Repos.Config cause)) limit unused stops = absurd stops
+    stopped_ends (Stores.Repo (Repos.Key cause)) limit unused stops = absurd stops
+    stopped_ends (Stores.Repo (Repos.Missing id)) limit unused stops = absurd stops
+    stopped_ends (Stores.Repo (Repos.Manifest cause)) limit unused stops = absurd stops
+    stopped_ends (Stores.Repo (Repos.Archive id cause)) limit unused stops = absurd stops
+    stopped_ends (Stores.Repo (Repos.Item id cause)) limit unused stops = absurd stops
+    stopped_ends (Stores.Repo (Repos.Size id)) limit unused stops = absurd stops
+    stopped_ends (Stores.Repo (Repos.KeyFile cause)) limit unused stops = absurd stops
+    stopped_ends (Stores.Repo (Repos.Other file config)) limit unused stops = absurd stops
+    stopped_ends (Stores.Repo Repos.NoKey) limit unused stops = absurd stops
+    stopped_ends (Stores.Repo Repos.Device) limit unused stops = tt
+    stopped_ends (Stores.Repo Repos.Memory) limit unused stops = tt
+    stopped_ends (Stores.Write Writes.Device) limit unused stops = tt
+    stopped_ends (Stores.Write Writes.Memory) limit unused stops = tt
+    stopped_ends (Stores.Write Writes.Numbers) limit unused stops = absurd (unused refl)
+    stopped_ends (Stores.Nonce Nonces.Missing) limit unused stops = absurd stops
+    stopped_ends (Stores.Nonce Nonces.Text) limit unused stops = absurd stops
+    stopped_ends (Stores.Nonce Nonces.Exhausted) limit unused stops = inr stops
+    stopped_ends (Stores.Nonce Nonces.Device) limit unused stops = tt
+    stopped_ends (Stores.Nonce Nonces.Memory) limit unused stops = tt
+    stopped_ends Stores.Committed limit unused stops = absurd stops
+    stopped_ends Stores.TooLarge limit unused stops = absurd (never_large (limit refl))
+    stopped_ends Stores.Entropy limit unused stops = tt
+    stopped_ends Stores.Memory limit unused stops = tt
 
     target_ends : (refusal : StoreRefusal) → (Carry.Target refusal ≡ Carry.Target Stores.TooLarge → Limited)
+        → (Carry.Target refusal ≡ Carry.Target (Stores.Write Writes.Numbers) → ⊥)
         → StopsTarget (Some t) (repo_view store.repo).keys (Carry.Target refusal) → Ends (Carry.Target refusal)
-    target_ends refusal limit stops =
-        stopped_ends refusal (λ e. limit (ap Carry.Target e))
+    target_ends refusal limit unused stops =
+        stopped_ends refusal (λ e. limit (ap Carry.Target e)) (λ e. unused (ap Carry.Target e))
         (subst (λ (f : Files). StopsAt f (told_files t) (repo_view store.repo).keys refusal)
         (same_start From Names store added s.history u.history t.history begun first done made reported) stops)
 
@@ -191,26 +195,27 @@ module _ (count : ℕ) (source : Files) (is : IsSource count source) (repo : Rep
       (subst (λ (l : List (List ℕ)). IsAmong l one.name) fronts among)
 
   pub refused_ends : (fault : CarryFault) (added : List Addition) → KeepsReported From Names store added u.history t.history → shelf_failed fault ≡ false
-      → (fault ≡ Carry.Target Stores.TooLarge → Limited) → (IsOfWork fault → StopsBehind From Names store (Some u) (Some t))
+      → (fault ≡ Carry.Target Stores.TooLarge → Limited) → (fault ≡ Carry.Target (Stores.Write Writes.Numbers) → ⊥)
+      → (IsOfWork fault → StopsBehind From Names store (Some u) (Some t))
       → RefusesNames From (Some u) store (Some t) now Names fault → Ends fault
-  refused_ends (Carry.Source fault) added reported still limit stops (inl one) = source_ends fault still one
-  refused_ends (Carry.Source fault) added reported still limit stops (inr telling) = absurd (let e = telling.0 in let no : ⊥ = cc in no)
-  refused_ends (Carry.Target refusal) added reported still limit stops (inl one) = target_ends added reported refusal limit one.refused
-  refused_ends (Carry.Target refusal) added reported still limit stops (inr telling) = target_ends added reported refusal limit telling.1
-  refused_ends (Carry.Taken name) added reported still limit stops (inl one) =
+  refused_ends (Carry.Source fault) added reported still limit unused stops (inl one) = source_ends fault still one
+  refused_ends (Carry.Source fault) added reported still limit unused stops (inr telling) = absurd (let e = telling.0 in let no : ⊥ = cc in no)
+  refused_ends (Carry.Target refusal) added reported still limit unused stops (inl one) = target_ends added reported refusal limit unused one.refused
+  refused_ends (Carry.Target refusal) added reported still limit unused stops (inr telling) = target_ends added reported refusal limit unused telling.1
+  refused_ends (Carry.Taken name) added reported still limit unused stops (inl one) =
       absurd (taken_none name (stops (record { shelf = refl; target = refl; random = refl; memory = λ e. let no : ⊥ = cc in no })) one)
-  refused_ends (Carry.Taken name) added reported still limit stops (inr telling) = absurd (let e = telling.0 in let no : ⊥ = cc in no)
-  refused_ends (Carry.NotFound name) added reported still limit stops missing =
+  refused_ends (Carry.Taken name) added reported still limit unused stops (inr telling) = absurd (let e = telling.0 in let no : ⊥ = cc in no)
+  refused_ends (Carry.NotFound name) added reported still limit unused stops missing =
       absurd (none_missing missing.0 missing.1.0.name missing.1.0.name_is missing.1.0.missing)
-  refused_ends Carry.Pieces added reported still limit stops (inl one) =
+  refused_ends Carry.Pieces added reported still limit unused stops (inl one) =
       absurd (of_name (λ name. HasLongItem source From name → ⊥) (λ archive low. no_long source repo archive (says archive low)) one.done one.name one.rest
       one.split one.refused.1.0)
-  refused_ends Carry.Pieces added reported still limit stops (inr telling) = absurd (let e = telling.0 in let no : ⊥ = cc in no)
-  refused_ends Carry.Memory added reported still limit stops refused = tt
-  refused_ends Carry.Record added reported still limit stops (inl one) =
+  refused_ends Carry.Pieces added reported still limit unused stops (inr telling) = absurd (let e = telling.0 in let no : ⊥ = cc in no)
+  refused_ends Carry.Memory added reported still limit unused stops refused = tt
+  refused_ends Carry.Record added reported still limit unused stops (inl one) =
       absurd (of_name (λ name. HasLargeRecord source From (repo_view store.repo).keys name → ⊥)
       (λ archive low. none_large source repo (repo_view store.repo).keys archive (says archive low)) one.done one.name one.rest one.split one.refused.1.0)
-  refused_ends Carry.Record added reported still limit stops (inr telling) = absurd (let e = telling.0 in let no : ⊥ = cc in no)
+  refused_ends Carry.Record added reported still limit unused stops (inr telling) = absurd (let e = telling.0 in let no : ⊥ = cc in no)
 
 -- the same, over what the target tells
 pub uncopied_ends : (source : Files) (repo : RepoState) (names : List (List ℕ)) (store now : Store) (a b d : Option Told) (n m k : ℕ)
@@ -242,6 +247,12 @@ uncopied_ends source repo names store now (Some s) (Some u) (Some t) n m k x y f
     (subst (λ (l : List (List ℕ)). KeepsReported from l store carried.added u.history t.history) all reported) still
     (λ e. subst (λ (l : List (List ℕ)). LimitsNames None repo.manifest (repo_view store.repo).keys (accepted_in store) l
     (λ told. TellsNames (accepted_in store) told u.history t.history)) all (limit e))
+    (λ e.
+    never_used source repo store now count (accepted_in store) carried.added (repo_view store.repo).keys most
+    (source_says count source is repo opens most apart) did.1.few
+    (subst (λ (l : List (List ℕ)). BeginsNames from (repo_view store.repo).keys (accepted_in store) [] l carried.added) all carried.begins)
+    (subst (λ (f : CarryFault). BeginsSegments {T = Carried} (2 * length carried.added + 2 * length (names_from 0 count)) store now (Err f)) e
+    (subst (λ (l : List (List ℕ)). BeginsSegments {T = Carried} (2 * length carried.added + 2 * length l) store now (Err fault)) all carried.few)))
     (λ work. subst (λ (l : List (List ℕ)). StopsBehind from l store (Some u) (Some t)) all (stops work))
     (subst (λ (l : List (List ℕ)). RefusesNames from (Some u) store (Some t) now l fault) all refused)
 

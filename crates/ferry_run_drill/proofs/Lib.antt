@@ -16,6 +16,7 @@ pub mod PrintLemmas
 pub mod OpenLemmas
 pub mod LengthLemmas
 pub mod SmallLemmas
+pub mod FewLemmas
 pub mod ManifestLemmas
 pub mod RefusedLemmas
 pub mod UnmadeLemmas

@@ -64,7 +64,7 @@ front_size archive file zero = refl
 front_size archive file (suc count) =
     omega (arith, length-append (file_front archive file count) (file_byte archive file count ∷ []), front_size archive file count)
 
-content_size : (archive file : ℕ) → length (file_content archive file) ≡ 4096 * (file + 1)
+pub content_size : (archive file : ℕ) → length (file_content archive file) ≡ 4096 * (file + 1)
 content_size archive file = front_size archive file (file_size file)
 
 -- the ids of chunks have 32 bytes
@@ -72,7 +72,7 @@ chunk_ids : (keys : Keys) (pieces : List (List ℕ)) → AllByRecursion (λ (chu
 chunk_ids keys [] = tt
 chunk_ids keys (p ∷ ps) = (length-content_id keys p, chunk_ids keys ps)
 
-item_small : (keys : Keys) (archive file : ℕ) → file < 8 → length (item_text (copied_item keys target_block (drill_item archive file))) ≤ 4000
+pub item_small : (keys : Keys) (archive file : ℕ) → file < 8 → length (item_text (copied_item keys target_block (drill_item archive file))) ≤ 4000
 item_small keys archive file most =
     let content = file_content archive file in
     let pieces = cut target_block content in

@@ -14,7 +14,7 @@ use Rattle.ferry_status.specs.declared.status.Limit.TheVariants as Limits
 use Rattle.ferry_status.specs.declared.status.Status.{Status}
 use Rattle.ferry_status.specs.declared.status.Status.TheVariants as Statuses
 use Rattle.ferry_stops.specs.Counters.{IsNonce}
-use Rattle.ferry_store.specs.Causes.{HasFewBlocks, HasLastSegment}
+use Rattle.ferry_store.specs.Causes.{HasFewBlocks}
 use Rattle.ferry_store.specs.Init.{HasNoBlocks}
 use Rattle.ferry_run_drill.specs.Drill.{HasCopied, NoneCollide, drill_time, target_block, target_secret}
 
@@ -32,10 +32,9 @@ AreApartIn count files = (has : HasArchives target_secret target_block count fil
 
 -- ---- limits
 
--- a limit that is met: no item, no record and no manifest of the drill is too large
+-- a limit that is met: no item, no record and no manifest of the drill is too large, and the numbers of segments aren't used up
 abbrev pub MeetsLimit : Files → Files → LimitKind → Type 0
 MeetsLimit start image Limits.Nonce = HasNoBlocks drill_time start ⊎ HasFewBlocks start image
-MeetsLimit start image Limits.Segment = HasLastSegment image
 MeetsLimit start image limit = ⊥
 
 -- ---- where it is done

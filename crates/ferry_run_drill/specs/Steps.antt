@@ -1,5 +1,5 @@
 -- What the steps of the drill leave.
-use Rattle.std.specs.Prelude.{false, ◌≡◌, ◌⊎◌, ◌++◌, ℕ, List, [], None, Option, Some, option_map}
+use Rattle.std.specs.Prelude.{false, ◌≡◌, ◌⊎◌, ◌++◌, ℕ, List, [], None, Option, Some, option_map, ◌≤◌}
 use Rattle.ferry_carry.specs.Accepting.{AreNextOf}
 use Rattle.ferry_carry.specs.Carrying.{Origin}
 use Rattle.ferry_carry.specs.Naming.{TaggedRecord, record_ids}
@@ -24,6 +24,7 @@ use Rattle.ferry_store.specs.declared.fault.StoreRefusal.{StoreRefusal}
 use Rattle.ferry_store.specs.declared.fault.StoreRefusal.TheVariants as Stores
 use Rattle.ferry_store.specs.declared.store.Store.{Store}
 use Rattle.ferry_run_drill.specs.Drill.{bad_line, done_line, drill_time, target_block, target_secret}
+use Rattle.ferry_write.specs.Room.{behind}
 
 -- how many pieces are put before what is done is committed
 abbrev pub drill_checkpoint : ℕ
@@ -33,7 +34,8 @@ drill_checkpoint = 1024
 abbrev pub drill_origin : Files → RepoState → Origin
 drill_origin source repo = record { files = Some source; repo = repo; block = target_block; most = drill_checkpoint; time = None }
 
--- A store was made in a target where no segment was committed, and which had told no line: it fits, has no archive, and nothing is pending.
+-- A store was made in a target where no segment was committed, and which had told no line: it fits, has no archive, nothing is pending, and it has two
+-- segments at most.
 pub record IsMadeNew (store : Store) (before begun : History) : Type 0 where
   pub uncommitted : IsUncommitted (files_now before)
   pub untold : lines_of begun.acts ≡ []
@@ -43,6 +45,7 @@ pub record IsMadeNew (store : Store) (before begun : History) : Type 0 where
   pub fits : StoreFits false store begun
   pub settled : IsSettled store
   pub none : store.pending ≡ 0
+  pub few : behind store.session.last ≤ 2
 
 -- The archives of these names were copied from a source into a new target.
 pub record CopiesNames (source : Files) (repo : RepoState) (names : List (List ℕ)) (carried : Carried) (before now : History) : Type 0 where

@@ -19,6 +19,7 @@ pub mod AddLemmas
 pub mod WritingLemmas
 pub mod CauseLemmas
 pub mod LimitLemmas
+pub mod FewLemmas
 pub mod CommitLemmas
 pub mod UnopenedLemmas
 pub mod UseLemmas

@@ -12,7 +12,7 @@ use Rattle.ferry_repo.specs.declared.fault.RepoFault.TheVariants as Repos
 use Rattle.ferry_store.specs.Fault.{spends}
 use Rattle.ferry_store.specs.declared.fault.StoreRefusal.{StoreRefusal}
 use Rattle.ferry_store.specs.declared.fault.StoreRefusal.TheVariants.{Repo, Write, Nonce, TooLarge, Entropy, Memory}
-use Rattle.ferry_write.specs.Room.{AreUsedUp, after_entry, must_begin}
+use Rattle.ferry_write.specs.Room.{AreUsedUp, after_entry, behind, must_begin}
 use Rattle.ferry_write.specs.declared.fault.WriteFault.TheVariants as Writes
 use Rattle.ferry_write.specs.declared.session.Session.{Session}
 
@@ -45,6 +45,11 @@ pub record LimitsManifest {T : Type 0} (result : Result T StoreRefusal) (session
   pub exhausted : ComesWhere result (Nonce Nonces.Exhausted) ((size ≤ content_limit) × IsExhausted counter (blocks size))
   pub numbers : ComesWhere result (Write Writes.Numbers)
       ((size ≤ content_limit) × ((IsExhausted counter (blocks size) → ⊥) × AreUsedUp (after_entry session (84 + size)).last))
+
+-- So many segments were begun at most behind the last one; and where the numbers of segments are used up, the last one now has the greatest.
+pub record BeginsFew (count : ℕ) (last last_now : Option ℕ) (UsedUp : Type 0) : Type 0 where
+  pub few : behind last_now ≤ behind last + count
+  pub used : UsedUp → AreUsedUp last_now
 
 -- A refusal that doesn't spend a store left the session and the counter as they were, and made no act.
 abbrev pub LeavesBoth : Session → Counter → Session → Counter → Option Told → Option Told → StoreRefusal → Type 0

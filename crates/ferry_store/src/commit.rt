@@ -1,5 +1,5 @@
 //! A manifest that is put and committed.
-ghost use Rattle.std.specs.Prelude.{◌≡◌, ◌≢◌, ◌++◌, ℕ, List, false, true, length, option_map, IfErr, IfSome, OnOk};
+ghost use Rattle.std.specs.Prelude.{◌≡◌, ◌≢◌, ◌++◌, ℕ, List, false, true, length, option_map, IfErr, IfSome, IsErrOf, OnOk};
 ghost use Rattle.ferry_disk.specs.Device.{HasCause};
 ghost use Rattle.ferry_disk.specs.Image.{settled};
 ghost use Rattle.ferry_disk.specs.Moments.{Between};
@@ -10,10 +10,11 @@ ghost use Rattle.ferry_stops.specs.Tells.{TellsNothing};
 ghost use Rattle.ferry_store.specs.Causes.{Stops};
 ghost use Rattle.ferry_store.specs.Commit.{CommitsEntry, HasCommitted, RefusesManifestOf, manifest_entry};
 ghost use Rattle.ferry_store.specs.Fault.{depot_failed, source_failed};
-ghost use Rattle.ferry_store.specs.Limits.{LeavesBoth, LimitsManifest};
+ghost use Rattle.ferry_store.specs.Limits.{BeginsFew, LeavesBoth, LimitsManifest};
 ghost use Rattle.ferry_store.specs.Standing.{with_manifest};
 ghost use Rattle.ferry_store.specs.State.{Did, KeepsSound};
 ghost use Rattle.ferry_store.specs.declared.fault.StoreRefusal.TheVariants as Refusal;
+ghost use Rattle.ferry_write.specs.declared.fault.WriteFault.TheVariants as Writes;
 
 use crate::fault::StoreRefusal;
 use crate::put::{packed, put_object};
@@ -49,6 +50,7 @@ pub(crate) fn commit_manifest<D: Depot, E: Entropy>(
         × IfErr result (RefusesManifestOf counter.old (length (manifest_text (repo_view repo.now).keys salt (manifest_view manifest.now))))
         × LimitsManifest result session.old counter.old (length (manifest_text (repo_view repo.now).keys salt (manifest_view manifest.now)))) }
     ensures untold { Between (D.told depot.old) (D.told depot.new) TellsNothing }
+    ensures few { BeginsFew 2 session.old.last session.new.last (IsErrOf result (Refusal.Write Writes.Numbers)) }
     ensures limit { session.new.limit ≡ session.old.limit }
     ensures leaves { IfErr result (LeavesBoth session.old counter.old session.new counter.new (D.told depot.old) (D.told depot.new)) }
     ensures session { OnOk result (session.new.spent ≡ false) }

@@ -1,5 +1,5 @@
 //! Contents that are added: put where they are new, and opened where they are live.
-ghost use Rattle.std.specs.Prelude.{◌≡◌, ◌≢◌, ◌+◌, length, true, false, IfErr, IfSome, OnOk, OnErr};
+ghost use Rattle.std.specs.Prelude.{◌≡◌, ◌≢◌, ◌+◌, length, true, false, IfErr, IfSome, IsErrOf, OnOk, OnErr};
 ghost use Rattle.std.specs.BTreeSet.{IsUnchanged, Updates};
 ghost use Rattle.ferry_base.specs.Limits.{zero_id};
 ghost use Rattle.ferry_blob.specs.Blob.{OpensTo, blocks};
@@ -13,9 +13,11 @@ ghost use Rattle.ferry_stops.specs.Tells.{TellsNothing};
 ghost use Rattle.ferry_store.specs.Causes.{Stops};
 ghost use Rattle.ferry_store.specs.Content.{blob_for, HasPut, IsThere, Learns, RefusesNew, RefusesOld};
 ghost use Rattle.ferry_store.specs.Fault.{depot_failed, source_failed, spends};
-ghost use Rattle.ferry_store.specs.Limits.{LeavesBoth, LimitsPut};
+ghost use Rattle.ferry_store.specs.Limits.{BeginsFew, LeavesBoth, LimitsPut};
 ghost use Rattle.ferry_store.specs.Piece.{IsPrepared, content_in};
 ghost use Rattle.ferry_store.specs.State.{Did, KeepsSound};
+ghost use Rattle.ferry_store.specs.declared.fault.StoreRefusal.TheVariants as Refusal;
+ghost use Rattle.ferry_write.specs.declared.fault.WriteFault.TheVariants as Writes;
 
 use crate::fault::StoreRefusal;
 use crate::put::put_object;
@@ -64,6 +66,7 @@ pub(crate) fn put_content<D: Depot>(
     ensures refused { IfErr result (RefusesNew session.old counter.old (content_in (repo_view repo.old).keys is_blob buffer.old)) }
     ensures limits { LimitsPut result session.old counter.old (84 + length (content_in (repo_view repo.old).keys is_blob buffer.old))
         (blocks (length (content_in (repo_view repo.old).keys is_blob buffer.old))) }
+    ensures few { BeginsFew 1 session.old.last session.new.last (IsErrOf result (Refusal.Write Writes.Numbers)) }
     ensures limit { session.new.limit ≡ session.old.limit }
     ensures config { (repo_view repo.new).config ≡ (repo_view repo.old).config }
     ensures leaves { IfErr result (LeavesBoth session.old counter.old session.new counter.new (D.told depot.old) (D.told depot.new)) }
@@ -103,6 +106,7 @@ pub(crate) fn open_content<D: Depot>(
     ensures untouched { IfErr result (λ refusal. spends refusal ≡ false → opened.new ≡ opened.old) }
     ensures refused { IfErr result (λ refusal. IfSome (D.told depot.old) (λ t. RefusesOld (told_files t) (repo_view repo.old) id refusal)) }
     ensures drawn { IfErr result (λ refusal. source_failed refusal ≡ false) }
+    ensures unwritten { IsErrOf result (Refusal.Write Writes.Numbers) → ⊥ }
     ensures same { KeepsTold depot_failed (D.told depot.old) (D.told depot.new) result }
     ensures cause { HasCause depot_failed (D.faults depot.old) (D.faults depot.new) result }
 {

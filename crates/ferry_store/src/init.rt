@@ -30,6 +30,7 @@ fn commit_first<D: Depot>(depot: &mut D, session: &mut Session) -> Result<(), St
         (D.told depot.old) (D.told depot.new) (D.faults depot.old) (D.faults depot.new) result }
     ensures untold { Between (D.told depot.old) (D.told depot.new) TellsNothing }
     ensures unspent { OnOk result (session.new.spent ≡ false) }
+    ensures few { OnOk result (behind session.new.last ≤ 2) }
     ensures limit { session.new.limit ≡ session.old.limit }
     ensures refused { IfErr result IsTarget }
 {
@@ -54,6 +55,7 @@ fn write_first<D: Depot, E: Entropy>(
         (D.faults depot.old) (D.faults depot.new) result) }
     ensures untold { Between (D.told depot.old) (D.told depot.new) TellsNothing }
     ensures unspent { OnOk result ((session.new.spent ≡ false) × (counter.new.spent ≡ false)) }
+    ensures few { OnOk result (behind session.new.last ≤ 2) }
     ensures limit { session.new.limit ≡ session.old.limit }
     ensures cause { HasCause source_failed (E.faults entropy.old) (E.faults entropy.new) result }
 {
@@ -104,6 +106,7 @@ pub(crate) fn make_repository<D: Depot, E: Entropy>(
         (D.told depot.old) (D.told depot.new) (D.faults depot.old) (D.faults depot.new) result) }
     ensures untold { Between (D.told depot.old) (D.told depot.new) TellsNothing }
     ensures unspent { IfOk result (λ b. (b.1.spent ≡ false) × (b.0.spent ≡ false)) }
+    ensures few { IfOk result (λ b. behind b.1.last ≤ 2) }
     ensures refused { IfErr result (λ refusal. IfSome (D.told depot.old) (λ t. RefusesMaking timestamp.now (told_files t) refusal)) }
     ensures cause { HasCause source_failed (E.faults entropy.old) (E.faults entropy.new) result }
 {

@@ -17,7 +17,7 @@ ghost use Rattle.ferry_stops.specs.Tells.{TellsNothing};
 ghost use Rattle.ferry_store.specs.Causes.{Stops};
 ghost use Rattle.ferry_store.specs.Dropping.{RefusesDrop};
 ghost use Rattle.ferry_store.specs.Fault.{source_failed};
-ghost use Rattle.ferry_store.specs.Limits.{LeavesBoth, LimitsPut};
+ghost use Rattle.ferry_store.specs.Limits.{BeginsFew, LeavesBoth, LimitsPut};
 ghost use Rattle.ferry_store.specs.New.{IsPacked, PutsManifest, first_manifest};
 ghost use Rattle.ferry_store.specs.Piece.{IsReady, content_in};
 ghost use Rattle.ferry_store.specs.State.{Did, IsPlaced, KeepsSound, RefusesManifest, RefusesPut, TakesEntry};
@@ -76,6 +76,7 @@ pub(crate) fn put_object<D: Depot>(
     ensures refused { IfErr result (RefusesPut session.old (41 + length buffer.old)) }
     ensures exhausted { IsErrOf result (Refusal.Nonce Nonces.Exhausted) ↔ IsExhausted counter.old (blocks (length buffer.old - 43)) }
     ensures limits { LimitsPut result session.old counter.old (41 + length buffer.old) (blocks (length buffer.old - 43)) }
+    ensures few { BeginsFew 1 session.old.last session.new.last (IsErrOf result (Refusal.Write Writes.Numbers)) }
     ensures limit { session.new.limit ≡ session.old.limit }
     ensures leaves { IfErr result (LeavesBoth session.old counter.old session.new counter.new (D.told depot.old) (D.told depot.new)) }
     ensures stops { IfErr result (λ refusal. Between (D.told depot.old) (D.told depot.new) (Stops session.old counter.old refusal)) }

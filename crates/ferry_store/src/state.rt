@@ -13,6 +13,7 @@ ghost use Rattle.ferry_stops.specs.Counters.{IsNonce};
 ghost use Rattle.ferry_stops.specs.Tells.{TellsNothing};
 ghost use Rattle.ferry_store.specs.Causes.{Stops};
 ghost use Rattle.ferry_store.specs.Fault.{depot_failed, source_failed};
+ghost use Rattle.ferry_store.specs.Limits.{BeginsFew};
 ghost use Rattle.ferry_store.specs.State.{Begins, BeginsSound, CommitsSound, Did, IsFirst, IsStep, IsTarget};
 ghost use Rattle.ferry_store.specs.State.{RefusesBegin, RefusesCommit, RefusesLog, SettingsSound, TakesCommit, TakesSettings};
 ghost use Rattle.ferry_nonce.specs.declared.counter.Counter.{Counter};
@@ -115,6 +116,7 @@ pub(crate) fn commit<D: Depot>(depot: &mut D, session: &mut Session) -> Result<(
         (D.told depot.old) (D.told depot.new) (D.faults depot.old) (D.faults depot.new) result }
     ensures untold { Between (D.told depot.old) (D.told depot.new) TellsNothing }
     ensures session { OnOk result (session.new ≡ after_commit session.old) }
+    ensures few { BeginsFew 1 session.old.last session.new.last (IsErrOf result (Refusal.Write Writes.Numbers)) }
     ensures limit { session.new.limit ≡ session.old.limit }
     ensures refused { IfErr result (RefusesCommit session.old) }
     ensures stops { (counter : Counter) → IfErr result (λ refusal. Between (D.told depot.old) (D.told depot.new) (Stops session.old counter refusal)) }

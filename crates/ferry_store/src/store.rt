@@ -24,7 +24,7 @@ ghost use Rattle.ferry_blob.specs.Blob.{OpensTo, blocks};
 ghost use Rattle.ferry_store.specs.Content.{IsNew, Learns, RefusesNew, RefusesOld, blob_for};
 ghost use Rattle.ferry_store.specs.Dropping.{CommitsWithout, Drops, IsWriting, OpenBareFits, RefusesDrop};
 ghost use Rattle.ferry_store.specs.Fault.{depot_failed, source_failed, spends};
-ghost use Rattle.ferry_store.specs.Limits.{LeavesBoth, LimitsManifest, LimitsPut};
+ghost use Rattle.ferry_store.specs.Limits.{BeginsFew, LeavesBoth, LimitsManifest, LimitsPut};
 ghost use Rattle.ferry_store.specs.Standing.{with_manifest};
 ghost use Rattle.ferry_store.specs.Piece.{HasSize, IsPrepared, Prepares, content_in};
 ghost use Rattle.ferry_store.specs.State.{CommitsSound, Did, KeepsSound, RefusesCommit};
@@ -33,7 +33,7 @@ ghost use Rattle.ferry_store.specs.Store.{OpenEach, OpenFits, OpenLeaves, Refuse
 ghost use Rattle.ferry_store.specs.Store.{RefusesOpenBare};
 ghost use Rattle.ferry_store.specs.contracts.store.Store.{the_row};
 ghost use Rattle.ferry_store.specs.declared.fault.StoreRefusal.TheVariants as Refusal;
-ghost use Rattle.ferry_write.specs.Room.{AreUsedUp, must_begin};
+ghost use Rattle.ferry_write.specs.Room.{AreUsedUp, behind, must_begin};
 ghost use Rattle.ferry_write.specs.declared.fault.WriteFault.TheVariants as Writes;
 
 use crate::commit::commit_manifest;
@@ -113,6 +113,8 @@ impl Store {
         ensures unspent { IfOk result IsUnspent }
         // The limit of the settings is the session's.
         ensures limit { IfOk result (λ store. IfSome (D.told depot.old) (λ t. t.history.acts ≡ [] → HasLimit store)) }
+        // It has two segments at most.
+        ensures few { IfOk result (λ store. behind store.session.last ≤ 2) }
         // The manifest can be packed.
         ensures packable { IfOk result (λ store. IsPackable (accepted_in store)) }
     {
@@ -350,6 +352,8 @@ impl Store {
         ensures pending { IfOk result (λ added. self.new.pending ≡ pending_after self.old.pending added.new) }
         // The depot failed, the blob of a live id breaks a rule, or a new content has no counter blocks or no segment left.
         ensures refused { IfErr result (λ refusal. IfSome (D.told depot.old) (λ t. RefusesAdd self.old content.now (told_files t) refusal)) }
+        // One segment begins at most.
+        ensures few { BeginsFew 1 self.old.session.last self.new.session.last (IsErrOf result (Refusal.Write Writes.Numbers)) }
         // A new content is refused exactly where no blocks, or else no segment, are left for it.
         ensures limits { IsNew (repo_view self.old.repo) (id_under self.old content.now)
             → LimitsPut result self.old.session self.old.counter (84 + length content.now) (blocks (length content.now)) }
@@ -422,6 +426,8 @@ impl Store {
         // The depot failed, the blob of a live id breaks a rule, or a new content has no counter blocks or no segment left.
         ensures refused { IfErr result (λ refusal. IfSome (D.told depot.old) (λ t. RefusesAdd self.old (content_in (repo_view self.old.repo).keys is_blob
             buffer.old) (told_files t) refusal)) }
+        // One segment begins at most.
+        ensures few { BeginsFew 1 self.old.session.last self.new.session.last (IsErrOf result (Refusal.Write Writes.Numbers)) }
         // A new content is refused exactly where no blocks, or else no segment, are left for it.
         ensures limits { IsNew (repo_view self.old.repo) (id_under self.old (content_in (repo_view self.old.repo).keys is_blob buffer.old))
             → LimitsPut result self.old.session self.old.counter (84 + length (content_in (repo_view self.old.repo).keys is_blob buffer.old)) (blocks
@@ -474,6 +480,7 @@ impl Store {
         ensures refused { IfErr result (RefusesNew self.old.session self.old.counter (content_in (repo_view self.old.repo).keys is_blob buffer.old)) }
         ensures limits { LimitsPut result self.old.session self.old.counter (84 + length (content_in (repo_view self.old.repo).keys is_blob buffer.old))
             (blocks (length (content_in (repo_view self.old.repo).keys is_blob buffer.old))) }
+        ensures few { BeginsFew 1 self.old.session.last self.new.session.last (IsErrOf result (Refusal.Write Writes.Numbers)) }
         ensures stops { IfErr result (λ refusal. IfSome (D.told depot.new)
             (λ t. StopsAt t.history.start (told_files t) (repo_view self.old.repo).keys refusal)) }
         ensures unspent { OnOk result (IsUnspent self.new) }
@@ -517,6 +524,7 @@ impl Store {
         ensures accepted { self.new.accepted ≡ self.old.accepted }
         ensures pending { self.new.pending ≡ self.old.pending }
         ensures refused { IfErr result (λ refusal. IfSome (D.told depot.old) (λ t. RefusesOld (told_files t) (repo_view self.old.repo) id refusal)) }
+        ensures few { BeginsFew 0 self.old.session.last self.new.session.last (IsErrOf result (Refusal.Write Writes.Numbers)) }
         ensures stops { IfErr result (λ refusal. IfSome (D.told depot.new)
             (λ t. StopsAt t.history.start (told_files t) (repo_view self.old.repo).keys refusal)) }
         ensures drawn { IfErr result (λ refusal. source_failed refusal ≡ false) }
@@ -552,6 +560,8 @@ impl Store {
         // What a refusal says of the depot's files as they are read behind the call, where the store fits.
         ensures stops { IfSome (D.told depot.old) (λ t. StoreFits false self.old t.history)
             → IfErr result (λ refusal. IfSome (D.told depot.new) (λ t. StopsAt t.history.start (told_files t) (repo_view self.old.repo).keys refusal)) }
+        // One segment begins at most.
+        ensures few { BeginsFew 1 self.old.session.last self.new.session.last (IsErrOf result (Refusal.Write Writes.Numbers)) }
         // They are exactly where no number is left.
         ensures numbers { IsErrOf result (Refusal.Write Writes.Numbers) ↔ AreUsedUp self.old.session.last }
         // After an answer the store isn't spent.
@@ -609,6 +619,7 @@ impl Store {
         ensures packable { IfOk result (λ both. IsPackable (manifest_view both.0)) }
         ensures rest { self.new ≡ record self.old { session = self.new.session; counter = self.new.counter } }
         ensures stops { IfErr result (λ refusal. Between (D.told depot.old) (D.told depot.new) (Stops self.old.session self.old.counter refusal)) }
+        ensures few { BeginsFew 2 self.old.session.last self.new.session.last (IsErrOf result (Refusal.Write Writes.Numbers)) }
         // Where neither the device failed nor memory was refused, nothing is committed.
         ensures keeps { IfErr result (λ refusal. depot_failed refusal ≡ false → refusal ≢ Refusal.Memory
             → Between (D.told depot.old) (D.told depot.new) (KeepsSound self.old.session self.old.counter)) }
@@ -769,6 +780,8 @@ impl Store {
             (length (manifest_text (repo_view self.old.repo).keys salt (written_at (accepted_in self.old) timestamp.now))))
             × LimitsManifest result self.old.session self.old.counter
             (length (manifest_text (repo_view self.old.repo).keys salt (written_at (accepted_in self.old) timestamp.now)))) }
+        // Two segments begin at most.
+        ensures few { BeginsFew 2 self.old.session.last self.new.session.last (IsErrOf result (Refusal.Write Writes.Numbers)) }
         // A store that fitted without some chunks fits without them, and its manifest is that of the commit, whatever it was before.
         ensures without { OnOk result (Between (D.told depot.old) (D.told depot.new) (CommitsWithout self.old self.new)) }
         // No line is told, also by a call that fails.

@@ -22,6 +22,7 @@ use Rattle.ferry_store.specs.Commit.{accepted_in}
 use Rattle.ferry_store.specs.declared.fault.StoreRefusal.TheVariants.{TooLarge}
 use Rattle.ferry_carry.proofs.StandLemmas.{memory_apart, stops_here, telling_apart}
 use Rattle.ferry_piece.specs.Fault.{IsOfWork}
+use Rattle.ferry_piece.proofs.FewLemmas.{memory_unused}
 
 pub returns-in_err-name-clause-works : goal.returns-in_err-name-clause-works
 returns-in_err-name-clause-works g c =
@@ -32,7 +33,7 @@ returns-in_err-name-clause-works g c =
     let n = g.D.Shelf.faults c.args.depot.now in
     let from = origin_of (g.S.Shelf.told c.args.shelf.now) (repo_view c.args.source.now) c.args.options.now in
     err_is c.from_residual.result Memory (λ (r : Result Carried CarryFault). ReportsWhole from names store store a a n n x x r) c.from_residual.ensures.1
-    (whole_nothing from names store a n x x Memory (accepts_on store store c.requires.settled) refl tt (λ source. source))
+    (whole_nothing from names store a n x x Memory (accepts_on store store c.requires.settled) refl tt (λ source. source) memory_unused)
 
 pub returns-in-Some-clause-works : goal.returns-in-Some-clause-works
 returns-in-Some-clause-works g c =
@@ -42,7 +43,7 @@ returns-in-Some-clause-works g c =
     (origin_of (g.S.Shelf.told c.args.shelf.now) (repo_view c.args.source.now) c.args.options.now) names store
     (g.D.Shelf.told c.args.depot.now) (g.D.Shelf.faults c.args.depot.now) (g.E.Entropy.drawn c.args.entropy.now) (g.E.Entropy.drawn c.args.entropy.now)
     (NotFound c.new.result) (accepts_on store store c.requires.settled) refl
-    tt (λ source. source)
+    tt (λ source. source) (λ e. let no : ⊥ = cc in no)
 
 pub returns-in_err-carry_all-clause-works : goal.returns-in_err-carry_all-clause-works
 returns-in_err-carry_all-clause-works g c =
@@ -100,7 +101,8 @@ returns-in_err-tell-clause-works g c =
     (whole_untold from c.nothing-carried.result carried names line store now a b d n m k (g.E.Entropy.drawn c.args.entropy.now) (g.E.Entropy.drawn
     c.carry_all.new.entropy)
     (g.E.Entropy.drawn c.carry_all.new.entropy) fault is c.requires.settled (accepts_on now now ensures.settled)
-    ensures.works (telling_spent fault c.in_err-tell.ensures.telling) (target_apart fault c.in_err-tell.ensures.target) c.in_err-tell.ensures.works)
+    ensures.works (telling_spent fault c.in_err-tell.ensures.telling) (target_apart fault c.in_err-tell.ensures.target) c.in_err-tell.ensures.telling
+    c.in_err-tell.ensures.works)
 
 pub returns-clause-works : goal.returns-clause-works
 returns-clause-works g c =

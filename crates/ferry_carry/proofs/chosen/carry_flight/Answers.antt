@@ -73,7 +73,7 @@ returns-in_err-tell_name-clause-works g c =
     (λ (r : Result (Unit {0}) CarryFault). Reports from (name ∷ []) store now carried carried a d n k x z r) c.from_residual-in_err-tell_name.ensures.1
     (reports_name {T = Bool} from named name c.args.name.now flown.1.0 flown.0 store now carried carried a b d n m k x z named (Err fault) c.requires.called
     (accepts_on now now ensures.settled) ensures.word all.lists.0 all.begins tt tt (telling_spent fault c.in_err-tell_name.ensures.telling)
-    (target_apart fault c.in_err-tell_name.ensures.target) all.carries c.in_err-tell_name.ensures.works)
+    (target_apart fault c.in_err-tell_name.ensures.target) c.in_err-tell_name.ensures.telling all.few all.carries c.in_err-tell_name.ensures.works)
 
 pub returns-clause-works : goal.returns-clause-works
 returns-clause-works g c =
@@ -100,7 +100,7 @@ returns-clause-works g c =
     reports_name {T = Bool} from named name c.args.name.now flown.1.0 flown.0 store now carried after a b d n m k x z named (Ok tt) c.requires.called
     (accepts_on now now ensures.settled) ensures.word all.lists.0 all.begins flown.1.1.1
     (counts_one (accepted_in store) name flown.0 named c.put.result carried after ensures.word (subst (CountsOf flown.0) (sym put) all.lists.1)
-    counted.transferred counted.present counted.chunks counted.bytes counted.meta) tt tt all.carries c.in_ok-tell_name.ensures.works
+    counted.transferred counted.present counted.chunks counted.bytes counted.meta) tt tt tt all.few all.carries c.in_ok-tell_name.ensures.works
 
 pub returns-in_err-named-clause-untold : goal.returns-in_err-named-clause-untold
 returns-in_err-named-clause-untold g c =

@@ -3,7 +3,7 @@ use Rattle.ferry_carry.proofs.AcceptingLemmas.{begin_small}
 use Rattle.ferry_carry.proofs.GrowLemmas.{accepts_on}
 use Rattle.ferry_carry.proofs.HeldLemmas.{begin_apart}
 use Rattle.ferry_carry.proofs.ReportLemmas.{reports_as, reports_nothing}
-use Rattle.ferry_carry.proofs.TellLemmas.{begin_unbroken, begin_still}
+use Rattle.ferry_carry.proofs.TellLemmas.{begin_unbroken, begin_still, begin_unused}
 use Rattle.ferry_piece.proofs.WorkLemmas.{err_is}
 use Rattle.ferry_carry.proofs.chosen.carry_one.Goals as goal
 use Rattle.ferry_carry.specs.Accepting.{HasLargeNext}
@@ -37,7 +37,7 @@ returns-in_err-flight-clause-works g c =
     err_is c.from_residual.result fault (λ (r : Result (Unit {0}) CarryFault). Reports from names store store carried carried a a n n x x r)
     c.from_residual.ensures.1 (reports_nothing from names store carried carried a n x x fault (accepts_on store store c.requires.settled)
     (begin_still fault c.args.name.now _ c.in_err-flight.ensures.refused) (begin_unbroken fault c.args.name.now _ c.in_err-flight.ensures.refused)
-    (begin_apart fault c.args.name.now _ c.in_err-flight.ensures.refused))
+    (begin_apart fault c.args.name.now _ c.in_err-flight.ensures.refused) (begin_unused fault c.args.name.now _ c.in_err-flight.ensures.refused))
 
 pub carry_flight-done-requires-clause-flight : goal.carry_flight-done-requires-clause-flight
 carry_flight-done-requires-clause-flight g c =

@@ -16,6 +16,7 @@ use Rattle.ferry_piece.specs.declared.piece.PieceWriter.{PieceWriter}
 use Rattle.ferry_disk.specs.Device.{told_files}
 use Rattle.ferry_repo.specs.Archives.{HoldsContent}
 use Rattle.ferry_repo.specs.Opening.{repo_view}
+use Rattle.ferry_piece.proofs.FewLemmas.{source_unused}
 
 pub returns-in_err-content-clause-written : goal.returns-in_err-content-clause-written
 returns-in_err-content-clause-written g c =
@@ -34,7 +35,8 @@ returns-in_err-content-clause-written g c =
           × ((IfErr r (λ f. IsOfSource f → none ≡ []))
           × OnOk r (WritesContent told source (repo_view store.repo).keys c.args.chunk.now
           writer.cutter writer.chunks.items [] writer.cutter writer.chunks.items × CountsOn Content writer [] writer))))) c.from_residual.ensures.1 (
-            gathered_nothing {T = Unit {0}} writer.checkpoint store a n (source_fault fault) (source_still fault) (source_unbroken fault),
+            gathered_nothing {T = Unit {0}} writer.checkpoint store a n (source_fault fault) (source_still fault) (source_unbroken fault)
+                (source_unused fault),
             (tt, (inl refl, (λ of. refl, tt))),
           ),
     )

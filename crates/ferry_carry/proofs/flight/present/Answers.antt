@@ -1,4 +1,4 @@
-use Rattle.std.proofs.Common.{rules, ◌≢◌, [], Result}
+use Rattle.std.proofs.Common.{rules, ◌≢◌, [], Result, arith}
 use Rattle.ferry_carry.proofs.FlyLemmas.{nothing_pending, pending_committed, pending_uncommitted}
 use Rattle.ferry_piece.proofs.WorkLemmas.{err_is}
 use Rattle.ferry_carry.proofs.flight.present.Goals as goal
@@ -8,6 +8,8 @@ use Rattle.ferry_piece.specs.Work.{Works}
 use Rattle.ferry_piece.specs.declared.fault.CarryFault.{CarryFault}
 use Rattle.ferry_carry.specs.declared.flight.Turn.{Turn}
 use Rattle.ferry_carry.specs.declared.flight.Turn.TheVariants.{Present}
+use Rattle.ferry_piece.proofs.FewLemmas.{begun_as, begun_none, begun_same}
+use Rattle.ferry_piece.specs.Adding.{BeginsSegments}
 
 pub returns-then-pending-eq0-clause-works : goal.returns-then-pending-eq0-clause-works
 returns-then-pending-eq0-clause-works g c =
@@ -37,3 +39,18 @@ returns-clause-works g c =
     pending_committed {T = Unit {0}} {U = Turn} most store c.commit_pieces.new.store (g.D.Shelf.told c.args.depot.now)
     (g.D.Shelf.told c.commit_pieces.new.depot) (g.D.Shelf.faults c.args.depot.now) (g.D.Shelf.faults c.commit_pieces.new.depot) tt Present
     c.in_ok-commit_pieces.ensures.repo some c.in_ok-commit_pieces.ensures.works
+
+pub returns-then-pending-eq0-clause-few : goal.returns-then-pending-eq0-clause-few
+returns-then-pending-eq0-clause-few g c = begun_none {T = Turn} 1 c.args.store.now Present
+
+pub returns-in_err-commit_pieces-clause-few : goal.returns-in_err-commit_pieces-clause-few
+returns-in_err-commit_pieces-clause-few g c =
+    let store = c.args.store.now in
+    let now = c.commit_pieces.new.store in
+    let fault = c.in_err-commit_pieces.field-0.0 in
+    err_is c.from_residual.result fault (λ (r : Result Turn CarryFault). BeginsSegments 1 store now r) c.from_residual.ensures.1
+    (begun_same {T = Unit {0}} {U = Turn} 1 1 store now fault (omega arith) c.in_err-commit_pieces.ensures.few)
+
+pub returns-clause-few : goal.returns-clause-few
+returns-clause-few g c =
+    begun_as {T = Unit {0}} {U = Turn} 1 1 c.args.store.now c.commit_pieces.new.store tt Present (omega arith) c.in_ok-commit_pieces.ensures.few

@@ -1,4 +1,4 @@
-use Rattle.std.proofs.Common.{◌≡◌, ◌≤◌, [], length, Result, IfErr, refl, sym, ◌∙◌, ap, subst}
+use Rattle.std.proofs.Common.{◌≡◌, ◌≤◌, [], length, Result, IfErr, refl, sym, ◌∙◌, ap, subst, arith}
 use Rattle.ferry_piece.proofs.FaultLemmas.{target_stops}
 use Rattle.ferry_carry.proofs.GrowLemmas.{commit_fits}
 use Rattle.ferry_carry.proofs.NamingLemmas.{commit_limit, commit_most, commit_works, commit_works_err, no_larger}
@@ -20,7 +20,8 @@ use Rattle.ferry_store.specs.Content.{blob_for}
 use Rattle.ferry_store.specs.Standing.{with_manifest}
 use Rattle.ferry_carry.proofs.StandLemmas.{StandsAll, commit_stands}
 use Rattle.ferry_piece.proofs.AddingLemmas.{held_unspent, manifest_unbroken}
-use Rattle.ferry_piece.specs.Adding.{HoldsRefused, IsNoChunk}
+use Rattle.ferry_piece.specs.Adding.{HoldsRefused, IsNoChunk, BeginsSegments}
+use Rattle.ferry_piece.proofs.FewLemmas.{begun_err, begun_ok}
 
 pub commit-requires-clause-fits : goal.commit-requires-clause-fits
 commit-requires-clause-fits g c = told_writing c.args.store.now (g.D.Shelf.told c.args.depot.now) c.requires.fits
@@ -124,3 +125,15 @@ returns-in_err-commit-clause-held g c at most =
     let refusal = c.in_err-commit.field-0.0 in
     err_is c.from_residual.result (target_fault refusal) (λ (r : Result (Unit {0}) CarryFault). HoldsRefused at most store [] now a b r)
     c.from_residual.ensures.1 (held_unspent (Unit {0}) at most store now [] a b refusal c.in_err-commit.ensures.kept)
+
+pub returns-in_err-commit-clause-few : goal.returns-in_err-commit-clause-few
+returns-in_err-commit-clause-few g c =
+    let store = c.args.store.now in
+    let now = c.commit.new.self in
+    let refusal = c.in_err-commit.field-0.0 in
+    err_is c.from_residual.result (target_fault refusal) (λ (r : Result (Unit {0}) CarryFault). BeginsSegments 2 store now r) c.from_residual.ensures.1
+    (begun_err {T = Unit {0}} {U = Unit {0}} 2 2 store now refusal (omega arith) c.in_err-commit.ensures.few)
+
+pub returns-clause-few : goal.returns-clause-few
+returns-clause-few g c =
+    begun_ok {T = Unit {0}} {U = Unit {0}} 2 2 c.args.store.now c.commit.new.self tt tt (omega arith) c.in_ok-commit.ensures.few

@@ -1,4 +1,4 @@
-use Rattle.std.proofs.Common.{rules, ◌≡◌, ◌≤◌, ℕ, List, [], length, Result, IfErr, OnOk, sym, refl, ap, subst}
+use Rattle.std.proofs.Common.{rules, ◌≡◌, ◌≤◌, ℕ, List, [], length, Result, IfErr, OnOk, sym, refl, ap, subst, Err}
 use Rattle.ferry_carry.specs.Refusals.{LimitsManifest}
 use Rattle.ferry_mac.specs.declared.keys.Keys.{Keys}
 use Rattle.ferry_next.specs.Next.{next_manifest, written_at}
@@ -12,7 +12,7 @@ use Rattle.ferry_base.specs.Limits.{content_limit}
 use Rattle.ferry_carry.specs.Grow.{KeepsNames}
 use Rattle.ferry_carry.specs.Naming.{Draws}
 use Rattle.ferry_manifest.specs.Manifest.Writing.{manifest_text}
-use Rattle.ferry_piece.specs.Adding.{HoldsRefused}
+use Rattle.ferry_piece.specs.Adding.{HoldsRefused, BeginsSegments}
 use Rattle.ferry_piece.specs.declared.fault.CarryFault.{CarryFault}
 use Rattle.ferry_piece.specs.declared.fault.CarryFault.TheVariants.{Memory}
 use Rattle.ferry_manifest.specs.Manifest.Text.{ManifestText}
@@ -22,6 +22,7 @@ use Rattle.ferry_store.specs.Commit.{accepted_in}
 use Rattle.ferry_store.specs.declared.store.Store.{Store}
 use Rattle.ferry_carry.proofs.StandLemmas.{StandsAll, accepted_stands, memory_apart}
 use Rattle.std.proofs.lemmas.Result.{IfErr-weaker}
+use Rattle.ferry_piece.proofs.FewLemmas.{begun_from, begun_kept, begun_nothing, memory_unused}
 
 pub returns-in_err-name_archive-clause-works : goal.returns-in_err-name_archive-clause-works
 returns-in_err-name_archive-clause-works g c =
@@ -116,3 +117,17 @@ returns-clause-salt g c =
     ap (λ (s : Store). (repo_view s.repo).keys) c.in_ok-name_archive.ensures.rest in
     subst (λ (k : Keys). OnOk c.commit.result ((salt : List ℕ) × (Draws salt (g.E.Entropy.drawn c.args.entropy.now) (g.E.Entropy.drawn c.commit.new.entropy)
     × (length (manifest_text k salt (accepted_in c.commit.new.store)) ≤ content_limit)))) keys c.commit.ensures.salt
+
+pub returns-in_err-name_archive-clause-few : goal.returns-in_err-name_archive-clause-few
+returns-in_err-name_archive-clause-few g c =
+    let store = c.args.store.now in
+    let now = c.name_archive.new.self in
+    let is : c.in_err-name_archive.field-0.0 ≡ _ = c.in_err-name_archive.ensures.refused in
+    err_is c.from_residual.result Memory (λ (r : Result (Unit {0}) CarryFault). BeginsSegments 2 store now r) (search rules)
+    (begun_kept {T = Unit {0}} store store now 2 (Err Memory) (ap (λ (s : Store). s.session) c.name_archive.ensures.rest)
+    (begun_nothing {T = Unit {0}} 2 store Memory memory_unused))
+
+pub returns-clause-few : goal.returns-clause-few
+returns-clause-few g c =
+    begun_from {T = Unit {0}} c.args.store.now c.name_archive.new.self c.commit.new.store 2 c.commit.result
+    (ap (λ (s : Store). s.session) c.in_ok-name_archive.ensures.rest) c.commit.ensures.few

@@ -1,4 +1,4 @@
-use Rattle.std.proofs.Common.{◌≡◌, inl, ℕ, List, [], ◌∷◌, ◌++◌, Result, Ok, Err, IfErr, sym, ◌∙◌, subst, ap}
+use Rattle.std.proofs.Common.{◌≡◌, inl, ℕ, List, [], ◌∷◌, ◌++◌, Result, Ok, Err, IfErr, sym, ◌∙◌, subst, ap, ◌+◌, ◌*◌, length, arith}
 use Rattle.std.proofs.lemmas.List.{append-nil}
 use Rattle.ferry_piece.proofs.AddingLemmas.{stops_unbroken}
 use Rattle.ferry_carry.proofs.AcceptingLemmas.{record_named}
@@ -33,6 +33,7 @@ use Rattle.ferry_manifest.specs.Record.Text.{archive_view}
 use Rattle.ferry_rechunk.specs.Cut.{cut}
 use Rattle.ferry_repo.specs.Opening.{repo_view}
 use Rattle.ferry_carry.proofs.StandLemmas.{stands_behind}
+use Rattle.ferry_piece.proofs.FewLemmas.{begun_as, begun_same, begun_then}
 
 pub returns-in_err-id-clause-works : goal.returns-in_err-id-clause-works
 returns-in_err-id-clause-works g c =
@@ -64,6 +65,7 @@ returns-in_err-id-clause-works g c =
                 last = works.last;
                 held = held_within {T = Carried} (border_behind AtBegin added) from.most store now more a b (Err fault) works.held;
                 lists = tt;
+                few = begun_same {T = List ℕ} {U = Carried} (2 * length more) (2 * length more + 2) store now fault (omega arith) works.few;
               }),
           match_err {T = Carried} _ (TagsOr (repo_view store.repo).keys more (g.E.Entropy.drawn c.args.entropy.now)
               (g.E.Entropy.drawn c.end_stream.new.entropy)) c.from_residual.result fault c.from_residual.ensures.1
@@ -137,6 +139,9 @@ returns-in_err-name_record-clause-works g c =
                     (added_all {T = List ℕ} at from.most store middle more a b n m id works)
                     (c.in_err-name_record.ensures.held (border_behind at more) from.most));
                 lists = tt;
+                few = begun_same {T = Unit {0}} {U = Carried} (2 * length more + 2) (2 * length more + 2) store now fault (omega arith)
+                    (begun_then {T = List ℕ} {U = Unit {0}} (2 * length more) 2 (2 * length more + 2) store middle now (Ok id) (Err fault) (omega arith)
+                    works.few c.in_err-name_record.ensures.few);
               }),
           match_err {T = Carried} _ (TagsOr (repo_view store.repo).keys more (g.E.Entropy.drawn c.args.entropy.now)
               (g.E.Entropy.drawn c.name_record.new.entropy)) c.from_residual-in_err-name_record.result fault c.from_residual-in_err-name_record.ensures.1
@@ -200,6 +205,9 @@ returns-clause-works g c =
                   (ap (λ (x : Carried). x.chunks) c.of_pieces.ensures ∙ c.put.ensures.0) (ap (λ (x : Carried). x.bytes) c.of_pieces.ensures ∙ c.put.ensures.1)
                   (ap (λ (x : Carried). x.meta) c.of_pieces.ensures ∙ c.put-2.ensures.0),
             );
+            few = begun_as {T = Unit {0}} {U = Carried} (2 * length more + 2) (2 * length more + 2) store now tt put (omega arith)
+                (begun_then {T = List ℕ} {U = Unit {0}} (2 * length more) 2 (2 * length more + 2) store middle now (Ok id) (Ok tt) (omega arith) works.few
+                c.in_ok-name_record.ensures.few);
           },
           record_named c.args.timestamp.now (repo_view c.args.source.now) store middle now named id one (g.E.Entropy.drawn c.args.entropy.now)
               (g.E.Entropy.drawn c.end_stream.new.entropy) (g.E.Entropy.drawn c.name_record.new.entropy) rest under.id_is

@@ -9,11 +9,12 @@ use Rattle.ferry_carry.specs.Naming.{entry_for}
 use Rattle.ferry_carry.specs.Time.{time_for}
 use Rattle.ferry_manifest.specs.declared.manifest.ArchiveRef.{ArchiveRef}
 use Rattle.ferry_next.specs.Next.{next_manifest, written_at}
-use Rattle.ferry_piece.specs.Adding.{HoldsRefused}
+use Rattle.ferry_piece.specs.Adding.{HoldsRefused, BeginsSegments}
 use Rattle.ferry_piece.specs.declared.fault.CarryFault.{CarryFault}
 use Rattle.ferry_piece.specs.declared.fault.CarryFault.TheVariants.{Memory}
 use Rattle.ferry_store.specs.Commit.{accepted_in}
 use Rattle.ferry_carry.proofs.StandLemmas.{StandsAll, memory_apart}
+use Rattle.ferry_piece.proofs.FewLemmas.{begun_nothing, memory_unused}
 
 pub returns-in_err-entry-clause-works : goal.returns-in_err-entry-clause-works
 returns-in_err-entry-clause-works g c =
@@ -78,3 +79,15 @@ returns-in_err-time-clause-held g c at most =
     let store = c.args.store.now in
     err_is c.from_residual-in_err-time.result Memory (λ (r : Result (Unit {0}) CarryFault). HoldsRefused at most store [] store a a r)
     c.from_residual-in_err-time.ensures.1 (λ spares. absurd spares)
+
+pub returns-in_err-entry-clause-few : goal.returns-in_err-entry-clause-few
+returns-in_err-entry-clause-few g c =
+    let store = c.args.store.now in
+    err_is c.from_residual.result Memory (λ (r : Result (Unit {0}) CarryFault). BeginsSegments 2 store store r) c.from_residual.ensures.1
+    (begun_nothing {T = Unit {0}} 2 store Memory memory_unused)
+
+pub returns-in_err-time-clause-few : goal.returns-in_err-time-clause-few
+returns-in_err-time-clause-few g c =
+    let store = c.args.store.now in
+    err_is c.from_residual-in_err-time.result Memory (λ (r : Result (Unit {0}) CarryFault). BeginsSegments 2 store store r)
+    c.from_residual-in_err-time.ensures.1 (begun_nothing {T = Unit {0}} 2 store Memory memory_unused)

@@ -10,6 +10,7 @@ use Rattle.ferry_piece.specs.declared.fault.CarryFault.{CarryFault}
 use Rattle.ferry_piece.specs.declared.fault.CarryFault.TheVariants.{Memory}
 use Rattle.ferry_manifest.specs.Record.Text.{ArchiveText, archive_view}
 use Rattle.ferry_repo.specs.Opening.{repo_view}
+use Rattle.ferry_piece.proofs.FewLemmas.{memory_unused}
 
 pub returns-in_err-copied_archive-clause-put : goal.returns-in_err-copied_archive-clause-put
 returns-in_err-copied_archive-clause-put g c =
@@ -22,7 +23,7 @@ returns-in_err-copied_archive-clause-put g c =
         λ most checkpoint pending.
             err_is c.from_residual.result Memory
             (λ (r : Result (List ℕ) CarryFault). AddsOn most store [] store a a n n r) c.from_residual.ensures.1
-            (gathered_nothing {T = List ℕ} most store a n Memory refl tt),
+            (gathered_nothing {T = List ℕ} most store a n Memory refl tt memory_unused),
         (
           inl refl,
           err_is c.from_residual.result Memory (PutsRecord (repo_view store.repo).keys archive [] (g.E.Entropy.drawn c.args.entropy.now)

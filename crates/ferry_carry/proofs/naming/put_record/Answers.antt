@@ -1,4 +1,4 @@
-use Rattle.std.proofs.Common.{ℕ, inl, List, [], ◌∷◌, Result, IfErr, refl}
+use Rattle.std.proofs.Common.{ℕ, inl, List, [], ◌∷◌, Result, IfErr, refl, Err, ap}
 use Rattle.ferry_carry.proofs.LeftLemmas.{left_here, targets_leave}
 use Rattle.ferry_carry.proofs.NamingLemmas.{record_put}
 use Rattle.ferry_piece.proofs.WorkLemmas.{err_is, gathered_nothing}
@@ -23,7 +23,8 @@ returns-in_err-text-clause-put g c =
       (
         λ most checkpoint pending.
             err_is c.from_residual.result fault (λ (r : Result (List ℕ) CarryFault). AddsOn most store [] store a a n n r) c.from_residual.ensures.1
-            (gathered_nothing {T = List ℕ} most store a n fault c.in_err-text.ensures.still c.in_err-text.ensures.unbroken),
+            (gathered_nothing {T = List ℕ} most store a n fault c.in_err-text.ensures.still c.in_err-text.ensures.unbroken
+            (λ e. c.in_err-text.ensures.unwritten (ap (λ (f : CarryFault). Err f) e))),
         (
           inl refl,
           err_is c.from_residual.result fault (PutsRecord keys (archive_view c.args.archive.now) [] (g.E.Entropy.drawn c.args.entropy.now)

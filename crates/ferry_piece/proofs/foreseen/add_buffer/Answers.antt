@@ -26,7 +26,7 @@ returns-in_err-make_room_for-clause-works g c kind put piece is =
     let m = g.D.Shelf.faults c.make_room_for.new.depot in
     let fault = c.in_err-make_room_for.field-0.0 in
     err_is c.from_residual.result fault (λ (r : Result Added CarryFault). AddsOn most store (one ∷ []) now a b n m r) c.from_residual.ensures.1
-    (room_refused {T = Unit {0}} {U = Added} most store now now one a b n m fault c.in_err-make_room_for.ensures.spent
+    (room_refused {T = Unit {0}} {U = Added} most store now now one a b n m fault c.in_err-make_room_for.ensures.spent c.in_err-make_room_for.ensures.few
     (c.in_err-make_room_for.ensures.works one c.requires.prepared.named piece))
 
 pub add_prepared-requires-clause-prepared : goal.add_prepared-requires-clause-prepared
@@ -51,8 +51,8 @@ returns-clause-works g c kind put piece is =
     let m = g.D.Shelf.faults c.make_room_for.new.depot in
     let k = g.D.Shelf.faults c.add_prepared.new.depot in
     room_added {T = Unit {0}} {U = Added} most store middle now one (g.D.Shelf.told c.args.depot.now) b d (g.D.Shelf.faults c.args.depot.now) m k tt
-    c.add_prepared.result c.requires.checkpoint rest c.in_ok-make_room_for.ensures.unspent
-    (c.in_ok-make_room_for.ensures.works one c.requires.prepared.named piece)
+    c.add_prepared.result c.requires.checkpoint rest c.in_ok-make_room_for.ensures.unspent c.in_ok-make_room_for.ensures.few
+    (c.in_ok-make_room_for.ensures.works one c.requires.prepared.named piece) c.add_prepared.ensures.few
     (subst (λ (keys : Keys). AddsOn most middle (addition kind (content_in keys is_blob buffer) put ∷ []) now b d m k c.add_prepared.result) rest.keys
     (c.add_prepared.ensures.works most kind put is (record {
       checkpoint = c.requires.checkpoint;

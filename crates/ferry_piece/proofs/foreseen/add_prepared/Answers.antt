@@ -1,14 +1,15 @@
-use Rattle.std.proofs.Common.{◌≢◌, ◌∷◌, [], Result, Err, IfErr, refl}
+use Rattle.std.proofs.Common.{◌≢◌, ◌∷◌, [], Result, Err, IfErr, refl, arith}
 use Rattle.std.proofs.lemmas.Option.{IfSome_then}
 use Rattle.ferry_disk.specs.Device.{told_files}
 use Rattle.ferry_store.specs.Fault.{depot_failed}
 use Rattle.ferry_store.specs.declared.fault.StoreRefusal.TheVariants.{TooLarge}
 use Rattle.ferry_piece.proofs.AddingLemmas.{adds_last, held_unspent}
+use Rattle.ferry_piece.proofs.FewLemmas.{begun_err, begun_ok}
 use Rattle.ferry_piece.proofs.FaultLemmas.{adds_small, pieces_stop, told_behind}
 use Rattle.ferry_piece.proofs.GatherLemmas.{AddedSo, add_gathers, add_stands, added_fits}
 use Rattle.ferry_piece.proofs.WorkLemmas.{err_is, works_err, works_ok}
 use Rattle.ferry_piece.proofs.foreseen.add_prepared.Goals as goal
-use Rattle.ferry_piece.specs.Adding.{AddsOn}
+use Rattle.ferry_piece.specs.Adding.{AddsOn, BeginsSegments}
 use Rattle.ferry_piece.specs.Fault.{target_fault}
 use Rattle.ferry_piece.specs.Gather.{Gathers, KeepsStanding}
 use Rattle.ferry_piece.specs.Puts.{Within, addition}
@@ -38,6 +39,7 @@ returns-in_err-added-clause-works g c most kind put is room =
       last = IfSome_then a c.in_err-added.ensures.refused (λ t r. adds_last store content one (told_files t) refusal refl r);
       unspent = tt;
       held = held_unspent Added Within most store now (one ∷ []) a b refusal c.in_err-added.ensures.kept;
+      few = begun_err {T = Added} {U = Added} 1 2 store now refusal (omega arith) c.in_err-added.ensures.few;
     })
 
 pub returns-clause-works : goal.returns-clause-works
@@ -67,6 +69,7 @@ returns-clause-works g c most kind put is room =
       unspent = λ was. c.in_ok-added.ensures.unspent;
       last = tt;
       held = tt;
+      few = begun_ok {T = Added} {U = Added} 1 2 store now added added (omega arith) c.in_ok-added.ensures.few;
     }
 
 pub returns-clause-fits : goal.returns-clause-fits
@@ -87,3 +90,15 @@ returns-in_err-added-clause-stops g c =
     (IfSome_then a c.in_err-added.ensures.refused
     (λ t r. adds_small c.args.store.now (content_in (repo_view c.args.store.now.repo).keys c.args.is_blob c.args.buffer.now) (told_files t) refusal r)))
     c.in_err-added.ensures.stops)
+
+pub returns-in_err-added-clause-few : goal.returns-in_err-added-clause-few
+returns-in_err-added-clause-few g c =
+    let store = c.args.store.now in
+    let now = c.add_piece.new.self in
+    let refusal = c.in_err-added.field-0.0 in
+    err_is c.from_residual.result (target_fault refusal) (λ (r : Result Added CarryFault). BeginsSegments 1 store now r) c.from_residual.ensures.1
+    (begun_err {T = Added} {U = Added} 1 1 store now refusal (omega arith) c.in_err-added.ensures.few)
+
+pub returns-clause-few : goal.returns-clause-few
+returns-clause-few g c =
+    begun_ok {T = Added} {U = Added} 1 1 c.args.store.now c.add_piece.new.self c.in_ok-added.added c.in_ok-added.added (omega arith) c.in_ok-added.ensures.few

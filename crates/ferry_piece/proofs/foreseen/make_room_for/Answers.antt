@@ -1,4 +1,5 @@
 use Rattle.std.proofs.Common.{◌≡◌, ◌∷◌, [], List, ℕ, arith, subst}
+use Rattle.ferry_piece.proofs.FewLemmas.{begun_none}
 use Rattle.ferry_piece.proofs.GatherLemmas.{room_here, stands_here}
 use Rattle.ferry_piece.proofs.PieceLemmas.{room_works}
 use Rattle.ferry_piece.proofs.WorkLemmas.{works_none}
@@ -24,3 +25,6 @@ returns-clause-works g c one is piece =
     (g.D.Shelf.faults c.args.depot.now) (g.D.Shelf.faults c.commit_pieces.new.depot) c.commit_pieces.result c.requires.checkpoint piece full
     (subst (λ (id : List ℕ). IsNew (repo_view store.repo) id) is new) c.commit_pieces.ensures.repo
     c.commit_pieces.ensures.works
+
+pub returns-then-pending-checkpoint-clause-few : goal.returns-then-pending-checkpoint-clause-few
+returns-then-pending-checkpoint-clause-few g c = begun_none {T = Unit {0}} 1 c.args.store.now tt

@@ -20,7 +20,7 @@ returns-in_err-make_room-clause-works g c kind put piece is =
     let m = g.D.Shelf.faults c.make_room.new.depot in
     let fault = c.in_err-make_room.field-0.0 in
     err_is c.from_residual.result fault (λ (r : Result Added CarryFault). AddsOn most store (one ∷ []) now a b n m r) c.from_residual.ensures.1
-    (room_refused {T = Unit {0}} {U = Added} most store now now one a b n m fault c.in_err-make_room.ensures.spent
+    (room_refused {T = Unit {0}} {U = Added} most store now now one a b n m fault c.in_err-make_room.ensures.spent c.in_err-make_room.ensures.few
     (c.in_err-make_room.ensures.works one refl piece))
 
 pub returns-clause-works : goal.returns-clause-works
@@ -30,7 +30,7 @@ returns-clause-works g c kind put piece is =
     room_added {T = Unit {0}} {U = Added} most c.args.store.now c.make_room.new.store c.add.new.store one (g.D.Shelf.told c.args.depot.now)
     (g.D.Shelf.told c.make_room.new.depot) (g.D.Shelf.told c.add.new.depot) (g.D.Shelf.faults c.args.depot.now)
     (g.D.Shelf.faults c.make_room.new.depot) (g.D.Shelf.faults c.add.new.depot) tt c.add.result c.requires.checkpoint c.in_ok-make_room.ensures.rest
-    c.in_ok-make_room.ensures.unspent (c.in_ok-make_room.ensures.works one refl piece)
+    c.in_ok-make_room.ensures.unspent c.in_ok-make_room.ensures.few (c.in_ok-make_room.ensures.works one refl piece) c.add.ensures.few
     (c.add.ensures.works most kind put is (record {
       checkpoint = c.requires.checkpoint;
       room = λ new. room_any most c.make_room.new.store.pending kind (c.in_ok-make_room.ensures.room new);

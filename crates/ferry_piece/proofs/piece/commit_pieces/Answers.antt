@@ -1,12 +1,13 @@
-use Rattle.std.proofs.Common.{◌≢◌, Result, IfErr}
+use Rattle.std.proofs.Common.{◌≢◌, Result, IfErr, arith}
 use Rattle.ferry_disk.proofs.DeviceLemmas.{told_any}
 use Rattle.ferry_store.specs.declared.fault.StoreRefusal.TheVariants.{TooLarge}
 use Rattle.ferry_piece.proofs.AddingLemmas.{commits_spent}
 use Rattle.ferry_piece.proofs.FaultLemmas.{commits_small, pieces_stop}
+use Rattle.ferry_piece.proofs.FewLemmas.{begun_err, begun_ok}
 use Rattle.ferry_piece.proofs.GatherLemmas.{checkpoint_fits}
 use Rattle.ferry_piece.proofs.WorkLemmas.{err_is, works_err, works_ok}
 use Rattle.ferry_piece.proofs.piece.commit_pieces.Goals as goal
-use Rattle.ferry_piece.specs.Adding.{SparesStore}
+use Rattle.ferry_piece.specs.Adding.{SparesStore, BeginsSegments}
 use Rattle.ferry_piece.specs.Fault.{target_fault}
 use Rattle.ferry_piece.specs.Stops.{StopsPieces}
 use Rattle.ferry_piece.specs.Work.{Works}
@@ -65,3 +66,15 @@ returns-in_err-checkpoint-clause-stops g c =
     (pieces_stop b keys refusal
     (told_any b (λ _. refusal ≢ TooLarge) (λ _. commits_small c.args.store.now.session refusal c.in_err-checkpoint.ensures.refused))
     (c.in_err-checkpoint.ensures.stops c.requires.fits))
+
+pub returns-in_err-checkpoint-clause-few : goal.returns-in_err-checkpoint-clause-few
+returns-in_err-checkpoint-clause-few g c =
+    let store = c.args.store.now in
+    let now = c.checkpoint.new.self in
+    let refusal = c.in_err-checkpoint.field-0.0 in
+    err_is c.from_residual.result (target_fault refusal) (λ (r : Result (Unit {0}) CarryFault). BeginsSegments 1 store now r) c.from_residual.ensures.1
+    (begun_err {T = Unit {0}} {U = Unit {0}} 1 1 store now refusal (omega arith) c.in_err-checkpoint.ensures.few)
+
+pub returns-clause-few : goal.returns-clause-few
+returns-clause-few g c =
+    begun_ok {T = Unit {0}} {U = Unit {0}} 1 1 c.args.store.now c.checkpoint.new.self tt tt (omega arith) c.in_ok-checkpoint.ensures.few

@@ -54,6 +54,7 @@ returns-clause-works g c =
     made_works c.in_ok-store.store _ made.0 c.in_ok-secret.secret (g.D.Shelf.told c.args.target.now) (g.D.Shelf.told c.init.new.depot)
     (g.D.Shelf.faults c.args.target.now) (g.D.Shelf.faults c.init.new.depot) c.in_ok-secret.ensures.secret refl c.requires.begun c.in_ok-store.ensures.did
     made.1.1 c.in_ok-store.ensures.untold c.in_ok-store.ensures.opened c.in_ok-store.ensures.accepted c.in_ok-store.ensures.fresh.1
+    c.in_ok-store.ensures.few
 
 pub returns-in_err-fill-clause-start : goal.returns-in_err-fill-clause-start
 returns-in_err-fill-clause-start g c =

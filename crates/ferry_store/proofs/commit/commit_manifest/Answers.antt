@@ -1,4 +1,5 @@
-use Rattle.std.proofs.Common.{rules, inl, refl, ◌≡◌, ◌≢◌, false, ◌+◌, ◌++◌, ℕ, List, Ok, Err, Result, drop, length, IfErr, OnOk, option_map, ap, ◌∙◌, subst}
+use Rattle.std.proofs.Common.{rules, inl, refl, ◌≡◌, ◌≢◌, false, ◌+◌, ◌++◌, ℕ, List, Ok, Err, Result, drop, length, IfErr, OnOk, option_map, ap, ◌∙◌}
+use Rattle.std.proofs.Common.{arith, subst}
 use Rattle.ferry_base.specs.Limits.{zero_id}
 use Rattle.ferry_blob.specs.Blob.{OpensTo, sealed}
 use Rattle.ferry_blob.specs.declared.mode.Mode.{Mode}
@@ -22,12 +23,13 @@ use Rattle.ferry_store.specs.Commit.{CommitsEntry, HasCommitted, RefusesManifest
 use Rattle.ferry_store.specs.Content.{blob_for}
 use Rattle.ferry_store.proofs.PutLemmas.{always, keeps_here}
 use Rattle.ferry_store.specs.Fault.{depot_failed}
-use Rattle.ferry_store.specs.Limits.{LeavesBoth, LimitsManifest}
+use Rattle.ferry_store.specs.Limits.{LeavesBoth, LimitsManifest, BeginsFew}
 use Rattle.ferry_store.specs.New.{IsPacked}
 use Rattle.ferry_store.specs.Standing.{with_manifest}
 use Rattle.ferry_store.specs.State.{Did, KeepsSound, RefusesManifest, TakesEntry}
 use Rattle.ferry_store.specs.declared.fault.StoreRefusal.{StoreRefusal}
 use Rattle.ferry_store.specs.declared.fault.StoreRefusal.TheVariants.{Memory}
+use Rattle.ferry_store.proofs.FewLemmas.{IsUsedUp, few_same, few_then, few_unpacked}
 
 pub returns-in_err-buffer-clause-committed : goal.returns-in_err-buffer-clause-committed
 returns-in_err-buffer-clause-committed g c =
@@ -214,3 +216,23 @@ returns-in_err-buffer-clause-keeps g c =
     err_is c.from_residual.result c.in_err-buffer.field-0.0
     (λ (r : Result (Unit {0}) StoreRefusal). IfErr r (λ f. depot_failed f ≡ false → f ≢ Memory → Between a a (KeepsSound session counter)))
     c.from_residual.ensures.1 (λ still apart. here_each (KeepsSound session counter) a (keeps_here session counter))
+
+pub returns-in_err-buffer-clause-few : goal.returns-in_err-buffer-clause-few
+returns-in_err-buffer-clause-few g c =
+    let last = c.args.session.now.last in
+    let f = c.in_err-buffer.field-0.0 in
+    err_is c.from_residual.result f (λ (r : Result (Unit {0}) StoreRefusal). BeginsFew 2 last last (IsUsedUp {T = Unit {0}} r)) c.from_residual.ensures.1
+    (few_unpacked {T = Unit {0}} 2 _ last f c.in_err-buffer.ensures.made.1.3)
+
+pub returns-in_err-put_object-clause-few : goal.returns-in_err-put_object-clause-few
+returns-in_err-put_object-clause-few g c =
+    let last = c.args.session.now.last in
+    let now = c.put_object.new.session.last in
+    let f = c.in_err-put_object.field-0.0 in
+    err_is c.from_residual-in_err-put_object.result f (λ (r : Result (Unit {0}) StoreRefusal). BeginsFew 2 last now (IsUsedUp {T = Unit {0}} r))
+    c.from_residual-in_err-put_object.ensures.1
+    (few_same {T = Place} {U = Unit {0}} 1 2 last now f (omega arith) c.in_err-put_object.ensures.few)
+
+pub returns-clause-few : goal.returns-clause-few
+returns-clause-few g c =
+    few_then 1 1 c.args.session.now.last c.put_object.new.session.last c.commit.new.session.last _ _ c.in_ok-put_object.ensures.few c.commit.ensures.few

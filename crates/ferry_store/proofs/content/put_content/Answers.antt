@@ -1,4 +1,4 @@
-use Rattle.std.proofs.Common.{◌≡◌, ℕ, inr, List, Result, sym, ap, ◌∙◌, subst, IfErr, refl}
+use Rattle.std.proofs.Common.{◌≡◌, ℕ, inr, List, Result, sym, ap, ◌∙◌, subst, IfErr, refl, Ok, arith}
 use Rattle.ferry_blob.specs.Blob.{OpensTo, content_id, sealed}
 use Rattle.ferry_blob.specs.declared.mode.Mode.{Mode}
 use Rattle.ferry_disk.specs.Moments.{Between}
@@ -14,6 +14,9 @@ use Rattle.ferry_store.specs.Content.{blob_for}
 use Rattle.ferry_store.specs.Piece.{content_in}
 use Rattle.ferry_store.specs.declared.fault.StoreRefusal.{StoreRefusal}
 use Rattle.ferry_store.specs.declared.fault.StoreRefusal.TheVariants.{Memory}
+use Rattle.ferry_store.proofs.FewLemmas.{IsUsedUp, few_answered, few_later, few_same}
+use Rattle.ferry_store.specs.Limits.{BeginsFew}
+use Rattle.ferry_log.specs.declared.place.Place.{Place}
 
 pub returns-clause-did : goal.returns-clause-did
 returns-clause-did g c =
@@ -76,3 +79,22 @@ returns-in_err-learn-clause-stops g c =
     let counter = c.args.counter.now in
     err_is c.from_residual-in_err-learn.result Memory (λ (r : Result (Unit {0}) StoreRefusal). IfErr r (λ f. Between a b (Stops session counter f)))
     c.from_residual-in_err-learn.ensures.1 (memory_stops session counter Memory TellsNothing a b refl c.in_ok-place.ensures.untold)
+
+pub returns-in_err-place-clause-few : goal.returns-in_err-place-clause-few
+returns-in_err-place-clause-few g c =
+    let last = c.args.session.now.last in
+    let now = c.put_object.new.session.last in
+    let f = c.in_err-place.field-0.0 in
+    err_is c.from_residual.result f (λ (r : Result (Unit {0}) StoreRefusal). BeginsFew 1 last now (IsUsedUp {T = Unit {0}} r)) c.from_residual.ensures.1
+    (few_same {T = Place} {U = Unit {0}} 1 1 last now f (omega arith) c.in_err-place.ensures.few)
+
+pub returns-in_err-learn-clause-few : goal.returns-in_err-learn-clause-few
+returns-in_err-learn-clause-few g c =
+    let last = c.args.session.now.last in
+    let now = c.put_object.new.session.last in
+    err_is c.from_residual-in_err-learn.result Memory (λ (r : Result (Unit {0}) StoreRefusal). BeginsFew 1 last now (IsUsedUp {T = Unit {0}} r))
+    c.from_residual-in_err-learn.ensures.1 (few_later {T = Unit {0}} 1 last now _ Memory refl c.in_ok-place.ensures.few)
+
+pub returns-clause-few : goal.returns-clause-few
+returns-clause-few g c =
+    few_answered {T = Place} {U = Unit {0}} 1 c.args.session.now.last c.put_object.new.session.last (Ok c.in_ok-place.place) tt c.in_ok-place.ensures.few

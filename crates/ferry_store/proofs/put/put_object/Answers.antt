@@ -17,7 +17,8 @@ use Rattle.ferry_store.specs.Piece.{content_in, opened_in}
 use Rattle.ferry_store.specs.State.{Did, IsPlaced, KeepsSound, TakesEntry}
 use Rattle.ferry_store.specs.declared.fault.StoreRefusal.{StoreRefusal}
 use Rattle.ferry_store.proofs.LimitLemmas.{undrawn_leaves}
-use Rattle.ferry_store.specs.Limits.{LeavesBoth}
+use Rattle.ferry_store.specs.Limits.{LeavesBoth, BeginsFew}
+use Rattle.ferry_store.proofs.FewLemmas.{IsUsedUp, few_entry, few_spent, few_undrawn}
 
 pub draw-requires-clause-some : goal.draw-requires-clause-some
 draw-requires-clause-some g c =
@@ -224,3 +225,22 @@ returns-in_err-place-clause-stops g c =
     (draw_ok counter drawn blocks first a b n m (λ fit. ap g.D.Shelf.told (c.in_ok-first.ensures.kept fit).1) c.in_ok-first.ensures.replaced
     c.in_ok-first.ensures.moments c.in_ok-first.ensures.fits c.in_ok-first.ensures.cause c.in_ok-first.ensures.ends)
     c.in_err-place.ensures.stays))
+
+pub returns-in_err-first-clause-few : goal.returns-in_err-first-clause-few
+returns-in_err-first-clause-few g c =
+    let last = c.args.session.now.last in
+    let fault = c.in_err-first.field-0.0 in
+    err_is c.from_residual.result (nonce_refusal fault) (λ (r : Result Place StoreRefusal). BeginsFew 1 last last (IsUsedUp {T = Place} r))
+    c.from_residual.ensures.1 (few_undrawn {T = Place} 1 last fault)
+
+pub returns-in_err-place-clause-few : goal.returns-in_err-place-clause-few
+returns-in_err-place-clause-few g c =
+    let session = c.args.session.now in
+    let now = c.put.new.self in
+    let fault = c.in_err-place.field-0.0 in
+    err_is c.from_residual-in_err-place.result (write_refusal fault)
+    (λ (r : Result Place StoreRefusal). BeginsFew 1 session.last now.last (IsUsedUp {T = Place} r)) c.from_residual-in_err-place.ensures.1
+    (few_spent {T = Place} session now fault c.in_err-place.ensures.err (λ is. (c.in_err-place.ensures.numbers.0 (ap (fault_of {T = Place}) is)).1))
+
+pub returns-clause-few : goal.returns-clause-few
+returns-clause-few g c = few_entry {T = Place} c.args.session.now c.put.new.self _ c.in_ok-place.place c.in_ok-place.ensures.ok

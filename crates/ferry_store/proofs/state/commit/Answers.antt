@@ -11,6 +11,8 @@ use Rattle.ferry_store.specs.Fault.{write_refusal}
 use Rattle.ferry_store.specs.State.{CommitsSound, Did, TakesCommit}
 use Rattle.ferry_store.specs.declared.fault.StoreRefusal.{StoreRefusal}
 use Rattle.ferry_write.specs.Session.{OnlyAppends}
+use Rattle.ferry_store.proofs.FewLemmas.{IsUsedUp, few_commit, few_spent}
+use Rattle.ferry_store.specs.Limits.{BeginsFew}
 
 pub returns-in_err-commit-clause-did : goal.returns-in_err-commit-clause-did
 returns-in_err-commit-clause-did g c counter =
@@ -50,3 +52,15 @@ returns-in_err-commit-clause-stops g c counter =
     c.from_residual.ensures.1
     (write_stops session counter fault a b (λ is. c.in_err-commit.ensures.numbers.0 (ap (fault_of {T = ℕ}) is))
     (only_appends session counter a b c.in_err-commit.ensures.stays))
+
+pub returns-in_err-commit-clause-few : goal.returns-in_err-commit-clause-few
+returns-in_err-commit-clause-few g c =
+    let session = c.args.session.now in
+    let now = c.commit.new.self in
+    let fault = c.in_err-commit.field-0.0 in
+    err_is c.from_residual.result (write_refusal fault)
+    (λ (r : Result (Unit {0}) StoreRefusal). BeginsFew 1 session.last now.last (IsUsedUp {T = Unit {0}} r)) c.from_residual.ensures.1
+    (few_spent {T = Unit {0}} session now fault c.in_err-commit.ensures.err (λ is. c.in_err-commit.ensures.numbers.0 (ap (fault_of {T = ℕ}) is)))
+
+pub returns-clause-few : goal.returns-clause-few
+returns-clause-few g c = few_commit {T = Unit {0}} c.args.session.now c.commit.new.self tt c.in_ok-commit.ensures.ok

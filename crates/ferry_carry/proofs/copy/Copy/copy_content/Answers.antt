@@ -18,6 +18,7 @@ use Rattle.ferry_item.specs.declared.item.ChunkRef.{ChunkRef}
 use Rattle.ferry_item.specs.declared.item.ChunkRefs.{ChunkRefs}
 use Rattle.ferry_rechunk.specs.Cut.{cut}
 use Rattle.ferry_repo.specs.Opening.{repo_view}
+use Rattle.ferry_piece.proofs.FewLemmas.{memory_unused}
 
 pub returns-then-total_size-self-clause-copied : goal.returns-then-total_size-self-clause-copied
 returns-then-total_size-self-clause-copied g c =
@@ -25,7 +26,7 @@ returns-then-total_size-self-clause-copied g c =
       [],
       (
         gathered_nothing {T = ChunkRefs} c.args.self.now.contents.checkpoint store (g.D.Shelf.told c.args.depot.now)
-            (g.D.Shelf.faults c.args.depot.now) Pieces refl tt,
+            (g.D.Shelf.faults c.args.depot.now) Pieces refl tt (λ e. let no : ⊥ = cc in no),
         (
           tt,
           (
@@ -151,7 +152,7 @@ returns-then-len-clause-copied g c =
     contents_append wrote.0 last.0 ∙ ap (λ (ps : List (List ℕ)). contents_in wrote.0 ++ ps) last.1.1.0.0 in (
       more,
       (
-        gathered_fault {U = ChunkRefs} most store now more a b n m c.in_ok-copied.copied Memory refl tt
+        gathered_fault {U = ChunkRefs} most store now more a b n m c.in_ok-copied.copied Memory refl tt memory_unused
             (pieces_then {T = Unit {0}} most most left.checkpoint store c.write_contents.new.store now wrote.0 last.0 a
             (g.D.Shelf.told c.write_contents.new.depot) b n
             (g.D.Shelf.faults c.write_contents.new.depot) m tt (Ok c.in_ok-copied.copied) refl c.in_ok-write_contents.ensures.checkpoint

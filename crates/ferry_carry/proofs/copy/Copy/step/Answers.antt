@@ -4,7 +4,7 @@ use Rattle.ferry_carry.proofs.FillingLemmas.{item_filled, next_filled, where_tar
 use Rattle.ferry_carry.proofs.LeftLemmas.{left_here, left_then, target_leaves}
 use Rattle.ferry_piece.proofs.GatherLemmas.{rest_here, rest_then}
 use Rattle.ferry_piece.proofs.PieceLemmas.{pieces_at, pieces_then}
-use Rattle.ferry_carry.proofs.RefusalLemmas.{item_refused, next_refused, next_unbroken}
+use Rattle.ferry_carry.proofs.RefusalLemmas.{item_refused, next_refused, next_unbroken, next_unused}
 use Rattle.ferry_carry.proofs.StepLemmas.{StepIs, content_begun, copied_behind, copied_refused, most_added, most_taken, spelling_begun, step_copies}
 use Rattle.ferry_carry.proofs.StepLemmas.{step_counts}
 use Rattle.ferry_piece.proofs.WorkLemmas.{err_is, gathered_as, gathered_err, gathered_none, gathered_nothing}
@@ -46,7 +46,8 @@ returns-in_err-item-clause-steps g c =
       [],
       err_is c.from_residual.result fault (StepIs told source copy c.next.new.self store store [] a a n n) c.from_residual.ensures.1 (
         gathered_nothing {T = Bool} copy.contents.checkpoint store a n fault c.in_err-item.ensures.still
-            (next_unbroken told source (walk_view copy.walk) fault c.in_err-item.ensures.refused),
+            (next_unbroken told source (walk_view copy.walk) fault c.in_err-item.ensures.refused)
+            (next_unused told source (walk_view copy.walk) fault c.in_err-item.ensures.refused),
         ((inl refl, next_filled told source copy fault c.in_err-item.ensures.refused), tt),
       ),
     )

@@ -12,6 +12,7 @@ use Rattle.ferry_piece.specs.declared.fault.CarryFault.TheVariants.{Memory}
 use Rattle.ferry_item.specs.Item.{item_view}
 use Rattle.ferry_item.specs.Writing.{item_text}
 use Rattle.ferry_repo.specs.Opening.{repo_view}
+use Rattle.ferry_piece.proofs.FewLemmas.{memory_unused}
 
 pub returns-in_err-write_item-clause-written : goal.returns-in_err-write_item-clause-written
 returns-in_err-write_item-clause-written g c =
@@ -26,7 +27,7 @@ returns-in_err-write_item-clause-written g c =
           × (AreOf Stream [] × (BeginsOn stream.cutter (item_text item) []
           × OnOk r (WritesItem (repo_view store.repo).keys stream.cutter stream.chunks.items item [] stream.cutter stream.chunks.items
           × CountsOn Stream stream [] stream)))) c.from_residual.ensures.1 (
-            gathered_nothing {T = Unit {0}} stream.checkpoint store a n Memory refl tt,
+            gathered_nothing {T = Unit {0}} stream.checkpoint store a n Memory refl tt memory_unused,
             (tt, (begins_nothing stream.cutter (item_text item), tt)),
           ),
     )

@@ -1,9 +1,9 @@
-use Rattle.std.proofs.Common.{◌≡◌, [], ◌∷◌, ℕ, List, Some, Result, Ok, Err, refl, sym, ◌∙◌, ap, subst, IfErr, IsSome}
+use Rattle.std.proofs.Common.{◌≡◌, [], ◌∷◌, ℕ, List, Some, Result, Ok, Err, refl, sym, ◌∙◌, ap, subst, IfErr, IsSome, arith}
 use Rattle.std.proofs.lemmas.Result.{on_ok_weaker}
 use Rattle.ferry_carry.proofs.AcceptingLemmas.{still_rest}
 use Rattle.ferry_carry.proofs.FlightLemmas.{read_rest, rest_accepts, rest_there, there_accepted}
 use Rattle.ferry_carry.proofs.FlyLemmas.{begins_there, filled_apart, fills_there, flies_as, flies_fault, present_flies, present_stands, stands_within}
-use Rattle.ferry_carry.proofs.FlyLemmas.{taken_still, taken_unbroken, turn_present, turned_err}
+use Rattle.ferry_carry.proofs.FlyLemmas.{taken_still, taken_unbroken, turn_present, turned_err, present_few, taken_unused}
 use Rattle.ferry_carry.proofs.HeldLemmas.{held_within, spent_chunk, targets_apart}
 use Rattle.ferry_carry.proofs.LeftLemmas.{left_read, left_usable, targets_leave}
 use Rattle.ferry_carry.proofs.ReportLemmas.{told_unbroken}
@@ -28,6 +28,7 @@ use Rattle.ferry_carry.specs.Refusals.{DiffersThere, IsLimited, Leaves, RefusesC
 use Rattle.ferry_piece.specs.Stops.{StopsPieces}
 use Rattle.std.proofs.lemmas.Result.{IfErr-weaker}
 use Rattle.ferry_store.specs.Commit.{accepted_in}
+use Rattle.ferry_piece.proofs.FewLemmas.{begun_as, begun_same, begun_then}
 
 pub returns-in-More-clause-works : goal.returns-in-More-clause-works
 returns-in-More-clause-works g c =
@@ -72,6 +73,7 @@ returns-in-More-clause-works g c =
         },
         refl,
       );
+      few = begun_as {T = Compared} {U = Turn} 0 0 store now compared More (omega arith) works.few;
     }
 
 pub returns-in-More-clause-accepts : goal.returns-in-More-clause-accepts
@@ -113,6 +115,8 @@ returns-in-Equal-clause-works g c =
       fills = filled_apart {T = Turn} a from (repo_view store.repo).keys (accepted_in store) name [] c.present.result apart;
       lists = turn_present (g.S.Shelf.told c.compare_item-compared.new.shelf) (repo_view c.compare_item-compared.new.source) d now _ a from
           (repo_view store.repo).keys c.present.result c.requires.uncounted c.present.ensures.present;
+      few = present_few store now c.present.result c.present.ensures.present
+          (begun_then {T = Compared} {U = Turn} 0 1 2 store middle now (Ok compared) c.present.result (omega arith) works.few c.present.ensures.few);
     }
 
 pub returns-in-Equal-clause-accepts : goal.returns-in-Equal-clause-accepts
@@ -147,6 +151,7 @@ returns-in_err-compared-clause-works g c =
       fills = fills_there a from (repo_view store.repo).keys (accepted_in store) name fault
           (there_accepted store name c.requires.accepts c.requires.there);
       lists = tt;
+      few = begun_same {T = Compared} {U = Turn} 0 2 store now fault (omega arith) works.few;
     })
 
 pub returns-in-Differs-clause-works : goal.returns-in-Differs-clause-works
@@ -163,7 +168,8 @@ returns-in-Differs-clause-works g c =
     let works = c.in_ok-compared.ensures.works from.most in
     let refused = gathered_fault {T = Compared} {U = Compared} from.most store now [] a b n m c.in_ok-compared.field-0 c.taken.result
     (taken_still c.taken.result c.as_slice.result.now c.taken.ensures.taken)
-    (taken_unbroken c.taken.result c.as_slice.result.now c.taken.ensures.taken) works in
+    (taken_unbroken c.taken.result c.as_slice.result.now c.taken.ensures.taken)
+    (taken_unused c.taken.result c.as_slice.result.now c.taken.ensures.taken) works in
     record {
       flies = flies_fault {T = Compared} [] from name store now [] a b n m c.taken.result c.requires.accepts refused;
       begins = begins_there a from (repo_view store.repo).keys (accepted_in store) name
@@ -174,6 +180,7 @@ returns-in-Differs-clause-works g c =
       fills = fills_there a from (repo_view store.repo).keys (accepted_in store) name c.taken.result
           (there_accepted store name c.requires.accepts c.requires.there);
       lists = tt;
+      few = begun_same {T = Compared} {U = Turn} 0 2 store now c.taken.result (omega arith) refused.few;
     }
 
 pub returns-in_err-compared-clause-refused : goal.returns-in_err-compared-clause-refused

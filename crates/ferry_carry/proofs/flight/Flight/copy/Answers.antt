@@ -1,4 +1,5 @@
 use Rattle.std.proofs.Common.{rules, ◌≡◌, inr, [], ◌∷◌, ◌++◌, false, true, Some, None, Bool, List, Result, Ok, Err, refl, sym, ◌∙◌, subst, IfErr, ℕ}
+use Rattle.std.proofs.Common.{◌+◌, ◌*◌, length, arith}
 use Rattle.ferry_carry.proofs.CauseLemmas.{end_refused, lacks_by, step_refused}
 use Rattle.ferry_carry.proofs.AcceptingLemmas.{next_rest}
 use Rattle.ferry_carry.proofs.FlightLemmas.{rest_accepts}
@@ -28,6 +29,7 @@ use Rattle.ferry_manifest.specs.Manifest.Text.{ManifestText}
 use Rattle.ferry_repo.specs.Archives.{archive_named}
 use Rattle.ferry_repo.specs.Opening.{RepoState, repo_view}
 use Rattle.ferry_store.specs.Commit.{accepted_in}
+use Rattle.ferry_piece.proofs.FewLemmas.{begun_as, begun_same}
 
 pub returns-in-Err-clause-works : goal.returns-in-Err-clause-works
 returns-in-Err-clause-works g c =
@@ -65,6 +67,7 @@ returns-in-Err-clause-works g c =
             fills = fills_new a from (repo_view store.repo).keys (accepted_in store) name (added ++ stepped.0) fault c.requires.unnamed
                 (works.1.1.0 c.requires.flight.named);
             lists = tt;
+            few = begun_same {T = Bool} {U = Turn} (2 * length stepped.0) (2 * length stepped.0 + 2) store now fault (omega arith) works.0.few;
           },
           inr (tags_none (repo_view store.repo).keys stepped.0 _ _ works.1.1.1 refl),
         ),
@@ -130,6 +133,7 @@ returns-in-Ok-true-clause-works g c =
               },
               refl,
             );
+            few = begun_as {T = Bool} {U = Turn} (2 * length stepped.0) (2 * length stepped.0 + 0) store now more More (omega arith) works.0.few;
           },
           λ is. absurd (let no : ⊥ = cc in no),
         ),
@@ -190,7 +194,8 @@ returns-in_err-self-in-Ok-false-clause-works g c =
               (turn_ended from name added ends.0 [] store middle now _ _ _ a b d n m k more (Err fault) c.requires.accepts rest c.requires.unnamed first
               (flies_err {T = Carried} added from name (name ∷ []) ends.0 middle now now b d m k fault does.carries) does.begins does.stands does.last does.held
               (end_apart from b (repo_view middle.repo).keys name fault
-              (c.in_err-self-in-Ok-false.ensures.refused from added (ended.1 c.requires.flight.named))) tt),
+              (c.in_err-self-in-Ok-false.ensures.refused from added (ended.1 c.requires.flight.named))) tt
+              (begun_same {T = Carried} {U = Turn} (2 * length ends.0 + 2) (2 * length ends.0 + 2) middle now fault (omega arith) does.few)),
           match_err {T = Turn} _ (TagsOr (repo_view store.repo).keys ends.0 (g.E.Entropy.drawn c.args.entropy.now)
               (g.E.Entropy.drawn c.end_copy-put.new.entropy)) c.from_residual.result fault c.from_residual.ensures.1
               (tags_as (repo_view store.repo).keys (repo_view middle.repo).keys ends.0 _ _ fault rest.keys ends.1.1.1),
@@ -251,7 +256,9 @@ returns-in_ok-self-in-Ok-false-clause-works g c =
                       (KeepsStanding from.most store []) a b first.works.each refl rest.keys refl does.lists.0,
                   does.lists.1,
                 ),
-              ),
+              )
+              (begun_as {T = Carried} {U = Turn} (2 * length ends.0 + 2) (2 * length ends.0 + 2) middle now c.in_ok-self-in-Ok-false.field-0 Named
+              (omega arith) does.few),
           λ _. next_rest flight.options.timestamp source (repo_view c.step.new.source) store middle now named records
               (g.E.Entropy.drawn c.args.entropy.now) (g.E.Entropy.drawn c.end_copy-put.new.entropy) rest kept ends.1.1.1,
         ),

@@ -1,4 +1,4 @@
-use Rattle.std.proofs.Common.{rules, ◌≡◌, inr, MatchResult, [], ◌∷◌, Result, Err, refl, sym, IfErr, IsSome, subst, ◌∙◌}
+use Rattle.std.proofs.Common.{rules, ◌≡◌, inr, MatchResult, [], ◌∷◌, Result, Err, refl, sym, IfErr, IsSome, subst, ◌∙◌, arith}
 use Rattle.std.proofs.lemmas.Result.{on_ok_weaker}
 use Rattle.ferry_piece.proofs.AddingLemmas.{stops_unbroken}
 use Rattle.ferry_carry.proofs.FlightLemmas.{read_rest}
@@ -26,11 +26,12 @@ use Rattle.ferry_carry.proofs.TagLemmas.{TagsOr, match_err, tags_none, unnamed_a
 use Rattle.ferry_carry.specs.Accepting.{NamesNew}
 use Rattle.ferry_carry.specs.Carrying.{Origin, origin}
 use Rattle.ferry_piece.specs.Gather.{KeepsStanding}
-use Rattle.ferry_carry.specs.Refusals.{IsLimited, Leaves, RefusesName}
+use Rattle.ferry_carry.specs.Refusals.{IsLimited, Leaves, RefusesName, RefusesBegin}
 use Rattle.ferry_carry.proofs.NamingLemmas.{begin_limit, pieces_limit, rest_limit}
 use Rattle.std.proofs.lemmas.Result.{IfErr-weaker}
 use Rattle.ferry_piece.proofs.GatherLemmas.{stands_here}
 use Rattle.ferry_store.proofs.StepLemmas.{here_each}
+use Rattle.ferry_piece.proofs.FewLemmas.{begun_nothing, begun_same}
 
 pub returns-in_err-copy-clause-works : goal.returns-in_err-copy-clause-works
 returns-in_err-copy-clause-works g c =
@@ -56,6 +57,8 @@ returns-in_err-copy-clause-works g c =
             fills = fills_begin a (g.S.Shelf.told c.args.shelf.now) (repo_view c.args.source.now) from.block from.most from.time (repo_view store.repo).keys
                 (accepted_in store) c.args.self.now.named fault c.requires.flight.named c.in_err-copy.ensures.refused;
             lists = tt;
+            few = begun_nothing {T = Turn} 2 store fault (λ e.
+                subst (RefusesBegin (g.S.Shelf.told c.args.shelf.now) (repo_view c.args.source.now) c.args.self.now.named.id) e c.in_err-copy.ensures.refused);
           }),
           match_err {T = Turn} _ (TagsOr (repo_view store.repo).keys [] (g.E.Entropy.drawn c.args.entropy.now) (g.E.Entropy.drawn c.args.entropy.now))
               c.from_residual-in_err-copy.result fault c.from_residual-in_err-copy.ensures.1
@@ -123,6 +126,7 @@ returns-in_err-comparison-clause-works g c =
             held = held_within {T = Turn} at from.most store now [] a b (Err fault) works.held;
             fills = fills_there a from (repo_view store.repo).keys (accepted_in store) name fault there;
             lists = tt;
+            few = begun_same {T = Comparison} {U = Turn} 0 2 store now fault (omega arith) works.few;
           }),
           match_err {T = Turn} _ (TagsOr (repo_view store.repo).keys [] (g.E.Entropy.drawn c.args.entropy.now) (g.E.Entropy.drawn c.args.entropy.now))
               c.from_residual.result fault c.from_residual.ensures.1 (inr (tags_none (repo_view store.repo).keys [] _ _ refl refl)),

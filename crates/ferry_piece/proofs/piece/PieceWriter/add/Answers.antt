@@ -1,4 +1,5 @@
 use Rattle.std.proofs.Common.{ℕ, List, [], ◌∷◌, false, Result, Ok, Err, OnOk, length, refl, sym, ap, subst}
+use Rattle.ferry_piece.proofs.FewLemmas.{memory_unused}
 use Rattle.ferry_piece.proofs.PieceLemmas.{counts_by}
 use Rattle.ferry_piece.proofs.WorkLemmas.{err_is, gathered_as, gathered_err, gathered_fault}
 use Rattle.ferry_piece.proofs.piece.PieceWriter.add.Goals as goal
@@ -51,7 +52,7 @@ returns-in_err-note-clause-works g c =
           err_is c.from_residual-in_err-note.result Memory
           (λ (r : Result (Unit {0}) CarryFault). AddsOn most store (one ∷ []) now a b n m r
           × OnOk r (CountsOn kind writer (one ∷ []) c.note.new.self)) c.from_residual-in_err-note.ensures.1 (
-            gathered_fault {T = Added} {U = Unit {0}} most store now (one ∷ []) a b n m c.in_ok-added.added Memory refl tt
+            gathered_fault {T = Added} {U = Unit {0}} most store now (one ∷ []) a b n m c.in_ok-added.added Memory refl tt memory_unused
                 (subst (λ (piece : List ℕ). AddsOn {T = Added} most store (addition kind piece put ∷ []) now a b n m (Ok c.in_ok-added.added))
                 c.in-Some.ensures.piece
                 (c.in_ok-added.ensures.works kind put piece_is refl)),

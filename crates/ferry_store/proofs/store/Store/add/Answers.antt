@@ -1,4 +1,4 @@
-use Rattle.std.proofs.Common.{false, ℕ, List, drop, ap, ◌∙◌, subst}
+use Rattle.std.proofs.Common.{false, ℕ, List, drop, ap, ◌∙◌, subst, arith}
 use Rattle.ferry_stops.proofs.TellLemmas.{told_none}
 use Rattle.ferry_store.proofs.AddLemmas.{same_added}
 use Rattle.ferry_store.proofs.PutLemmas.{keeps_here}
@@ -8,6 +8,8 @@ use Rattle.ferry_store.specs.Adding.{Adds}
 use Rattle.ferry_store.specs.Fault.{depot_failed}
 use Rattle.ferry_store.specs.State.{Did, KeepsSound}
 use Rattle.ferry_store.specs.declared.content.Added.{Added}
+use Rattle.ferry_store.proofs.FewLemmas.{few_memory, few_more, few_none}
+use Rattle.ferry_store.specs.declared.store.Store.{Store}
 
 pub returns-then-is_known-clause-did : goal.returns-then-is_known-clause-did
 returns-then-is_known-clause-did g c =
@@ -43,3 +45,14 @@ returns-clause-did g c = c.add_old.ensures.did c.args.content.now
 
 pub returns-then-is_known-clause-untold : goal.returns-then-is_known-clause-untold
 returns-then-is_known-clause-untold g c = told_none (g.D.Shelf.told c.args.depot.now)
+
+pub returns-in-Err-clause-few : goal.returns-in-Err-clause-few
+returns-in-Err-clause-few g c =
+    few_memory {T = Added} 1 c.args.self.now.session.last c.spend.new.self.session.last c.spend.result
+    (c.spend.ensures.same ∙ c.in-Err.ensures.refused) (ap (λ (s : Store). s.session.last) c.spend.ensures.spent)
+
+pub returns-then-is_known-clause-few : goal.returns-then-is_known-clause-few
+returns-then-is_known-clause-few g c = few_none 1 c.args.self.now.session.last _ (λ e. let no : ⊥ = cc in no)
+
+pub returns-clause-few : goal.returns-clause-few
+returns-clause-few g c = few_more 0 1 c.args.self.now.session.last c.add_old.new.self.session.last _ _ (omega arith) (λ e. e) c.add_old.ensures.few

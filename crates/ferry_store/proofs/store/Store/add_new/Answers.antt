@@ -1,4 +1,4 @@
-use Rattle.std.proofs.Common.{◌≡◌, inl, inr, true, OnOk, Result, subst, IfErr, IfSome, sym}
+use Rattle.std.proofs.Common.{◌≡◌, inl, inr, true, OnOk, Result, subst, IfErr, IfSome, sym, ap}
 use Rattle.ferry_disk.specs.Device.{told_files}
 use Rattle.ferry_disk.specs.Moments.{Between}
 use Rattle.ferry_repo.specs.Opening.{repo_view}
@@ -10,6 +10,9 @@ use Rattle.ferry_store.specs.Content.{HasPut, Learns}
 use Rattle.ferry_store.specs.Piece.{content_in}
 use Rattle.ferry_store.specs.State.{Did, KeepsSound}
 use Rattle.ferry_store.specs.declared.fault.StoreRefusal.{StoreRefusal}
+use Rattle.ferry_store.proofs.FewLemmas.{few_answered, few_refused}
+use Rattle.ferry_store.specs.declared.content.Added.{Added}
+use Rattle.ferry_store.specs.declared.store.Store.{Store}
 
 pub returns-in-Ok-clause-did : goal.returns-in-Ok-clause-did
 returns-in-Ok-clause-did g c =
@@ -57,3 +60,14 @@ returns-in-Err-clause-stops g c =
     c.put_content-put.ensures.stops in
     subst (λ (f : StoreRefusal). IfSome b (λ t. StopsAt t.history.start (told_files t) (repo_view store.repo).keys f)) (sym c.spend.ensures.same)
     (store_stops store refusal a b c.requires.fits did.ends stops)
+
+pub returns-in-Ok-clause-few : goal.returns-in-Ok-clause-few
+returns-in-Ok-clause-few g c =
+    few_answered {T = Unit {0}} {U = Added} 1 c.args.self.now.session.last c.put_content-put.new.session.last c.put_content-put.result _
+    c.put_content-put.ensures.few
+
+pub returns-in-Err-clause-few : goal.returns-in-Err-clause-few
+returns-in-Err-clause-few g c =
+    few_refused {T = Unit {0}} {U = Added} 1 c.args.self.now.session.last c.put_content-put.new.session.last c.spend.new.self.session.last
+    c.put_content-put.result c.in-Err.refusal c.spend.result c.in-Err.is c.spend.ensures.same (ap (λ (s : Store). s.session.last) c.spend.ensures.spent)
+    c.put_content-put.ensures.few

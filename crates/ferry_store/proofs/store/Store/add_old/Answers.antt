@@ -1,4 +1,4 @@
-use Rattle.std.proofs.Common.{IfSome, OnOk, Result, Err, refl, sym, subst, IfErr}
+use Rattle.std.proofs.Common.{IfSome, OnOk, Result, Err, refl, sym, subst, IfErr, ap}
 use Rattle.std.proofs.Common.{◌≡◌, true, false}
 use Rattle.std.specs.BTreeSet.{Updates}
 use Rattle.ferry_disk.proofs.FaultLemmas.{keeps_end}
@@ -21,6 +21,8 @@ use Rattle.ferry_store.specs.Fault.{depot_failed, spends}
 use Rattle.ferry_store.specs.State.{Did, KeepsSound}
 use Rattle.ferry_store.specs.declared.content.Added.{Added}
 use Rattle.ferry_store.specs.declared.fault.StoreRefusal.{StoreRefusal}
+use Rattle.ferry_store.proofs.FewLemmas.{few_none, few_unwritten}
+use Rattle.ferry_store.specs.declared.store.Store.{Store}
 
 pub returns-in-Ok-clause-did : goal.returns-in-Ok-clause-did
 returns-in-Ok-clause-did g c = λ content.
@@ -90,3 +92,11 @@ returns-in-Err-clause-kept g c =
     subst (IsUnspentBy store c.spend.new.self a b) (sym c.spend.ensures.same)
     (unopened_kept store c.spend.new.self repo opened refusal a b c.requires.unspent.itself c.open_content.ensures.kept untouched c.spend.ensures.spent
     (same_told {T = Unit {0}} depot_failed a b (Err refusal) same))
+
+pub returns-in-Ok-clause-few : goal.returns-in-Ok-clause-few
+returns-in-Ok-clause-few g c = few_none 0 c.args.self.now.session.last _ (λ e. let no : ⊥ = cc in no)
+
+pub returns-in-Err-clause-few : goal.returns-in-Err-clause-few
+returns-in-Err-clause-few g c =
+    few_unwritten {T = Unit {0}} {U = Added} 0 c.args.self.now.session.last c.spend.new.self.session.last c.open_content.result c.in-Err.refusal
+    c.spend.result c.in-Err.is c.spend.ensures.same (ap (λ (s : Store). s.session.last) c.spend.ensures.spent) c.open_content.ensures.unwritten

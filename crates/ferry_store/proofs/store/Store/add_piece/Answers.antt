@@ -1,4 +1,4 @@
-use Rattle.std.proofs.Common.{false}
+use Rattle.std.proofs.Common.{false, arith}
 use Rattle.ferry_stops.proofs.TellLemmas.{told_none}
 use Rattle.ferry_store.proofs.AddLemmas.{same_added}
 use Rattle.ferry_store.proofs.PutLemmas.{keeps_here}
@@ -9,6 +9,7 @@ use Rattle.ferry_repo.specs.Opening.{repo_view}
 use Rattle.ferry_store.specs.Piece.{content_in}
 use Rattle.ferry_store.specs.State.{KeepsSound}
 use Rattle.ferry_store.specs.declared.content.Added.{Added}
+use Rattle.ferry_store.proofs.FewLemmas.{few_more, few_none}
 
 pub returns-then-is_known-clause-did : goal.returns-then-is_known-clause-did
 returns-then-is_known-clause-did g c =
@@ -24,3 +25,9 @@ returns-clause-did g c = c.add_old.ensures.did (content_in (repo_view c.args.sel
 
 pub returns-then-is_known-clause-untold : goal.returns-then-is_known-clause-untold
 returns-then-is_known-clause-untold g c = told_none (g.D.Shelf.told c.args.depot.now)
+
+pub returns-then-is_known-clause-few : goal.returns-then-is_known-clause-few
+returns-then-is_known-clause-few g c = few_none 1 c.args.self.now.session.last _ (λ e. let no : ⊥ = cc in no)
+
+pub returns-clause-few : goal.returns-clause-few
+returns-clause-few g c = few_more 0 1 c.args.self.now.session.last c.add_old.new.self.session.last _ _ (omega arith) (λ e. e) c.add_old.ensures.few

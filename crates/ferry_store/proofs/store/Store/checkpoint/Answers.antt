@@ -1,4 +1,4 @@
-use Rattle.std.proofs.Common.{◌≡◌, OnOk, Err, Result, sym, subst, IfErr, IfSome}
+use Rattle.std.proofs.Common.{◌≡◌, OnOk, Err, Result, sym, subst, IfErr, IfSome, ap}
 use Rattle.ferry_disk.specs.Act.{History}
 use Rattle.ferry_disk.specs.Device.{told_files}
 use Rattle.ferry_disk.specs.Moments.{Between}
@@ -13,6 +13,8 @@ use Rattle.ferry_store.specs.State.{CommitsSound, Did, TakesCommit}
 use Rattle.ferry_store.specs.declared.fault.StoreRefusal.{StoreRefusal}
 use Rattle.ferry_write.specs.Room.{after_commit}
 use Rattle.ferry_write.specs.Session.{OnlyAppends}
+use Rattle.ferry_store.proofs.FewLemmas.{few_answered, few_refused}
+use Rattle.ferry_store.specs.declared.store.Store.{Store}
 
 pub returns-in-Ok-clause-did : goal.returns-in-Ok-clause-did
 returns-in-Ok-clause-did g c =
@@ -62,3 +64,13 @@ returns-in-Err-clause-stops g c fits =
     (c.commit.ensures.stops store.counter) in
     subst (λ (f : StoreRefusal). IfSome b (λ t. StopsAt t.history.start (told_files t) (repo_view store.repo).keys f)) (sym c.spend.ensures.same)
     (store_stops store refusal a b fits did.ends stops)
+
+pub returns-in-Ok-clause-few : goal.returns-in-Ok-clause-few
+returns-in-Ok-clause-few g c =
+    few_answered {T = Unit {0}} {U = Unit {0}} 1 c.args.self.now.session.last c.commit.new.session.last c.commit.result tt c.commit.ensures.few
+
+pub returns-in-Err-clause-few : goal.returns-in-Err-clause-few
+returns-in-Err-clause-few g c =
+    few_refused {T = Unit {0}} {U = Unit {0}} 1 c.args.self.now.session.last c.commit.new.session.last c.spend.new.self.session.last
+    c.commit.result c.in-Err.refusal c.spend.result c.in-Err.is c.spend.ensures.same (ap (λ (s : Store). s.session.last) c.spend.ensures.spent)
+    c.commit.ensures.few

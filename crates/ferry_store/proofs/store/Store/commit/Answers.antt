@@ -1,4 +1,4 @@
-use Rattle.std.proofs.Common.{◌≡◌, sym, ap, ◌∙◌, subst, IfSome}
+use Rattle.std.proofs.Common.{◌≡◌, sym, ap, ◌∙◌, subst, IfSome, ℕ, List, Option, Ok, Err, refl}
 use Rattle.ferry_disk.proofs.MomentLemmas.{between_map}
 use Rattle.ferry_disk.specs.Device.{told_files}
 use Rattle.ferry_manifest.specs.Manifest.Text.{ManifestText, manifest_view}
@@ -20,6 +20,9 @@ use Rattle.ferry_store.specs.Standing.{with_manifest}
 use Rattle.ferry_store.specs.declared.fault.StoreRefusal.{StoreRefusal}
 use Rattle.ferry_store.specs.declared.store.Store.{Store}
 use Rattle.ferry_write.specs.Script.{AllDone}
+use Rattle.ferry_store.proofs.FewLemmas.{IsUsedUp, few_answered, few_refused}
+use Rattle.ferry_store.specs.Limits.{BeginsFew}
+use Rattle.ferry_manifest.specs.declared.manifest.Manifest.{Manifest}
 
 pub returns-in-Ok-clause-committed : goal.returns-in-Ok-clause-committed
 returns-in-Ok-clause-committed g c =
@@ -96,3 +99,16 @@ returns-in-Err-clause-stops g c =
     let made = c.in-Err.ensures.committed in
     subst (λ (f : StoreRefusal). IfSome b (λ t. StopsAt t.history.start (told_files t) (repo_view store.repo).keys f)) (sym c.spend.ensures.same)
     (writing_stops store c.in-Err.refusal a b c.requires.fits made.1.2.ends c.in-Err.ensures.stops)
+
+pub returns-in-Ok-clause-few : goal.returns-in-Ok-clause-few
+returns-in-Ok-clause-few g c =
+    let last = c.args.self.now.session.last in
+    let middle = c.commit_accepted.new.self.session.last in
+    subst (λ (l : Option ℕ). BeginsFew 2 last l (IsUsedUp {T = Unit {0}} (Ok tt))) (sym (ap (λ (s : Store). s.session.last) c.take_manifest.ensures.taken))
+    (few_answered {T = Manifest × List ℕ} {U = Unit {0}} 2 last middle _ tt c.in-Ok.ensures.few)
+
+pub returns-in-Err-clause-few : goal.returns-in-Err-clause-few
+returns-in-Err-clause-few g c =
+    few_refused {T = Manifest × List ℕ} {U = Unit {0}} 2 c.args.self.now.session.last c.commit_accepted.new.self.session.last
+    c.spend.new.self.session.last (Err c.in-Err.refusal) c.in-Err.refusal c.spend.result refl c.spend.ensures.same
+    (ap (λ (s : Store). s.session.last) c.spend.ensures.spent) c.in-Err.ensures.few

@@ -1,4 +1,4 @@
-use Rattle.std.proofs.Common.{◌≡◌, ◌++◌, ℕ, List, Ok, Err, Result, replicate, length, IfErr, OnOk, option_map, refl, sym, ap, subst}
+use Rattle.std.proofs.Common.{◌≡◌, ◌++◌, ℕ, List, Ok, Err, Result, replicate, length, IfErr, OnOk, option_map, refl, sym, ap, subst, arith}
 use Rattle.ferry_disk.specs.Act.{History}
 use Rattle.ferry_disk.specs.Moments.{Between}
 use Rattle.ferry_manifest.specs.Manifest.Text.{ManifestText}
@@ -16,11 +16,12 @@ use Rattle.ferry_store.proofs.store.Store.commit_accepted.Goals as goal
 use Rattle.ferry_store.specs.Causes.{Stops}
 use Rattle.ferry_store.specs.Commit.{CommitsEntry, HasCommitted, RefusesManifestOf, accepted_in, manifest_entry}
 use Rattle.ferry_store.specs.Fault.{depot_failed}
-use Rattle.ferry_store.specs.Limits.{LimitsManifest}
+use Rattle.ferry_store.specs.Limits.{LimitsManifest, BeginsFew}
 use Rattle.ferry_store.specs.Standing.{with_manifest}
 use Rattle.ferry_store.specs.State.{Did}
 use Rattle.ferry_store.specs.declared.fault.StoreRefusal.{StoreRefusal}
 use Rattle.ferry_store.specs.declared.fault.StoreRefusal.TheVariants.{Memory}
+use Rattle.ferry_store.proofs.FewLemmas.{IsUsedUp, few_answered, few_memory, few_same}
 
 pub returns-in_err-manifest-clause-committed : goal.returns-in_err-manifest-clause-committed
 returns-in_err-manifest-clause-committed g c =
@@ -179,3 +180,32 @@ returns-in_err-from_slice-clause-stops g c =
     err_is c.from_residual-in_err-from_slice.result Memory
     (λ (r : Result (Manifest × List ℕ) StoreRefusal). IfErr r (λ x. Between a a (Stops store.session store.counter x)))
     c.from_residual-in_err-from_slice.ensures.1 (memory_stops store.session store.counter Memory TellsNothing a a refl (told_none a))
+
+pub returns-in_err-manifest-clause-few : goal.returns-in_err-manifest-clause-few
+returns-in_err-manifest-clause-few g c =
+    let last = c.args.self.now.session.last in
+    let f = c.in_err-manifest.field-0.0 in
+    err_is c.from_residual.result f (λ (r : Result (Manifest × List ℕ) StoreRefusal). BeginsFew 2 last last (IsUsedUp {T = Manifest × List ℕ} r))
+    c.from_residual.ensures.1 (few_memory {T = Manifest × List ℕ} 2 last last f c.in_err-manifest.ensures.refused refl)
+
+pub returns-in_err-from_slice-clause-few : goal.returns-in_err-from_slice-clause-few
+returns-in_err-from_slice-clause-few g c =
+    let last = c.args.self.now.session.last in
+    err_is c.from_residual-in_err-from_slice.result Memory
+    (λ (r : Result (Manifest × List ℕ) StoreRefusal). BeginsFew 2 last last (IsUsedUp {T = Manifest × List ℕ} r))
+    c.from_residual-in_err-from_slice.ensures.1 (few_memory {T = Manifest × List ℕ} 2 last last Memory refl refl)
+
+pub returns-in_err-commit_manifest-clause-few : goal.returns-in_err-commit_manifest-clause-few
+returns-in_err-commit_manifest-clause-few g c =
+    let last = c.args.self.now.session.last in
+    let now = c.commit_manifest.new.session.last in
+    let f = c.in_err-commit_manifest.field-0.0 in
+    err_is c.from_residual-in_err-commit_manifest.result f
+    (λ (r : Result (Manifest × List ℕ) StoreRefusal). BeginsFew 2 last now (IsUsedUp {T = Manifest × List ℕ} r))
+    c.from_residual-in_err-commit_manifest.ensures.1
+    (few_same {T = Unit {0}} {U = Manifest × List ℕ} 2 2 last now f (omega arith) c.in_err-commit_manifest.ensures.few)
+
+pub returns-clause-few : goal.returns-clause-few
+returns-clause-few g c =
+    few_answered {T = Unit {0}} {U = Manifest × List ℕ} 2 c.args.self.now.session.last c.commit_manifest.new.session.last
+    (Ok c.in_ok-commit_manifest.field-0) _ c.in_ok-commit_manifest.ensures.few
