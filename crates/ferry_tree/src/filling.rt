@@ -1,6 +1,8 @@
 //! The contents of an item are read, and written where they belong to a file.
 ghost use Rattle.std.specs.Prelude.{◌≡◌, true, false, [], ◌∷◌, IfErr, IfSome, OnOk, OnErr, option_map};
 ghost use Rattle.ferry_disk.specs.Device.{KeepsTold, HasCause, told_files};
+ghost use Rattle.ferry_disk.specs.Files.{Files};
+ghost use Rattle.ferry_repo.specs.Archives.{HoldsContent};
 ghost use Rattle.ferry_repo.specs.Opening.{repo_view, cached_in, FitsRepo};
 ghost use Rattle.ferry_tree.specs.Faults.{source_failed, tree_lost};
 ghost use Rattle.ferry_tree.specs.Filling.{FillsAll, FillsPart, RefusesFilling, WritesPart};
@@ -37,10 +39,29 @@ pub(crate) fn fill<S: Shelf, T: Tree>(
     ensures cause { HasCause tree_lost (T.faults tree.old) (T.faults tree.new) result }
 {
     for place in 0..chunks.len() {
-        let content = walk.content(repo, shelf, &chunks[place], &chunks[place..])?;
-        put_content(tree, &content, takes)?;
+        walk.read_ahead(repo, shelf, &chunks[place..])?;
+        match kept_of(repo, &chunks[place]) {
+            Some(content) => put_content(tree, content, takes)?,
+            None => {
+                let content = repo.content(shelf, &chunks[place])?;
+                put_content(tree, &content, takes)?;
+            }
+        }
     }
     Ok(())
+}
+
+/// The content of a chunk where the repository keeps it, without a copy, and it has the size that the chunk states.
+fn kept_of<'a>(repo: &'a Repo, chunk: &ChunkRef) -> Option<&'a [u8]>
+    ensures content { IfSome result (λ content. (files : Files) → FitsRepo files (repo_view repo.now) (cached_in repo.now)
+        → HoldsContent files (repo_view repo.now).log (repo_view repo.now).keys chunk.now content.now) }
+{
+    let content = repo.kept_content(&chunk.id)?;
+    if content.len() as u64 == chunk.size {
+        Some(content)
+    } else {
+        None
+    }
 }
 
 /// Appends a content to the current file, where it belongs to it.
