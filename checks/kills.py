@@ -1,5 +1,5 @@
 #!/usr/bin/env python3
-"""Transfers that are killed: kills.py PROGRAM [COUNT [RANDOM [SEED]]]
+"""Transfers that are killed: kills.py PROGRAM [COUNT [RANDOM [SEED [COMMAND ..]]]]
 
 A plain program of this folder makes a source of three archives. A transfer of them runs under strace, and is killed as it makes one of its calls of the
 system; COUNT calls are taken, 50 where it isn't given, evenly spread over all that there are, one of each name among them, or all where COUNT is at least
@@ -12,7 +12,8 @@ live stays behind a compaction; the archive is there as it was or is gone, and e
 their tags or those that had none have none, behind a `tag-archives`.
 Where RANDOM is given, so many runs of each command are killed besides, each at a random time, as SEED has it; where Borg is installed the source of all is one that
 Borg wrote, and each hundredth target is checked with `borg check --verify-data`. And where file systems may be mounted,
-the target lies on one that is too small, and on one that becomes read only.
+the target lies on one that is too small, and on one that becomes read only. Where commands are named, of `transfer`, `init`, `compact`, `delete` and
+`tag-archives`, only those are killed.
 One line for each thing that differs, then what can't be tried here (no strace, no other user, no mounts, no Borg), and at the end
 'N passed, M failed, K skipped'; status 1 where M isn't 0.
 """
@@ -39,6 +40,8 @@ PROGRAM = os.path.abspath(sys.argv[1])
 COUNT = int(sys.argv[2]) if len(sys.argv) > 2 else 50
 RANDOM = int(sys.argv[3]) if len(sys.argv) > 3 else 0
 SEED = sys.argv[4] if len(sys.argv) > 4 else "1"
+COMMANDS = ("transfer", "init", "compact", "delete", "tag-archives")
+CHOSEN = sys.argv[5:] or COMMANDS
 SECRETS = {"BORG_OTHER_PASSPHRASE": "source passphrase", "BORG_PASSPHRASE": "target passphrase"}
 NAMES = ("first", "second", "third")
 # Those of the source whose records have no tag.
@@ -521,24 +524,32 @@ def kills_of_tagging(trial):
             borg_checks(trial, what, target, "BORG_OTHER_PASSPHRASE")
 
 
+def kills_of_transfer(trial):
+    """Transfers that are killed, and those whose target or output fails."""
+    kills_at_calls(trial)
+    small_files(trial)
+    closed_folder(trial)
+    unread_output(trial)
+    if RANDOM > 0:
+        small_systems(trial)
+        random_kills(trial)
+
+
 def main():
+    unknown = set(CHOSEN) - set(COMMANDS)
+    if unknown:
+        sys.exit(f"kills.py: no command {' '.join(sorted(unknown))}")
     is_of_borg = RANDOM > 0 and shutil.which("borg") is not None
     with tempfile.TemporaryDirectory() as root:
         trial = Trial(root, make_borg_source(root) if is_of_borg else make_source(root), is_of_borg)
-        kills_at_calls(trial)
-        if shutil.which("strace") is not None:
-            kills_of_making(root)
-            kills_of_compaction(root)
-            kills_of_deletion(trial)
-            kills_of_tagging(trial)
-        small_files(trial)
-        closed_folder(trial)
-        unread_output(trial)
-        if RANDOM > 0:
-            if not is_of_borg:
-                skip("a source that Borg wrote: there is no Borg")
-            small_systems(trial)
-            random_kills(trial)
+        if "transfer" in CHOSEN:
+            kills_of_transfer(trial)
+        others = (("init", kills_of_making, root), ("compact", kills_of_compaction, root), ("delete", kills_of_deletion, trial), ("tag-archives", kills_of_tagging, trial))
+        for command, kills, made in others:
+            if command in CHOSEN and shutil.which("strace") is not None:
+                kills(made)
+        if RANDOM > 0 and not is_of_borg:
+            skip("a source that Borg wrote: there is no Borg")
     finish()
 
 
