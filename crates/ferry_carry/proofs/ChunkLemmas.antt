@@ -90,8 +90,9 @@ pub chunk_then : (told : Option Told) (source : RepoState) (block most : ℕ) (t
     × TellsNames (accepted_in store) some h g))
     → IfSome a (λ u. IfSome d (λ v. TellsNames (accepted_in store) some u.history v.history))
     → WhereTold other b (λ _. EndsAt other (repo_view middle.repo).keys (accepted_in middle) [] name y z id)
-    → IfSome a (λ u. IfSome d (λ v. IfSome told (λ _. StopsAtChunk (origin told source block most time) (repo_view store.repo).keys (accepted_in store)
-    names (λ done. TellsNames (accepted_in store) done u.history v.history) x z id)))
+    → IfSome a (λ u. IfSome d (λ v. IfSome (origin told source block most time).files (λ _.
+    StopsAtChunk (origin told source block most time) (repo_view store.repo).keys (accepted_in store) names
+    (λ done. TellsNames (accepted_in store) done u.history v.history) x z id)))
 chunk_then told source block most time other store middle names some rest name id records added None b d x y z is keys split extends drew end lines ends = tt
 chunk_then told source block most time other store middle names some rest name id records added (Some u) b None x y z is keys split extends drew end lines ends
     = tt

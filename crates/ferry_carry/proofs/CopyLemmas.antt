@@ -23,7 +23,7 @@ use Rattle.ferry_repo.specs.Opening.{RepoState}
 use Rattle.ferry_repo.specs.Whole.{ContentsCome, HoldsJoined}
 use Rattle.ferry_piece.proofs.PieceLemmas.{begins_nothing, begins_written, chunks_more, hand_fed}
 use Rattle.ferry_carry.proofs.WholeLemmas.{joined_concat}
-use Rattle.ferry_carry.specs.Copying.{BeginsChunk, BeginsContent, BeginsContents, CopiesContent, WritesContent, WritesContents}
+use Rattle.ferry_carry.specs.Copying.{BeginsChunk, BeginsContent, BeginsContents, CopiesContent, WritesContent, WritesContents, writer_state}
 use Rattle.ferry_piece.specs.Gather.{chunks_of}
 use Rattle.ferry_piece.specs.Piece.{BeginsOn, WritesOn}
 
@@ -63,7 +63,7 @@ writes_then keys keys_now cutter middle now chunks chunks_middle chunks_now byte
 -- ---- WritesContents
 
 pub nothing_written : (told : Option Told) (source : RepoState) (keys : Keys) (cutter : Cutting) (chunks : List ChunkRef)
-    → length cutter.piece < cutter.block → WritesContents told source keys [] cutter chunks [] cutter chunks
+    → length cutter.piece < cutter.block → WritesContents told source keys [] (writer_state cutter chunks) [] (writer_state cutter chunks)
 nothing_written told source keys cutter chunks room = record {
   contents = [];
   come = told_any told (λ f. ContentsCome f source.log source.keys [] [] None) (λ f. tt);
@@ -93,9 +93,9 @@ come_more told later source after refs place d contents content alike kept lt co
 pub contents_written : (told later : Option Told) (source after : RepoState) (keys keys_now : Keys) (refs : List ChunkRef) (place : ℕ) (d : ChunkRef)
     (cutter middle now : Cutting) (chunks chunks_middle chunks_now : List ChunkRef) (some more : List (List ℕ)) → heard later ≡ heard told
     → after ≡ source → keys_now ≡ keys → place < length refs
-    → WritesContents told source keys (take place refs) cutter chunks some middle chunks_middle
-    → WritesContent later after keys_now (get_or refs place d) middle chunks_middle more now chunks_now
-    → WritesContents told source keys (take (place + 1) refs) cutter chunks (some ++ more) now chunks_now
+    → WritesContents told source keys (take place refs) (writer_state cutter chunks) some (writer_state middle chunks_middle)
+    → WritesContent later after keys_now (get_or refs place d) (writer_state middle chunks_middle) more (writer_state now chunks_now)
+    → WritesContents told source keys (take (place + 1) refs) (writer_state cutter chunks) (some ++ more) (writer_state now chunks_now)
 contents_written told later source after keys keys_now refs place d cutter middle now chunks chunks_middle chunks_now some more alike kept same lt p
     q = record {
       contents = p.contents ++ q.content ∷ [];
@@ -106,10 +106,11 @@ contents_written told later source after keys keys_now refs place d cutter middl
 
 pub contents_all : (told : Option Told) (source : RepoState) (keys : Keys) (refs : List ChunkRef) (place : ℕ) (cutter now : Cutting)
     (chunks chunks_now : List ChunkRef) (more : List (List ℕ)) → length refs ≤ place
-    → WritesContents told source keys (take place refs) cutter chunks more now chunks_now
-    → WritesContents told source keys refs cutter chunks more now chunks_now
+    → WritesContents told source keys (take place refs) (writer_state cutter chunks) more (writer_state now chunks_now)
+    → WritesContents told source keys refs (writer_state cutter chunks) more (writer_state now chunks_now)
 contents_all told source keys refs place cutter now chunks chunks_now more le p =
-    subst (λ (cs : List ChunkRef). WritesContents told source keys cs cutter chunks more now chunks_now) (take_all place refs le) p
+    subst (λ (cs : List ChunkRef). WritesContents told source keys cs (writer_state cutter chunks) more (writer_state now chunks_now)) (take_all place refs
+    le) p
 
 -- ---- as far as it came
 
@@ -140,7 +141,8 @@ contents_begun told source refs cutter = record {
 
 -- all contents were written, as far as they are
 pub contents_full : (told : Option Told) (source : RepoState) (keys : Keys) (refs : List ChunkRef) (cutter now : Cutting) (chunks chunks_now : List ChunkRef)
-    (more : List (List ℕ)) → length cutter.piece < cutter.block → WritesContents told source keys refs cutter chunks more now chunks_now
+    (more : List (List ℕ)) → length cutter.piece < cutter.block
+    → WritesContents told source keys refs (writer_state cutter chunks) more (writer_state now chunks_now)
     → BeginsContents told source refs cutter more
 contents_full told source keys refs cutter now chunks chunks_now more room wrote = record {
   first = refs;
@@ -155,7 +157,7 @@ contents_full told source keys refs cutter now chunks chunks_now more room wrote
 pub contents_behind : (told later : Option Told) (source after : RepoState) (keys : Keys) (refs : List ChunkRef) (place : ℕ) (d : ChunkRef)
     (cutter middle : Cutting) (chunks chunks_middle : List ChunkRef) (some more : List (List ℕ)) → heard later ≡ heard told
     → after ≡ source → place < length refs → length cutter.piece < cutter.block
-    → WritesContents told source keys (take place refs) cutter chunks some middle chunks_middle
+    → WritesContents told source keys (take place refs) (writer_state cutter chunks) some (writer_state middle chunks_middle)
     → BeginsChunk later after (get_or refs place d) middle more → BeginsContents told source refs cutter (some ++ more)
 contents_behind told later source after keys refs place d cutter middle chunks chunks_middle some more alike kept lt room wrote (inl none) =
     subst (BeginsContents told source refs cutter) (sym (append-nil some) ∙ ap (λ (ps : List (List ℕ)). some ++ ps) (sym none)) (record {
@@ -206,7 +208,7 @@ joined_holds told source refs contents come =
 -- the contents of chunks were written, and then what was left, as far as that came: these are pieces of the content that they are, and all
 pub content_whole : (told : Option Told) (source : RepoState) (block : ℕ) (keys : Keys) (refs : List ChunkRef) (cutter now : Cutting)
     (chunks chunks_now : List ChunkRef) (some all : List (List ℕ)) → 1 ≤ block → cutter.block ≡ block → cutter.piece ≡ []
-    → all ≡ some ++ cut now.block now.piece → WritesContents told source keys refs cutter chunks some now chunks_now
+    → all ≡ some ++ cut now.block now.piece → WritesContents told source keys refs (writer_state cutter chunks) some (writer_state now chunks_now)
     → BeginsContent told source block (Some refs) all
 content_whole told source block keys refs cutter now chunks chunks_now some all least is empty pieces wrote =
     let content = concat wrote.contents in
@@ -218,7 +220,7 @@ content_whole told source block keys refs cutter now chunks chunks_now some all 
 -- the contents of chunks were written, and then what was left: that is the content that they are
 pub content_copied : (told : Option Told) (source : RepoState) (block : ℕ) (keys keys_now : Keys) (refs : List ChunkRef) (cutter now : Cutting)
     (chunks chunks_now copied : List ChunkRef) (some : List (List ℕ)) → 1 ≤ block → cutter.block ≡ block → cutter.piece ≡ [] → chunks ≡ []
-    → keys_now ≡ keys → WritesContents told source keys refs cutter chunks some now chunks_now
+    → keys_now ≡ keys → WritesContents told source keys refs (writer_state cutter chunks) some (writer_state now chunks_now)
     → copied ≡ chunks_now ++ chunks_of keys_now (cut now.block now.piece) → length copied ≤ 4294967295
     → CopiesContent told source block keys (Some refs) (some ++ cut now.block now.piece) (Some copied)
 content_copied told source block keys keys_now refs cutter now chunks chunks_now copied some least is empty none same wrote ends fits =

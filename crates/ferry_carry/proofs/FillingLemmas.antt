@@ -24,7 +24,7 @@ use Rattle.ferry_carry.proofs.ListingLemmas.{items_taken}
 use Rattle.ferry_piece.proofs.PieceLemmas.{hand_fed}
 use Rattle.ferry_carry.proofs.RefusalLemmas.{IsAt, item_at}
 use Rattle.ferry_carry.specs.Carrying.{Origin, origin}
-use Rattle.ferry_carry.specs.Copying.{TakesItem, WritesContents}
+use Rattle.ferry_carry.specs.Copying.{TakesItem, WritesContents, writer_state}
 use Rattle.ferry_piece.specs.Fault.{IsOfSource}
 use Rattle.ferry_carry.specs.Filling.{FillsArchive, FillsChunks, FillsContent, FillsCopy, FillsNext, FillsOne, FillsStep, WhereHeard}
 use Rattle.ferry_carry.specs.Filling.{WhereSource}
@@ -54,7 +54,7 @@ where_target told Record P target = tt
 pub chunks_filled : (told later : Option Told) (source after : RepoState) (keys : Keys) (refs : List ChunkRef) (place : ℕ) (d : ChunkRef)
     (cutter middle : Cutting) (chunks chunks_middle : List ChunkRef) (some more : List (List ℕ)) (fault : CarryFault) → heard later ≡ heard told
     → after ≡ source → place < length refs → length cutter.piece < cutter.block
-    → WritesContents told source keys (take place refs) cutter chunks some middle chunks_middle → (IsOfSource fault → more ≡ [])
+    → WritesContents told source keys (take place refs) (writer_state cutter chunks) some (writer_state middle chunks_middle) → (IsOfSource fault → more ≡ [])
     → RefusesWriting later after (get_or refs place d) fault
     → WhereSource told fault (λ there refusal. FillsChunks there source refs cutter refusal (some ++ more))
 chunks_filled told later source after keys refs place d cutter middle chunks chunks_middle some more (Source fault) alike kept lt room wrote none refused =

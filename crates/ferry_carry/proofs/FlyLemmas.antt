@@ -36,7 +36,7 @@ use Rattle.ferry_carry.specs.Naming.{TaggedRecord, records_in}
 use Rattle.ferry_carry.specs.declared.options.Options.{Options}
 use Rattle.ferry_carry.specs.Carrying.{Origin, origin}
 use Rattle.ferry_carry.specs.Counting.{CountsOf, nothing_carried}
-use Rattle.ferry_carry.specs.Flight.{BeginsDone, Flies, FlightFits, IsSame, ListsDone, TakesAll, TakesTurn, TurnLists, TurnStands, WorkFits}
+use Rattle.ferry_carry.specs.Flight.{BeginsDone, Flies, FlightFits, IsSame, ListsDone, TakesAll, TakesTurn, TurnLists, TurnStands, WorkFits, archive_adds}
 use Rattle.ferry_carry.specs.Flight.{carried_by, flown_from, origin_of, end_segments}
 use Rattle.ferry_piece.specs.Gather.{Gathers, GathersAt, KeepsRest, KeepsStanding, KeepsStandingAt, StandsFrom}
 use Rattle.ferry_carry.specs.Grow.{AcceptsMore, Grows, KeepsGrowing}
@@ -64,6 +64,7 @@ use Rattle.ferry_store.specs.Adding.{Checkpoints}
 use Rattle.ferry_store.specs.Store.{IsUnspent}
 use Rattle.ferry_write.specs.Script.{AllDone}
 use Rattle.ferry_piece.proofs.FewLemmas.{begun_as, begun_fault, begun_none, begun_same, begun_then, memory_unused, used_up}
+use Rattle.ferry_carry.specs.States.{target_state}
 
 -- ---- a source
 
@@ -97,16 +98,18 @@ origin_same told later source after options other alike kept same =
 pub flown_then : (earlier : List Addition) (from other : Origin) (name given : List ℕ) (added more : List Addition) (store middle now : Store)
     (a b c : Option Told) (n m k : ℕ) (result : Result Turn CarryFault) → other ≡ from → given ≡ name
     → Works {T = Unit {0}} (KeepsGrowing earlier from (name ∷ []) store added) (λ _. Grows earlier from [] added store middle) a b n m (Ok tt)
-    → Flies (earlier ++ added) other given more middle now b c m k result → Flies earlier from name (added ++ more) store now a c n k result
+    → Flies (earlier ++ added) other given more (target_state b m middle) (target_state c k now) result
+    → Flies earlier from name (added ++ more) (target_state a n store) (target_state c k now) result
 flown_then earlier from other name given added more store middle now a b c n m k result is called p q =
     let behind = earlier ++ added in
     carried_by_then {T = Unit {0}} {U = Turn} earlier from [] (name ∷ []) (λ turn. carried_by turn name) added more store middle now a b c n m k tt result p
-    (subst (λ (f : Origin). Flies behind f name more middle now b c m k result) is
-    (subst (λ (x : List ℕ). Flies behind other x more middle now b c m k result) called q))
+    (subst (λ (f : Origin). Flies behind f name more (target_state b m middle) (target_state c k now) result) is
+    (subst (λ (x : List ℕ). Flies behind other x more (target_state b m middle) (target_state c k now) result) called q))
 
 -- what a turn did, in the words of what follows
 pub flown_as : {U : Type 0} (earlier : List Addition) (from : Origin) (name : List ℕ) (some : List (List ℕ)) (added : List Addition) (store now : Store)
-    (a b : Option Told) (n m : ℕ) (turn : Turn) (y : U) → carried_by turn name ≡ some → Flies earlier from name added store now a b n m (Ok turn)
+    (a b : Option Told) (n m : ℕ) (turn : Turn) (y : U) → carried_by turn name ≡ some
+    → Flies earlier from name added (target_state a n store) (target_state b m now) (Ok turn)
     → Works (KeepsGrowing earlier from (name ∷ []) store added) (λ (_ : U). Grows earlier from some added store now) a b n m (Ok y)
 flown_as {U} earlier from name some added store now a b n m turn y is p =
     works_as (KeepsGrowing earlier from (name ∷ []) store added) (λ (t : Turn). Grows earlier from (carried_by t name) added store now)
@@ -115,7 +118,8 @@ flown_as {U} earlier from name some added store now a b n m turn y is p =
     (λ h g e. subst (λ (l : List (List ℕ)). Grows earlier from l added store now h g) is e) p
 
 pub flown_err : {U : Type 0} (earlier : List Addition) (from : Origin) (name : List ℕ) (some : List (List ℕ)) (added : List Addition)
-    (store now other : Store) (a b : Option Told) (n m : ℕ) (fault : CarryFault) → Flies earlier from name added store now a b n m (Err fault)
+    (store now other : Store) (a b : Option Told) (n m : ℕ) (fault : CarryFault)
+    → Flies earlier from name added (target_state a n store) (target_state b m now) (Err fault)
     → Works (KeepsGrowing earlier from (name ∷ []) store added) (λ (_ : U). Grows earlier from some added store other) a b n m (Err fault)
 flown_err {U} earlier from name some added store now other a b n m fault p =
     works_front (KeepsGrowing earlier from (name ∷ []) store added) (λ (t : Turn). Grows earlier from (carried_by t name) added store now)
@@ -125,7 +129,7 @@ flown_err {U} earlier from name some added store now other a b n m fault p =
 pub flies_as : {T : Type 0} (earlier : List Addition) (from : Origin) (name : List ℕ) (some : List (List ℕ)) (added : List Addition) (store now : Store)
     (a b : Option Told) (n m : ℕ) (x : T) (turn : Turn) → some ≡ carried_by turn name
     → Works (KeepsGrowing earlier from (name ∷ []) store added) (λ (_ : T). Grows earlier from some added store now) a b n m (Ok x)
-    → Flies earlier from name added store now a b n m (Ok turn)
+    → Flies earlier from name added (target_state a n store) (target_state b m now) (Ok turn)
 flies_as {T} earlier from name some added store now a b n m x turn is p =
     works_as (KeepsGrowing earlier from (name ∷ []) store added) (λ (_ : T). Grows earlier from some added store now)
     (KeepsGrowing earlier from (name ∷ []) store added)
@@ -135,7 +139,7 @@ flies_as {T} earlier from name some added store now a b n m x turn is p =
 pub flies_err : {T : Type 0} (earlier : List Addition) (from : Origin) (name : List ℕ) (some : List (List ℕ)) (added : List Addition)
     (store now other : Store) (a b : Option Told) (n m : ℕ) (fault : CarryFault)
     → Works (KeepsGrowing earlier from (name ∷ []) store added) (λ (_ : T). Grows earlier from some added store now) a b n m (Err fault)
-    → Flies earlier from name added store other a b n m (Err fault)
+    → Flies earlier from name added (target_state a n store) (target_state b m other) (Err fault)
 flies_err {T} earlier from name some added store now other a b n m fault p =
     works_front (KeepsGrowing earlier from (name ∷ []) store added) (λ (_ : T). Grows earlier from some added store now)
     (KeepsGrowing earlier from (name ∷ []) store added)
@@ -148,7 +152,7 @@ pub present_flies : {T : Type 0} (from : Origin) (name : List ℕ) (store middle
     → IsSome (archive_named name (repo_view middle.repo).manifest.archives) → IsSame from b (repo_view middle.repo) name
     → AddsOn {T = T} from.most store [] middle a b n m (Ok x)
     → Works (KeepsStandingAt AtBegin from.most middle []) (λ (_ : Turn). GathersAt AtBegin from.most middle [] now) b c m k result
-    → Flies [] from name [] store now a c n k result
+    → Flies [] from name [] (target_state a n store) (target_state c k now) result
 unfolding border_behind
 present_flies {T} from name store middle now a b c n m k x (Ok turn) accepts accepts_middle rest rest_now pending is there same p q =
     carried_by_then {T = T} {U = Turn} [] from [] (name ∷ []) (λ t. carried_by t name) [] [] store middle now a b c n m k x (Ok turn)
@@ -162,12 +166,13 @@ present_flies {T} from name store middle now a b c n m k x (Err fault) accepts a
     (carried_gathered_err {T = Turn} {U = Turn} [] from (name ∷ []) [] middle now now [] b c m k fault accepts_middle q))
 
 -- a turn behind a body that added contents
-pub flown_more : {T : Type 0} (earlier : List Addition) (told later : Option Told) (source after : RepoState) (block most : ℕ) (time : Option (List ℕ)) (name :
+pub flown_more : {T : Type 0} (earlier : List Addition) (told later : Option Told) (source after : RepoState) (block most : ℕ) (time : Option (List ℕ))
+    (name :
     List ℕ)
     (store middle now : Store) (added more : List Addition) (a b c : Option Told) (n m k : ℕ) (x : T) (result : Result Turn CarryFault)
     → heard later ≡ heard told → after ≡ source → AcceptsMore store → KeepsRest store middle → AddsOn {T = T} most store added middle a b n m (Ok x)
-    → Flies (earlier ++ added) (origin later after block most time) name more middle now b c m k result
-    → Flies earlier (origin told source block most time) name (added ++ more) store now a c n k result
+    → Flies (earlier ++ added) (origin later after block most time) name more (target_state b m middle) (target_state c k now) result
+    → Flies earlier (origin told source block most time) name (added ++ more) (target_state a n store) (target_state c k now) result
 flown_more {T} earlier told later source after block most time name store middle now added more a b c n m k x result alike kept accepts rest p q =
     let from = origin told source block most time in
     flown_then earlier from (origin later after block most time) name name added more store middle now a b c n m k result
@@ -177,7 +182,7 @@ flown_more {T} earlier told later source after block most time name store middle
 -- a body that added contents, and a fault behind it or in it
 pub flies_fault : {T : Type 0} (earlier : List Addition) (from : Origin) (name : List ℕ) (store now : Store) (added : List Addition)
     (a b : Option Told) (n m : ℕ) (fault : CarryFault) → AcceptsMore store → AddsOn {T = T} from.most store added now a b n m (Err fault)
-    → Flies earlier from name added store now a b n m (Err fault)
+    → Flies earlier from name added (target_state a n store) (target_state b m now) (Err fault)
 flies_fault {T} earlier from name store now added a b n m fault accepts p =
     flies_err {T = Turn} earlier from name [] added store now now a b n m fault
     (carried_from_err {T = T} {U = Turn} earlier from (name ∷ []) [] store now now added added a b n m fault accepts (front_all added) p)
@@ -281,8 +286,9 @@ done_before from other keys others name records added given false E a b between 
 -- the same of a turn
 turn_before : (told : Option Told) (source : RepoState) (target : Option Told) (store : Store) (flight : Flight) (from other : Origin) (keys others : Keys)
     (added more : List Addition) (records : List TaggedRecord) (turn : Turn) (E : History → History → Type 0) (a b : Option Told) → Between a b E
-    → other ≡ from → others ≡ keys → TurnLists told source target store flight b other others added more records turn
-    → TurnLists told source target store flight a from keys added more records turn
+    → other ≡ from → others ≡ keys → TurnLists told source target store flight (ListsDone b other others flight.named.name) (archive_adds flight.named.name
+    added more records) turn
+    → TurnLists told source target store flight (ListsDone a from keys flight.named.name) (archive_adds flight.named.name added more records) turn
 turn_before told source target store flight from other keys others added more records More E a b between is same lists = lists
 turn_before told source target store flight from other keys others added more records Named E a b between is same lists =
     (done_before from other keys others flight.named.name records (added ++ more) (added ++ more) true E a b between is same refl lists.0, lists.1)
@@ -291,8 +297,8 @@ turn_before told source target store flight from other keys others added more re
 turns_before : (told : Option Told) (source : RepoState) (target : Option Told) (store : Store) (flight : Flight) (from other : Origin)
     (keys others : Keys) (added more : List Addition) (records : List TaggedRecord) (result : Result Turn CarryFault) (E : History → History → Type 0)
     (a b : Option Told) → Between a b E → other ≡ from → others ≡ keys
-    → IfOk result (TurnLists told source target store flight b other others added more records)
-    → IfOk result (TurnLists told source target store flight a from keys added more records)
+    → IfOk result (TurnLists told source target store flight (ListsDone b other others flight.named.name) (archive_adds flight.named.name added more records))
+    → IfOk result (TurnLists told source target store flight (ListsDone a from keys flight.named.name) (archive_adds flight.named.name added more records))
 turns_before told source target store flight from other keys others added more records (Ok turn) E a b between is same lists =
     turn_before told source target store flight from other keys others added more records turn E a b between is same lists
 turns_before told source target store flight from other keys others added more records (Err fault) E a b between is same lists = tt
@@ -305,9 +311,9 @@ counts_none = record { chunks = refl; bytes = refl; meta = refl }
 -- where an archive is there nothing was added
 pub turn_present : (told : Option Told) (source : RepoState) (target : Option Told) (store : Store) (flight : Flight) (before : Option Told)
     (from : Origin) (keys : Keys) (result : Result Turn CarryFault) → flight.put ≡ nothing_carried → IfOk result (λ turn. turn ≡ Present)
-    → IfOk result (TurnLists told source target store flight before from keys [] [] [])
+    → IfOk result (TurnLists told source target store flight (ListsDone before from keys flight.named.name) (archive_adds flight.named.name [] [] []))
 turn_present told source target store flight before from keys (Ok turn) uncounted is =
-    subst (TurnLists told source target store flight before from keys [] [] []) (sym is)
+    subst (TurnLists told source target store flight (ListsDone before from keys flight.named.name) (archive_adds flight.named.name [] [] [])) (sym is)
     ((refl, refl), subst (CountsOf []) (sym uncounted) counts_none)
 turn_present told source target store flight before from keys (Err fault) uncounted is = tt
 
@@ -329,7 +335,8 @@ begins_new None from keys accepted name begun none known = tt
 begins_new (Some t) from keys accepted name begun none known = inr (tells_named accepted name none, known)
 
 -- none of it
-pub begins_none : (before : Option Told) (from : Origin) (keys : Keys) (accepted : ManifestText) (name : List ℕ) → BeginsDone before from keys accepted name []
+pub begins_none : (before : Option Told) (from : Origin) (keys : Keys) (accepted : ManifestText) (name : List ℕ)
+    → BeginsDone before from keys accepted name []
 begins_none before from keys accepted name = by (archive_named name accepted.archives) refl where
   by : (o : Option ArchiveRef) → archive_named name accepted.archives ≡ o → BeginsDone before from keys accepted name []
   by None e = begins_new before from keys accepted name [] e (always (BeginsOne from keys name []) before (inl refl))
@@ -403,7 +410,8 @@ fills_before from other keys others accepted manifest name called added given fa
     (subst (λ (f : Origin). FillsFlight a f others manifest called fault given) is there))))
 
 -- the same of a body that was refused
-filled_before : {T : Type 0} (from other : Origin) (keys others : Keys) (accepted manifest : ManifestText) (name called : List ℕ) (added given : List Addition)
+filled_before : {T : Type 0} (from other : Origin) (keys others : Keys) (accepted manifest : ManifestText) (name called : List ℕ) (added given : List
+    Addition)
     (result : Result T CarryFault) (E : History → History → Type 0) (a b : Option Told) → Between a b E → other ≡ from → others ≡ keys
     → manifest ≡ accepted → called ≡ name → given ≡ added → IfErr result (λ fault. FillsFlight b other others manifest called fault given)
     → IfErr result (λ fault. FillsFlight a from keys accepted name fault added)
@@ -435,12 +443,13 @@ fits_begins told source cached heard store flight fits log_fits accepts = by fli
       → BeginsDone heard from (repo_view store.repo).keys (accepted_in store) flight.named.name fits.added
   by Waiting is = none is
   by (Copying copy) p =
-      begins_new heard from (repo_view store.repo).keys (accepted_in store) flight.named.name fits.added p.1
+      begins_new heard from (repo_view store.repo).keys (accepted_in store) flight.named.name fits.added p.unnamed
       (subst (λ (l : List Addition). IfSome heard (λ _. BeginsOne from (repo_view store.repo).keys flight.named.name l)) (append-nil fits.added)
-      (copied_begun told heard source cached flight.options.block flight.options.checkpoint flight.options.timestamp flight.named store copy fits.added [] p.0
+      (copied_begun told heard source cached flight.options.block flight.options.checkpoint flight.options.timestamp flight.named store copy fits.added []
+      p.ready
       log_fits
-      fits.stands.named (inl refl) p.3))
-  by (Comparing comparison) p = none p.3
+      fits.stands.named (inl refl) p.copied))
+  by (Comparing comparison) p = none p.1
 
 -- ---- where nothing is named
 
@@ -569,10 +578,10 @@ present_few store now (Err fault) present few = few
 pub turned_err : (told : Option Told) (source : RepoState) (from : Origin) (name : List ℕ) (added more : List Addition) (records : List TaggedRecord) (store
     now : Store)
     (flight : Flight) (a b : Option Told) (n m : ℕ) (result : Result Turn CarryFault) (fault : CarryFault) → IsErrAnd result (λ y. y ≡ fault)
-    → TakesTurn told source from name added more records store now flight a b n m (Err fault)
-    → TakesTurn told source from name added more records store now flight a b n m result
+    → TakesTurn told source from (archive_adds name added more records) (target_state a n store) (target_state b m now) flight (Err fault)
+    → TakesTurn told source from (archive_adds name added more records) (target_state a n store) (target_state b m now) flight result
 turned_err told source from name added more records store now flight a b n m result fault e p =
-    err_is result fault (TakesTurn told source from name added more records store now flight a b n m) e p
+    err_is result fault (TakesTurn told source from (archive_adds name added more records) (target_state a n store) (target_state b m now) flight) e p
 
 -- ---- a turn behind a body that added nothing
 
@@ -581,10 +590,13 @@ pub turned_behind : {T : Type 0} (told later seen : Option Told) (source after g
     (result : Result Turn CarryFault)
     → heard later ≡ heard told → after ≡ source → AcceptsMore store → KeepsRest store middle
     → AddsOn {T = T} most store [] middle a b n m (Ok x)
-    → TakesTurn seen given (origin later after block most time) name [] more records middle now flight b c m k result
-    → TakesTurn seen given (origin told source block most time) name [] more records store now flight a c n k result
+    → TakesTurn seen given (origin later after block most time) (archive_adds name [] more records) (target_state b m middle) (target_state c k now) flight
+    result
+    → TakesTurn seen given (origin told source block most time) (archive_adds name [] more records) (target_state a n store) (target_state c k now) flight
+    result
 unfolding border_behind
-turned_behind {T} told later seen source after given block most time name store middle now flight more records a b c n m k x result alike kept accepts rest p q
+turned_behind {T} told later seen source after given block most time name store middle now flight more records a b c n m k x result alike kept accepts rest
+    p q
     =
     let from = origin told source block most time in
     let other = origin later after block most time in
@@ -594,7 +606,8 @@ turned_behind {T} told later seen source after given block most time name store 
     record {
       flies = flown_more {T = T} [] told later source after block most time name store middle now [] more a b c n m k x result alike kept accepts rest p
           q.flies;
-      begins = begins_before from other keys others (accepted_in store) (accepted_in middle) name name more more (KeepsStanding most store []) a b p.works.each
+      begins = begins_before from other keys others (accepted_in store) (accepted_in middle) name name more more (KeepsStanding most store []) a b
+          p.works.each
           same rest.keys rest.accepted refl refl q.begins;
       stands = turn_stands_behind {T = T} AtBegin most store middle more a b c n m x result rest.keys p q.stands;
       last = stops_then {T = Turn} a b keys others [] more result p.works.ends rest.keys q.last;
@@ -614,18 +627,22 @@ pub turn_ended : {T : Type 0} (from : Origin) (name : List ℕ) (added more : Li
     (source : RepoState) (flight : Flight) (a b c : Option Told) (n m k : ℕ) (x : T) (result : Result Turn CarryFault) → AcceptsMore store
     → KeepsRest store middle → archive_named name (accepted_in store).archives ≡ None
     → AddsOn {T = T} from.most store [] middle a b n m (Ok x)
-    → Flies added from name more middle now b c m k result → IfSome b (λ _. BeginsOne from (repo_view middle.repo).keys name (added ++ more))
+    → Flies added from name more (target_state b m middle) (target_state c k now) result
+    → IfSome b (λ _. BeginsOne from (repo_view middle.repo).keys name (added ++ more))
     → IfErr result (λ fault. IsOfWork fault → Between b c (KeepsStanding from.most middle more))
     → StopsLast b (repo_view middle.repo).keys more result → HoldsRefused (border_behind AtBegin added) from.most middle more now b c result
     → IfErr result (λ fault. IsOfSource fault → ⊥)
-    → IfOk result (λ turn. (turn ≡ Named) × TurnLists told source c now flight a from (repo_view store.repo).keys added more records Named)
-    → BeginsSegments (2 * length more + 2) middle now result → TakesTurn told source from name added more records store now flight a c n k result
+    → IfOk result (λ turn. (turn ≡ Named) × TurnLists told source c now flight (ListsDone a from (repo_view store.repo).keys flight.named.name)
+    (archive_adds flight.named.name added more records) Named)
+    → BeginsSegments (2 * length more + 2) middle now result
+    → TakesTurn told source from (archive_adds name added more records) (target_state a n store) (target_state c k now) flight result
 unfolding border_behind
 turn_ended {T} from name added more records store middle now told source flight a b c n m k x result accepts rest unnamed p flies begun stands last held apart
     lists few = record {
       flies = carried_by_then {T = T} {U = Turn} added from [] (name ∷ []) (λ turn. carried_by turn name) [] more store middle now a b c n m k x result
           (carried_from {T = T} {U = T} added from (name ∷ []) store middle [] a b n m x x accepts rest p)
-          (subst (λ (earlier : List Addition). Flies earlier from name more middle now b c m k result) (sym (append-nil added)) flies);
+          (subst (λ (earlier : List Addition). Flies earlier from name more (target_state b m middle) (target_state c k now) result) (sym (append-nil
+          added)) flies);
       begins = begins_new a from (repo_view store.repo).keys (accepted_in store) name (added ++ more) unnamed
           (subst (λ (l : Keys). IfSome a (λ _. BeginsOne from l name (added ++ more))) rest.keys
           (known_back (BeginsOne from (repo_view middle.repo).keys name (added ++ more)) (KeepsStanding from.most store []) a b p.works.each begun));
@@ -641,20 +658,25 @@ turn_ended {T} from name added more records store middle now told source flight 
       at = border_behind AtBegin added
 
       standing : (r : Result Turn CarryFault) → IfErr r (λ fault. IsOfWork fault → Between b c (KeepsStanding from.most middle more))
-          → IfOk r (λ turn. (turn ≡ Named) × TurnLists told source c now flight a from (repo_view store.repo).keys added more records Named)
+          → IfOk r (λ turn. (turn ≡ Named) × TurnLists told source c now flight (ListsDone a from (repo_view store.repo).keys flight.named.name)
+          (archive_adds flight.named.name added more records) Named)
           → TurnStands at from.most store more a c r
       standing (Ok turn) none named = subst (λ (t : Turn). TurnStands at from.most store more a c (Ok t)) (sym named.0) tt
       standing (Err fault) after named = λ work.
           stands_within at from.most store more a c (stands_behind {T = T} from.most store middle [] more a b c n m x rest.keys p.works (after work))
 
       listed : (r : Result Turn CarryFault)
-          → IfOk r (λ turn. (turn ≡ Named) × TurnLists told source c now flight a from (repo_view store.repo).keys added more records Named)
-          → IfOk r (TurnLists told source c now flight a from (repo_view store.repo).keys added more records)
-      listed (Ok turn) named = subst (TurnLists told source c now flight a from (repo_view store.repo).keys added more records) (sym named.0) named.1
+          → IfOk r (λ turn. (turn ≡ Named) × TurnLists told source c now flight (ListsDone a from (repo_view store.repo).keys flight.named.name)
+          (archive_adds flight.named.name added more records) Named)
+          → IfOk r (TurnLists told source c now flight (ListsDone a from (repo_view store.repo).keys flight.named.name) (archive_adds flight.named.name
+          added more records))
+      listed (Ok turn) named = subst (TurnLists told source c now flight (ListsDone a from (repo_view store.repo).keys flight.named.name) (archive_adds
+          flight.named.name added more records)) (sym named.0) named.1
       listed (Err fault) named = tt
 
       begins : (r : Result Turn CarryFault)
-          → IfOk r (λ turn. (turn ≡ Named) × TurnLists told source c now flight a from (repo_view store.repo).keys added more records Named)
+          → IfOk r (λ turn. (turn ≡ Named) × TurnLists told source c now flight (ListsDone a from (repo_view store.repo).keys flight.named.name)
+          (archive_adds flight.named.name added more records) Named)
           → BeginsSegments (2 * length more + 2) middle now r → BeginsSegments (2 * length more + end_segments r) store now r
       begins (Ok turn) named after =
           let all = begun_then {T = T} {U = Turn} 0 (2 * length more + 2) (2 * length more + 2) store middle now (Ok x) (Ok turn) (omega arith) p.few after in
@@ -699,7 +721,7 @@ pub takes_more : (told later : Option Told) (source after : RepoState) (from oth
     (records : List TaggedRecord)
     (store middle now : Store) (flight flight_now : Flight) (a b c : Option Told) (n m k : ℕ) → other ≡ from → called ≡ name → AcceptsMore middle
     → (before : TakesOn told source from name start store middle flight a b n m)
-    → TakesTurn later after other called before.fits.added more records middle now flight_now b c m k (Ok More)
+    → TakesTurn later after other (archive_adds called before.fits.added more records) (target_state b m middle) (target_state c k now) flight_now (Ok More)
     → TakesOn later after from name start store now flight_now a c n k
 takes_more told later source after from other name called start more records store middle now flight flight_now a b c n m k is names accepts before turn =
     record {
@@ -711,7 +733,7 @@ takes_more told later source after from other name called start more records sto
           (subst (λ (l : List Addition). Between b c (KeepsStandingAt (border_behind AtBegin l) other.most middle more)) before.added turn.stands));
       works = flown_as {U = Unit {0}} start from name [] (before.more ++ more) store now a c n k More tt refl
           (flown_then start from other name called before.more more store middle now a b c n m k (Ok More) is names before.works
-          (subst (λ (l : List Addition). Flies l other called more middle now b c m k (Ok More)) before.added turn.flies));
+          (subst (λ (l : List Addition). Flies l other called more (target_state b m middle) (target_state c k now) (Ok More)) before.added turn.flies));
       few = let size = length-append before.more more in
           begun_as {T = Turn} {U = Unit {0}} (2 * length (before.more ++ more)) (2 * length (before.more ++ more)) store now More tt (omega arith)
           (begun_then {T = Unit {0}} {U = Turn} (2 * length before.more) (2 * length more + 0) (2 * length (before.more ++ more)) store middle now (Ok tt)
@@ -724,7 +746,7 @@ takes_begun : (told later : Option Told) (source after : RepoState) (from other 
     (store middle now : Store) (flight flight_now : Flight) (a b c : Option Told) (n m k : ℕ) (result : Result Turn CarryFault) → other ≡ from
     → called ≡ name → accepted_in middle ≡ accepted_in store → (repo_view middle.repo).keys ≡ (repo_view store.repo).keys
     → (before : TakesOn told source from name start store middle flight a b n m)
-    → TakesTurn later after other called before.fits.added more records middle now flight_now b c m k result
+    → TakesTurn later after other (archive_adds called before.fits.added more records) (target_state b m middle) (target_state c k now) flight_now result
     → BeginsDone a from (repo_view store.repo).keys (accepted_in store) name (start ++ (before.more ++ more))
 takes_begun told later source after from other name called start more records store middle now flight flight_now a b c n m k result is names accepted keys
     before turn =
@@ -748,7 +770,8 @@ carried_last false name = refl
 
 lists_last : (told : Option Told) (source : RepoState) (target : Option Told) (store : Store) (flight : Flight) (before : Option Told) (from : Origin)
     (keys : Keys) (added more : List Addition) (records : List TaggedRecord) (copied : Bool)
-    → TurnLists told source target store flight before from keys added more records (last_turn copied)
+    → TurnLists told source target store flight (ListsDone before from keys flight.named.name) (archive_adds flight.named.name added more records)
+    (last_turn copied)
     → ListsDone before from keys flight.named.name records (added ++ more) copied × CountsOf (added ++ more) flight.put
 lists_last told source target store flight before from keys added more records true lists = lists
 lists_last told source target store flight before from keys added more records false lists = lists
@@ -759,9 +782,11 @@ pub takes_last : (told later : Option Told) (source after : RepoState) (from oth
     (store middle now : Store) (flight flight_now : Flight) (a b c : Option Told) (n m k : ℕ) (copied : Bool) → other ≡ from → called ≡ name
     → accepted_in middle ≡ accepted_in store → (repo_view middle.repo).keys ≡ (repo_view store.repo).keys → flight_now.named.name ≡ name
     → (before : TakesOn told source from name start store middle flight a b n m)
-    → TakesTurn later after other called before.fits.added more records middle now flight_now b c m k (Ok (last_turn copied))
-    → TakesAll from name start (before.more ++ more) records store now flight_now a c n k (Ok copied)
-takes_last told later source after from other name called start more records store middle now flight flight_now a b c n m k copied is names accepted keys named
+    → TakesTurn later after other (archive_adds called before.fits.added more records) (target_state b m middle) (target_state c k now) flight_now (Ok
+    (last_turn copied))
+    → TakesAll from (archive_adds name start (before.more ++ more) records) (target_state a n store) (target_state c k now) flight_now (Ok copied)
+takes_last told later source after from other name called start more records store middle now flight flight_now a b c n m k copied is names accepted keys
+    named
     before turn =
     let all = takes_added told source from name start more store middle flight a b n m before in
     let others = (repo_view middle.repo).keys in
@@ -769,7 +794,8 @@ takes_last told later source after from other name called start more records sto
     record {
       carries = flown_as {U = Bool} start from name (name ∷ []) (before.more ++ more) store now a c n k (last_turn copied) copied (carried_last copied name)
           (flown_then start from other name called before.more more store middle now a b c n m k (Ok (last_turn copied)) is names before.works
-          (subst (λ (l : List Addition). Flies l other called more middle now b c m k (Ok (last_turn copied))) before.added turn.flies));
+          (subst (λ (l : List Addition). Flies l other called more (target_state b m middle) (target_state c k now) (Ok (last_turn copied))) before.added
+          turn.flies));
       begins = takes_begun told later source after from other name called start more records store middle now flight flight_now a b c n m k (Ok (last_turn
           copied)) is
           names accepted keys before turn;
@@ -804,8 +830,8 @@ pub takes_refused : (told later : Option Told) (source after : RepoState) (from 
     (store middle now : Store) (flight flight_now : Flight) (a b c : Option Told) (n m k : ℕ) (fault : CarryFault) → other ≡ from → called ≡ name
     → accepted_in middle ≡ accepted_in store → (repo_view middle.repo).keys ≡ (repo_view store.repo).keys → AcceptsMore middle → IsUnspent middle
     → (before : TakesOn told source from name start store middle flight a b n m)
-    → TakesTurn later after other called before.fits.added more records middle now flight_now b c m k (Err fault)
-    → TakesAll from name start (before.more ++ more) records store now flight_now a c n k (Err fault)
+    → TakesTurn later after other (archive_adds called before.fits.added more records) (target_state b m middle) (target_state c k now) flight_now (Err fault)
+    → TakesAll from (archive_adds name start (before.more ++ more) records) (target_state a n store) (target_state c k now) flight_now (Err fault)
 takes_refused told later source after from other name called start more records store middle now flight flight_now a b c n m k fault is names accepted keys
     accepts unspent
     before turn =
@@ -817,8 +843,9 @@ takes_refused told later source after from other name called start more records 
     record {
       carries = flown_err {U = Bool} start from name (name ∷ []) (before.more ++ more) store now now a c n k fault
           (flown_then start from other name called before.more more store middle now a b c n m k (Err fault) is names before.works
-          (subst (λ (l : List Addition). Flies l other called more middle now b c m k (Err fault)) before.added turn.flies));
-      begins = takes_begun told later source after from other name called start more records store middle now flight flight_now a b c n m k (Err fault) is names
+          (subst (λ (l : List Addition). Flies l other called more (target_state b m middle) (target_state c k now) (Err fault)) before.added turn.flies));
+      begins = takes_begun told later source after from other name called start more records store middle now flight flight_now a b c n m k (Err fault) is
+          names
           accepted keys before turn;
       stands = λ work.
           growing_behind start from from.most before.more more store middle a b c refl accepts before.stands before.works.end
@@ -841,24 +868,26 @@ takes_refused told later source after from other name called start more records 
 pub taken_err : (from : Origin) (name : List ℕ) (added more : List Addition) (records : List TaggedRecord) (store now : Store) (flight : Flight) (a b : Option
     Told) (n m : ℕ)
     (result : Result Bool CarryFault) (fault : CarryFault) → IsErrAnd result (λ y. y ≡ fault)
-    → TakesAll from name added more records store now flight a b n m (Err fault) → TakesAll from name added more records store now flight a b n m result
+    → TakesAll from (archive_adds name added more records) (target_state a n store) (target_state b m now) flight (Err fault)
+    → TakesAll from (archive_adds name added more records) (target_state a n store) (target_state b m now) flight result
 taken_err from name added more records store now flight a b n m result fault e p =
-    err_is result fault (TakesAll from name added more records store now flight a b n m) e p
+    err_is result fault (TakesAll from (archive_adds name added more records) (target_state a n store) (target_state b m now) flight) e p
 
 -- the same from the begin of an archive on
 pub takes_begin : (from : Origin) (name : List ℕ) (start more : List Addition) (records : List TaggedRecord) (store now : Store) (flight : Flight) (a b :
     Option Told) (n m : ℕ)
-    (result : Result Bool CarryFault) → start ≡ [] → TakesAll from name start more records store now flight a b n m result
-    → TakesAll from name [] more records store now flight a b n m result
+    (result : Result Bool CarryFault) → start ≡ [] → TakesAll from (archive_adds name start more records) (target_state a n store) (target_state b m now)
+    flight result
+    → TakesAll from (archive_adds name [] more records) (target_state a n store) (target_state b m now) flight result
 takes_begin from name start more records store now flight a b n m result none p =
-    subst (λ (l : List Addition). TakesAll from name l more records store now flight a b n m result) none p
+    subst (λ (l : List Addition). TakesAll from (archive_adds name l more records) (target_state a n store) (target_state b m now) flight result) none p
 
 -- a further one wasn't taken
 pub takes_end : (told : Option Told) (source : RepoState) (cached : Contents) (from : Origin) (name : List ℕ) (start : List Addition) (store now : Store)
     (flight : Flight) (a b : Option Told) (n m : ℕ) → flown_from told source flight ≡ from → flight.named.name ≡ name → accepted_in now ≡ accepted_in store
     → (repo_view now.repo).keys ≡ (repo_view store.repo).keys → IfSome told (λ t. FitsRepo (told_files t) source cached) → AcceptsMore now
     → (before : TakesOn told source from name start store now flight a b n m)
-    → TakesAll from name start before.more [] store now flight a b n m (Err Memory)
+    → TakesAll from (archive_adds name start before.more []) (target_state a n store) (target_state b m now) flight (Err Memory)
 takes_end told source cached from name start store now flight a b n m is named accepted keys log_fits accepts before = record {
   carries = record { each = before.works.each; end = tt; ends = before.works.ends; cause = before.works.cause };
   begins = begins_before from (flown_from told source flight) (repo_view store.repo).keys (repo_view now.repo).keys (accepted_in store) (accepted_in now) name

@@ -37,7 +37,7 @@ use Rattle.ferry_piece.proofs.PutsLemmas.{Allows, adds_at, adds_here, adds_manif
 use Rattle.ferry_piece.proofs.PutsLemmas.{front_of, goes_at, goes_same, goes_then, goes_wider, none_of}
 use Rattle.ferry_piece.proofs.AmongLemmas.{all_both, among_behind, among_front, each_to}
 use Rattle.ferry_piece.specs.Gather.{BringsOpening, Gathers, GathersAt, IsAmong, KeepsRest, KeepsStanding, KeepsStandingAt, StandsFrom}
-use Rattle.ferry_carry.specs.Grow.{AcceptsMore, Grows, GrowsBy, IsBehind, IsNamedBy, KeepsChunks, KeepsGrowing, KeepsGrowingBy, KeepsMost, KeepsNames}
+use Rattle.ferry_carry.specs.Grow.{AcceptsMore, Grows, GrowsBy, IsBehind, IsNamedBy, KeepsChunks, KeepsGrowing, KeepsGrowingBy, KeepsMost, KeepsNames, job}
 use Rattle.ferry_carry.specs.Grow.{StandsOn}
 use Rattle.ferry_carry.specs.Carrying.{AreCut, IsApart, IsCarried, IsReadyToName, Origin}
 use Rattle.ferry_carry.specs.Flight.{AcceptsOne}
@@ -480,7 +480,8 @@ growing_then earlier from some more added others store middle h g i before done 
       ((growing_longer earlier from (some ++ more) store added all h g (front_of added others) before).1 counts fits) done
       (sound_moments (StandsOn (earlier ++ added) from more others (accepted_in middle) next first.fits_now.written)
       (StandsOn earlier from (some ++ more) all (accepted_in store) repo fits.written) counts g i
-      (λ image stands. on_then earlier from some more added others (accepted_in store) (accepted_in middle) repo next fits.written first.fits_now.written image
+      (λ image stands. on_then earlier from some more added others (accepted_in store) (accepted_in middle) repo next fits.written first.fits_now.written
+      image
       first.most.keys first.most.names first.chunks first.opening first.puts first.committed first.config first.carried first.cut first.only first.settled
       first.next
       stands)
@@ -570,7 +571,7 @@ module _ (from : Origin) (earlier : List Addition) (at_end : border_behind AtBeg
       → (repo_view now.repo).manifest ≡ manifest → accepted_in now ≡ (repo_view now.repo).manifest → AcceptsOne accepted store entry
       → IsBehind from accepted (repo_view store.repo).manifest (entry.name ∷ []) manifest
       → IsReadyToName from earlier (files_now h) (repo_view store.repo) entry → Commits store (PutEntry zero_id blob) now h g
-      → GrowsBy earlier accepted from (entry.name ∷ []) [] store now h g
+      → GrowsBy (job earlier accepted from (entry.name ∷ [])) [] store now h g
   commit_grows now h g most archives manifest_is accepted_is one behind ready commits counts fits =
       let end = commits counts fits in
       let entries = entries_committed (with_entry fits.written (PutEntry zero_id blob)) in
@@ -662,9 +663,10 @@ growing_accepted earlier accepted from chosen store middle within h g same growi
 
 pub grows_accepted : (earlier : List Addition) (accepted : ManifestText) (from : Origin) (chosen : List (List ℕ)) (added : List Addition)
     (store middle now : Store) (h g : History) → middle ≡ record store { accepted = middle.accepted }
-    → GrowsBy earlier accepted from chosen added middle now h g → GrowsBy earlier accepted from chosen added store now h g
+    → GrowsBy (job earlier accepted from chosen) added middle now h g → GrowsBy (job earlier accepted from chosen) added store now h g
 grows_accepted earlier accepted from chosen added store middle now h g same grows =
-    (subst (λ (s : Store). GrowsBy earlier accepted from chosen added s now h g → GrowsBy earlier accepted from chosen added store now h g) (sym same)
+    (subst (λ (s : Store). GrowsBy (job earlier accepted from chosen) added s now h g
+    → GrowsBy (job earlier accepted from chosen) added store now h g) (sym same)
     (λ after counts fits.
     let end = after counts (accepted_as counts store middle.accepted h fits) in
     record {

@@ -20,7 +20,7 @@ use Rattle.ferry_carry.proofs.GrowLemmas.{accepted_as}
 use Rattle.ferry_carry.specs.Carrying.{Origin}
 use Rattle.ferry_piece.specs.Fault.{IsOfSource}
 use Rattle.ferry_carry.specs.Filling.{WhereHeard}
-use Rattle.ferry_carry.specs.Grow.{GrowsBy}
+use Rattle.ferry_carry.specs.Grow.{GrowsBy, job}
 use Rattle.ferry_carry.specs.Refusals.{is_of_telling}
 use Rattle.ferry_piece.specs.Puts.{Addition, AddsAll, AddsFirst, AtBegin, Border, Within, border_behind}
 use Rattle.ferry_piece.specs.Stops.{is_target}
@@ -44,7 +44,7 @@ targets_apart {T} (Err fault) target = target_apart fault target
 
 -- contents of archives that came were all added
 pub grows_all : (earlier : List Addition) (accepted : ManifestText) (from : Origin) (chosen : List (List ℕ)) (added : List Addition) (store now : Store)
-    (h g : History) → GrowsBy earlier accepted from chosen added store now h g → HoldsAll (border_behind AtBegin earlier) from.most store added now h g
+    (h g : History) → GrowsBy (job earlier accepted from chosen) added store now h g → HoldsAll (border_behind AtBegin earlier) from.most store added now h g
 grows_all earlier accepted from chosen added store now h g grows counts fits = let end = grows counts fits in (end.fits_now, end.puts)
 
 -- of nothing, where no call was made
@@ -164,7 +164,8 @@ accepted_unspent store middle same unspent = record {
   itself = ap (λ (s : Store). s.spent) same ∙ unspent.itself;
 }
 
-pub held_accepted : {T : Type 0} (at : Border) (most : ℕ) (store middle now : Store) (added : List Addition) (a b : Option Told) (result : Result T CarryFault)
+pub held_accepted : {T : Type 0} (at : Border) (most : ℕ) (store middle now : Store) (added : List Addition) (a b : Option Told) (result : Result T
+    CarryFault)
     → middle ≡ record store { accepted = middle.accepted } → HoldsRefused at most middle added now a b result
     → HoldsRefused at most store added now a b result
 held_accepted {T} at most store middle now added a b (Ok x) same held = tt

@@ -32,3 +32,4 @@ pub mod HeldLemmas
 pub mod LeftLemmas
 pub mod SmallLemmas
 pub mod OverLemmas
+pub mod TurnLemmas

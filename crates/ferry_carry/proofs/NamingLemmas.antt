@@ -51,7 +51,7 @@ use Rattle.ferry_carry.specs.Copying.{IsReady}
 use Rattle.ferry_carry.specs.Flight.{AcceptsOne, ListsDone, NamesArchive}
 use Rattle.ferry_carry.specs.Counting.{CountsOf}
 use Rattle.ferry_piece.specs.Gather.{KeepsRest, chunks_of}
-use Rattle.ferry_carry.specs.Grow.{AcceptsMore, GrowsBy, IsBehind, KeepsGrowingBy, KeepsMost, KeepsNames}
+use Rattle.ferry_carry.specs.Grow.{AcceptsMore, GrowsBy, IsBehind, KeepsGrowingBy, KeepsMost, KeepsNames, job}
 use Rattle.ferry_carry.specs.Listing.{BeginsOne, ListsArchive, ListsContents}
 use Rattle.ferry_carry.specs.Naming.{AddsRecord, BeginsRecord, Draws, PutsRecord, TaggedRecord, copied_in, entry_for}
 use Rattle.ferry_piece.specs.Piece.{CountsOn}
@@ -65,6 +65,7 @@ use Rattle.ferry_piece.specs.declared.fault.CarryFault.{CarryFault}
 use Rattle.ferry_piece.specs.declared.fault.CarryFault.TheVariants as Carry
 use Rattle.ferry_carry.specs.declared.options.Carried.{Carried}
 use Rattle.ferry_piece.specs.declared.piece.PieceWriter.{PieceWriter}
+use Rattle.ferry_carry.specs.States.{target_state}
 
 -- ---- the record
 
@@ -261,7 +262,7 @@ module _ (accepted : ManifestText) (entry : ArchiveRef) (store now : Store) (man
       → manifest.archives ≡ (accepted_in store).archives → AcceptsOne accepted store entry → Between a b TellsNothing
       → Did {T = Unit {0}} (CommitsEntry (with_manifest (repo_view store.repo) manifest) store.session store.counter (PutEntry zero_id blob))
       (λ _. Commits store (PutEntry zero_id blob) now) a b n m (Err refusal)
-      → NamesArchive accepted entry manifest store now a b n m (Err (target_fault refusal))
+      → NamesArchive accepted entry manifest (target_state a n store) (target_state b m now) (Err (target_fault refusal))
   commit_works_err refusal names archives one untold did from earlier at_end ready behind = record {
     each = commit_each names archives one from earlier at_end ready behind untold did.each;
     end = tt;
@@ -273,12 +274,13 @@ module _ (accepted : ManifestText) (entry : ArchiveRef) (store now : Store) (man
       → (repo_view now.repo).manifest ≡ manifest → accepted_in now ≡ (repo_view now.repo).manifest → AcceptsOne accepted store entry
       → Between a b TellsNothing
       → Did {T = Unit {0}} (CommitsEntry (with_manifest (repo_view store.repo) manifest) store.session store.counter (PutEntry zero_id blob))
-      (λ _. Commits store (PutEntry zero_id blob) now) a b n m (Ok tt) → NamesArchive accepted entry manifest store now a b n m (Ok tt)
+      (λ _. Commits store (PutEntry zero_id blob) now) a b n m (Ok tt)
+      → NamesArchive accepted entry manifest (target_state a n store) (target_state b m now) (Ok tt)
   commit_works names most archives manifest_is accepted_is one untold did from earlier at_end ready behind = record {
     each = commit_each names archives one from earlier at_end ready behind untold did.each;
     end = between_map a b
         (λ h g. IsReadyToName from earlier (files_now h) (repo_view store.repo) entry × (AllDone h g × Commits store (PutEntry zero_id blob) now h g))
-        (λ h g. AllDone h g × GrowsBy earlier accepted from (entry.name ∷ []) [] store now h g)
+        (λ h g. AllDone h g × GrowsBy (job earlier accepted from (entry.name ∷ [])) [] store now h g)
         (λ h g e. (
           e.1.0,
           commit_grows from earlier at_end accepted entry store manifest blob now h g most archives manifest_is accepted_is one behind e.0 e.1.1,
@@ -300,16 +302,16 @@ commit_most store now manifest is names = record {
 
 -- a manifest that is committed behind an archive that was accepted
 pub named_behind : (accepted : ManifestText) (entry : ArchiveRef) (manifest : ManifestText) (store middle now : Store) (a b : Option Told) (n m : ℕ)
-    (result : Result (Unit {0}) CarryFault) → middle ≡ record store { accepted = middle.accepted } → NamesArchive accepted entry manifest middle now a b n m
-    result
-    → NamesArchive accepted entry manifest store now a b n m result
+    (result : Result (Unit {0}) CarryFault) → middle ≡ record store { accepted = middle.accepted }
+    → NamesArchive accepted entry manifest (target_state a n middle) (target_state b m now) result
+    → NamesArchive accepted entry manifest (target_state a n store) (target_state b m now) result
 named_behind accepted entry manifest store middle now a b n m (Ok x) same p from earlier at_end ready behind =
     let works = p from earlier at_end
     (subst (λ (r : RepoState). IfSome a (λ t. IsReadyToName from earlier (told_files t) r entry)) (sym (ap (λ (s : Store). repo_view s.repo) same)) ready)
     (subst (λ (r : RepoState). IsBehind from accepted r.manifest (entry.name ∷ []) manifest) (sym (ap (λ (s : Store). repo_view s.repo) same)) behind) in
     works_as (KeepsGrowingBy earlier accepted from (entry.name ∷ []) middle [])
-    (λ (_ : Unit {0}). GrowsBy earlier accepted from (entry.name ∷ []) [] middle now)
-    (KeepsGrowingBy earlier accepted from (entry.name ∷ []) store []) (λ (_ : Unit {0}). GrowsBy earlier accepted from (entry.name ∷ []) [] store now)
+    (λ (_ : Unit {0}). GrowsBy (job earlier accepted from (entry.name ∷ [])) [] middle now)
+    (KeepsGrowingBy earlier accepted from (entry.name ∷ []) store []) (λ (_ : Unit {0}). GrowsBy (job earlier accepted from (entry.name ∷ [])) [] store now)
     a b n m x x
     (λ h g e. growing_accepted earlier accepted from (entry.name ∷ []) store middle [] h g same e)
     (λ h g e. grows_accepted earlier accepted from (entry.name ∷ []) [] store middle now h g same e) works
@@ -318,14 +320,14 @@ named_behind accepted entry manifest store middle now a b n m (Err fault) same p
     (subst (λ (r : RepoState). IfSome a (λ t. IsReadyToName from earlier (told_files t) r entry)) (sym (ap (λ (s : Store). repo_view s.repo) same)) ready)
     (subst (λ (r : RepoState). IsBehind from accepted r.manifest (entry.name ∷ []) manifest) (sym (ap (λ (s : Store). repo_view s.repo) same)) behind) in
     works_front (KeepsGrowingBy earlier accepted from (entry.name ∷ []) middle [])
-    (λ (_ : Unit {0}). GrowsBy earlier accepted from (entry.name ∷ []) [] middle now)
-    (KeepsGrowingBy earlier accepted from (entry.name ∷ []) store []) (λ (_ : Unit {0}). GrowsBy earlier accepted from (entry.name ∷ []) [] store now)
+    (λ (_ : Unit {0}). GrowsBy (job earlier accepted from (entry.name ∷ [])) [] middle now)
+    (KeepsGrowingBy earlier accepted from (entry.name ∷ []) store []) (λ (_ : Unit {0}). GrowsBy (job earlier accepted from (entry.name ∷ [])) [] store now)
     a b n m fault
     (λ h g e. growing_accepted earlier accepted from (entry.name ∷ []) store middle [] h g same e) works
 
 -- where no call was made
 pub names_nothing : (entry : ArchiveRef) (manifest : ManifestText) (store now : Store) (a : Option Told) (n : ℕ) (fault : CarryFault) → AcceptsMore store
-    → target_failed fault ≡ false → NamesArchive (accepted_in store) entry manifest store now a a n n (Err fault)
+    → target_failed fault ≡ false → NamesArchive (accepted_in store) entry manifest (target_state a n store) (target_state a n now) (Err fault)
 names_nothing entry manifest store now a n fault accepts still from earlier at_end ready behind =
     carried_nothing {T = Unit {0}} earlier from (entry.name ∷ []) (entry.name ∷ []) [] store now a n fault accepts still
 

@@ -61,6 +61,7 @@ use Rattle.ferry_carry.specs.declared.flight.Turn.{Turn}
 use Rattle.ferry_carry.specs.declared.flight.Work.{Work}
 use Rattle.ferry_carry.specs.declared.flight.Work.TheVariants.{Waiting, Copying, Comparing}
 use Rattle.ferry_carry.specs.declared.options.Options.{Options}
+use Rattle.ferry_carry.specs.States.{target_state}
 
 -- ---- what is live
 
@@ -329,19 +330,24 @@ work_over : (told : Option Told) (source : RepoState) (a b : Option Told) (store
     → OthersDid names others store now a b → (IsAmong names named.name → ⊥) → GoesOver work others
     → WorkFits told source a store named options added work → WorkFits told source b now named options added work
 work_over told source a b store now names others named options added Waiting fits did other goes is = is
-work_over told source a b store now names others named options added (Copying copy) fits did other goes is = (
-  is.0,
-  lacked_over store now names named.name did.only other is.1,
-  is.2,
-  copied_by (origin told source options.block options.checkpoint options.timestamp) named a b store now copy others added did.kept.keys fits did.adds is.3,
-)
+work_over told source a b store now names others named options added (Copying copy) fits did other goes is = record {
+  fits = is.fits;
+  unnamed = lacked_over store now names named.name did.only other is.unnamed;
+  copied = copied_by (origin told source options.block options.checkpoint options.timestamp) named a b store now copy others added did.kept.keys fits did.adds
+      is.copied;
+}
 work_over told source a b store now names others named options added (Comparing comparison) fits did other goes is =
     let repo = repo_view store.repo in
-    let there = subst (λ (name : List ℕ). IsSome (archive_named name repo.manifest.archives)) (sym is.1) is.2 in (
-      compared_by told source (comparison_view comparison) a b store now others did.kept there fits did.adds goes is.0,
+    let was = is.0 in
+    let there = subst (λ (name : List ℕ). IsSome (archive_named name repo.manifest.archives)) (sym was.same_name) was.there in (
+      record {
+        fits = record {
+          comparison = compared_by told source (comparison_view comparison) a b store now others did.kept there fits did.adds goes was.comparison;
+          same_name = was.same_name;
+        };
+        there = has_kept repo.manifest (repo_view now.repo).manifest named.name did.kept.names was.there;
+      },
       is.1,
-      has_kept repo.manifest (repo_view now.repo).manifest named.name did.kept.names is.2,
-      is.3,
     )
 
 -- what fits a flight fits it over what others did
@@ -352,7 +358,6 @@ flight_over told source a b store now flight names others p fits did other goes 
   stands = p.stands;
   added = p.added;
   work = work_over told source a b store now names others flight.named flight.options p.added flight.work fits did other goes p.work;
-  uncounted = p.uncounted;
 }
 
 -- what was accepted of its name is committed still
@@ -397,7 +402,7 @@ named_only given source store named records now x y new name entry is =
 
 -- a turn that was taken
 pub turn_did : (earlier : List Addition) (from : Origin) (name : List ℕ) (added : List Addition) (store now : Store) (a b : Option Told) (n m : ℕ)
-    (turn : Turn) → Flies earlier from name added store now a b n m (Ok turn) → KeepsMost store now
+    (turn : Turn) → Flies earlier from name added (target_state a n store) (target_state b m now) (Ok turn) → KeepsMost store now
     → IsNamedBy (accepted_in store) (name ∷ []) (accepted_in now) → OthersDid (name ∷ []) added store now a b
 turn_did earlier from name added store now a b n m turn flies kept only = record {
   adds = record {
@@ -422,7 +427,7 @@ spares_other Memory other = absurd (let no : ⊥ = cc in no)
 spares_other Record other = tt
 
 pub refusal_did : (earlier : List Addition) (from : Origin) (name : List ℕ) (at : Border) (limit most : ℕ) (added : List Addition) (store now : Store)
-    (a b : Option Told) (n m : ℕ) (fault : CarryFault) → Flies earlier from name added store now a b n m (Err fault)
+    (a b : Option Told) (n m : ℕ) (fault : CarryFault) → Flies earlier from name added (target_state a n store) (target_state b m now) (Err fault)
     → HoldsRefused {T = Turn} at limit store added now a b (Err fault) → is_target fault ≡ false → IsLeft most store b now
     → OthersDid [] added store now a b
 refusal_did earlier from name at limit most added store now a b n m fault flies held other left = record {
@@ -448,23 +453,28 @@ work_later : (told later : Option Told) (source after : RepoState) (a : Option T
     (added : List Addition) (work : Work) → heard later ≡ heard told → after ≡ source → WorkFits told source a store named options added work
     → WorkFits later after a store named options added work
 work_later told later source after a store named options added Waiting alike same is = is
-work_later told later source after a store named options added (Copying copy) alike same is = (
-  is.0,
-  is.1,
-  walk_later told later source after (walk_view copy.walk) alike same is.2,
-  so_far_later told later source after options.block options.checkpoint options.timestamp named a store copy added alike same is.3,
-)
+work_later told later source after a store named options added (Copying copy) alike same is = record {
+  fits = record { ready = is.ready; walk_fits = walk_later told later source after (walk_view copy.walk) alike same is.walk_fits };
+  unnamed = is.unnamed;
+  copied = so_far_later told later source after options.block options.checkpoint options.timestamp named a store copy added alike same is.copied;
+}
 work_later told later source after a store named options added (Comparing comparison) alike same is =
-    let state = comparison_view comparison in (
+    let state = comparison_view comparison in
+    let was = is.0 in
+    let so = was.comparison in (
       record {
-        front = is.0.front;
-        read = subst (λ (r : RepoState). IfSome later (λ t. ReadsSoFar (told_files t) r state.name state.walk is.0.front)) (sym same)
-            (told_same told later (λ f. ReadsSoFar f source state.name state.walk is.0.front) alike is.0.read);
-        beside = is.0.beside;
+        fits = record {
+          comparison = record {
+            front = so.front;
+            read = subst (λ (r : RepoState). IfSome later (λ t. ReadsSoFar (told_files t) r state.name state.walk so.front)) (sym same)
+                (told_same told later (λ f. ReadsSoFar f source state.name state.walk so.front) alike so.read);
+            beside = so.beside;
+          };
+          same_name = was.same_name;
+        };
+        there = was.there;
       },
       is.1,
-      is.2,
-      is.3,
     )
 
 -- where the source's files were only read
@@ -474,5 +484,4 @@ flight_later told later source after a store flight alike same p = record {
   stands = subst (λ (r : RepoState). FlightStands r flight) (sym same) p.stands;
   added = p.added;
   work = work_later told later source after a store flight.named flight.options p.added flight.work alike same p.work;
-  uncounted = p.uncounted;
 }

@@ -33,7 +33,7 @@ use Rattle.ferry_carry.specs.Chosen.{TellsLine}
 use Rattle.ferry_carry.specs.Counting.{CountsMore, TellsNew, nothing_carried}
 use Rattle.ferry_piece.specs.Fault.{IsOfSource, target_failed}
 use Rattle.ferry_carry.specs.Filling.{FillsAll, FillsNames}
-use Rattle.ferry_carry.specs.Flight.{BeginsDone, Carries, ListsDone, TakesAll}
+use Rattle.ferry_carry.specs.Flight.{BeginsDone, Carries, ListsDone, TakesAll, archive_adds}
 use Rattle.ferry_carry.specs.Grow.{AcceptsMore, Grows, KeepsGrowing}
 use Rattle.ferry_carry.specs.Lines.{name_line, told_of, total_line}
 use Rattle.ferry_carry.specs.Listing.{ListsNames}
@@ -47,6 +47,7 @@ use Rattle.ferry_piece.specs.declared.fault.CarryFault.TheVariants as Carry
 use Rattle.ferry_carry.specs.declared.flight.Flight.{Flight}
 use Rattle.ferry_carry.specs.declared.options.Carried.{Carried}
 use Rattle.ferry_piece.proofs.FewLemmas.{begun_as, begun_fault, begun_more, begun_none, begun_nothing, begun_same, begun_then, memory_unused, used_up}
+use Rattle.ferry_carry.specs.States.{target_state, drawn_from}
 
 -- ---- what bodies did
 
@@ -79,7 +80,7 @@ telling_unbroken Carry.Record telling = tt
 reports_none : (from : Origin) (store : Store) (carried : Carried) (a : Option Told) (n : ℕ) (x : Option (List ℕ)) → AcceptsMore store → carried.transferred <
     2 ^ 64
     → carried.present < 2 ^ 64 → carried.chunks < 2 ^ 64 → carried.bytes < 2 ^ 128 → carried.meta < 2 ^ 64
-    → Reports from [] store store carried carried a a n n x x (Ok tt)
+    → Reports from [] (target_state a n store) (target_state a n store) carried carried (drawn_from x x) (Ok tt)
 reports_none from store carried a n x accepts transferred present chunks bytes meta = record {
   added = [];
   records = [];
@@ -98,14 +99,14 @@ reports_none from store carried a n x accepts transferred present chunks bytes m
 pub reports_begin : (from : Origin) (store : Store) (carried : Carried) (a : Option Told) (n : ℕ) (x : Option (List ℕ)) → AcceptsMore store →
     carried.transferred < 2 ^ 64
     → carried.present < 2 ^ 64 → carried.chunks < 2 ^ 64 → carried.bytes < 2 ^ 128 → carried.meta < 2 ^ 64
-    → (p : Reports from [] store store carried carried a a n n x x (Ok tt)) × Follows p.added store
+    → (p : Reports from [] (target_state a n store) (target_state a n store) carried carried (drawn_from x x) (Ok tt)) × Follows p.added store
 unfolding reports_none
 reports_begin from store carried a n x accepts transferred present chunks bytes meta =
     (reports_none from store carried a n x accepts transferred present chunks bytes meta, inl refl)
 
 pub reports_nothing : (from : Origin) (names : List (List ℕ)) (store : Store) (carried after : Carried) (a : Option Told) (n : ℕ) (x y : Option (List ℕ))
     (fault : CarryFault) → AcceptsMore store → target_failed fault ≡ false → IsNoChunk fault → (IsOfSource fault → ⊥) → (fault ≡ used_up → ⊥)
-    → Reports from names store store carried after a a n n x y (Err fault)
+    → Reports from names (target_state a n store) (target_state a n store) carried after (drawn_from x y) (Err fault)
 reports_nothing from names store carried after a n x y fault accepts still unbroken apart unused = record {
   added = [];
   records = [];
@@ -122,7 +123,7 @@ reports_nothing from names store carried after a n x y fault accepts still unbro
 
 pub whole_nothing : (from : Origin) (names : List (List ℕ)) (store : Store) (a : Option Told) (n : ℕ) (x y : Option (List ℕ)) (fault : CarryFault)
     → AcceptsMore store → target_failed fault ≡ false → IsNoChunk fault → (IsOfSource fault → ⊥) → (fault ≡ used_up → ⊥)
-    → ReportsWhole from names store store a a n n x y (Err fault)
+    → ReportsWhole from names (target_state a n store) (target_state a n store) (drawn_from x y) (Err fault)
 whole_nothing from names store a n x y fault accepts still unbroken apart unused = record {
   added = [];
   records = [];
@@ -139,8 +140,8 @@ whole_nothing from names store a n x y fault accepts still unbroken apart unused
 -- a fault of a body that told nothing, and of one that told
 pub reports_silent : (from : Origin) (name : List ℕ) (added : List Addition) (store now : Store) (flight : Flight) (carried after : Carried)
     (a b : Option Told) (n m : ℕ) (x y : Option (List ℕ)) (records : List TaggedRecord) (fault : CarryFault)
-    → TakesAll from name [] added records store now flight a b n m (Err fault)
-    → Reports from (name ∷ []) store now carried after a b n m x y (Err fault)
+    → TakesAll from (archive_adds name [] added records) (target_state a n store) (target_state b m now) flight (Err fault)
+    → Reports from (name ∷ []) (target_state a n store) (target_state b m now) carried after (drawn_from x y) (Err fault)
 unfolding border_behind
 reports_silent from name added store now flight carried after a b n m x y records fault p = record {
   added = added;
@@ -158,8 +159,9 @@ reports_silent from name added store now flight carried after a b n m x y record
 }
 
 pub whole_err : (from : Origin) (names : List (List ℕ)) (store now : Store) (carried after : Carried) (a b : Option Told) (n m : ℕ)
-    (x y : Option (List ℕ)) (fault : CarryFault) → Reports from names store now carried after a b n m x y (Err fault)
-    → ReportsWhole from names store now a b n m x y (Err fault)
+    (x y : Option (List ℕ)) (fault : CarryFault) → Reports from names (target_state a n store) (target_state b m now) carried after (drawn_from x y) (Err
+    fault)
+    → ReportsWhole from names (target_state a n store) (target_state b m now) (drawn_from x y) (Err fault)
 whole_err from names store now carried after a b n m x y fault p = record {
   added = p.added;
   records = p.records;
@@ -185,10 +187,11 @@ told_few {T} {U} n store middle x (Err fault) telling few =
     begun_fault {T = T} {U = U} n n store middle x fault (omega arith) (telling_unused fault telling) few
 
 -- a name that is told behind the body that carried its archive
-named_works : {T U : Type 0} (from : Origin) (copied : Bool) (name given : List ℕ) (records : List TaggedRecord) (added : List Addition) (store middle : Store)
+named_works : {T U : Type 0} (from : Origin) (copied : Bool) (name given : List ℕ) (records : List TaggedRecord) (added : List Addition) (store middle :
+    Store)
     (a b c : Option Told) (n m k : ℕ) (x : T) (result : Result U CarryFault) → given ≡ name → AcceptsMore middle
     → TellsNew (accepted_in store) [] name copied → ListsDone a from (repo_view store.repo).keys name records added copied
-    → Carries {T = T} [] from (name ∷ []) added store middle a b n m (Ok x)
+    → Carries {T = T} [] from (name ∷ []) added (target_state a n store) (target_state b m middle) (Ok x)
     → Works (IsStep (TellOf (name_line (told_of copied) given))) (λ (_ : U). TellsLine (name_line (told_of copied) given)) b c m k result
     → Works (KeepsReported from (name ∷ []) store added) (EndsNames {T = U} from (name ∷ []) records added store middle) a c n k result
 named_works {T} {U} from copied name given records added store middle a b c n m k x result is accepts new done p q =
@@ -227,9 +230,10 @@ pub reports_name : {T : Type 0} (from : Origin) (copied : Bool) (name given : Li
     → OnOk result (AcceptsNames from (name ∷ []) records store middle y z)
     → OnOk result (CountsMore (accepted_in store) (name ∷ []) added carried after) → IfErr result (λ fault. SparesStore fault → ⊥)
     → IfErr result (λ fault. IsOfSource fault → ⊥) → IfErr result (λ fault. is_of_telling fault ≡ true)
-    → BeginsSegments {T = T} (2 * length added + 2) store middle (Ok x) → Carries {T = T} [] from (name ∷ []) added store middle a b n m (Ok x)
+    → BeginsSegments {T = T} (2 * length added + 2) store middle (Ok x)
+    → Carries {T = T} [] from (name ∷ []) added (target_state a n store) (target_state b m middle) (Ok x)
     → Works (IsStep (TellOf (name_line (told_of copied) given))) (λ (_ : Unit {0}). TellsLine (name_line (told_of copied) given)) b c m k result
-    → Reports from (name ∷ []) store middle carried after a c n k y z result
+    → Reports from (name ∷ []) (target_state a n store) (target_state c k middle) carried after (drawn_from y z) result
 reports_name {T} from copied name given records added store middle carried after a b c n m k y z x result is accepts new done begins taken counted spent
     apart telling few p q = record {
       added = added;
@@ -247,9 +251,9 @@ reports_name {T} from copied name given records added store middle carried after
 -- the whole, behind all names
 pub reports_whole : (from : Origin) (carried : Carried) (names : List (List ℕ)) (line : List ℕ) (store middle : Store)
     (a b c : Option Told) (n m k : ℕ) (x y : Option (List ℕ)) → line ≡ total_line carried → IsSettled store → AcceptsMore middle
-    → Reports from names store middle nothing_carried carried a b n m x y (Ok tt)
+    → Reports from names (target_state a n store) (target_state b m middle) nothing_carried carried (drawn_from x y) (Ok tt)
     → Works (IsStep (TellOf line)) (λ (_ : Unit {0}). TellsLine line) b c m k (Ok tt)
-    → ReportsWhole from names store middle a c n k x y (Ok carried)
+    → ReportsWhole from names (target_state a n store) (target_state c k middle) (drawn_from x y) (Ok carried)
 reports_whole from carried names line store middle a b c n m k x y is settled accepts p q =
     let total = total_line carried in
     let added = p.added in
@@ -259,7 +263,8 @@ reports_whole from carried names line store middle a b c n m k x y is settled ac
       added = added;
       records = p.records;
       begins = p.begins;
-      works = works_then (KeepsReported from names store added) (EndsNames {T = Unit {0}} from names p.records added store middle) (IsStep (TellOf total)) Total
+      works = works_then (KeepsReported from names store added) (EndsNames {T = Unit {0}} from names p.records added store middle) (IsStep (TellOf total))
+          Total
           (KeepsReported from names store added) (EndsWhole from names p.records added store middle) a b c n m k tt (Ok carried)
           (λ h g i e d f r. reported_whole from carried names added store middle h g i settled accepts e d f.0.0 f.1 r)
           (λ told h g i f r. (
@@ -279,10 +284,10 @@ reports_whole from carried names line store middle a b c n m k x y is settled ac
 
 pub whole_untold : (from : Origin) (before carried : Carried) (names : List (List ℕ)) (line : List ℕ) (store middle : Store)
     (a b c : Option Told) (n m k : ℕ) (x y z : Option (List ℕ)) (fault : CarryFault) → line ≡ total_line carried → IsSettled store → AcceptsMore middle
-    → Reports from names store middle before carried a b n m x y (Ok tt)
+    → Reports from names (target_state a n store) (target_state b m middle) before carried (drawn_from x y) (Ok tt)
     → (SparesStore fault → ⊥) → (IsOfSource fault → ⊥) → is_of_telling fault ≡ true
     → Works (IsStep (TellOf line)) (λ (_ : Unit {0}). TellsLine line) b c m k (Err fault)
-    → ReportsWhole from names store middle a c n k x z (Err fault)
+    → ReportsWhole from names (target_state a n store) (target_state c k middle) (drawn_from x z) (Err fault)
 whole_untold from before carried names line store middle a b c n m k x y z fault is settled accepts p spent apart telling q =
     let total = total_line carried in
     let added = p.added in
@@ -305,8 +310,8 @@ whole_untold from before carried names line store middle a b c n m k x y z fault
 
 -- memory is refused for that line
 pub whole_unwritten : (from : Origin) (before carried : Carried) (names : List (List ℕ)) (store middle : Store) (a b : Option Told) (n m : ℕ)
-    (x y : Option (List ℕ)) → Reports from names store middle before carried a b n m x y (Ok tt)
-    → ReportsWhole from names store middle a b n m x y (Err Carry.Memory)
+    (x y : Option (List ℕ)) → Reports from names (target_state a n store) (target_state b m middle) before carried (drawn_from x y) (Ok tt)
+    → ReportsWhole from names (target_state a n store) (target_state b m middle) (drawn_from x y) (Err Carry.Memory)
 whole_unwritten from before carried names store middle a b n m x y p = record {
   added = p.added;
   records = p.records;
@@ -324,10 +329,11 @@ whole_unwritten from before carried names store middle a b n m x y p = record {
 -- what was reported of one source was reported of another that is the same, under a name that is the same
 pub reports_as : (from other : Origin) (some others : List (List ℕ)) (store now : Store) (carried after : Carried) (a b : Option Told) (n m : ℕ)
     (x y : Option (List ℕ)) (result : Result (Unit {0}) CarryFault) → other ≡ from → others ≡ some
-    → Reports other others store now carried after a b n m x y result → Reports from some store now carried after a b n m x y result
+    → Reports other others (target_state a n store) (target_state b m now) carried after (drawn_from x y) result
+    → Reports from some (target_state a n store) (target_state b m now) carried after (drawn_from x y) result
 reports_as from other some others store now carried after a b n m x y result is names p =
-    subst (λ (f : Origin). Reports f some store now carried after a b n m x y result) is
-    (subst (λ (l : List (List ℕ)). Reports other l store now carried after a b n m x y result) names p)
+    subst (λ (f : Origin). Reports f some (target_state a n store) (target_state b m now) carried after (drawn_from x y) result) is
+    (subst (λ (l : List (List ℕ)). Reports other l (target_state a n store) (target_state b m now) carried after (drawn_from x y) result) names p)
 
 -- the numbers of more names behind some
 counted_then : (accepted middle : ManifestText) (some others : List (List ℕ)) (added more : List Addition) (carried between after : Carried)
@@ -352,18 +358,21 @@ filled_all : (from : Origin) (store middle : Store) (some others : List (List �
     (result : Result (Unit {0}) CarryFault) → Extends (accepted_in store) some (accepted_in middle)
     → (repo_view middle.repo).keys ≡ (repo_view store.repo).keys
     → Between a b (λ h g. AllDone h g × (CarriesNames from some records added store middle h g × TellsNames (accepted_in store) some h g))
-    → IfErr result (λ fault. FillsAll b from middle others fault begun) → IfErr result (λ fault. FillsAll a from store (some ++ others) fault (added ++ begun))
+    → IfErr result (λ fault. FillsAll b from middle others fault begun)
+    → IfErr result (λ fault. FillsAll a from store (some ++ others) fault (added ++ begun))
 filled_all from store middle some others records added begun a b (Ok x) extends same end fills = tt
 filled_all from store middle some others records added begun a b (Err fault) extends same end fills =
     filled_then from store middle some others records added begun a b fault extends same end fills
 
 -- more names behind some
 pub reports_then : (from : Origin) (some more : List (List ℕ)) (store middle now : Store) (carried between after : Carried) (a b c : Option Told)
-    (n m k : ℕ) (x y z : Option (List ℕ)) (result : Result (Unit {0}) CarryFault) → IsSettled store → AcceptsMore middle → IfSome a (λ t. StoreFits false store
+    (n m k : ℕ) (x y z : Option (List ℕ)) (result : Result (Unit {0}) CarryFault) → IsSettled store → AcceptsMore middle
+    → IfSome a (λ t. StoreFits false store
     t.history)
     → Extends (accepted_in store) some (accepted_in middle) → (repo_view middle.repo).keys ≡ (repo_view store.repo).keys → IsUnspent middle
-    → (p : Reports from some store middle carried between a b n m x y (Ok tt)) → Follows p.added middle
-    → Reports from more middle now between after b c m k y z result → Reports from (some ++ more) store now carried after a c n k x z result
+    → (p : Reports from some (target_state a n store) (target_state b m middle) carried between (drawn_from x y) (Ok tt)) → Follows p.added middle
+    → Reports from more (target_state b m middle) (target_state c k now) between after (drawn_from y z) result
+    → Reports from (some ++ more) (target_state a n store) (target_state c k now) carried after (drawn_from x z) result
 reports_then from some more store middle now carried between after a b c n m k x y z result settled accepts fits extends same unspent p follows q =
     let keys = (repo_view store.repo).keys in
     let accepted = accepted_in store in
@@ -376,7 +385,8 @@ reports_then from some more store middle now carried between after a b c n m k x
       records = p.records ++ q.records;
       begins = all_then from store middle some more p.records added others a b extends same p.works.end q.begins;
       works = works_then (KeepsReported from some store added) (λ (_ : Unit {0}) h g. EndsNames {T = Unit {0}} from some p.records added store middle tt h g)
-          (KeepsReported from more middle others) (EndsNames {T = Unit {0}} from more q.records others middle now) (KeepsReported from (some ++ more) store all)
+          (KeepsReported from more middle others) (EndsNames {T = Unit {0}} from more q.records others middle now) (KeepsReported from (some ++ more) store
+          all)
           (EndsNames {T = Unit {0}} from (some ++ more) (p.records ++ q.records) all store now) a b c n m k tt result
           (λ h g i e d f r. reported_then from some more added others store middle h g i settled accepts follows e d f.0.0 f.1 r)
           (λ _ h g i e f. (
@@ -407,9 +417,10 @@ pub reports_more : (from other : Origin) (names : List (List ℕ)) (place : ℕ)
     CarryFault) → other ≡ from
     → place < length names → name ≡ get_or names place d → IsSettled store → AcceptsMore middle → IfSome a (λ t. StoreFits false store t.history)
     → (repo_view middle.repo).keys ≡ (repo_view store.repo).keys → IsUnspent middle
-    → (p : Reports from (take place names) store middle carried between a b n m x y (Ok tt)) → Follows p.added middle
-    → Reports other (name ∷ []) middle now between after b c m k y z result
-    → Reports from (take (place + 1) names) store now carried after a c n k x z result
+    → (p : Reports from (take place names) (target_state a n store) (target_state b m middle) carried between (drawn_from x y) (Ok tt))
+    → Follows p.added middle
+    → Reports other (name ∷ []) (target_state b m middle) (target_state c k now) between after (drawn_from y z) result
+    → Reports from (take (place + 1) names) (target_state a n store) (target_state c k now) carried after (drawn_from x z) result
 reports_more from other names place name d store middle now carried between after a b c n m k x y z result is lt named settled accepts fits same unspent
     p follows q =
     let some = take place names in
@@ -420,12 +431,13 @@ reports_more from other names place name d store middle now carried between afte
     (extends_next from.time from.repo.manifest (accepted_in store) (accepted_in middle) some (record_ids (repo_view store.repo).keys p.records)
     (next_of from.time from.repo.manifest (repo_view store.repo).keys (accepted_in store) some p.records (accepted_in middle) p.accepts.0))
     same unspent p follows
-    (subst (λ (f : Origin). Reports f (name ∷ []) middle now between after b c m k y z result) is q))
+    (subst (λ (f : Origin). Reports f (name ∷ []) (target_state b m middle) (target_state c k now) between after (drawn_from y z) result) is q))
 
 -- those that were told before a fault are a front of all
 pub reports_front : (from : Origin) (names : List (List ℕ)) (place : ℕ) (store now : Store) (carried after : Carried) (a b : Option Told) (n m : ℕ)
-    (x y : Option (List ℕ)) (fault : CarryFault) → Reports from (take place names) store now carried after a b n m x y (Err fault)
-    → Reports from names store now carried after a b n m x y (Err fault)
+    (x y : Option (List ℕ)) (fault : CarryFault) → Reports from (take place names) (target_state a n store) (target_state b m now) carried after
+    (drawn_from x y) (Err fault)
+    → Reports from names (target_state a n store) (target_state b m now) carried after (drawn_from x y) (Err fault)
 reports_front from names place store now carried after a b n m x y fault p =
     let some = take place names in
     let rest = drop place names in
@@ -448,7 +460,8 @@ reports_front from names place store now carried after a b n m x y fault p =
 
 -- all were told
 pub reports_all : (from : Origin) (names : List (List ℕ)) (place : ℕ) (store now : Store) (carried after : Carried) (a b : Option Told) (n m : ℕ)
-    (x y : Option (List ℕ)) → length names ≤ place → Reports from (take place names) store now carried after a b n m x y (Ok tt)
-    → Reports from names store now carried after a b n m x y (Ok tt)
+    (x y : Option (List ℕ)) → length names ≤ place → Reports from (take place names) (target_state a n store) (target_state b m now) carried after
+    (drawn_from x y) (Ok tt)
+    → Reports from names (target_state a n store) (target_state b m now) carried after (drawn_from x y) (Ok tt)
 reports_all from names place store now carried after a b n m x y le p =
     reports_as from from names (take place names) store now carried after a b n m x y (Ok tt) refl (take_all place names le) p

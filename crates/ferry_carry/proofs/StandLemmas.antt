@@ -34,6 +34,7 @@ use Rattle.ferry_piece.specs.Work.{Works}
 use Rattle.ferry_piece.specs.declared.fault.CarryFault.{CarryFault}
 use Rattle.ferry_piece.specs.declared.fault.CarryFault.TheVariants as Carry
 use Rattle.ferry_carry.specs.declared.options.Carried.{Carried}
+use Rattle.ferry_carry.specs.States.{target_state, drawn_from}
 
 -- ---- refusals
 
@@ -125,7 +126,8 @@ stops_here from names store a accepts = record {
 pub stops_behind : (from other : Origin) (names some : List (List ℕ)) (name : List ℕ) (rest : List (List ℕ))
     (store middle : Store) (carried between : Carried) (a b c : Option Told) (n m : ℕ) (x y : Option (List ℕ)) → other ≡ from
     → names ≡ some ++ name ∷ rest → IsSettled store → AcceptsMore middle → (repo_view middle.repo).keys ≡ (repo_view store.repo).keys
-    → (p : Reports from some store middle carried between a b n m x y (Ok tt)) → Follows p.added middle → StopsUnnamed other name middle b c
+    → (p : Reports from some (target_state a n store) (target_state b m middle) carried between (drawn_from x y) (Ok tt)) → Follows p.added middle
+    → StopsUnnamed other name middle b c
     → StopsBehind from names store a c
 stops_behind from other names some name rest store middle carried between a b c n m x y is split settled accepts keys p follows q =
     let accepted = accepted_in store in

@@ -226,10 +226,10 @@ pub work_apart : (told : Option Told) (source : RepoState) (heard : Option Told)
 work_apart told source heard store named options added Waiting none =
     anyway heard (origin_of told source options).files (records_in added ≡ []) (ap records_in none)
 work_apart told source heard store named options added (Copying copy) fits =
-    IfSome_then heard fits.3.1 (λ d known. IfSome_then (origin_of told source options).files known
+    IfSome_then heard fits.copied.1 (λ d known. IfSome_then (origin_of told source options).files known
     (λ there so. items_apart (repo_view store.repo).keys copy.block [] so.wholes added copy.stream.cutter.piece so.writes.lists))
 work_apart told source heard store named options added (Comparing comparison) fits =
-    anyway heard (origin_of told source options).files (records_in added ≡ []) (ap records_in fits.3)
+    anyway heard (origin_of told source options).files (records_in added ≡ []) (ap records_in fits.1)
 
 -- ---- by what came of it
 

@@ -11,8 +11,8 @@ use Rattle.ferry_manifest.specs.Record.Writing.{IsPackableArchive}
 use Rattle.ferry_rechunk.specs.Cut.{cut}
 use Rattle.ferry_rechunk.specs.Cutting.{Cutting}
 use Rattle.ferry_repo.specs.Opening.{RepoState}
-use Rattle.ferry_repo.specs.Walk.{LeadsOn, WalkState}
-use Rattle.ferry_repo.specs.Archives.{HoldsContent}
+use Rattle.ferry_repo.specs.Walk.{FitsWalk, LeadsOn, WalkState, begin_walk, walk_view}
+use Rattle.ferry_repo.specs.Archives.{HoldsContent, HoldsRecord}
 use Rattle.ferry_repo.specs.Whole.{ContentsCome, HoldsJoined}
 use Rattle.std.specs.List.{concat}
 use Rattle.ferry_carry.specs.Copied.{stream_block}
@@ -20,6 +20,7 @@ use Rattle.ferry_piece.specs.Gather.{chunks_of}
 use Rattle.ferry_piece.specs.Piece.{BeginsOn, WritesOn}
 use Rattle.ferry_piece.specs.Puts.{IsCheckpoint}
 use Rattle.ferry_carry.specs.declared.copy.Copy.{Copy}
+use Rattle.ferry_carry.specs.declared.options.Options.{Options}
 use Rattle.ferry_piece.specs.declared.piece.PieceWriter.{PieceWriter}
 
 -- A writer with this block size and checkpoint has written nothing.
@@ -44,6 +45,35 @@ pub record IsReady (copy : Copy) : Type 0 where
   pub same : copy.stream.checkpoint ≡ copy.contents.checkpoint
   pub packable : IsPackableArchive (archive_view copy.archive)
 
+-- An archive that is copied can be gone on with: it is ready, and its walk fits the source.
+pub record FitsCopy (told : Option Told) (source : RepoState) (copy : Copy) : Type 0 where
+  pub ready : IsReady copy
+  pub walk_fits : IfSome told (λ t. FitsWalk (told_files t) source.log source.keys (walk_view copy.walk))
+
+-- The archive whose record has an id is begun to be copied, so: its walk is in front of the items, and nothing is written.
+pub record BeginsCopy (told : Option Told) (source : RepoState) (id : List ℕ) (options : Options) (copy : Copy) : Type 0 where
+  pub ready : IsReady copy
+  pub archive : IfSome told (λ t. HoldsRecord (told_files t) source.log source.keys id (archive_view copy.archive))
+  pub walk : walk_view copy.walk ≡ begin_walk id (archive_view copy.archive).items
+  pub block : copy.block ≡ options.block
+  pub checkpoint : copy.contents.checkpoint ≡ options.checkpoint
+  pub stream : (copy.stream.cutter.piece ≡ []) × (copy.stream.chunks.items ≡ [])
+  pub counted : (copy.contents.put ≡ 0) × ((copy.contents.bytes ≡ 0) × (copy.stream.put ≡ 0))
+
+-- An archive that is copied goes on, with the record, the block size and the checkpoint that it had.
+pub record KeepsCopy (told : Option Told) (source : RepoState) (copy copy_now : Copy) : Type 0 where
+  pub archive : copy_now.archive ≡ copy.archive
+  pub checkpoint : copy_now.contents.checkpoint ≡ copy.contents.checkpoint
+  pub block : copy_now.block ≡ copy.block
+  pub ready : IsReady copy_now
+  pub walk_fits : IfSome told (λ t. FitsWalk (told_files t) source.log source.keys (walk_view copy_now.walk))
+
+-- Of an archive that is copied the writer of contents alone is another, with the same checkpoint.
+pub record KeepsContents (copy copy_now : Copy) : Type 0 where
+  pub ready : IsReady copy_now
+  pub others : copy_now ≡ record copy { contents = copy_now.contents }
+  pub checkpoint : copy_now.contents.checkpoint ≡ copy.contents.checkpoint
+
 -- An item of the source's stream was taken.
 abbrev pub TakesItem : Files → RepoState → WalkState → ItemText → WalkState → Type 0
 TakesItem files source before item after = LeadsOn files source.log source.keys before (item ∷ []) after
@@ -62,19 +92,27 @@ pub record WritesItem (keys : Keys) (cutter : Cutting) (chunks : List ChunkRef) 
     (chunks_now : List ChunkRef) : Type 0 where
   pub writes : WritesOn keys cutter chunks (item_text item) more cutter_now chunks_now
 
+-- how far a writer of pieces is: what it has in hand, and the chunks of the pieces that became whole
+pub record WriterState : Type 0 where
+  pub cutter : Cutting
+  pub chunks : List ChunkRef
+
+abbrev pub writer_state : Cutting → List ChunkRef → WriterState
+writer_state cutter chunks = record { cutter = cutter; chunks = chunks }
+
 -- Of these chunks of the source these are the contents, which were written one behind another: these pieces became whole.
-pub record WritesContents (told : Option Told) (source : RepoState) (keys : Keys) (refs : List ChunkRef) (cutter : Cutting) (chunks : List ChunkRef)
-    (more : List (List ℕ)) (cutter_now : Cutting) (chunks_now : List ChunkRef) : Type 0 where
+pub record WritesContents (told : Option Told) (source : RepoState) (keys : Keys) (refs : List ChunkRef) (writer : WriterState) (more : List (List ℕ))
+    (writer_now : WriterState) : Type 0 where
   pub contents : List (List ℕ)
   pub come : IfSome told (λ t. ContentsCome (told_files t) source.log source.keys refs contents None)
-  pub writes : WritesOn keys cutter chunks (concat contents) more cutter_now chunks_now
+  pub writes : WritesOn keys writer.cutter writer.chunks (concat contents) more writer_now.cutter writer_now.chunks
 
 -- The content of one chunk of the source was written.
-pub record WritesContent (told : Option Told) (source : RepoState) (keys : Keys) (ref : ChunkRef) (cutter : Cutting) (chunks : List ChunkRef)
-    (more : List (List ℕ)) (cutter_now : Cutting) (chunks_now : List ChunkRef) : Type 0 where
+pub record WritesContent (told : Option Told) (source : RepoState) (keys : Keys) (ref : ChunkRef) (writer : WriterState) (more : List (List ℕ))
+    (writer_now : WriterState) : Type 0 where
   pub content : List ℕ
   pub comes : IfSome told (λ t. HoldsContent (told_files t) source.log source.keys ref content)
-  pub writes : WritesOn keys cutter chunks content more cutter_now chunks_now
+  pub writes : WritesOn keys writer.cutter writer.chunks content more writer_now.cutter writer_now.chunks
 
 -- ---- as far as it came
 

@@ -2,6 +2,7 @@
 use Rattle.std.specs.Prelude.{◌≡◌, ◌≤◌, ◌+◌, ◌*◌, ℕ, Bool, true, false, List, [], ◌∷◌, ◌++◌, length, Option, Some, None, Result, Ok, Err, IfErr, IfOk, IfSome}
 use Rattle.std.specs.Prelude.{IsSome}
 use Rattle.ferry_compare.specs.Compare.{FitsTold, comparison_view}
+use Rattle.ferry_compare.specs.declared.comparison.Comparison.{Comparison}
 use Rattle.ferry_disk.specs.Device.{Told, told_files}
 use Rattle.ferry_disk.specs.Moments.{Between}
 use Rattle.ferry_mac.specs.declared.keys.Keys.{Keys}
@@ -9,24 +10,25 @@ use Rattle.ferry_manifest.specs.Manifest.Text.{ManifestText}
 use Rattle.ferry_manifest.specs.declared.manifest.ArchiveRef.{ArchiveRef}
 use Rattle.ferry_repo.specs.Archives.{archive_named}
 use Rattle.ferry_repo.specs.Opening.{RepoState, repo_view}
-use Rattle.ferry_repo.specs.Walk.{FitsWalk, walk_view}
 use Rattle.ferry_repo.specs.Whole.{WholeArchive}
 use Rattle.ferry_store.specs.Commit.{accepted_in}
 use Rattle.ferry_store.specs.declared.store.Store.{Store}
 use Rattle.ferry_piece.specs.Adding.{BeginsSegments, HoldsRefused, StopsLast}
 use Rattle.ferry_carry.specs.Carrying.{IsReadyToName, Origin, SaysIn, origin}
-use Rattle.ferry_carry.specs.Copying.{IsReady}
+use Rattle.ferry_carry.specs.Copying.{FitsCopy}
 use Rattle.ferry_carry.specs.Counting.{CountsOf, nothing_carried}
 use Rattle.ferry_piece.specs.Fault.{IsOfWork}
 use Rattle.ferry_carry.specs.Filling.{FillsFlight}
 use Rattle.ferry_piece.specs.Gather.{KeepsStanding, KeepsStandingAt}
-use Rattle.ferry_carry.specs.Grow.{Grows, GrowsBy, IsBehind, IsNamedBy, KeepsGrowing, KeepsGrowingBy, KeepsNames}
+use Rattle.ferry_carry.specs.Grow.{Grows, GrowsBy, IsBehind, IsNamedBy, KeepsGrowing, KeepsGrowingBy, KeepsNames, job}
+use Rattle.ferry_carry.specs.States.{TargetState}
 use Rattle.ferry_carry.specs.Listing.{BeginsName, BeginsOne, ListsOne}
 use Rattle.ferry_carry.specs.Naming.{TaggedRecord}
 use Rattle.ferry_carry.specs.Progress.{IsCopiedSoFar}
 use Rattle.ferry_piece.specs.Puts.{Addition, AtBegin, AtEnd, Border, IsCheckpoint, border_behind}
 use Rattle.ferry_piece.specs.Work.{Works}
 use Rattle.ferry_piece.specs.declared.fault.CarryFault.{CarryFault}
+use Rattle.ferry_carry.specs.declared.copy.Copy.{Copy}
 use Rattle.ferry_carry.specs.declared.flight.Flight.{Flight}
 use Rattle.ferry_carry.specs.declared.flight.Turn.{Turn}
 use Rattle.ferry_carry.specs.declared.flight.Turn.TheVariants.{More, Named, Present}
@@ -45,26 +47,44 @@ pub record AreRight (options : Options) : Type 0 where
 abbrev pub origin_of : Option Told → RepoState → Options → Origin
 origin_of told source options = origin told source options.block options.checkpoint options.timestamp
 
--- A flight is that of an archive of the source, and its options are right.
+-- A flight is that of an archive of the source, its options are right, and nothing is counted of it yet.
 pub record FlightStands (source : RepoState) (flight : Flight) : Type 0 where
   pub options : AreRight flight.options
   pub named : archive_named flight.named.name source.manifest.archives ≡ Some flight.named
+  pub uncounted : flight.put ≡ nothing_carried
+
+-- An archive that the target lacks is copied so far, with these added of it.
+pub record FitsCopying (told : Option Told) (source : RepoState) (heard : Option Told) (store : Store) (named : ArchiveRef) (options : Options)
+    (added : List Addition) (copy : Copy) : Type 0 where
+  pub fits : FitsCopy told source copy
+  pub open fits use *
+  pub unnamed : archive_named named.name (accepted_in store).archives ≡ None
+  pub copied : IsCopiedSoFar (origin_of told source options) named heard store copy added
+
+-- The archives of a name are compared so far.
+pub record FitsNamed (told : Option Told) (source : RepoState) (heard : Option Told) (target : RepoState) (name : List ℕ) (compared : Comparison)
+    : Type 0 where
+  pub comparison : FitsTold told source heard target (comparison_view compared)
+  pub same_name : (comparison_view compared).name ≡ name
+
+-- The same of a name that is there.
+pub record FitsComparing (told : Option Told) (source : RepoState) (heard : Option Told) (target : RepoState) (name : List ℕ) (compared : Comparison)
+    : Type 0 where
+  pub fits : FitsNamed told source heard target name compared
+  pub open fits use *
+  pub there : IsSome (archive_named name target.manifest.archives)
 
 -- What is under way fits the source and the store, with these added of it.
 abbrev pub WorkFits : Option Told → RepoState → Option Told → Store → ArchiveRef → Options → List Addition → Work → Type 0
 WorkFits told source heard store named options added Waiting = added ≡ []
-WorkFits told source heard store named options added (Copying copy) = IsReady copy × (archive_named named.name (accepted_in store).archives ≡ None)
-    × IfSome told (λ t. FitsWalk (told_files t) source.log source.keys (walk_view copy.walk))
-    × IsCopiedSoFar (origin_of told source options) named heard store copy added
+WorkFits told source heard store named options added (Copying copy) = FitsCopying told source heard store named options added copy
 WorkFits told source heard store named options added (Comparing comparison) =
-    FitsTold told source heard (repo_view store.repo) (comparison_view comparison) × ((comparison_view comparison).name ≡ named.name)
-    × IsSome (archive_named named.name (repo_view store.repo).manifest.archives) × (added ≡ [])
+    FitsComparing told source heard (repo_view store.repo) named.name comparison × (added ≡ [])
 
 pub record FlightFits (told : Option Told) (source : RepoState) (heard : Option Told) (store : Store) (flight : Flight) : Type 0 where
   pub stands : FlightStands source flight
   pub added : List Addition
   pub work : WorkFits told source heard store flight.named flight.options added flight.work
-  pub uncounted : flight.put ≡ nothing_carried
 
 -- the source of a flight
 abbrev pub flown_from : Option Told → RepoState → Flight → Origin
@@ -77,16 +97,30 @@ carried_by Named name = name ∷ []
 carried_by Present name = name ∷ []
 
 -- What a turn of a flight did of the archive of a name, and what it added.
-abbrev pub Flies : List Addition → Origin → List ℕ → List Addition → Store → Store → Option Told → Option Told → ℕ → ℕ → Result Turn CarryFault → Type 0
-Flies earlier from name more store store_now before now count after result =
-    Works (KeepsGrowing earlier from (name ∷ []) store more) (λ turn. Grows earlier from (carried_by turn name) more store store_now) before now count
-    after result
+abbrev pub Flies : List Addition → Origin → List ℕ → List Addition → TargetState → TargetState → Result Turn CarryFault → Type 0
+Flies earlier from name more to to_now result =
+    Works (KeepsGrowing earlier from (name ∷ []) to.store more) (λ turn. Grows earlier from (carried_by turn name) more to.store to_now.store) to.told
+    to_now.told to.faults to_now.faults result
 
 -- What was done of the archives of names, one after another, and what was added for them.
-abbrev pub Carries : {T : Type 0} → List Addition → Origin → List (List ℕ) → List Addition → Store → Store → Option Told → Option Told → ℕ → ℕ
-    → Result T CarryFault → Type 0
-Carries earlier from chosen added store store_now before now count after result =
-    Works (KeepsGrowing earlier from chosen store added) (λ _. Grows earlier from chosen added store store_now) before now count after result
+abbrev pub Carries : {T : Type 0} → List Addition → Origin → List (List ℕ) → List Addition → TargetState → TargetState → Result T CarryFault → Type 0
+Carries earlier from chosen added to to_now result =
+    Works (KeepsGrowing earlier from chosen to.store added) (λ _. Grows earlier from chosen added to.store to_now.store) to.told to_now.told to.faults
+    to_now.faults result
+
+-- what was added for the archive of a name before, what is added now, and the records of that
+pub record ArchiveAdds : Type 0 where
+  pub name : List ℕ
+  pub before : List Addition
+  pub more : List Addition
+  pub records : List TaggedRecord
+
+abbrev pub archive_adds : List ℕ → List Addition → List Addition → List TaggedRecord → ArchiveAdds
+archive_adds name before more records = record { name = name; before = before; more = more; records = records }
+
+-- all that was added for it
+abbrev pub all_added : ArchiveAdds → List Addition
+all_added adds = adds.before ++ adds.more
 
 -- What was added for an archive once it is done, and its record: all of it where it was copied and the target told its files, and nothing where it was there.
 abbrev pub ListsDone : Option Told → Origin → Keys → List ℕ → List TaggedRecord → List Addition → Bool → Type 0
@@ -100,14 +134,11 @@ BeginsDone before from keys accepted name begun = IfSome before (λ _. BeginsNam
 
 -- What a turn added behind what was added before: pieces of the archive under way, the last of them and its record, or nothing. At the end the flight has
 -- counted them.
-abbrev pub TurnLists : Option Told → RepoState → Option Told → Store → Flight → Option Told → Origin → Keys → List Addition → List Addition
-    → List TaggedRecord → Turn → Type 0
-TurnLists told source heard store flight before from keys added more records More =
-    (fits : FlightFits told source heard store flight) × (fits.added ≡ added ++ more)
-TurnLists told source heard store flight before from keys added more records Named =
-    ListsDone before from keys flight.named.name records (added ++ more) true × CountsOf (added ++ more) flight.put
-TurnLists told source heard store flight before from keys added more records Present =
-    ListsDone before from keys flight.named.name records (added ++ more) false × CountsOf (added ++ more) flight.put
+abbrev pub TurnLists : Option Told → RepoState → Option Told → Store → Flight → (List TaggedRecord → List Addition → Bool → Type 0) → ArchiveAdds → Turn
+    → Type 0
+TurnLists told source heard store flight Lists adds More = (fits : FlightFits told source heard store flight) × (fits.added ≡ all_added adds)
+TurnLists told source heard store flight Lists adds Named = Lists adds.records (all_added adds) true × CountsOf (all_added adds) flight.put
+TurnLists told source heard store flight Lists adds Present = Lists adds.records (all_added adds) false × CountsOf (all_added adds) flight.put
 
 -- Where a turn takes a further item, or is refused but for a device that failed and want of memory, nothing is named.
 abbrev pub TurnStands : Border → ℕ → Store → List Addition → Option Told → Option Told → Result Turn CarryFault → Type 0
@@ -121,40 +152,41 @@ end_segments (Ok More) = 0
 end_segments result = 2
 
 -- What a turn did of the archive of a name and added behind what was added before; the source and the flight are those behind it.
-pub record TakesTurn (told : Option Told) (source : RepoState) (from : Origin) (name : List ℕ) (added more : List Addition) (records : List TaggedRecord)
-    (store store_now : Store) (flight : Flight) (before now : Option Told) (count after : ℕ) (result : Result Turn CarryFault) : Type 0 where
-  pub flies : Flies added from name more store store_now before now count after result
-  pub begins : BeginsDone before from (repo_view store.repo).keys (accepted_in store) name (added ++ more)
-  pub stands : TurnStands (border_behind AtBegin added) from.most store more before now result
-  pub last : StopsLast before (repo_view store.repo).keys more result
-  pub held : HoldsRefused (border_behind AtBegin added) from.most store more store_now before now result
-  pub fills : IfErr result (λ fault. FillsFlight before from (repo_view store.repo).keys (accepted_in store) name fault (added ++ more))
-  pub lists : IfOk result (TurnLists told source now store_now flight before from (repo_view store.repo).keys added more records)
-  pub few : BeginsSegments (2 * length more + end_segments result) store store_now result
+pub record TakesTurn (told : Option Told) (source : RepoState) (from : Origin) (adds : ArchiveAdds) (to to_now : TargetState) (flight : Flight)
+    (result : Result Turn CarryFault) : Type 0 where
+  pub flies : Flies adds.before from adds.name adds.more to to_now result
+  pub begins : BeginsDone to.told from (repo_view to.store.repo).keys (accepted_in to.store) adds.name (all_added adds)
+  pub stands : TurnStands (border_behind AtBegin adds.before) from.most to.store adds.more to.told to_now.told result
+  pub last : StopsLast to.told (repo_view to.store.repo).keys adds.more result
+  pub held : HoldsRefused (border_behind AtBegin adds.before) from.most to.store adds.more to_now.store to.told to_now.told result
+  pub fills : IfErr result (λ fault. FillsFlight to.told from (repo_view to.store.repo).keys (accepted_in to.store) adds.name fault (all_added adds))
+  pub lists : IfOk result (TurnLists told source to_now.told to_now.store flight
+      (ListsDone to.told from (repo_view to.store.repo).keys flight.named.name)
+      (archive_adds flight.named.name adds.before adds.more adds.records))
+  pub few : BeginsSegments (2 * length adds.more + end_segments result) to.store to_now.store result
 
 -- What a flight did up to its end: it answers whether the archive was copied.
-pub record TakesAll (from : Origin) (name : List ℕ) (added more : List Addition) (records : List TaggedRecord) (store store_now : Store) (flight : Flight)
-    (before now : Option Told) (count after : ℕ) (result : Result Bool CarryFault) : Type 0 where
-  pub carries : Carries added from (name ∷ []) more store store_now before now count after result
-  pub begins : BeginsDone before from (repo_view store.repo).keys (accepted_in store) name (added ++ more)
-  pub stands : IfErr result (λ fault. IsOfWork fault → Between before now (KeepsGrowing added from [] store more))
-  pub last : StopsLast before (repo_view store.repo).keys more result
-  pub held : HoldsRefused (border_behind AtBegin added) from.most store more store_now before now result
-  pub fills : IfErr result (λ fault. FillsFlight before from (repo_view store.repo).keys (accepted_in store) name fault (added ++ more))
-  pub lists : IfOk result (λ copied. ListsDone before from (repo_view store.repo).keys name records (added ++ more) copied
-      × CountsOf (added ++ more) flight.put)
-  pub few : BeginsSegments (2 * length more + 2) store store_now result
+pub record TakesAll (from : Origin) (adds : ArchiveAdds) (to to_now : TargetState) (flight : Flight) (result : Result Bool CarryFault) : Type 0 where
+  pub carries : Carries adds.before from (adds.name ∷ []) adds.more to to_now result
+  pub begins : BeginsDone to.told from (repo_view to.store.repo).keys (accepted_in to.store) adds.name (all_added adds)
+  pub stands : IfErr result (λ fault. IsOfWork fault → Between to.told to_now.told (KeepsGrowing adds.before from [] to.store adds.more))
+  pub last : StopsLast to.told (repo_view to.store.repo).keys adds.more result
+  pub held : HoldsRefused (border_behind AtBegin adds.before) from.most to.store adds.more to_now.store to.told to_now.told result
+  pub fills : IfErr result (λ fault. FillsFlight to.told from (repo_view to.store.repo).keys (accepted_in to.store) adds.name fault (all_added adds))
+  pub lists : IfOk result (λ copied. ListsDone to.told from (repo_view to.store.repo).keys adds.name adds.records (all_added adds) copied
+      × CountsOf (all_added adds) flight.put)
+  pub few : BeginsSegments (2 * length adds.more + 2) to.store to_now.store result
 
 -- What the end of an archive did, all of whose items were copied, and what it added behind what was added before.
-pub record EndsCopy (from : Origin) (name : List ℕ) (added more : List Addition) (records : List TaggedRecord) (store store_now : Store)
-    (before now : Option Told) (count after : ℕ) (result : Result Carried CarryFault) : Type 0 where
-  pub carries : Carries added from (name ∷ []) more store store_now before now count after result
-  pub begins : IfSome before (λ _. BeginsOne from (repo_view store.repo).keys name (added ++ more))
-  pub stands : IfErr result (λ fault. IsOfWork fault → Between before now (KeepsStanding from.most store more))
-  pub last : StopsLast before (repo_view store.repo).keys more result
-  pub held : HoldsRefused (border_behind AtBegin added) from.most store more store_now before now result
-  pub lists : IfOk result (λ put. ListsDone before from (repo_view store.repo).keys name records (added ++ more) true × CountsOf (added ++ more) put)
-  pub few : BeginsSegments (2 * length more + 2) store store_now result
+pub record EndsCopy (from : Origin) (adds : ArchiveAdds) (to to_now : TargetState) (result : Result Carried CarryFault) : Type 0 where
+  pub carries : Carries adds.before from (adds.name ∷ []) adds.more to to_now result
+  pub begins : IfSome to.told (λ _. BeginsOne from (repo_view to.store.repo).keys adds.name (all_added adds))
+  pub stands : IfErr result (λ fault. IsOfWork fault → Between to.told to_now.told (KeepsStanding from.most to.store adds.more))
+  pub last : StopsLast to.told (repo_view to.store.repo).keys adds.more result
+  pub held : HoldsRefused (border_behind AtBegin adds.before) from.most to.store adds.more to_now.store to.told to_now.told result
+  pub lists : IfOk result (λ put. ListsDone to.told from (repo_view to.store.repo).keys adds.name adds.records (all_added adds) true
+      × CountsOf (all_added adds) put)
+  pub few : BeginsSegments (2 * length adds.more + 2) to.store to_now.store result
 
 -- The archive of a name is whole in the source and in the target, and says the same in both, where they tell their files.
 abbrev pub IsSame : Origin → Option Told → RepoState → List ℕ → Type 0
@@ -174,12 +206,12 @@ pub record IsFlown (from : Origin) (source : RepoState) (given : Option (List �
   pub named_is : archive_named named.name source.manifest.archives ≡ Some named
 
 -- What a body did that commits the archive of this entry with this manifest, all of which is there in the target, behind its record.
-abbrev pub NamesArchive : ManifestText → ArchiveRef → ManifestText → Store → Store → Option Told → Option Told → ℕ → ℕ → Result (Unit {0}) CarryFault → Type 0
-NamesArchive accepted entry manifest store store_now before now count after result = (from : Origin) (earlier : List Addition)
-    → border_behind AtBegin earlier ≡ AtEnd → IfSome before (λ t. IsReadyToName from earlier (told_files t) (repo_view store.repo) entry)
-    → IsBehind from accepted (repo_view store.repo).manifest (entry.name ∷ []) manifest
-    → Works (KeepsGrowingBy earlier accepted from (entry.name ∷ []) store []) (λ _. GrowsBy earlier accepted from (entry.name ∷ []) [] store store_now)
-    before now count after result
+abbrev pub NamesArchive : ManifestText → ArchiveRef → ManifestText → TargetState → TargetState → Result (Unit {0}) CarryFault → Type 0
+NamesArchive accepted entry manifest to to_now result = (from : Origin) (earlier : List Addition)
+    → border_behind AtBegin earlier ≡ AtEnd → IfSome to.told (λ t. IsReadyToName from earlier (told_files t) (repo_view to.store.repo) entry)
+    → IsBehind from accepted (repo_view to.store.repo).manifest (entry.name ∷ []) manifest
+    → Works (KeepsGrowingBy earlier accepted from (entry.name ∷ []) to.store [])
+    (λ _. GrowsBy (job earlier accepted from (entry.name ∷ [])) [] to.store to_now.store) to.told to_now.told to.faults to_now.faults result
 
 -- Where a store accepted an archive of this name, it has committed it.
 abbrev pub IsCommitted : Store → List ℕ → Type 0

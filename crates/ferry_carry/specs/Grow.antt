@@ -81,31 +81,41 @@ KeepsGrowingBy earlier accepted from chosen store within before now = TellsNothi
 abbrev pub KeepsGrowing : List Addition → Origin → List (List ℕ) → Store → List Addition → History → History → Type 0
 KeepsGrowing earlier from chosen store = KeepsGrowingBy earlier (accepted_in store) from chosen store
 
+-- what is carried: behind what was added earlier, into what a manifest accepted, from a source, the archives of these names
+pub record Job : Type 0 where
+  pub earlier : List Addition
+  pub accepted : ManifestText
+  pub from : Origin
+  pub chosen : List (List ℕ)
+
+abbrev pub job : List Addition → ManifestText → Origin → List (List ℕ) → Job
+job earlier accepted from chosen = record { earlier = earlier; accepted = accepted; from = from; chosen = chosen }
+
 -- A store fits in which each chunk and each archive is kept, with these added behind others. All chosen names were carried, and beside what was accepted no
 -- other is.
-pub record Grown (earlier : List Addition) (accepted : ManifestText) (from : Origin) (chosen : List (List ℕ)) (added : List Addition) (counts : Bool)
-    (store store_now : Store) (before now : History) (fits : StoreFits counts store before) : Type 0 where
+pub record Grown (of : Job) (added : List Addition) (counts : Bool) (store store_now : Store) (before now : History) (fits : StoreFits counts store before)
+    : Type 0 where
   pub fits_now : StoreFits counts store_now now
   pub chunks : KeepsChunks (committed_of fits.written) (committed_of fits_now.written)
   pub opening : BringsOpening (repo_view store.repo).keys (entries_of fits.written) (entries_of fits_now.written)
-  pub puts : AddsAll (border_behind AtBegin earlier) (repo_view store.repo).keys from.most (entries_of fits.written) added (entries_of fits_now.written)
-  pub committed : GoesOn (border_behind AtBegin earlier) (repo_view store.repo).keys from.most added fits.written (committed_of fits_now.written)
+  pub puts : AddsAll (border_behind AtBegin of.earlier) (repo_view store.repo).keys of.from.most (entries_of fits.written) added (entries_of fits_now.written)
+  pub committed : GoesOn (border_behind AtBegin of.earlier) (repo_view store.repo).keys of.from.most added fits.written (committed_of fits_now.written)
   pub config : fits_now.written.config ≡ fits.written.config
   pub most : KeepsMost store store_now
-  pub next : IsBehind from accepted (repo_view store.repo).manifest chosen (repo_view store_now.repo).manifest
-  pub settled : accepted ≡ (repo_view store.repo).manifest → accepted_in store_now ≡ (repo_view store_now.repo).manifest
-  pub carried : AllByRecursion (IsCarried from (earlier ++ added) (entries_of fits.written) (repo_view store_now.repo).keys
-      (committed_of fits_now.written) (repo_view store_now.repo).manifest.archives) chosen
-  pub cut : AreCut accepted from (repo_view store_now.repo).keys (repo_view store_now.repo).manifest.archives chosen
-  pub named : AllByRecursion (λ (name : List ℕ). IsSome (archive_named name (repo_view store_now.repo).manifest.archives)) chosen
-  pub only : IsNamedBy accepted chosen (accepted_in store_now)
+  pub next : IsBehind of.from of.accepted (repo_view store.repo).manifest of.chosen (repo_view store_now.repo).manifest
+  pub settled : of.accepted ≡ (repo_view store.repo).manifest → accepted_in store_now ≡ (repo_view store_now.repo).manifest
+  pub carried : AllByRecursion (IsCarried of.from (of.earlier ++ added) (entries_of fits.written) (repo_view store_now.repo).keys
+      (committed_of fits_now.written) (repo_view store_now.repo).manifest.archives) of.chosen
+  pub cut : AreCut of.accepted of.from (repo_view store_now.repo).keys (repo_view store_now.repo).manifest.archives of.chosen
+  pub named : AllByRecursion (λ (name : List ℕ). IsSome (archive_named name (repo_view store_now.repo).manifest.archives)) of.chosen
+  pub only : IsNamedBy of.accepted of.chosen (accepted_in store_now)
 
-abbrev pub GrowsBy : List Addition → ManifestText → Origin → List (List ℕ) → List Addition → Store → Store → History → History → Type 0
-GrowsBy earlier accepted from chosen added store store_now before now = (counts : Bool) (fits : StoreFits counts store before)
-    → Grown earlier accepted from chosen added counts store store_now before now fits
+abbrev pub GrowsBy : Job → List Addition → Store → Store → History → History → Type 0
+GrowsBy of added store store_now before now = (counts : Bool) (fits : StoreFits counts store before)
+    → Grown of added counts store store_now before now fits
 
 abbrev pub Grows : List Addition → Origin → List (List ℕ) → List Addition → Store → Store → History → History → Type 0
-Grows earlier from chosen added store = GrowsBy earlier (accepted_in store) from chosen added store
+Grows earlier from chosen added store = GrowsBy (job earlier (accepted_in store) from chosen) added store
 
 -- What a store accepted has each archive of its manifest.
 abbrev pub AcceptsMore : Store → Type 0

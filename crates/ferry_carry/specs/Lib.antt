@@ -16,3 +16,6 @@ pub mod Counting
 pub mod Accepting
 pub mod Refusals
 pub mod Over
+pub mod Calls
+pub mod Turns
+pub mod States

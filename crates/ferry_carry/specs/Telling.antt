@@ -19,6 +19,7 @@ use Rattle.ferry_carry.specs.Filling.{FillsAll}
 use Rattle.ferry_carry.specs.Grow.{Grows, KeepsGrowing, StandsOn}
 use Rattle.ferry_carry.specs.Listing.{BeginsNames, ListsNames}
 use Rattle.ferry_carry.specs.Naming.{DrawsSalts, TaggedRecord}
+use Rattle.ferry_carry.specs.States.{Drawn, TargetState}
 use Rattle.ferry_piece.specs.Puts.{Addition, AtBegin}
 use Rattle.ferry_carry.specs.Lines.{name_line, told_of, total_line}
 use Rattle.ferry_piece.specs.Work.{Works}
@@ -103,34 +104,34 @@ BeginsAll before from store chosen begun = IfSome before (λ _. BeginsNames from
 
 -- What was done of the archives of names, one after another, each of which was told behind it, and counted. For each content that was added, and for each
 -- name, two segments were begun at most.
-pub record Reports (from : Origin) (chosen : List (List ℕ)) (store store_now : Store) (carried carried_now : Carried) (before now : Option Told)
-    (count after : ℕ) (drawn drawn_now : Option (List ℕ)) (result : Result (Unit {0}) CarryFault) : Type 0 where
+pub record Reports (from : Origin) (chosen : List (List ℕ)) (to to_now : TargetState) (carried carried_now : Carried) (drawn : Drawn)
+    (result : Result (Unit {0}) CarryFault) : Type 0 where
   pub added : List Addition
   pub records : List TaggedRecord
-  pub begins : BeginsAll before from store chosen added
-  pub works : Works (KeepsReported from chosen store added)
-      (λ _ h g. CarriesNames from chosen records added store store_now h g × TellsNames (accepted_in store) chosen h g) before now count after result
-  pub accepts : OnOk result (AcceptsNames from chosen records store store_now drawn drawn_now)
-  pub counted : OnOk result (CountsMore (accepted_in store) chosen added carried carried_now)
-  pub last : StopsLast before (repo_view store.repo).keys added result
-  pub held : HoldsRefused AtBegin from.most store added store_now before now result
-  pub fills : IfErr result (λ fault. FillsAll before from store chosen fault added)
-  pub few : BeginsSegments (2 * length added + 2 * length chosen) store store_now result
+  pub begins : BeginsAll to.told from to.store chosen added
+  pub works : Works (KeepsReported from chosen to.store added)
+      (λ _ h g. CarriesNames from chosen records added to.store to_now.store h g × TellsNames (accepted_in to.store) chosen h g) to.told to_now.told
+      to.faults to_now.faults result
+  pub accepts : OnOk result (AcceptsNames from chosen records to.store to_now.store drawn.before drawn.now)
+  pub counted : OnOk result (CountsMore (accepted_in to.store) chosen added carried carried_now)
+  pub last : StopsLast to.told (repo_view to.store.repo).keys added result
+  pub held : HoldsRefused AtBegin from.most to.store added to_now.store to.told to_now.told result
+  pub fills : IfErr result (λ fault. FillsAll to.told from to.store chosen fault added)
+  pub few : BeginsSegments (2 * length added + 2 * length chosen) to.store to_now.store result
 
 -- The same from the begin on, and behind them the whole was told.
-pub record ReportsWhole (from : Origin) (chosen : List (List ℕ)) (store store_now : Store) (before now : Option Told) (count after : ℕ)
-    (drawn drawn_now : Option (List ℕ)) (result : Result Carried CarryFault) : Type 0 where
+pub record ReportsWhole (from : Origin) (chosen : List (List ℕ)) (to to_now : TargetState) (drawn : Drawn) (result : Result Carried CarryFault) : Type 0 where
   pub added : List Addition
   pub records : List TaggedRecord
-  pub begins : BeginsAll before from store chosen added
-  pub works : Works (KeepsReported from chosen store added)
-      (λ carried h g. CarriesNames from chosen records added store store_now h g × TellsWhole (accepted_in store) chosen added carried h g)
-      before now count after result
-  pub accepts : OnOk result (AcceptsNames from chosen records store store_now drawn drawn_now)
-  pub last : StopsLast before (repo_view store.repo).keys added result
-  pub held : HoldsRefused AtBegin from.most store added store_now before now result
-  pub fills : IfErr result (λ fault. FillsAll before from store chosen fault added)
-  pub few : BeginsSegments (2 * length added + 2 * length chosen) store store_now result
+  pub begins : BeginsAll to.told from to.store chosen added
+  pub works : Works (KeepsReported from chosen to.store added)
+      (λ carried h g. CarriesNames from chosen records added to.store to_now.store h g
+      × TellsWhole (accepted_in to.store) chosen added carried h g) to.told to_now.told to.faults to_now.faults result
+  pub accepts : OnOk result (AcceptsNames from chosen records to.store to_now.store drawn.before drawn.now)
+  pub last : StopsLast to.told (repo_view to.store.repo).keys added result
+  pub held : HoldsRefused AtBegin from.most to.store added to_now.store to.told to_now.told result
+  pub fills : IfErr result (λ fault. FillsAll to.told from to.store chosen fault added)
+  pub few : BeginsSegments (2 * length added + 2 * length chosen) to.store to_now.store result
 
 -- ---- where it is refused
 

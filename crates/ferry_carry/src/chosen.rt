@@ -1,31 +1,25 @@
 //! The chosen archives, one after another.
-ghost use Rattle.std.specs.Prelude.{◌≡◌, ◌≤◌, ◌⊎◌, ◌++◌, ℕ, List, [], ◌∷◌, None, Some};
+ghost use Rattle.std.specs.Prelude.{◌≡◌, ◌⊎◌, ◌++◌, ℕ, List, [], ◌∷◌, None, Some};
 ghost use Rattle.std.specs.Prelude.{Err, true, false, slice_get, IfErr, IfOk, IfSome, IsSome, MatchResult, OnOk};
-ghost use Rattle.ferry_carry.specs.Accepting.{HasLargeNext, LimitsNames};
 ghost use Rattle.ferry_carry.specs.Chosen.{IsMissingName, TellsLine};
-ghost use Rattle.ferry_piece.specs.Fault.{IsOfWork, random_failed, shelf_failed};
 ghost use Rattle.ferry_carry.specs.Counting.{TellsNew};
-ghost use Rattle.ferry_carry.specs.Flight.{AreRight, FlightFits, TakesAll, flown_from, origin_of};
-ghost use Rattle.ferry_carry.specs.Grow.{KeepsMost};
+ghost use Rattle.ferry_carry.specs.Flight.{AreRight, FlightFits, TakesAll, flown_from, origin_of, archive_adds};
 ghost use Rattle.ferry_carry.specs.Lines.{name_line, told_of};
 ghost use Rattle.ferry_carry.specs.Naming.{TaggedRecord, TagsDrawn};
 ghost use Rattle.ferry_piece.specs.Adding.{IsNoChunk};
 ghost use Rattle.ferry_piece.specs.Puts.{Addition};
-ghost use Rattle.ferry_carry.specs.Refusals.{EndsAt, IsChunk, RefusesName, RefusesNames, RefusesOne, StopsAtChunk, WhereTold, is_of_telling};
-ghost use Rattle.ferry_piece.specs.Stops.{StopsTarget, is_target};
-ghost use Rattle.ferry_carry.specs.Telling.{AcceptsNames, Reports, ReportsWhole, StopsBehind, StopsUnnamed, TellsNames};
+ghost use Rattle.ferry_carry.specs.Refusals.{RefusesName, RefusesNames, RefusesOne, WhereTold};
+ghost use Rattle.ferry_carry.specs.Telling.{AcceptsNames, Reports, ReportsWhole};
 ghost use Rattle.ferry_piece.specs.Work.{Works};
 ghost use Rattle.ferry_disk.specs.Act.{TellOf};
-ghost use Rattle.ferry_disk.specs.Device.{HasCause, KeepsTold, told_files};
-ghost use Rattle.ferry_disk.specs.Moments.{Between};
-ghost use Rattle.ferry_manifest.specs.Manifest.Writing.{IsPackable};
 ghost use Rattle.ferry_repo.specs.Archives.{archive_named};
-ghost use Rattle.ferry_repo.specs.Opening.{FitsRepo, cached_in, repo_view};
-ghost use Rattle.ferry_stops.specs.Tells.{TellsNothing};
-ghost use Rattle.ferry_store.specs.Commit.{accepted_in, IsSettled};
+ghost use Rattle.ferry_repo.specs.Opening.{repo_view};
+ghost use Rattle.ferry_store.specs.Commit.{accepted_in};
 ghost use Rattle.ferry_store.specs.State.{IsStep};
-ghost use Rattle.ferry_store.specs.Store.{IsUnspent, StoreFits};
-ghost use Rattle.ferry_store.specs.declared.fault.StoreRefusal.{StoreRefusal};
+ghost use Rattle.ferry_store.specs.Store.{StoreFits};
+ghost use Rattle.ferry_carry.specs.Calls.{OnlyTells, CarriesFrom, CanCarryFrom};
+ghost use Rattle.ferry_carry.specs.States.{drawn_from, source_state, target_state};
+ghost use Rattle.ferry_carry.specs.Turns.{StopsName, StopsFlight, StopsNames};
 
 use crate::flight::{Flight, Turn};
 use crate::lines::{name_line, total_line};
@@ -65,242 +59,161 @@ pub fn carry<S: Shelf, D: Depot, E: Entropy>(
     names: &[Bytes],
     options: &Options,
 ) -> Result<Carried, CarryFault>
+    requires both { CanCarryFrom options.now.checkpoint (source_state (S.told shelf.old) (S.faults shelf.old) source.old)
+        (target_state (D.told depot.old) (D.faults depot.old) store.old) }
     requires options { AreRight options.now }
-    requires source_fits { IfSome (S.told shelf.old) (λ t. FitsRepo (told_files t) (repo_view source.old) (cached_in source.old)) }
-    requires pending { store.old.pending ≤ options.now.checkpoint }
-    requires unspent { IsUnspent store.old }
-    requires fits { IfSome (D.told depot.old) (λ t. StoreFits false store.old t.history) }
-    requires packable { IsPackable (accepted_in store.old) }
-    requires settled { IsSettled store.old }
-    ensures works { ReportsWhole (origin_of (S.told shelf.old) (repo_view source.old) options.now) names.now store.old store.new
-        (D.told depot.old) (D.told depot.new) (D.faults depot.old) (D.faults depot.new) (E.drawn entropy.old) (E.drawn entropy.new) result }
-    ensures settled { OnOk result (IsSettled store.new) }
+    ensures works { ReportsWhole (origin_of (S.told shelf.old) (repo_view source.old) options.now) names.now
+        (target_state (D.told depot.old) (D.faults depot.old) store.old) (target_state (D.told depot.new) (D.faults depot.new) store.new)
+        (drawn_from (E.drawn entropy.old) (E.drawn entropy.new)) result }
     ensures refused { IfErr result (RefusesNames (origin_of (S.told shelf.old) (repo_view source.old) options.now)
         (D.told depot.old) store.old (D.told depot.new) store.new names.now) }
-    // Where a name is missing nothing is done.
-    ensures nothing { (missing : List ℕ) → result ≡ Err (CarryFault.NotFound missing) → (source.new ≡ source.old) × (shelf.new ≡ shelf.old)
-        × (store.new ≡ store.old) × (depot.new ≡ depot.old) × (entropy.new ≡ entropy.old) }
-    // And that is answered wherever one is missing, but for want of memory.
-    ensures missing { (place : ℕ) (name : List ℕ) → slice_get names.now place ≡ Some name
+    ensures stops { IfErr result (StopsNames (origin_of (S.told shelf.old) (repo_view source.old) options.now) names.now store.old (D.told
+        depot.old) (D.told depot.new) (E.drawn entropy.old) (E.drawn entropy.new)) }
+    // Where a name is missing that is answered, but for want of memory, and nothing is done.
+    ensures missing { ((place : ℕ) (name : List ℕ) → slice_get names.now place ≡ Some name
         → archive_named name (repo_view source.old).manifest.archives ≡ None
-        → (result ≡ Err CarryFault.Memory) ⊎ ((missing : List ℕ) × (result ≡ Err (CarryFault.NotFound missing))) }
-    ensures limit { IfErr result (λ fault. fault ≡ CarryFault.Target StoreRefusal.TooLarge
-        → IfSome (D.told depot.old) (λ b. IfSome (D.told depot.new) (λ t. LimitsNames options.now.timestamp (repo_view source.old).manifest
-        (repo_view store.old.repo).keys (accepted_in store.old) names.now (λ done. TellsNames (accepted_in store.old) done b.history t.history)))) }
-    // A live chunk that stops it has the id of a content that was to be added for the name behind those that were told.
-    ensures chunk { IfErr result (λ fault. (id : List ℕ) → IsChunk id fault
-        → IfSome (D.told depot.old) (λ b. IfSome (D.told depot.new) (λ t. IfSome (S.told shelf.old) (λ _.
-        StopsAtChunk (origin_of (S.told shelf.old) (repo_view source.old) options.now) (repo_view store.old.repo).keys (accepted_in store.old) names.now
-        (λ done. TellsNames (accepted_in store.old) done b.history t.history) (E.drawn entropy.old) (E.drawn entropy.new) id)))) }
-    ensures ended { OnOk result (store.old.pending ≡ 0 → store.new.pending ≡ 0) }
-    // Where it is refused, but for a device that failed and want of memory, the archives came that were told, and no other.
-    ensures stands { IfErr result (λ fault. IsOfWork fault
-        → StopsBehind (origin_of (S.told shelf.old) (repo_view source.old) options.now) names.now store.old
-        (D.told depot.old) (D.told depot.new)) }
-    ensures most { OnOk result (KeepsMost store.old store.new) }
-    ensures fits { OnOk result (IfSome (D.told depot.new) (λ t. StoreFits false store.new t.history)) }
-    ensures source_fits { IfSome (S.told shelf.new) (λ t. FitsRepo (told_files t) (repo_view source.new) (cached_in source.new)) }
-    ensures kept { repo_view source.new ≡ repo_view source.old }
-    ensures same { KeepsTold shelf_failed (S.told shelf.old) (S.told shelf.new) result }
-    ensures cause { HasCause shelf_failed (S.faults shelf.old) (S.faults shelf.new) result }
-    ensures entropy { HasCause random_failed (E.faults entropy.old) (E.faults entropy.new) result }
+        → (result ≡ Err CarryFault.Memory) ⊎ ((missing : List ℕ) × (result ≡ Err (CarryFault.NotFound missing))))
+        × ((missing : List ℕ) → result ≡ Err (CarryFault.NotFound missing) → (source.new ≡ source.old) × (shelf.new ≡ shelf.old)
+        × (store.new ≡ store.old) × (depot.new ≡ depot.old) × (entropy.new ≡ entropy.old)) }
+    ensures both { CarriesFrom options.now.checkpoint (source_state (S.told shelf.old) (S.faults shelf.old) source.old)
+        (source_state (S.told shelf.new) (S.faults shelf.new) source.new) (target_state (D.told depot.old) (D.faults depot.old) store.old)
+        (target_state (D.told depot.new) (D.faults depot.new) store.new) (E.faults entropy.old) (E.faults entropy.new) result }
 {
     if let Some(place) = missing_name(source, names) {
         let name = Vec::from_slice(alloc, names[place].as_slice())?;
         return Err(CarryFault::NotFound(Bytes::new(name)));
     }
     let mut carried = Carried::nothing();
-    carry_all(
+    let order = Order {
         alloc,
-        source,
-        shelf,
-        store,
-        depot,
-        entropy,
         names,
         options,
-        &mut carried,
-    )?;
+    };
+    order.carry_all(source, shelf, store, depot, entropy, &mut carried)?;
     let line = total_line(alloc, &carried)?;
     tell(store, depot, &line)?;
     Ok(carried)
 }
 
-/// Copies or compares the archives of these names, one after another.
-fn carry_all<S: Shelf, D: Depot, E: Entropy>(
+/// What is to be carried: the archives of these names, and how they are copied.
+#[derive(Clone, Copy)]
+struct Order<'a> {
     alloc: Global,
-    source: &mut Repo,
-    shelf: &mut S,
-    store: &mut Store,
-    depot: &mut D,
-    entropy: &mut E,
-    names: &[Bytes],
-    options: &Options,
-    carried: &mut Carried,
-) -> Result<(), CarryFault>
-    requires options { AreRight options.now }
-    requires source_fits { IfSome (S.told shelf.old) (λ t. FitsRepo (told_files t) (repo_view source.old) (cached_in source.old)) }
-    requires pending { store.old.pending ≤ options.now.checkpoint }
-    requires unspent { IsUnspent store.old }
-    requires fits { IfSome (D.told depot.old) (λ t. StoreFits false store.old t.history) }
-    requires packable { IsPackable (accepted_in store.old) }
-    requires settled { IsSettled store.old }
-    ensures settled { OnOk result (IsSettled store.new) }
-    ensures pending { OnOk result (store.new.pending ≤ options.now.checkpoint) }
-    ensures packable { OnOk result (IsPackable (accepted_in store.new)) }
-    ensures unspent { OnOk result (IsUnspent store.new) }
-    ensures works { Reports (origin_of (S.told shelf.old) (repo_view source.old) options.now) names.now store.old store.new
-        carried.old carried.new (D.told depot.old) (D.told depot.new) (D.faults depot.old) (D.faults depot.new) (E.drawn entropy.old) (E.drawn entropy.new)
-        result }
-    ensures refused { IfErr result (RefusesOne (origin_of (S.told shelf.old) (repo_view source.old) options.now)
-        (D.told depot.old) store.old (D.told depot.new) store.new names.now) }
-    ensures limit { IfErr result (λ fault. fault ≡ CarryFault.Target StoreRefusal.TooLarge
-        → IfSome (D.told depot.old) (λ b. IfSome (D.told depot.new) (λ t. LimitsNames options.now.timestamp (repo_view source.old).manifest
-        (repo_view store.old.repo).keys (accepted_in store.old) names.now (λ done. TellsNames (accepted_in store.old) done b.history t.history)))) }
-    // A live chunk that stops it has the id of a content that was to be added for the name behind those that were told.
-    ensures chunk { IfErr result (λ fault. (id : List ℕ) → IsChunk id fault
-        → IfSome (D.told depot.old) (λ b. IfSome (D.told depot.new) (λ t. IfSome (S.told shelf.old) (λ _.
-        StopsAtChunk (origin_of (S.told shelf.old) (repo_view source.old) options.now) (repo_view store.old.repo).keys (accepted_in store.old) names.now
-        (λ done. TellsNames (accepted_in store.old) done b.history t.history) (E.drawn entropy.old) (E.drawn entropy.new) id)))) }
-    ensures ended { OnOk result (store.old.pending ≡ 0 → store.new.pending ≡ 0) }
-    ensures stands { IfErr result (λ fault. IsOfWork fault
-        → StopsBehind (origin_of (S.told shelf.old) (repo_view source.old) options.now) names.now store.old
-        (D.told depot.old) (D.told depot.new)) }
-    ensures most { OnOk result (KeepsMost store.old store.new) }
-    ensures fits { OnOk result (IfSome (D.told depot.new) (λ t. StoreFits false store.new t.history)) }
-    ensures source_fits { IfSome (S.told shelf.new) (λ t. FitsRepo (told_files t) (repo_view source.new) (cached_in source.new)) }
-    ensures kept { repo_view source.new ≡ repo_view source.old }
-    ensures same { KeepsTold shelf_failed (S.told shelf.old) (S.told shelf.new) result }
-    ensures cause { HasCause shelf_failed (S.faults shelf.old) (S.faults shelf.new) result }
-    ensures entropy { HasCause random_failed (E.faults entropy.old) (E.faults entropy.new) result }
-{
-    // A number that was read is known to be in its range.
-    let _meta = carried.meta;
-    for place in 0..names.len() {
-        let name = names[place].as_slice();
-        carry_one(
-            alloc, source, shelf, store, depot, entropy, name, options, carried,
-        )?;
+    names: &'a [Bytes],
+    options: &'a Options,
+}
+
+impl Order<'_> {
+    /// Copies or compares the archives of these names, one after another.
+    fn carry_all<S: Shelf, D: Depot, E: Entropy>(
+        &self,
+        source: &mut Repo,
+        shelf: &mut S,
+        store: &mut Store,
+        depot: &mut D,
+        entropy: &mut E,
+        carried: &mut Carried,
+    ) -> Result<(), CarryFault>
+        requires both { CanCarryFrom self.now.options.now.checkpoint (source_state (S.told shelf.old) (S.faults shelf.old) source.old)
+            (target_state (D.told depot.old) (D.faults depot.old) store.old) }
+        requires options { AreRight self.now.options.now }
+        ensures works { Reports (origin_of (S.told shelf.old) (repo_view source.old) self.now.options.now) self.now.names.now
+            (target_state (D.told depot.old) (D.faults depot.old) store.old) (target_state (D.told depot.new) (D.faults depot.new) store.new) carried.old
+            carried.new (drawn_from (E.drawn entropy.old) (E.drawn entropy.new)) result }
+        ensures refused { IfErr result (RefusesOne (origin_of (S.told shelf.old) (repo_view source.old) self.now.options.now)
+            (D.told depot.old) store.old (D.told depot.new) store.new self.now.names.now) }
+        ensures stops { IfErr result (StopsNames (origin_of (S.told shelf.old) (repo_view source.old) self.now.options.now) self.now.names.now store.old (D.told
+            depot.old) (D.told depot.new) (E.drawn entropy.old) (E.drawn entropy.new)) }
+        ensures both { CarriesFrom self.now.options.now.checkpoint (source_state (S.told shelf.old) (S.faults shelf.old) source.old)
+            (source_state (S.told shelf.new) (S.faults shelf.new) source.new) (target_state (D.told depot.old) (D.faults depot.old) store.old)
+            (target_state (D.told depot.new) (D.faults depot.new) store.new) (E.faults entropy.old) (E.faults entropy.new) result }
+    {
+        // A number that was read is known to be in its range.
+        let _meta = carried.meta;
+        for place in 0..self.names.len() {
+            let name = self.names[place].as_slice();
+            let single = Single {
+                alloc: self.alloc,
+                name,
+                options: self.options,
+            };
+            single.carry_one(source, shelf, store, depot, entropy, carried)?;
+        }
+        Ok(())
     }
-    Ok(())
 }
 
-/// Copies or compares the archive of one name, tells it, and counts what was done.
-fn carry_one<S: Shelf, D: Depot, E: Entropy>(
+/// The same of the archive of one name.
+#[derive(Clone, Copy)]
+struct Single<'a> {
     alloc: Global,
-    source: &mut Repo,
-    shelf: &mut S,
-    store: &mut Store,
-    depot: &mut D,
-    entropy: &mut E,
-    name: &[u8],
-    options: &Options,
-    carried: &mut Carried,
-) -> Result<(), CarryFault>
-    requires options { AreRight options.now }
-    requires source_fits { IfSome (S.told shelf.old) (λ t. FitsRepo (told_files t) (repo_view source.old) (cached_in source.old)) }
-    requires pending { store.old.pending ≤ options.now.checkpoint }
-    requires unspent { IsUnspent store.old }
-    requires fits { IfSome (D.told depot.old) (λ t. StoreFits false store.old t.history) }
-    requires packable { IsPackable (accepted_in store.old) }
-    requires settled { IsSettled store.old }
-    ensures settled { OnOk result (IsSettled store.new) }
-    ensures pending { OnOk result (store.new.pending ≡ 0) }
-    ensures packable { OnOk result (IsPackable (accepted_in store.new)) }
-    ensures unspent { OnOk result (IsUnspent store.new) }
-    ensures works { Reports (origin_of (S.told shelf.old) (repo_view source.old) options.now) (name.now ∷ []) store.old store.new
-        carried.old carried.new (D.told depot.old) (D.told depot.new) (D.faults depot.old) (D.faults depot.new) (E.drawn entropy.old) (E.drawn entropy.new)
-        result }
-    ensures refused { IfErr result (RefusesName (origin_of (S.told shelf.old) (repo_view source.old) options.now)
-        (D.told depot.old) store.old (D.told depot.new) store.new name.now) }
-    // What refuses it, but for a line that isn't told and want of memory, does so before it is told.
-    ensures untold { IfErr result (λ fault. is_of_telling fault ≡ false → Between (D.told depot.old) (D.told depot.new) TellsNothing) }
-    ensures limit { IfErr result (λ fault. fault ≡ CarryFault.Target StoreRefusal.TooLarge → IfSome (D.told depot.new) (λ _.
-        HasLargeNext options.now.timestamp (repo_view source.old).manifest (repo_view store.old.repo).keys (accepted_in store.old) name.now)) }
-    ensures chunk { IfErr result (λ fault. (id : List ℕ) → IsChunk id fault
-        → WhereTold (origin_of (S.told shelf.old) (repo_view source.old) options.now) (D.told depot.old) (λ _.
-        EndsAt (origin_of (S.told shelf.old) (repo_view source.old) options.now) (repo_view store.old.repo).keys (accepted_in store.old) [] name.now
-        (E.drawn entropy.old) (E.drawn entropy.new) id)) }
-    ensures stands { IfErr result (λ fault. IsOfWork fault
-        → StopsUnnamed (origin_of (S.told shelf.old) (repo_view source.old) options.now) name.now store.old
-        (D.told depot.old) (D.told depot.new)) }
-    ensures most { OnOk result (KeepsMost store.old store.new) }
-    ensures fits { OnOk result (IfSome (D.told depot.new) (λ t. StoreFits false store.new t.history)) }
-    ensures source_fits { IfSome (S.told shelf.new) (λ t. FitsRepo (told_files t) (repo_view source.new) (cached_in source.new)) }
-    ensures kept { repo_view source.new ≡ repo_view source.old }
-    ensures same { KeepsTold shelf_failed (S.told shelf.old) (S.told shelf.new) result }
-    ensures cause { HasCause shelf_failed (S.faults shelf.old) (S.faults shelf.new) result }
-    ensures entropy { HasCause random_failed (E.faults entropy.old) (E.faults entropy.new) result }
-{
-    let mut flight = Flight::begin(alloc, source, name, options)?;
-    let done = carry_flight(
-        alloc,
-        &mut flight,
-        source,
-        shelf,
-        store,
-        depot,
-        entropy,
-        name,
-        carried,
-    );
-    // By a call: at a scope's end each of its parts would have to be gone through here.
-    drop(flight);
-    done
+    name: &'a [u8],
+    options: &'a Options,
 }
 
-/// Takes a flight to its end, tells the archive of its name, and counts what was done.
-fn carry_flight<S: Shelf, D: Depot, E: Entropy>(
-    alloc: Global,
-    flight: &mut Flight,
-    source: &mut Repo,
-    shelf: &mut S,
-    store: &mut Store,
-    depot: &mut D,
-    entropy: &mut E,
-    name: &[u8],
-    carried: &mut Carried,
-) -> Result<(), CarryFault>
-    requires flight { (fits : FlightFits (S.told shelf.old) (repo_view source.old) (D.told depot.old) store.old flight.old) × (fits.added ≡ []) }
-    requires called { name.now ≡ flight.old.named.name }
-    requires source_fits { IfSome (S.told shelf.old) (λ t. FitsRepo (told_files t) (repo_view source.old) (cached_in source.old)) }
-    requires pending { store.old.pending ≤ flight.old.options.checkpoint }
-    requires unspent { IsUnspent store.old }
-    requires fits { IfSome (D.told depot.old) (λ t. StoreFits false store.old t.history) }
-    requires packable { IsPackable (accepted_in store.old) }
-    requires settled { IsSettled store.old }
-    ensures settled { OnOk result (IsSettled store.new) }
-    ensures pending { OnOk result (store.new.pending ≡ 0) }
-    ensures packable { OnOk result (IsPackable (accepted_in store.new)) }
-    ensures unspent { OnOk result (IsUnspent store.new) }
-    ensures works { Reports (flown_from (S.told shelf.old) (repo_view source.old) flight.old) (flight.old.named.name ∷ []) store.old store.new
-        carried.old carried.new (D.told depot.old) (D.told depot.new) (D.faults depot.old) (D.faults depot.new) (E.drawn entropy.old) (E.drawn entropy.new)
-        result }
-    ensures refused { IfErr result (RefusesName (flown_from (S.told shelf.old) (repo_view source.old) flight.old) (D.told depot.old) store.old
-        (D.told depot.new) store.new flight.old.named.name) }
-    ensures untold { IfErr result (λ fault. is_of_telling fault ≡ false → Between (D.told depot.old) (D.told depot.new) TellsNothing) }
-    ensures limit { IfErr result (λ fault. fault ≡ CarryFault.Target StoreRefusal.TooLarge → IfSome (D.told depot.new) (λ _.
-        HasLargeNext flight.old.options.timestamp (repo_view source.old).manifest (repo_view store.old.repo).keys (accepted_in store.old)
-        flight.old.named.name)) }
-    ensures chunk { IfErr result (λ fault. (id : List ℕ) → IsChunk id fault
-        → WhereTold (flown_from (S.told shelf.old) (repo_view source.old) flight.old) (D.told depot.old) (λ _.
-        EndsAt (flown_from (S.told shelf.old) (repo_view source.old) flight.old) (repo_view store.old.repo).keys (accepted_in store.old) []
-        flight.old.named.name (E.drawn entropy.old) (E.drawn entropy.new) id)) }
-    ensures stands { IfErr result (λ fault. IsOfWork fault
-        → StopsUnnamed (flown_from (S.told shelf.old) (repo_view source.old) flight.old) flight.old.named.name store.old
-        (D.told depot.old) (D.told depot.new)) }
-    ensures most { OnOk result (KeepsMost store.old store.new) }
-    ensures fits { OnOk result (IfSome (D.told depot.new) (λ t. StoreFits false store.new t.history)) }
-    ensures source_fits { IfSome (S.told shelf.new) (λ t. FitsRepo (told_files t) (repo_view source.new) (cached_in source.new)) }
-    ensures kept { repo_view source.new ≡ repo_view source.old }
-    ensures same { KeepsTold shelf_failed (S.told shelf.old) (S.told shelf.new) result }
-    ensures cause { HasCause shelf_failed (S.faults shelf.old) (S.faults shelf.new) result }
-    ensures entropy { HasCause random_failed (E.faults entropy.old) (E.faults entropy.new) result }
-{
-    let named = fly(flight, source, shelf, store, depot, entropy)?;
-    tell_name(alloc, store, depot, named, name)?;
-    carried.count(named, &flight.put());
-    Ok(())
+impl Single<'_> {
+    /// Copies or compares the archive of one name, tells it, and counts what was done.
+    fn carry_one<S: Shelf, D: Depot, E: Entropy>(
+        &self,
+        source: &mut Repo,
+        shelf: &mut S,
+        store: &mut Store,
+        depot: &mut D,
+        entropy: &mut E,
+        carried: &mut Carried,
+    ) -> Result<(), CarryFault>
+        requires both { CanCarryFrom self.now.options.now.checkpoint (source_state (S.told shelf.old) (S.faults shelf.old) source.old)
+            (target_state (D.told depot.old) (D.faults depot.old) store.old) }
+        requires options { AreRight self.now.options.now }
+        ensures works { Reports (origin_of (S.told shelf.old) (repo_view source.old) self.now.options.now) (self.now.name.now ∷ [])
+            (target_state (D.told depot.old) (D.faults depot.old) store.old) (target_state (D.told depot.new) (D.faults depot.new) store.new) carried.old
+            carried.new (drawn_from (E.drawn entropy.old) (E.drawn entropy.new)) result }
+        ensures refused { IfErr result (RefusesName (origin_of (S.told shelf.old) (repo_view source.old) self.now.options.now)
+            (D.told depot.old) store.old (D.told depot.new) store.new self.now.name.now) }
+        ensures stops { IfErr result (StopsName (origin_of (S.told shelf.old) (repo_view source.old) self.now.options.now) self.now.name.now store.old (D.told
+            depot.old) (D.told depot.new) (E.drawn entropy.old) (E.drawn entropy.new)) }
+        ensures both { CarriesFrom 0 (source_state (S.told shelf.old) (S.faults shelf.old) source.old)
+            (source_state (S.told shelf.new) (S.faults shelf.new) source.new) (target_state (D.told depot.old) (D.faults depot.old) store.old)
+            (target_state (D.told depot.new) (D.faults depot.new) store.new) (E.faults entropy.old) (E.faults entropy.new) result }
+    {
+        let mut flight = Flight::begin(self.alloc, source, self.name, self.options)?;
+        let done = flight.complete(source, shelf, store, depot, entropy, carried);
+        // By a call: at a scope's end each of its parts would have to be gone through here.
+        drop(flight);
+        done
+    }
+}
+
+impl Flight {
+    /// Takes a flight to its end, tells the archive of its name, and counts what was done.
+    fn complete<S: Shelf, D: Depot, E: Entropy>(
+        &mut self,
+        source: &mut Repo,
+        shelf: &mut S,
+        store: &mut Store,
+        depot: &mut D,
+        entropy: &mut E,
+        carried: &mut Carried,
+    ) -> Result<(), CarryFault>
+        requires both { CanCarryFrom self.old.options.checkpoint (source_state (S.told shelf.old) (S.faults shelf.old) source.old)
+            (target_state (D.told depot.old) (D.faults depot.old) store.old) }
+        requires flight { (fits : FlightFits (S.told shelf.old) (repo_view source.old) (D.told depot.old) store.old self.old) × (fits.added ≡ []) }
+        ensures works { Reports (flown_from (S.told shelf.old) (repo_view source.old) self.old) (self.old.named.name ∷ [])
+            (target_state (D.told depot.old) (D.faults depot.old) store.old) (target_state (D.told depot.new) (D.faults depot.new) store.new) carried.old
+            carried.new (drawn_from (E.drawn entropy.old) (E.drawn entropy.new)) result }
+        ensures refused { IfErr result (RefusesName (flown_from (S.told shelf.old) (repo_view source.old) self.old) (D.told depot.old) store.old
+            (D.told depot.new) store.new self.old.named.name) }
+        ensures stops { IfErr result (StopsName (flown_from (S.told shelf.old) (repo_view source.old) self.old) self.old.named.name store.old
+            (D.told depot.old) (D.told depot.new) (E.drawn entropy.old) (E.drawn entropy.new)) }
+        ensures both { CarriesFrom 0 (source_state (S.told shelf.old) (S.faults shelf.old) source.old)
+            (source_state (S.told shelf.new) (S.faults shelf.new) source.new) (target_state (D.told depot.old) (D.faults depot.old) store.old)
+            (target_state (D.told depot.new) (D.faults depot.new) store.new) (E.faults entropy.old) (E.faults entropy.new) result }
+    {
+        let named = fly(self, source, shelf, store, depot, entropy)?;
+        tell_name(self.alloc(), store, depot, named, self.name())?;
+        carried.count(named, &self.put());
+        Ok(())
+    }
 }
 
 /// Takes the steps of a flight to its end, and answers whether the archive is new in the target.
@@ -312,37 +225,24 @@ fn fly<S: Shelf, D: Depot, E: Entropy>(
     depot: &mut D,
     entropy: &mut E,
 ) -> Result<bool, CarryFault>
+    requires both { CanCarryFrom flight.old.options.checkpoint (source_state (S.told shelf.old) (S.faults shelf.old) source.old)
+        (target_state (D.told depot.old) (D.faults depot.old) store.old) }
     requires flight { FlightFits (S.told shelf.old) (repo_view source.old) (D.told depot.old) store.old flight.old }
-    requires source_fits { IfSome (S.told shelf.old) (λ t. FitsRepo (told_files t) (repo_view source.old) (cached_in source.old)) }
-    requires pending { store.old.pending ≤ flight.old.options.checkpoint }
-    requires unspent { IsUnspent store.old }
-    requires fits { IfSome (D.told depot.old) (λ t. StoreFits false store.old t.history) }
-    requires packable { IsPackable (accepted_in store.old) }
-    requires settled { IsSettled store.old }
-    ensures settled { OnOk result (IsSettled store.new) }
-    ensures pending { OnOk result (store.new.pending ≡ 0) }
-    ensures packable { OnOk result (IsPackable (accepted_in store.new)) }
-    ensures unspent { OnOk result (IsUnspent store.new) }
-    ensures works { (fits : FlightFits (S.told shelf.old) (repo_view source.old) (D.told depot.old) store.old flight.old) → (more : List Addition)
-        × ((records : List TaggedRecord) × (TakesAll (flown_from (S.told shelf.old) (repo_view source.old) flight.old) flight.old.named.name fits.added more
-        records store.old store.new flight.new (D.told depot.old) (D.told depot.new) (D.faults depot.old) (D.faults depot.new) result
-        × MatchResult result (λ _. AcceptsNames (flown_from (S.told shelf.old) (repo_view source.old) flight.old) (flight.old.named.name ∷ []) records
-        store.old store.new (E.drawn entropy.old) (E.drawn entropy.new))
-        (λ fault. IsNoChunk fault ⊎ WhereTold (flown_from (S.told shelf.old) (repo_view source.old) flight.old) (D.told depot.old) (λ _.
-        TagsDrawn (repo_view store.old.repo).keys (fits.added ++ more) (E.drawn entropy.old) (E.drawn entropy.new))))) }
+    ensures works { (fits : FlightFits (S.told shelf.old) (repo_view source.old) (D.told depot.old) store.old flight.old) → (more : List Addition) ×
+        ((records : List TaggedRecord) × (TakesAll (flown_from (S.told shelf.old) (repo_view source.old) flight.old)
+        (archive_adds flight.old.named.name fits.added more records) (target_state (D.told depot.old) (D.faults depot.old) store.old)
+        (target_state (D.told depot.new) (D.faults depot.new) store.new) flight.new result × MatchResult result (λ _. AcceptsNames
+        (flown_from (S.told shelf.old) (repo_view source.old) flight.old) (flight.old.named.name ∷ []) records store.old store.new
+        (E.drawn entropy.old) (E.drawn entropy.new)) (λ fault. IsNoChunk fault ⊎ WhereTold
+        (flown_from (S.told shelf.old) (repo_view source.old) flight.old) (D.told depot.old) (λ _. TagsDrawn (repo_view store.old.repo).keys
+        (fits.added ++ more) (E.drawn entropy.old) (E.drawn entropy.new))))) }
     ensures word { IfOk result (λ copied. TellsNew (accepted_in store.old) [] flight.old.named.name copied) }
-    ensures refused { IfErr result (RefusesName (flown_from (S.told shelf.old) (repo_view source.old) flight.old) (D.told depot.old) store.old
+    ensures name { OnOk result (flight.new.named ≡ flight.old.named) }
+    ensures refused { IfErr result (StopsFlight (flown_from (S.told shelf.old) (repo_view source.old) flight.old) (D.told depot.old) store.old
         (D.told depot.new) store.new flight.old.named.name) }
-    ensures limit { IfErr result (λ fault. fault ≡ CarryFault.Target StoreRefusal.TooLarge → IfSome (D.told depot.new) (λ _.
-        HasLargeNext flight.old.options.timestamp (repo_view source.old).manifest (repo_view store.old.repo).keys (accepted_in store.old)
-        flight.old.named.name)) }
-    ensures most { OnOk result (KeepsMost store.old store.new) }
-    ensures fits { OnOk result (IfSome (D.told depot.new) (λ t. StoreFits false store.new t.history)) }
-    ensures source_fits { IfSome (S.told shelf.new) (λ t. FitsRepo (told_files t) (repo_view source.new) (cached_in source.new)) }
-    ensures kept { repo_view source.new ≡ repo_view source.old }
-    ensures same { KeepsTold shelf_failed (S.told shelf.old) (S.told shelf.new) result }
-    ensures cause { HasCause shelf_failed (S.faults shelf.old) (S.faults shelf.new) result }
-    ensures entropy { HasCause random_failed (E.faults entropy.old) (E.faults entropy.new) result }
+    ensures both { CarriesFrom 0 (source_state (S.told shelf.old) (S.faults shelf.old) source.old)
+        (source_state (S.told shelf.new) (S.faults shelf.new) source.new) (target_state (D.told depot.old) (D.faults depot.old) store.old)
+        (target_state (D.told depot.new) (D.faults depot.new) store.new) (E.faults entropy.old) (E.faults entropy.new) result }
 {
     for _ in 0..u64::MAX {
         match flight.step(source, shelf, store, depot, entropy)? {
@@ -365,12 +265,7 @@ fn tell_name<D: Depot>(
     requires fits { IfSome (D.told depot.old) (λ t. StoreFits false store.now t.history) }
     ensures works { Works (IsStep (TellOf (name_line (told_of named) name.now))) (λ _. TellsLine (name_line (told_of named) name.now))
         (D.told depot.old) (D.told depot.new) (D.faults depot.old) (D.faults depot.new) result }
-    ensures fits { OnOk result (IfSome (D.told depot.new) (λ t. StoreFits false store.now t.history)) }
-    ensures stops { IfErr result (StopsTarget (D.told depot.new) (repo_view store.now.repo).keys) }
-    ensures shelf { IfErr result (λ fault. shelf_failed fault ≡ false) }
-    ensures target { IfErr result (λ fault. is_target fault ≡ true) }
-    ensures telling { IfErr result (λ fault. is_of_telling fault ≡ true) }
-    ensures drawn { IfErr result (λ fault. random_failed fault ≡ false) }
+    ensures target { OnlyTells store.now (D.told depot.new) result }
 {
     let line = name_line(alloc, what_of(named), name)?;
     tell(store, depot, &line)
@@ -388,12 +283,7 @@ fn tell<D: Depot>(store: &Store, depot: &mut D, line: &[u8]) -> Result<(), Carry
     requires fits { IfSome (D.told depot.old) (λ t. StoreFits false store.now t.history) }
     ensures works { Works (IsStep (TellOf line.now)) (λ _. TellsLine line.now)
         (D.told depot.old) (D.told depot.new) (D.faults depot.old) (D.faults depot.new) result }
-    ensures fits { OnOk result (IfSome (D.told depot.new) (λ t. StoreFits false store.now t.history)) }
-    ensures stops { IfErr result (StopsTarget (D.told depot.new) (repo_view store.now.repo).keys) }
-    ensures shelf { IfErr result (λ fault. shelf_failed fault ≡ false) }
-    ensures target { IfErr result (λ fault. is_target fault ≡ true) }
-    ensures telling { IfErr result (λ fault. is_of_telling fault ≡ true) }
-    ensures drawn { IfErr result (λ fault. random_failed fault ≡ false) }
+    ensures target { OnlyTells store.now (D.told depot.new) result }
 {
     depot.tell(line)?;
     Ok(())

@@ -1,25 +1,22 @@
 //! An archive that the target lacks.
 ghost use Rattle.std.specs.Prelude.{◌≡◌, ◌≤◌, ◌<◌, ◌^◌, ◌-◌, ◌++◌, [], List, Some, None, Ok};
-ghost use Rattle.std.specs.Prelude.{true, false, length, min, IfErr, IfOk, IfSome, MatchResult, OnOk, Option, ℕ};
-ghost use Rattle.ferry_disk.specs.Device.{HasCause, KeepsTold, told_files};
+ghost use Rattle.std.specs.Prelude.{true, false, min, IfErr, IfOk, IfSome, MatchResult, OnOk, Option, ℕ};
+ghost use Rattle.ferry_disk.specs.Device.{told_files};
 ghost use Rattle.ferry_disk.specs.Files.{Files};
 ghost use Rattle.ferry_piece.specs.Adding.{AddsOn};
 ghost use Rattle.ferry_carry.specs.Carrying.{origin};
 ghost use Rattle.ferry_carry.specs.Copied.{IsRead, stream_block};
-ghost use Rattle.ferry_carry.specs.Copying.{BeginsChunk, BeginsContent, BeginsContents, CopiesContent, IsReady, IsUnused, TakesItem};
-ghost use Rattle.ferry_carry.specs.Copying.{WritesContent, WritesContents, WritesItem};
-ghost use Rattle.ferry_piece.specs.Fault.{IsOfSource, random_failed, shelf_failed, target_failed};
+ghost use Rattle.ferry_carry.specs.Copying.{BeginsChunk, BeginsContent, BeginsContents, CopiesContent, IsReady, IsUnused, TakesItem, writer_state};
+ghost use Rattle.ferry_carry.specs.Copying.{WritesContent, WritesContents, WritesItem, BeginsCopy, KeepsCopy, KeepsContents, FitsCopy};
+ghost use Rattle.ferry_piece.specs.Fault.{IsOfSource, shelf_failed};
 ghost use Rattle.ferry_carry.specs.Filling.{FillsChunks, FillsContent, FillsOne, FillsStep, WhereHeard, WhereSource};
-ghost use Rattle.ferry_piece.specs.Gather.{KeepsRest};
 ghost use Rattle.ferry_carry.specs.Listing.{BeginsOne};
 ghost use Rattle.ferry_carry.specs.Naming.{records_in};
 ghost use Rattle.ferry_carry.specs.Progress.{CopiesOn, IsCopiedSoFar};
 ghost use Rattle.ferry_piece.specs.Piece.{BeginsOn, CountsOn};
-ghost use Rattle.ferry_piece.specs.Puts.{Addition, AreOf, Content, IsCheckpoint, Stream, contents_in};
+ghost use Rattle.ferry_piece.specs.Puts.{Addition, AreOf, Content, Stream, contents_in};
 ghost use Rattle.ferry_carry.specs.Refusals.{RefusesBegin, RefusesContents, RefusesCopying, RefusesNext, RefusesStep, RefusesText, RefusesWriting};
-ghost use Rattle.ferry_piece.specs.Stops.{StopsPieces};
-ghost use Rattle.ferry_carry.specs.Refusals.{Leaves, total_size};
-ghost use Rattle.ferry_piece.specs.Stops.{is_target};
+ghost use Rattle.ferry_carry.specs.Refusals.{total_size};
 ghost use Rattle.ferry_carry.specs.Step.{BeginsMore, StepsOn};
 ghost use Rattle.ferry_item.specs.Item.{is_healed, item_view};
 ghost use Rattle.ferry_item.specs.Writing.{IsPackable as IsPackableItem, field_pairs, item_text};
@@ -28,9 +25,12 @@ ghost use Rattle.ferry_manifest.specs.Record.Writing.{IsPackableArchive};
 ghost use Rattle.ferry_manifest.specs.declared.manifest.ArchiveRef.{ArchiveRef};
 ghost use Rattle.ferry_repo.specs.Archives.{HoldsContent, HoldsRecord, RefusesContent, archive_named};
 ghost use Rattle.ferry_repo.specs.Fault.{IsOfFiles, repo_failed};
-ghost use Rattle.ferry_repo.specs.Opening.{FitsRepo, cached_in, repo_view};
+ghost use Rattle.ferry_repo.specs.Opening.{repo_view};
 ghost use Rattle.ferry_repo.specs.Walk.{FitsWalk, IsToCome, begin_walk, walk_view};
-ghost use Rattle.ferry_store.specs.Store.{IsUnspent, StoreFits};
+ghost use Rattle.ferry_carry.specs.Calls.{ReadsSource, FitsShelf, TakesBytes, AddsPieces, SparesTarget, CanAdd, IsOfTarget};
+ghost use Rattle.ferry_carry.specs.Flight.{AreRight};
+ghost use Rattle.ferry_carry.specs.States.{source_state, target_state};
+ghost use Rattle.ferry_carry.specs.Calls.{CanCopy, Copies};
 
 use crate::options::Options;
 use ferry_base::Id;
@@ -70,27 +70,15 @@ impl Copy {
         id: &Id,
         options: &Options,
     ) -> Result<Copy, CarryFault>
-        requires least { 64 ≤ options.now.block }
-        requires most { options.now.block ≤ 8388608 }
-        requires checkpoint { IsCheckpoint options.now.checkpoint }
-        requires fits { IfSome (S.told shelf.old) (λ t. FitsRepo (told_files t) (repo_view source.old) (cached_in source.old)) }
-        ensures ready { IfOk result (IsReady) }
-        ensures archive { IfOk result (λ copy. IfSome (S.told shelf.old) (λ t.
-            HoldsRecord (told_files t) (repo_view source.old).log (repo_view source.old).keys id.now (archive_view copy.archive))) }
-        ensures walk { IfOk result (λ copy. walk_view copy.walk ≡ begin_walk id.now (archive_view copy.archive).items) }
-        ensures block { IfOk result (λ copy. copy.block ≡ options.now.block) }
-        ensures checkpoint { IfOk result (λ copy. copy.contents.checkpoint ≡ options.now.checkpoint) }
-        ensures stream { IfOk result (λ copy. (copy.stream.cutter.piece ≡ []) × (copy.stream.chunks.items ≡ [])) }
-        ensures counted { IfOk result (λ copy. (copy.contents.put ≡ 0) × ((copy.contents.bytes ≡ 0) × (copy.stream.put ≡ 0))) }
+        requires options { AreRight options.now }
+        requires source { FitsShelf (S.told shelf.old) source.old }
         ensures walk_fits { IfOk result (λ copy. IfSome (S.told shelf.new) (λ t.
             FitsWalk (told_files t) (repo_view source.new).log (repo_view source.new).keys (walk_view copy.walk))) }
         ensures refused { IfErr result (RefusesBegin (S.told shelf.old) (repo_view source.old) id.now) }
-        ensures fits { IfSome (S.told shelf.new) (λ t. FitsRepo (told_files t) (repo_view source.new) (cached_in source.new)) }
-        ensures kept { repo_view source.new ≡ repo_view source.old }
-        ensures same { KeepsTold shelf_failed (S.told shelf.old) (S.told shelf.new) result }
-        ensures cause { HasCause shelf_failed (S.faults shelf.old) (S.faults shelf.new) result }
-        ensures still { IfErr result (λ fault. target_failed fault ≡ false) }
-        ensures drawn { IfErr result (λ fault. random_failed fault ≡ false) }
+        ensures copy { IfOk result (BeginsCopy (S.told shelf.old) (repo_view source.old) id.now options.now) }
+        ensures spares { SparesTarget result }
+        ensures source { ReadsSource shelf_failed (source_state (S.told shelf.old) (S.faults shelf.old) source.old)
+            (source_state (S.told shelf.new) (S.faults shelf.new) source.new) result }
     {
         let archive = read_record(alloc, source, shelf, id)?;
         match begin_parts(alloc, source, id, &archive, options) {
@@ -117,13 +105,9 @@ impl Copy {
         store: &mut Store,
         depot: &mut D,
     ) -> Result<bool, CarryFault>
-        requires ready { IsReady self.old }
-        requires walk_fits { IfSome (S.told shelf.old) (λ t.
-            FitsWalk (told_files t) (repo_view source.old).log (repo_view source.old).keys (walk_view self.old.walk)) }
-        requires source_fits { IfSome (S.told shelf.old) (λ t. FitsRepo (told_files t) (repo_view source.old) (cached_in source.old)) }
-        requires pending { store.old.pending ≤ self.old.contents.checkpoint }
-        requires unspent { IsUnspent store.old }
-        requires fits { IfSome (D.told depot.old) (λ t. StoreFits false store.old t.history) }
+        requires both { CanCopy self.old.contents.checkpoint (source_state (S.told shelf.old) (S.faults shelf.old) source.old)
+            (target_state (D.told depot.old) (D.faults depot.old) store.old) }
+        requires copy { FitsCopy (S.told shelf.old) (repo_view source.old) self.old }
         ensures steps { (more : List Addition) × (AddsOn self.old.contents.checkpoint store.old more store.new
             (D.told depot.old) (D.told depot.new) (D.faults depot.old) (D.faults depot.new) result
             × (IfErr result (λ fault. BeginsMore (S.told shelf.old) (repo_view source.old) (repo_view store.old.repo).keys self.old more
@@ -148,23 +132,10 @@ impl Copy {
             (D.told depot.old) store.old self.old added
             → IfErr result (RefusesStep (origin (S.told shelf.old) (repo_view source.old) self.old.block self.old.contents.checkpoint time)
             (D.told depot.old) named.name) }
-        ensures archive { OnOk result (self.new.archive ≡ self.old.archive) }
-        ensures checkpoint { OnOk result (self.new.contents.checkpoint ≡ self.old.contents.checkpoint) }
-        ensures pending { OnOk result (store.new.pending ≤ self.old.contents.checkpoint) }
-        ensures block { OnOk result (self.new.block ≡ self.old.block) }
-        ensures ready { OnOk result (IsReady self.new) }
-        ensures walk_fits { OnOk result (IfSome (S.told shelf.new) (λ t.
-            FitsWalk (told_files t) (repo_view source.new).log (repo_view source.new).keys (walk_view self.new.walk))) }
-        ensures rest { OnOk result (KeepsRest store.old store.new) }
-        ensures fits { OnOk result (IfSome (D.told depot.new) (λ t. StoreFits false store.new t.history)) }
-        ensures stops { IfErr result (StopsPieces (D.told depot.new) (repo_view store.old.repo).keys) }
-        ensures left { IfErr result (Leaves self.old.contents.checkpoint store.old (D.told depot.new) store.new) }
-        ensures unspent { OnOk result (IsUnspent store.new) }
-        ensures source_fits { IfSome (S.told shelf.new) (λ t. FitsRepo (told_files t) (repo_view source.new) (cached_in source.new)) }
-        ensures kept { repo_view source.new ≡ repo_view source.old }
-        ensures same { KeepsTold shelf_failed (S.told shelf.old) (S.told shelf.new) result }
-        ensures cause { HasCause shelf_failed (S.faults shelf.old) (S.faults shelf.new) result }
-        ensures drawn { IfErr result (λ fault. random_failed fault ≡ false) }
+        ensures copy { OnOk result (KeepsCopy (S.told shelf.new) (repo_view source.new) self.old self.new) }
+        ensures both { Copies self.old.contents.checkpoint (source_state (S.told shelf.old) (S.faults shelf.old) source.old)
+            (source_state (S.told shelf.new) (S.faults shelf.new) source.new) (target_state (D.told depot.old) (D.faults depot.old) store.old)
+            (target_state (D.told depot.new) (D.faults depot.new) store.new) result }
     {
         let Some(item) = self.next(source, shelf)? else {
             return Ok(false);
@@ -182,9 +153,9 @@ impl Copy {
         source: &mut Repo,
         shelf: &mut S,
     ) -> Result<Option<Item>, CarryFault>
+        requires source { FitsShelf (S.told shelf.old) source.old }
         requires walk_fits { IfSome (S.told shelf.old) (λ t.
             FitsWalk (told_files t) (repo_view source.old).log (repo_view source.old).keys (walk_view self.old.walk)) }
-        requires fits { IfSome (S.told shelf.old) (λ t. FitsRepo (told_files t) (repo_view source.old) (cached_in source.old)) }
         ensures item { IfOk result (λ found. IfSome found (λ item. IfSome (S.told shelf.old) (λ t.
             TakesItem (told_files t) (repo_view source.old) (walk_view self.old.walk) (item_view item) (walk_view self.new.walk)))) }
         ensures none { result ≡ Ok None → IfSome (S.told shelf.old) (λ t.
@@ -194,12 +165,9 @@ impl Copy {
         ensures walk_fits { IfSome (S.told shelf.new) (λ t.
             FitsWalk (told_files t) (repo_view source.new).log (repo_view source.new).keys (walk_view self.new.walk)) }
         ensures others { self.new ≡ record self.old { walk = self.new.walk } }
-        ensures fits { IfSome (S.told shelf.new) (λ t. FitsRepo (told_files t) (repo_view source.new) (cached_in source.new)) }
-        ensures kept { repo_view source.new ≡ repo_view source.old }
-        ensures same { KeepsTold shelf_failed (S.told shelf.old) (S.told shelf.new) result }
-        ensures cause { HasCause shelf_failed (S.faults shelf.old) (S.faults shelf.new) result }
-        ensures still { IfErr result (λ fault. target_failed fault ≡ false) }
-        ensures drawn { IfErr result (λ fault. random_failed fault ≡ false) }
+        ensures spares { SparesTarget result }
+        ensures source { ReadsSource shelf_failed (source_state (S.told shelf.old) (S.faults shelf.old) source.old)
+            (source_state (S.told shelf.new) (S.faults shelf.new) source.new) result }
     {
         let found = self.walk.step(source, shelf)?;
         Ok(found)
@@ -212,13 +180,9 @@ impl Copy {
         depot: &mut D,
         item: &Item,
     ) -> Result<(), CarryFault>
+        requires stream { TakesBytes self.old.stream }
+        requires target { CanAdd self.old.stream.checkpoint (D.told depot.old) store.old }
         requires packable { IsPackableItem (item_view item.now) }
-        requires most { self.old.stream.cutter.block ≤ 8388608 }
-        requires room { length self.old.stream.cutter.piece < self.old.stream.cutter.block }
-        requires checkpoint { IsCheckpoint self.old.stream.checkpoint }
-        requires pending { store.old.pending ≤ self.old.stream.checkpoint }
-        requires unspent { IsUnspent store.old }
-        requires fits { IfSome (D.told depot.old) (λ t. StoreFits false store.old t.history) }
         ensures written { (more : List Addition) × (AddsOn self.old.stream.checkpoint store.old more store.new
             (D.told depot.old) (D.told depot.new) (D.faults depot.old) (D.faults depot.new) result
             × (AreOf Stream more × (BeginsOn self.old.stream.cutter (item_text (item_view item.now)) (contents_in more)
@@ -227,14 +191,8 @@ impl Copy {
         ensures again { OnOk result (is_healed (field_pairs (item_view item.now)) ≡ false → IsRead (item_view item.now)) }
         ensures others { OnOk result (self.new ≡ record self.old { stream = self.new.stream }) }
         ensures checkpoint { OnOk result (self.new.stream.checkpoint ≡ self.old.stream.checkpoint) }
-        ensures pending { OnOk result (store.new.pending ≤ self.old.stream.checkpoint) }
-        ensures rest { OnOk result (KeepsRest store.old store.new) }
-        ensures fits { OnOk result (IfSome (D.told depot.new) (λ t. StoreFits false store.new t.history)) }
-        ensures stops { IfErr result (StopsPieces (D.told depot.new) (repo_view store.old.repo).keys) }
-        ensures unspent { OnOk result (IsUnspent store.new) }
-        ensures target { IfErr result (λ fault. is_target fault ≡ true) }
-        ensures shelf { IfErr result (λ fault. shelf_failed fault ≡ false) }
-        ensures drawn { IfErr result (λ fault. random_failed fault ≡ false) }
+        ensures target { AddsPieces self.old.stream.checkpoint store.old (D.told depot.new) store.new result }
+        ensures refusal { IsOfTarget result }
     {
         let mut spelling = Vec::new(self.alloc);
         write_item(item, &mut spelling)?;
@@ -250,11 +208,9 @@ impl Copy {
         depot: &mut D,
         chunks: &Option<ChunkRefs>,
     ) -> Result<Option<ChunkRefs>, CarryFault>
+        requires both { CanCopy self.old.contents.checkpoint (source_state (S.told shelf.old) (S.faults shelf.old) source.old)
+            (target_state (D.told depot.old) (D.faults depot.old) store.old) }
         requires ready { IsReady self.old }
-        requires source_fits { IfSome (S.told shelf.old) (λ t. FitsRepo (told_files t) (repo_view source.old) (cached_in source.old)) }
-        requires pending { store.old.pending ≤ self.old.contents.checkpoint }
-        requires unspent { IsUnspent store.old }
-        requires fits { IfSome (D.told depot.old) (λ t. StoreFits false store.old t.history) }
         ensures copied { (more : List Addition) × (AddsOn self.old.contents.checkpoint store.old more store.new
             (D.told depot.old) (D.told depot.new) (D.faults depot.old) (D.faults depot.new) result
             × (AreOf Content more × (BeginsContent (S.told shelf.old) (repo_view source.old) self.old.block chunks.now (contents_in more)
@@ -263,20 +219,10 @@ impl Copy {
             × (IfOk result (CopiesContent (S.told shelf.old) (repo_view source.old) self.old.block (repo_view store.old.repo).keys chunks.now
             (contents_in more)) × OnOk result (CountsOn Content self.old.contents more self.new.contents)))))) }
         ensures refused { IfErr result (RefusesCopying (S.told shelf.old) (repo_view source.old) self.old.block chunks.now) }
-        ensures ready { OnOk result (IsReady self.new) }
-        ensures others { OnOk result (self.new ≡ record self.old { contents = self.new.contents }) }
-        ensures checkpoint { OnOk result (self.new.contents.checkpoint ≡ self.old.contents.checkpoint) }
-        ensures pending { OnOk result (store.new.pending ≤ self.old.contents.checkpoint) }
-        ensures rest { OnOk result (KeepsRest store.old store.new) }
-        ensures fits { OnOk result (IfSome (D.told depot.new) (λ t. StoreFits false store.new t.history)) }
-        ensures stops { IfErr result (StopsPieces (D.told depot.new) (repo_view store.old.repo).keys) }
-        ensures left { IfErr result (Leaves self.old.contents.checkpoint store.old (D.told depot.new) store.new) }
-        ensures unspent { OnOk result (IsUnspent store.new) }
-        ensures source_fits { IfSome (S.told shelf.new) (λ t. FitsRepo (told_files t) (repo_view source.new) (cached_in source.new)) }
-        ensures kept { repo_view source.new ≡ repo_view source.old }
-        ensures same { KeepsTold shelf_failed (S.told shelf.old) (S.told shelf.new) result }
-        ensures cause { HasCause shelf_failed (S.faults shelf.old) (S.faults shelf.new) result }
-        ensures drawn { IfErr result (λ fault. random_failed fault ≡ false) }
+        ensures contents { OnOk result (KeepsContents self.old self.new) }
+        ensures both { Copies self.old.contents.checkpoint (source_state (S.told shelf.old) (S.faults shelf.old) source.old)
+            (source_state (S.told shelf.new) (S.faults shelf.new) source.new) (target_state (D.told depot.old) (D.faults depot.old) store.old)
+            (target_state (D.told depot.new) (D.faults depot.new) store.new) result }
     {
         // A number that was read is known to be in its range.
         let _counted = self.contents.put();
@@ -298,11 +244,9 @@ impl Copy {
         depot: &mut D,
         chunks: &[ChunkRef],
     ) -> Result<ChunkRefs, CarryFault>
+        requires both { CanCopy self.old.contents.checkpoint (source_state (S.told shelf.old) (S.faults shelf.old) source.old)
+            (target_state (D.told depot.old) (D.faults depot.old) store.old) }
         requires ready { IsReady self.old }
-        requires source_fits { IfSome (S.told shelf.old) (λ t. FitsRepo (told_files t) (repo_view source.old) (cached_in source.old)) }
-        requires pending { store.old.pending ≤ self.old.contents.checkpoint }
-        requires unspent { IsUnspent store.old }
-        requires fits { IfSome (D.told depot.old) (λ t. StoreFits false store.old t.history) }
         ensures copied { (more : List Addition) × (AddsOn self.old.contents.checkpoint store.old more store.new
             (D.told depot.old) (D.told depot.new) (D.faults depot.old) (D.faults depot.new) result
             × (AreOf Content more × (BeginsContent (S.told shelf.old) (repo_view source.old) self.old.block (Some chunks.now) (contents_in more)
@@ -311,38 +255,89 @@ impl Copy {
             × (IfOk result (λ copied. CopiesContent (S.told shelf.old) (repo_view source.old) self.old.block (repo_view store.old.repo).keys
             (Some chunks.now) (contents_in more) (Some copied)) × OnOk result (CountsOn Content self.old.contents more self.new.contents)))))) }
         ensures refused { IfErr result (RefusesCopying (S.told shelf.old) (repo_view source.old) self.old.block (Some chunks.now)) }
-        ensures ready { OnOk result (IsReady self.new) }
-        ensures others { OnOk result (self.new ≡ record self.old { contents = self.new.contents }) }
-        ensures checkpoint { OnOk result (self.new.contents.checkpoint ≡ self.old.contents.checkpoint) }
-        ensures pending { OnOk result (store.new.pending ≤ self.old.contents.checkpoint) }
-        ensures rest { OnOk result (KeepsRest store.old store.new) }
-        ensures fits { OnOk result (IfSome (D.told depot.new) (λ t. StoreFits false store.new t.history)) }
-        ensures stops { IfErr result (StopsPieces (D.told depot.new) (repo_view store.old.repo).keys) }
-        ensures left { IfErr result (Leaves self.old.contents.checkpoint store.old (D.told depot.new) store.new) }
-        ensures unspent { OnOk result (IsUnspent store.new) }
-        ensures source_fits { IfSome (S.told shelf.new) (λ t. FitsRepo (told_files t) (repo_view source.new) (cached_in source.new)) }
-        ensures kept { repo_view source.new ≡ repo_view source.old }
-        ensures same { KeepsTold shelf_failed (S.told shelf.old) (S.told shelf.new) result }
-        ensures cause { HasCause shelf_failed (S.faults shelf.old) (S.faults shelf.new) result }
-        ensures drawn { IfErr result (λ fault. random_failed fault ≡ false) }
+        ensures contents { OnOk result (KeepsContents self.old self.new) }
+        ensures both { Copies self.old.contents.checkpoint (source_state (S.told shelf.old) (S.faults shelf.old) source.old)
+            (source_state (S.told shelf.new) (S.faults shelf.new) source.new) (target_state (D.told depot.old) (D.faults depot.old) store.old)
+            (target_state (D.told depot.new) (D.faults depot.new) store.new) result }
     {
         if total_size(chunks) > MOST_PIECES * self.block as u128 {
             return Err(CarryFault::Pieces);
         }
-        write_contents(
-            &mut self.contents,
-            &self.walk,
-            source,
-            shelf,
-            store,
-            depot,
-            chunks,
-        )?;
+        self.write_contents(source, shelf, store, depot, chunks)?;
         let copied = self.contents.finish(store, depot)?;
         if copied.len() > MOST_PIECES as usize {
             return Err(CarryFault::Memory);
         }
         Ok(ChunkRefs::new(copied))
+    }
+
+    /// Writes the contents of these chunks, one after another.
+    fn write_contents<S: Shelf, D: Depot>(
+        &mut self,
+        source: &mut Repo,
+        shelf: &mut S,
+        store: &mut Store,
+        depot: &mut D,
+        chunks: &[ChunkRef],
+    ) -> Result<(), CarryFault>
+        requires both { CanCopy self.old.contents.checkpoint (source_state (S.told shelf.old) (S.faults shelf.old) source.old)
+            (target_state (D.told depot.old) (D.faults depot.old) store.old) }
+        requires writer { TakesBytes self.old.contents }
+        ensures written { (more : List Addition) × (AddsOn self.old.contents.checkpoint store.old more store.new
+            (D.told depot.old) (D.told depot.new) (D.faults depot.old) (D.faults depot.new) result
+            × (AreOf Content more × (BeginsContents (S.told shelf.old) (repo_view source.old) chunks.now self.old.contents.cutter (contents_in more)
+            × ((IfErr result (λ fault. WhereSource (S.told shelf.old) fault (λ there refusal.
+            FillsChunks there (repo_view source.old) chunks.now self.old.contents.cutter refusal (contents_in more))))
+            × OnOk result (WritesContents (S.told shelf.old) (repo_view source.old) (repo_view store.old.repo).keys chunks.now
+            (writer_state self.old.contents.cutter self.old.contents.chunks.items) (contents_in more)
+            (writer_state self.new.contents.cutter self.new.contents.chunks.items) × CountsOn Content self.old.contents more self.new.contents))))) }
+        ensures refused { IfErr result (RefusesContents (S.told shelf.old) (repo_view source.old) chunks.now) }
+        ensures checkpoint { OnOk result (self.new.contents.checkpoint ≡ self.old.contents.checkpoint) }
+        ensures others { OnOk result (self.new ≡ record self.old { contents = self.new.contents }) }
+        ensures both { Copies self.old.contents.checkpoint (source_state (S.told shelf.old) (S.faults shelf.old) source.old)
+            (source_state (S.told shelf.new) (S.faults shelf.new) source.new) (target_state (D.told depot.old) (D.faults depot.old) store.old)
+            (target_state (D.told depot.new) (D.faults depot.new) store.new) result }
+    {
+        // A number that was read is known to be in its range.
+        let _counted = self.contents.put();
+        for place in 0..chunks.len() {
+            let later = &chunks[place..];
+            self.write_content(source, shelf, store, depot, &chunks[place], later)?;
+        }
+        Ok(())
+    }
+
+    /// Writes the content of one chunk.
+    #[tactic(auto, using(ferry_piece::proofs::FaultLemmas::conversions))]
+    fn write_content<S: Shelf, D: Depot>(
+        &mut self,
+        source: &mut Repo,
+        shelf: &mut S,
+        store: &mut Store,
+        depot: &mut D,
+        chunk: &ChunkRef,
+        later: &[ChunkRef],
+    ) -> Result<(), CarryFault>
+        requires both { CanCopy self.old.contents.checkpoint (source_state (S.told shelf.old) (S.faults shelf.old) source.old)
+            (target_state (D.told depot.old) (D.faults depot.old) store.old) }
+        requires writer { TakesBytes self.old.contents }
+        ensures written { (more : List Addition) × (AddsOn self.old.contents.checkpoint store.old more store.new
+            (D.told depot.old) (D.told depot.new) (D.faults depot.old) (D.faults depot.new) result
+            × (AreOf Content more × (BeginsChunk (S.told shelf.old) (repo_view source.old) chunk.now self.old.contents.cutter (contents_in more)
+            × ((IfErr result (λ fault. IsOfSource fault → more ≡ []))
+            × OnOk result (WritesContent (S.told shelf.old) (repo_view source.old) (repo_view store.old.repo).keys chunk.now
+            (writer_state self.old.contents.cutter self.old.contents.chunks.items) (contents_in more)
+            (writer_state self.new.contents.cutter self.new.contents.chunks.items) × CountsOn Content self.old.contents more self.new.contents))))) }
+        ensures refused { IfErr result (RefusesWriting (S.told shelf.old) (repo_view source.old) chunk.now) }
+        ensures checkpoint { OnOk result (self.new.contents.checkpoint ≡ self.old.contents.checkpoint) }
+        ensures others { OnOk result (self.new ≡ record self.old { contents = self.new.contents }) }
+        ensures both { Copies self.old.contents.checkpoint (source_state (S.told shelf.old) (S.faults shelf.old) source.old)
+            (source_state (S.told shelf.new) (S.faults shelf.new) source.new) (target_state (D.told depot.old) (D.faults depot.old) store.old)
+            (target_state (D.told depot.new) (D.faults depot.new) store.new) result }
+    {
+        let content = content_of(&self.walk, source, shelf, chunk, later)?;
+        foresee(&mut self.contents, &self.walk, source, store, later);
+        self.contents.write(store, depot, &content)
     }
 }
 
@@ -370,106 +365,6 @@ fn begin_parts(
     Ok((walk, contents, stream))
 }
 
-/// Writes the contents of these chunks, one after another.
-fn write_contents<S: Shelf, D: Depot>(
-    writer: &mut PieceWriter,
-    walk: &Walk,
-    source: &mut Repo,
-    shelf: &mut S,
-    store: &mut Store,
-    depot: &mut D,
-    chunks: &[ChunkRef],
-) -> Result<(), CarryFault>
-    requires most { writer.old.cutter.block ≤ 8388608 }
-    requires room { length writer.old.cutter.piece < writer.old.cutter.block }
-    requires source_fits { IfSome (S.told shelf.old) (λ t. FitsRepo (told_files t) (repo_view source.old) (cached_in source.old)) }
-    requires checkpoint { IsCheckpoint writer.old.checkpoint }
-    requires pending { store.old.pending ≤ writer.old.checkpoint }
-    requires unspent { IsUnspent store.old }
-    requires fits { IfSome (D.told depot.old) (λ t. StoreFits false store.old t.history) }
-    ensures written { (more : List Addition) × (AddsOn writer.old.checkpoint store.old more store.new
-        (D.told depot.old) (D.told depot.new) (D.faults depot.old) (D.faults depot.new) result
-        × (AreOf Content more × (BeginsContents (S.told shelf.old) (repo_view source.old) chunks.now writer.old.cutter (contents_in more)
-        × ((IfErr result (λ fault. WhereSource (S.told shelf.old) fault (λ there refusal.
-        FillsChunks there (repo_view source.old) chunks.now writer.old.cutter refusal (contents_in more))))
-        × OnOk result (WritesContents (S.told shelf.old) (repo_view source.old) (repo_view store.old.repo).keys chunks.now writer.old.cutter
-        writer.old.chunks.items (contents_in more) writer.new.cutter writer.new.chunks.items × CountsOn Content writer.old more writer.new))))) }
-    ensures refused { IfErr result (RefusesContents (S.told shelf.old) (repo_view source.old) chunks.now) }
-    ensures checkpoint { OnOk result (writer.new.checkpoint ≡ writer.old.checkpoint) }
-    ensures pending { OnOk result (store.new.pending ≤ writer.old.checkpoint) }
-    ensures rest { OnOk result (KeepsRest store.old store.new) }
-    ensures fits { OnOk result (IfSome (D.told depot.new) (λ t. StoreFits false store.new t.history)) }
-    ensures stops { IfErr result (StopsPieces (D.told depot.new) (repo_view store.old.repo).keys) }
-    ensures left { IfErr result (Leaves writer.old.checkpoint store.old (D.told depot.new) store.new) }
-    ensures unspent { OnOk result (IsUnspent store.new) }
-    ensures source_fits { IfSome (S.told shelf.new) (λ t. FitsRepo (told_files t) (repo_view source.new) (cached_in source.new)) }
-    ensures kept { repo_view source.new ≡ repo_view source.old }
-    ensures same { KeepsTold shelf_failed (S.told shelf.old) (S.told shelf.new) result }
-    ensures cause { HasCause shelf_failed (S.faults shelf.old) (S.faults shelf.new) result }
-    ensures drawn { IfErr result (λ fault. random_failed fault ≡ false) }
-{
-    // A number that was read is known to be in its range.
-    let _counted = writer.put();
-    for place in 0..chunks.len() {
-        let later = &chunks[place..];
-        write_content(
-            writer,
-            walk,
-            source,
-            shelf,
-            store,
-            depot,
-            &chunks[place],
-            later,
-        )?;
-    }
-    Ok(())
-}
-
-/// Writes the content of one chunk.
-#[tactic(auto, using(ferry_piece::proofs::FaultLemmas::conversions))]
-fn write_content<S: Shelf, D: Depot>(
-    writer: &mut PieceWriter,
-    walk: &Walk,
-    source: &mut Repo,
-    shelf: &mut S,
-    store: &mut Store,
-    depot: &mut D,
-    chunk: &ChunkRef,
-    later: &[ChunkRef],
-) -> Result<(), CarryFault>
-    requires most { writer.old.cutter.block ≤ 8388608 }
-    requires room { length writer.old.cutter.piece < writer.old.cutter.block }
-    requires source_fits { IfSome (S.told shelf.old) (λ t. FitsRepo (told_files t) (repo_view source.old) (cached_in source.old)) }
-    requires checkpoint { IsCheckpoint writer.old.checkpoint }
-    requires pending { store.old.pending ≤ writer.old.checkpoint }
-    requires unspent { IsUnspent store.old }
-    requires fits { IfSome (D.told depot.old) (λ t. StoreFits false store.old t.history) }
-    ensures written { (more : List Addition) × (AddsOn writer.old.checkpoint store.old more store.new
-        (D.told depot.old) (D.told depot.new) (D.faults depot.old) (D.faults depot.new) result
-        × (AreOf Content more × (BeginsChunk (S.told shelf.old) (repo_view source.old) chunk.now writer.old.cutter (contents_in more)
-        × ((IfErr result (λ fault. IsOfSource fault → more ≡ []))
-        × OnOk result (WritesContent (S.told shelf.old) (repo_view source.old) (repo_view store.old.repo).keys chunk.now writer.old.cutter
-        writer.old.chunks.items (contents_in more) writer.new.cutter writer.new.chunks.items × CountsOn Content writer.old more writer.new))))) }
-    ensures refused { IfErr result (RefusesWriting (S.told shelf.old) (repo_view source.old) chunk.now) }
-    ensures checkpoint { OnOk result (writer.new.checkpoint ≡ writer.old.checkpoint) }
-    ensures pending { OnOk result (store.new.pending ≤ writer.old.checkpoint) }
-    ensures rest { OnOk result (KeepsRest store.old store.new) }
-    ensures fits { OnOk result (IfSome (D.told depot.new) (λ t. StoreFits false store.new t.history)) }
-    ensures stops { IfErr result (StopsPieces (D.told depot.new) (repo_view store.old.repo).keys) }
-    ensures left { IfErr result (Leaves writer.old.checkpoint store.old (D.told depot.new) store.new) }
-    ensures unspent { OnOk result (IsUnspent store.new) }
-    ensures source_fits { IfSome (S.told shelf.new) (λ t. FitsRepo (told_files t) (repo_view source.new) (cached_in source.new)) }
-    ensures kept { repo_view source.new ≡ repo_view source.old }
-    ensures same { KeepsTold shelf_failed (S.told shelf.old) (S.told shelf.new) result }
-    ensures cause { HasCause shelf_failed (S.faults shelf.old) (S.faults shelf.new) result }
-    ensures drawn { IfErr result (λ fault. random_failed fault ≡ false) }
-{
-    let content = content_of(walk, source, shelf, chunk, later)?;
-    foresee(writer, walk, source, store, later);
-    writer.write(store, depot, &content)
-}
-
 /// Prepares the pieces that come next, where none is prepared: of these chunks, and of the items that follow. Only time depends on it.
 fn foresee(writer: &mut PieceWriter, walk: &Walk, source: &Repo, store: &Store, chunks: &[ChunkRef])
     ensures same { writer.new ≡ writer.old }
@@ -493,15 +388,13 @@ fn content_of<S: Shelf>(
     chunk: &ChunkRef,
     later: &[ChunkRef],
 ) -> Result<Vec<u8>, RepoFault>
-    requires fits { IfSome (S.told shelf.old) (λ t. FitsRepo (told_files t) (repo_view source.old) (cached_in source.old)) }
+    requires source { FitsShelf (S.told shelf.old) source.old }
     ensures content { IfOk result (λ content. IfSome (S.told shelf.old) (λ t.
         HoldsContent (told_files t) (repo_view source.old).log (repo_view source.old).keys chunk.now content.items)) }
     ensures refused { IfErr result (λ fault. IsOfFiles fault → IfSome (S.told shelf.old) (λ t.
         RefusesContent (told_files t) (repo_view source.old).log (repo_view source.old).keys chunk.now fault)) }
-    ensures fits { IfSome (S.told shelf.new) (λ t. FitsRepo (told_files t) (repo_view source.new) (cached_in source.new)) }
-    ensures kept { repo_view source.new ≡ repo_view source.old }
-    ensures same { KeepsTold repo_failed (S.told shelf.old) (S.told shelf.new) result }
-    ensures cause { HasCause repo_failed (S.faults shelf.old) (S.faults shelf.new) result }
+    ensures source { ReadsSource repo_failed (source_state (S.told shelf.old) (S.faults shelf.old) source.old)
+        (source_state (S.told shelf.new) (S.faults shelf.new) source.new) result }
 {
     walk.read_ahead(source, shelf, later)?;
     source.content(shelf, chunk)
@@ -526,17 +419,14 @@ fn read_record<S: Shelf>(
     shelf: &mut S,
     id: &Id,
 ) -> Result<Archive, CarryFault>
-    requires fits { IfSome (S.told shelf.old) (λ t. FitsRepo (told_files t) (repo_view source.old) (cached_in source.old)) }
+    requires source { FitsShelf (S.told shelf.old) source.old }
     ensures archive { IfOk result (λ archive. IfSome (S.told shelf.old) (λ t.
         HoldsRecord (told_files t) (repo_view source.old).log (repo_view source.old).keys id.now (archive_view archive))) }
     ensures refused { IfErr result (RefusesBegin (S.told shelf.old) (repo_view source.old) id.now) }
     ensures packable { IfOk result (λ archive. IsPackableArchive (archive_view archive)) }
-    ensures fits { IfSome (S.told shelf.new) (λ t. FitsRepo (told_files t) (repo_view source.new) (cached_in source.new)) }
-    ensures kept { repo_view source.new ≡ repo_view source.old }
-    ensures same { KeepsTold shelf_failed (S.told shelf.old) (S.told shelf.new) result }
-    ensures cause { HasCause shelf_failed (S.faults shelf.old) (S.faults shelf.new) result }
-    ensures still { IfErr result (λ fault. target_failed fault ≡ false) }
-    ensures drawn { IfErr result (λ fault. random_failed fault ≡ false) }
+    ensures spares { SparesTarget result }
+    ensures source { ReadsSource shelf_failed (source_state (S.told shelf.old) (S.faults shelf.old) source.old)
+        (source_state (S.told shelf.new) (S.faults shelf.new) source.new) result }
 {
     let content = source.chunk(shelf, id)?;
     record_in(alloc, source.keys(), *id, &content)
@@ -548,8 +438,7 @@ fn record_in(alloc: Global, keys: &Keys, id: Id, content: &[u8]) -> Result<Archi
     ensures refused { IfErr result (RefusesText keys.now id content.now) }
     ensures packable { IfOk result (λ archive. IsPackableArchive (archive_view archive)) }
     ensures shelf { IfErr result (λ fault. shelf_failed fault ≡ false) }
-    ensures still { IfErr result (λ fault. target_failed fault ≡ false) }
-    ensures drawn { IfErr result (λ fault. random_failed fault ≡ false) }
+    ensures spares { SparesTarget result }
 {
     match read_archive(alloc, keys, content) {
         Ok(archive) => Ok(archive),

@@ -1,31 +1,22 @@
 //! One archive, item by item.
-ghost use Rattle.std.specs.Prelude.{◌≡◌, ◌≢◌, ◌≤◌, ◌⊎◌, ℕ, List, Option, None, Ok, [], true, false, IfErr, IfOk, IfSome, IsSome, MatchResult, OnOk};
+ghost use Rattle.std.specs.Prelude.{◌≡◌, ◌⊎◌, ℕ, List, Option, None, Ok, [], true, false, IfErr, IfOk, IsSome, MatchResult, OnOk};
 ghost use Rattle.ferry_piece.specs.Adding.{AddsOn, BeginsSegments, IsNoChunk, SparesStore};
-ghost use Rattle.ferry_piece.specs.Fault.{random_failed, shelf_failed};
 ghost use Rattle.ferry_carry.specs.Accepting.{NamesNew};
-ghost use Rattle.ferry_carry.specs.Counting.{nothing_carried};
-ghost use Rattle.ferry_carry.specs.Flight.{AreRight, FlightFits, FlightStands, IsCommitted, IsSame, TakesTurn, flown_from};
-ghost use Rattle.ferry_carry.specs.Carrying.{origin};
-ghost use Rattle.ferry_carry.specs.Copying.{IsReady};
-ghost use Rattle.ferry_piece.specs.Gather.{GathersAt, KeepsRest, KeepsStandingAt};
-ghost use Rattle.ferry_carry.specs.Grow.{AcceptsMore, KeepsMost};
+ghost use Rattle.ferry_carry.specs.Flight.{AreRight, FlightFits, FlightStands, TakesTurn, flown_from, FitsComparing, FitsNamed, FitsCopying, archive_adds};
+ghost use Rattle.ferry_piece.specs.Gather.{GathersAt, KeepsStandingAt};
 ghost use Rattle.ferry_carry.specs.Naming.{TaggedRecord, TagsDrawn};
 ghost use Rattle.ferry_carry.specs.Progress.{IsCopiedSoFar};
 ghost use Rattle.ferry_piece.specs.Puts.{Addition, AtBegin};
-ghost use Rattle.ferry_carry.specs.Refusals.{DiffersThere, IsLimited, Leaves, RefusesComparing, RefusesName};
-ghost use Rattle.ferry_piece.specs.Stops.{StopsPieces, is_target};
 ghost use Rattle.ferry_piece.specs.Work.{Works};
-ghost use Rattle.ferry_compare.specs.Compare.{Differ, FitsTold, comparison_view};
-ghost use Rattle.ferry_disk.specs.Device.{HasCause, KeepsTold, Told, told_files};
-ghost use Rattle.ferry_manifest.specs.Manifest.Writing.{IsPackable};
+ghost use Rattle.ferry_compare.specs.Compare.{FitsTold, comparison_view};
+ghost use Rattle.ferry_disk.specs.Device.{Told};
 ghost use Rattle.ferry_repo.specs.Archives.{archive_named};
-ghost use Rattle.ferry_repo.specs.Opening.{FitsRepo, cached_in, repo_view};
-ghost use Rattle.ferry_repo.specs.Walk.{FitsWalk, walk_view};
-ghost use Rattle.ferry_store.specs.Commit.{accepted_in, IsSettled, ReadsStore};
-ghost use Rattle.ferry_store.specs.Store.{IsUnspent, StoreFits};
+ghost use Rattle.ferry_repo.specs.Opening.{repo_view};
+ghost use Rattle.ferry_carry.specs.Calls.{CanWrite, Compares, OnlyAdds, CanCompare};
+ghost use Rattle.ferry_carry.specs.States.{source_state, target_state};
+ghost use Rattle.ferry_carry.specs.Turns.{OnlyCompares, DrawsInTurn, StopsComparing, Finds, Turns, CanTurn};
 
 use crate::copy::Copy;
-use crate::naming::end_copy;
 use crate::options::{Carried, Options};
 use ferry_base::Bytes;
 use ferry_compare::{Compared, Comparison};
@@ -53,9 +44,9 @@ pub enum Turn {
 /// It owns copies of what it was begun with. It is used with the source of its begin and the store of its first step.
 #[derive(Drop)]
 pub struct Flight {
-    alloc: Global,
-    named: ArchiveRef,
-    options: Options,
+    pub(crate) alloc: Global,
+    pub(crate) named: ArchiveRef,
+    pub(crate) options: Options,
     work: Work,
     put: Carried,
 }
@@ -111,6 +102,18 @@ impl Flight {
         })
     }
 
+    /// Where its memory is from.
+    pub(crate) fn alloc(&self) -> Global {
+        self.alloc
+    }
+
+    /// The name of the archive.
+    pub(crate) fn name(&self) -> &[u8]
+        ensures { result.now ≡ self.now.named.name }
+    {
+        self.named.name.as_slice()
+    }
+
     /// The pieces that were put for the archive, once it is named.
     pub(crate) fn put(&self) -> Carried
         ensures { result ≡ self.now.put }
@@ -131,48 +134,20 @@ impl Flight {
         depot: &mut D,
         entropy: &mut E,
     ) -> Result<Turn, CarryFault>
-        requires source_fits { IfSome (S.told shelf.old) (λ t. FitsRepo (told_files t) (repo_view source.old) (cached_in source.old)) }
-        requires pending { store.old.pending ≤ self.old.options.checkpoint }
-        requires unspent { IsUnspent store.old }
-        requires fits { IfSome (D.told depot.old) (λ t. StoreFits false store.old t.history) }
-        requires packable { IsPackable (accepted_in store.old) }
-        requires accepts { AcceptsMore store.old }
-        requires committed { IsCommitted store.old self.old.named.name }
+        requires both { CanTurn self.old.options.checkpoint self.old.named.name (source_state (S.told shelf.old) (S.faults shelf.old) source.old)
+            (target_state (D.told depot.old) (D.faults depot.old) store.old) }
         requires flight { FlightFits (S.told shelf.old) (repo_view source.old) (D.told depot.old) store.old self.old }
-        ensures works { (fits : FlightFits (S.told shelf.old) (repo_view source.old) (D.told depot.old) store.old self.old) → (more : List Addition)
-            × ((records : List TaggedRecord)
-            × (TakesTurn (S.told shelf.new) (repo_view source.new) (flown_from (S.told shelf.old) (repo_view source.old) self.old) self.old.named.name
-            fits.added more records store.old store.new self.new (D.told depot.old) (D.told depot.new) (D.faults depot.old) (D.faults depot.new) result
-            × MatchResult result (λ turn. turn ≡ Turn.Named → NamesNew self.old.options.timestamp (repo_view source.old) store.old self.old.named records
-            store.new (E.drawn entropy.old) (E.drawn entropy.new))
-            (λ fault. IsNoChunk fault ⊎ TagsDrawn (repo_view store.old.repo).keys more (E.drawn entropy.old) (E.drawn entropy.new)))) }
-        ensures refused { IfErr result (RefusesName (flown_from (S.told shelf.old) (repo_view source.old) self.old) (D.told depot.old) store.old
-            (D.told depot.new) store.new self.old.named.name) }
-        ensures limit { IfErr result (IsLimited (D.told depot.new) self.old.options.timestamp (repo_view source.old) store.old self.old.named) }
-        ensures most { OnOk result (KeepsMost store.old store.new) }
-        ensures packable { OnOk result (IsPackable (accepted_in store.new)) }
-        ensures accepts { OnOk result (AcceptsMore store.new) }
-        ensures committed { OnOk result (IsCommitted store.new self.new.named.name) }
-        ensures settled { OnOk result (IsSettled store.old → IsSettled store.new) }
-        ensures pending { OnOk result (store.new.pending ≤ self.old.options.checkpoint) }
-        ensures ended { IfOk result (λ turn. turn ≢ Turn.More → store.new.pending ≡ 0) }
-        ensures fits { OnOk result (IfSome (D.told depot.new) (λ t. StoreFits false store.new t.history)) }
-        ensures unspent { OnOk result (IsUnspent store.new) }
-        // Behind a refusal that isn't the target's the store can be used on, by other flights too.
-        ensures left { IfErr result (Leaves self.old.options.checkpoint store.old (D.told depot.new) store.new) }
-        ensures source_fits { IfSome (S.told shelf.new) (λ t. FitsRepo (told_files t) (repo_view source.new) (cached_in source.new)) }
-        ensures kept { repo_view source.new ≡ repo_view source.old }
-        ensures same { KeepsTold shelf_failed (S.told shelf.old) (S.told shelf.new) result }
-        ensures cause { HasCause shelf_failed (S.faults shelf.old) (S.faults shelf.new) result }
-        ensures entropy { HasCause random_failed (E.faults entropy.old) (E.faults entropy.new) result }
-        // An archive is named whose name was in no archive that the store had accepted, and answered as present where its name was in one.
-        ensures more { result ≡ Ok Turn.More → accepted_in store.new ≡ accepted_in store.old }
-        ensures new { result ≡ Ok Turn.Named → archive_named self.old.named.name (accepted_in store.old).archives ≡ None }
-        ensures there { result ≡ Ok Turn.Present → IsSome (archive_named self.old.named.name (accepted_in store.old).archives) }
-        ensures undrawn { IfOk result (λ turn. turn ≢ Turn.Named → E.drawn entropy.new ≡ E.drawn entropy.old) }
-        ensures still { result ≡ Ok Turn.Present → accepted_in store.new ≡ accepted_in store.old }
-        ensures name { self.new.named ≡ self.old.named }
-        ensures options { self.new.options ≡ self.old.options }
+        ensures works { (fits : FlightFits (S.told shelf.old) (repo_view source.old) (D.told depot.old) store.old self.old) → (more : List Addition) ×
+            ((records : List TaggedRecord) × (TakesTurn (S.told shelf.new) (repo_view source.new)
+            (flown_from (S.told shelf.old) (repo_view source.old) self.old) (archive_adds self.old.named.name fits.added more records)
+            (target_state (D.told depot.old) (D.faults depot.old) store.old) (target_state (D.told depot.new) (D.faults depot.new) store.new) self.new
+            result × MatchResult result (λ turn. turn ≡ Turn.Named → NamesNew self.old.options.timestamp (repo_view source.old) store.old
+            self.old.named records store.new (E.drawn entropy.old) (E.drawn entropy.new)) (λ fault. IsNoChunk fault ⊎ TagsDrawn
+            (repo_view store.old.repo).keys more (E.drawn entropy.old) (E.drawn entropy.new)))) }
+        ensures draws { DrawsInTurn (E.drawn entropy.old) (E.drawn entropy.new) (E.faults entropy.old) (E.faults entropy.new) result }
+        ensures turn { Turns self.old self.new (source_state (S.told shelf.old) (S.faults shelf.old) source.old)
+            (source_state (S.told shelf.new) (S.faults shelf.new) source.new) (target_state (D.told depot.old) (D.faults depot.old) store.old)
+            (target_state (D.told depot.new) (D.faults depot.new) store.new) result }
     {
         match mem::replace(&mut self.work, Work::Waiting) {
             Work::Waiting => self.take_first(source, shelf, store, depot, entropy),
@@ -190,46 +165,19 @@ impl Flight {
         depot: &mut D,
         entropy: &mut E,
     ) -> Result<Turn, CarryFault>
-        requires source_fits { IfSome (S.told shelf.old) (λ t. FitsRepo (told_files t) (repo_view source.old) (cached_in source.old)) }
-        requires pending { store.old.pending ≤ self.old.options.checkpoint }
-        requires unspent { IsUnspent store.old }
-        requires fits { IfSome (D.told depot.old) (λ t. StoreFits false store.old t.history) }
-        requires packable { IsPackable (accepted_in store.old) }
-        requires accepts { AcceptsMore store.old }
-        requires committed { IsCommitted store.old self.old.named.name }
+        requires both { CanTurn self.old.options.checkpoint self.old.named.name (source_state (S.told shelf.old) (S.faults shelf.old) source.old)
+            (target_state (D.told depot.old) (D.faults depot.old) store.old) }
         requires flight { FlightStands (repo_view source.old) self.old }
-        requires uncounted { self.old.put ≡ nothing_carried }
-        ensures works { (more : List Addition) × ((records : List TaggedRecord)
-            × (TakesTurn (S.told shelf.new) (repo_view source.new) (flown_from (S.told shelf.old) (repo_view source.old) self.old) self.old.named.name
-            [] more records store.old store.new self.new (D.told depot.old) (D.told depot.new) (D.faults depot.old) (D.faults depot.new) result
-            × MatchResult result (λ turn. turn ≡ Turn.Named → NamesNew self.old.options.timestamp (repo_view source.old) store.old self.old.named records
-            store.new (E.drawn entropy.old) (E.drawn entropy.new))
-            (λ fault. IsNoChunk fault ⊎ TagsDrawn (repo_view store.old.repo).keys more (E.drawn entropy.old) (E.drawn entropy.new)))) }
-        ensures refused { IfErr result (RefusesName (flown_from (S.told shelf.old) (repo_view source.old) self.old) (D.told depot.old) store.old
-            (D.told depot.new) store.new self.old.named.name) }
-        ensures limit { IfErr result (IsLimited (D.told depot.new) self.old.options.timestamp (repo_view source.old) store.old self.old.named) }
-        ensures most { OnOk result (KeepsMost store.old store.new) }
-        ensures packable { OnOk result (IsPackable (accepted_in store.new)) }
-        ensures accepts { OnOk result (AcceptsMore store.new) }
-        ensures committed { OnOk result (IsCommitted store.new self.new.named.name) }
-        ensures settled { OnOk result (IsSettled store.old → IsSettled store.new) }
-        ensures pending { OnOk result (store.new.pending ≤ self.old.options.checkpoint) }
-        ensures ended { IfOk result (λ turn. turn ≢ Turn.More → store.new.pending ≡ 0) }
-        ensures fits { OnOk result (IfSome (D.told depot.new) (λ t. StoreFits false store.new t.history)) }
-        ensures unspent { OnOk result (IsUnspent store.new) }
-        ensures left { IfErr result (Leaves self.old.options.checkpoint store.old (D.told depot.new) store.new) }
-        ensures source_fits { IfSome (S.told shelf.new) (λ t. FitsRepo (told_files t) (repo_view source.new) (cached_in source.new)) }
-        ensures kept { repo_view source.new ≡ repo_view source.old }
-        ensures same { KeepsTold shelf_failed (S.told shelf.old) (S.told shelf.new) result }
-        ensures cause { HasCause shelf_failed (S.faults shelf.old) (S.faults shelf.new) result }
-        ensures entropy { HasCause random_failed (E.faults entropy.old) (E.faults entropy.new) result }
-        ensures more { result ≡ Ok Turn.More → accepted_in store.new ≡ accepted_in store.old }
-        ensures new { result ≡ Ok Turn.Named → archive_named self.old.named.name (accepted_in store.old).archives ≡ None }
-        ensures there { result ≡ Ok Turn.Present → IsSome (archive_named self.old.named.name (accepted_in store.old).archives) }
-        ensures undrawn { IfOk result (λ turn. turn ≢ Turn.Named → E.drawn entropy.new ≡ E.drawn entropy.old) }
-        ensures still { result ≡ Ok Turn.Present → accepted_in store.new ≡ accepted_in store.old }
-        ensures name { self.new.named ≡ self.old.named }
-        ensures options { self.new.options ≡ self.old.options }
+        ensures works { (more : List Addition) × ((records : List TaggedRecord) × (TakesTurn (S.told shelf.new) (repo_view source.new)
+            (flown_from (S.told shelf.old) (repo_view source.old) self.old) (archive_adds self.old.named.name [] more records)
+            (target_state (D.told depot.old) (D.faults depot.old) store.old) (target_state (D.told depot.new) (D.faults depot.new) store.new) self.new
+            result × MatchResult result (λ turn. turn ≡ Turn.Named → NamesNew self.old.options.timestamp (repo_view source.old) store.old
+            self.old.named records store.new (E.drawn entropy.old) (E.drawn entropy.new)) (λ fault. IsNoChunk fault ⊎ TagsDrawn
+            (repo_view store.old.repo).keys more (E.drawn entropy.old) (E.drawn entropy.new)))) }
+        ensures draws { DrawsInTurn (E.drawn entropy.old) (E.drawn entropy.new) (E.faults entropy.old) (E.faults entropy.new) result }
+        ensures turn { Turns self.old self.new (source_state (S.told shelf.old) (S.faults shelf.old) source.old)
+            (source_state (S.told shelf.new) (S.faults shelf.new) source.new) (target_state (D.told depot.old) (D.faults depot.old) store.old)
+            (target_state (D.told depot.new) (D.faults depot.new) store.new) result }
     {
         if store.has(self.named.name.as_slice()) {
             let comparison = self.begin_comparing(source, shelf, store, depot)?;
@@ -250,54 +198,23 @@ impl Flight {
         entropy: &mut E,
         copy: Copy,
     ) -> Result<Turn, CarryFault>
-        requires source_fits { IfSome (S.told shelf.old) (λ t. FitsRepo (told_files t) (repo_view source.old) (cached_in source.old)) }
-        requires pending { store.old.pending ≤ self.old.options.checkpoint }
-        requires unspent { IsUnspent store.old }
-        requires fits { IfSome (D.told depot.old) (λ t. StoreFits false store.old t.history) }
-        requires packable { IsPackable (accepted_in store.old) }
-        requires accepts { AcceptsMore store.old }
-        requires committed { IsCommitted store.old self.old.named.name }
+        requires both { CanTurn self.old.options.checkpoint self.old.named.name (source_state (S.told shelf.old) (S.faults shelf.old) source.old)
+            (target_state (D.told depot.old) (D.faults depot.old) store.old) }
+        requires copy { (added : List Addition) × FitsCopying (S.told shelf.old) (repo_view source.old) (D.told depot.old) store.old self.old.named
+            self.old.options added copy }
         requires flight { FlightStands (repo_view source.old) self.old }
-        requires uncounted { self.old.put ≡ nothing_carried }
-        requires ready { IsReady copy }
-        requires unnamed { archive_named self.old.named.name (accepted_in store.old).archives ≡ None }
-        requires walk_fits { IfSome (S.told shelf.old) (λ t.
-            FitsWalk (told_files t) (repo_view source.old).log (repo_view source.old).keys (walk_view copy.walk)) }
-        requires copied { (added : List Addition)
-            × IsCopiedSoFar (flown_from (S.told shelf.old) (repo_view source.old) self.old) self.old.named (D.told depot.old) store.old copy added }
-        ensures works { (added : List Addition)
-            → IsCopiedSoFar (flown_from (S.told shelf.old) (repo_view source.old) self.old) self.old.named (D.told depot.old) store.old copy added
-            → (more : List Addition) × ((records : List TaggedRecord)
-            × (TakesTurn (S.told shelf.new) (repo_view source.new) (flown_from (S.told shelf.old) (repo_view source.old) self.old) self.old.named.name
-            added more records store.old store.new self.new (D.told depot.old) (D.told depot.new) (D.faults depot.old) (D.faults depot.new) result
-            × MatchResult result (λ turn. turn ≡ Turn.Named → NamesNew self.old.options.timestamp (repo_view source.old) store.old self.old.named records
-            store.new (E.drawn entropy.old) (E.drawn entropy.new))
-            (λ fault. IsNoChunk fault ⊎ TagsDrawn (repo_view store.old.repo).keys more (E.drawn entropy.old) (E.drawn entropy.new)))) }
-        ensures refused { IfErr result (RefusesName (flown_from (S.told shelf.old) (repo_view source.old) self.old) (D.told depot.old) store.old
-            (D.told depot.new) store.new self.old.named.name) }
-        ensures limit { IfErr result (IsLimited (D.told depot.new) self.old.options.timestamp (repo_view source.old) store.old self.old.named) }
-        ensures most { OnOk result (KeepsMost store.old store.new) }
-        ensures packable { OnOk result (IsPackable (accepted_in store.new)) }
-        ensures accepts { OnOk result (AcceptsMore store.new) }
-        ensures committed { OnOk result (IsCommitted store.new self.new.named.name) }
-        ensures settled { OnOk result (IsSettled store.old → IsSettled store.new) }
-        ensures pending { OnOk result (store.new.pending ≤ self.old.options.checkpoint) }
-        ensures ended { IfOk result (λ turn. turn ≢ Turn.More → store.new.pending ≡ 0) }
-        ensures fits { OnOk result (IfSome (D.told depot.new) (λ t. StoreFits false store.new t.history)) }
-        ensures unspent { OnOk result (IsUnspent store.new) }
-        ensures left { IfErr result (Leaves self.old.options.checkpoint store.old (D.told depot.new) store.new) }
-        ensures source_fits { IfSome (S.told shelf.new) (λ t. FitsRepo (told_files t) (repo_view source.new) (cached_in source.new)) }
-        ensures kept { repo_view source.new ≡ repo_view source.old }
-        ensures same { KeepsTold shelf_failed (S.told shelf.old) (S.told shelf.new) result }
-        ensures cause { HasCause shelf_failed (S.faults shelf.old) (S.faults shelf.new) result }
-        ensures entropy { HasCause random_failed (E.faults entropy.old) (E.faults entropy.new) result }
-        ensures more { result ≡ Ok Turn.More → accepted_in store.new ≡ accepted_in store.old }
-        ensures new { result ≡ Ok Turn.Named → archive_named self.old.named.name (accepted_in store.old).archives ≡ None }
-        ensures there { result ≡ Ok Turn.Present → IsSome (archive_named self.old.named.name (accepted_in store.old).archives) }
-        ensures undrawn { IfOk result (λ turn. turn ≢ Turn.Named → E.drawn entropy.new ≡ E.drawn entropy.old) }
-        ensures still { result ≡ Ok Turn.Present → accepted_in store.new ≡ accepted_in store.old }
-        ensures name { self.new.named ≡ self.old.named }
-        ensures options { self.new.options ≡ self.old.options }
+        ensures works { (added : List Addition) → IsCopiedSoFar (flown_from (S.told shelf.old) (repo_view source.old) self.old) self.old.named
+            (D.told depot.old) store.old copy added → (more : List Addition) × ((records : List TaggedRecord) × (TakesTurn (S.told shelf.new)
+            (repo_view source.new) (flown_from (S.told shelf.old) (repo_view source.old) self.old)
+            (archive_adds self.old.named.name added more records) (target_state (D.told depot.old) (D.faults depot.old) store.old)
+            (target_state (D.told depot.new) (D.faults depot.new) store.new) self.new result × MatchResult result (λ turn. turn ≡ Turn.Named →
+            NamesNew self.old.options.timestamp (repo_view source.old) store.old self.old.named records store.new (E.drawn entropy.old)
+            (E.drawn entropy.new)) (λ fault. IsNoChunk fault ⊎ TagsDrawn (repo_view store.old.repo).keys more (E.drawn entropy.old)
+            (E.drawn entropy.new)))) }
+        ensures draws { DrawsInTurn (E.drawn entropy.old) (E.drawn entropy.new) (E.faults entropy.old) (E.faults entropy.new) result }
+        ensures turn { Turns self.old self.new (source_state (S.told shelf.old) (S.faults shelf.old) source.old)
+            (source_state (S.told shelf.new) (S.faults shelf.new) source.new) (target_state (D.told depot.old) (D.faults depot.old) store.old)
+            (target_state (D.told depot.new) (D.faults depot.new) store.new) result }
     {
         let mut copy = copy;
         match copy.step(source, shelf, store, depot) {
@@ -306,15 +223,7 @@ impl Flight {
                 Ok(Turn::More)
             }
             Ok(false) => {
-                let put = end_copy(
-                    &mut copy,
-                    source,
-                    store,
-                    depot,
-                    entropy,
-                    &self.named,
-                    &self.options.timestamp,
-                );
+                let put = self.end_copy(&mut copy, source, store, depot, entropy);
                 drop(copy);
                 self.put = put?;
                 Ok(Turn::Named)
@@ -335,46 +244,18 @@ impl Flight {
         depot: &mut D,
         comparison: Comparison,
     ) -> Result<Turn, CarryFault>
-        requires source_fits { IfSome (S.told shelf.old) (λ t. FitsRepo (told_files t) (repo_view source.old) (cached_in source.old)) }
-        requires pending { store.old.pending ≤ self.old.options.checkpoint }
-        requires unspent { IsUnspent store.old }
-        requires fits { IfSome (D.told depot.old) (λ t. StoreFits false store.old t.history) }
-        requires packable { IsPackable (accepted_in store.old) }
-        requires accepts { AcceptsMore store.old }
-        requires committed { IsCommitted store.old self.old.named.name }
+        requires both { CanTurn self.old.options.checkpoint self.old.named.name (source_state (S.told shelf.old) (S.faults shelf.old) source.old)
+            (target_state (D.told depot.old) (D.faults depot.old) store.old) }
+        requires comparison { FitsComparing (S.told shelf.old) (repo_view source.old) (D.told depot.old) (repo_view store.old.repo)
+            self.old.named.name comparison }
         requires flight { FlightStands (repo_view source.old) self.old }
-        requires uncounted { self.old.put ≡ nothing_carried }
-        requires comparison { FitsTold (S.told shelf.old) (repo_view source.old) (D.told depot.old) (repo_view store.old.repo) (comparison_view comparison) }
-        requires same_name { (comparison_view comparison).name ≡ self.old.named.name }
-        requires there { IsSome (archive_named self.old.named.name (repo_view store.old.repo).manifest.archives) }
         ensures works { TakesTurn (S.told shelf.new) (repo_view source.new) (flown_from (S.told shelf.old) (repo_view source.old) self.old)
-            self.old.named.name [] [] [] store.old store.new self.new
-            (D.told depot.old) (D.told depot.new) (D.faults depot.old) (D.faults depot.new) result }
-        ensures refused { IfErr result (RefusesName (flown_from (S.told shelf.old) (repo_view source.old) self.old) (D.told depot.old) store.old
-            (D.told depot.new) store.new self.old.named.name) }
-        ensures limit { IfErr result (IsLimited (D.told depot.new) self.old.options.timestamp (repo_view source.old) store.old self.old.named) }
-        ensures most { OnOk result (KeepsMost store.old store.new) }
-        ensures packable { OnOk result (IsPackable (accepted_in store.new)) }
-        ensures accepts { OnOk result (AcceptsMore store.new) }
-        ensures committed { OnOk result (IsCommitted store.new self.new.named.name) }
-        ensures settled { OnOk result (IsSettled store.old → IsSettled store.new) }
-        ensures pending { OnOk result (store.new.pending ≤ self.old.options.checkpoint) }
-        ensures ended { IfOk result (λ turn. turn ≢ Turn.More → store.new.pending ≡ 0) }
-        ensures fits { OnOk result (IfSome (D.told depot.new) (λ t. StoreFits false store.new t.history)) }
-        ensures unspent { OnOk result (IsUnspent store.new) }
-        ensures left { IfErr result (Leaves self.old.options.checkpoint store.old (D.told depot.new) store.new) }
-        ensures source_fits { IfSome (S.told shelf.new) (λ t. FitsRepo (told_files t) (repo_view source.new) (cached_in source.new)) }
-        ensures kept { repo_view source.new ≡ repo_view source.old }
-        ensures same { KeepsTold shelf_failed (S.told shelf.old) (S.told shelf.new) result }
-        ensures cause { HasCause shelf_failed (S.faults shelf.old) (S.faults shelf.new) result }
-        ensures drawn { IfErr result (λ fault. random_failed fault ≡ false) }
-        ensures more { result ≡ Ok Turn.More → accepted_in store.new ≡ accepted_in store.old }
-        ensures new { result ≡ Ok Turn.Named → archive_named self.old.named.name (accepted_in store.old).archives ≡ None }
-        ensures there { result ≡ Ok Turn.Present → IsSome (archive_named self.old.named.name (accepted_in store.old).archives) }
-        ensures unnamed { result ≢ Ok Turn.Named }
-        ensures still { result ≡ Ok Turn.Present → accepted_in store.new ≡ accepted_in store.old }
-        ensures name { self.new.named ≡ self.old.named }
-        ensures options { self.new.options ≡ self.old.options }
+            (archive_adds self.old.named.name [] [] []) (target_state (D.told depot.old) (D.faults depot.old) store.old)
+            (target_state (D.told depot.new) (D.faults depot.new) store.new) self.new result }
+        ensures only { OnlyCompares result }
+        ensures turn { Turns self.old self.new (source_state (S.told shelf.old) (S.faults shelf.old) source.old)
+            (source_state (S.told shelf.new) (S.faults shelf.new) source.new) (target_state (D.told depot.old) (D.faults depot.old) store.old)
+            (target_state (D.told depot.new) (D.faults depot.new) store.new) result }
     {
         let mut comparison = comparison;
         let compared = compare_item(source, shelf, store, depot, &mut comparison);
@@ -395,24 +276,18 @@ impl Flight {
         store: &mut Store,
         depot: &mut D,
     ) -> Result<Comparison, CarryFault>
-        requires source_fits { IfSome (S.told shelf.old) (λ t. FitsRepo (told_files t) (repo_view source.old) (cached_in source.old)) }
-        requires fits { IfSome (D.told depot.old) (λ t. StoreFits false store.old t.history) }
+        requires both { CanCompare (source_state (S.told shelf.old) (S.faults shelf.old) source.old)
+            (target_state (D.told depot.old) (D.faults depot.old) store.old) }
         requires flight { FlightStands (repo_view source.old) self.now }
         requires there { IsSome (archive_named self.now.named.name (repo_view store.old.repo).manifest.archives) }
         ensures works { (most : ℕ) → AddsOn most store.old [] store.new
             (D.told depot.old) (D.told depot.new) (D.faults depot.old) (D.faults depot.new) result }
-        ensures read { ReadsStore store.old store.new }
-        ensures comparison { IfOk result (λ comparison. FitsTold (S.told shelf.new) (repo_view source.new) (D.told depot.new) (repo_view store.new.repo)
-            (comparison_view comparison)) }
-        ensures name { IfOk result (λ comparison. (comparison_view comparison).name ≡ self.now.named.name) }
-        ensures refused { IfErr result (RefusesComparing (S.told shelf.old) (repo_view source.old) self.now.named.name) }
-        ensures fits { IfSome (D.told depot.new) (λ t. StoreFits false store.new t.history) }
-        ensures stops { IfErr result (StopsPieces (D.told depot.new) (repo_view store.old.repo).keys) }
-        ensures source_fits { IfSome (S.told shelf.new) (λ t. FitsRepo (told_files t) (repo_view source.new) (cached_in source.new)) }
-        ensures kept { repo_view source.new ≡ repo_view source.old }
-        ensures same { KeepsTold shelf_failed (S.told shelf.old) (S.told shelf.new) result }
-        ensures cause { HasCause shelf_failed (S.faults shelf.old) (S.faults shelf.new) result }
-        ensures drawn { IfErr result (λ fault. random_failed fault ≡ false) }
+        ensures comparison { IfOk result (FitsNamed (S.told shelf.new) (repo_view source.new) (D.told depot.new) (repo_view store.new.repo)
+            self.now.named.name) }
+        ensures refused { StopsComparing (S.told shelf.old) (repo_view source.old) self.now.named.name result }
+        ensures both { Compares (source_state (S.told shelf.old) (S.faults shelf.old) source.old)
+            (source_state (S.told shelf.new) (S.faults shelf.new) source.new) (target_state (D.told depot.old) (D.faults depot.old) store.old)
+            (target_state (D.told depot.new) (D.faults depot.new) store.new) result }
     {
         let name = self.named.name.as_slice();
         let comparison = Comparison::begin(self.alloc, source, shelf, store.repo(), depot, name)?;
@@ -429,31 +304,20 @@ fn compare_item<S: Shelf, D: Depot>(
     depot: &mut D,
     comparison: &mut Comparison,
 ) -> Result<Compared, CarryFault>
-    requires source_fits { IfSome (S.told shelf.old) (λ t. FitsRepo (told_files t) (repo_view source.old) (cached_in source.old)) }
-    requires fits { IfSome (D.told depot.old) (λ t. StoreFits false store.old t.history) }
+    requires both { CanCompare (source_state (S.told shelf.old) (S.faults shelf.old) source.old)
+        (target_state (D.told depot.old) (D.faults depot.old) store.old) }
     requires comparison { FitsTold (S.told shelf.old) (repo_view source.old) (D.told depot.old) (repo_view store.old.repo) (comparison_view comparison.old) }
     ensures works { (most : ℕ) → AddsOn most store.old [] store.new
         (D.told depot.old) (D.told depot.new) (D.faults depot.old) (D.faults depot.new) result }
-    ensures read { ReadsStore store.old store.new }
     ensures comparison { result ≡ Ok Compared.More → FitsTold (S.told shelf.new) (repo_view source.new) (D.told depot.new) (repo_view store.new.repo)
         (comparison_view comparison.new) }
     ensures name { (comparison_view comparison.new).name ≡ (comparison_view comparison.old).name }
-    ensures equal { result ≡ Ok Compared.Equal → (block most : ℕ) (time : Option (List ℕ))
-        → IsSame (origin (S.told shelf.old) (repo_view source.old) block most time) (D.told depot.new)
-        (repo_view store.new.repo) (comparison_view comparison.old).name }
-    ensures differs { result ≡ Ok Compared.Differs → Differ (S.told shelf.old) (repo_view source.old) (D.told depot.old) (repo_view store.old.repo)
-        (comparison_view comparison.old).name }
-    ensures differs_now { result ≡ Ok Compared.Differs → (block most : ℕ) (time : Option (List ℕ))
-        → DiffersThere (origin (S.told shelf.old) (repo_view source.old) block most time)
-        (D.told depot.new) (repo_view store.new.repo) (comparison_view comparison.old).name }
-    ensures refused { IfErr result (RefusesComparing (S.told shelf.old) (repo_view source.old) (comparison_view comparison.old).name) }
-    ensures fits { IfSome (D.told depot.new) (λ t. StoreFits false store.new t.history) }
-    ensures stops { IfErr result (StopsPieces (D.told depot.new) (repo_view store.old.repo).keys) }
-    ensures source_fits { IfSome (S.told shelf.new) (λ t. FitsRepo (told_files t) (repo_view source.new) (cached_in source.new)) }
-    ensures kept { repo_view source.new ≡ repo_view source.old }
-    ensures same { KeepsTold shelf_failed (S.told shelf.old) (S.told shelf.new) result }
-    ensures cause { HasCause shelf_failed (S.faults shelf.old) (S.faults shelf.new) result }
-    ensures drawn { IfErr result (λ fault. random_failed fault ≡ false) }
+    ensures found { Finds (S.told shelf.old) (repo_view source.old) (D.told depot.new) (repo_view store.new.repo) (comparison_view
+        comparison.old).name result }
+    ensures refused { StopsComparing (S.told shelf.old) (repo_view source.old) (comparison_view comparison.old).name result }
+    ensures both { Compares (source_state (S.told shelf.old) (S.faults shelf.old) source.old)
+        (source_state (S.told shelf.new) (S.faults shelf.new) source.new) (target_state (D.told depot.old) (D.faults depot.old) store.old)
+        (target_state (D.told depot.new) (D.faults depot.new) store.new) result }
 {
     let compared = comparison.step(source, shelf, store.repo(), depot)?;
     Ok(compared)
@@ -461,21 +325,14 @@ fn compare_item<S: Shelf, D: Depot>(
 
 /// Answers that an archive is there, with nothing pending, so that each stop shows what was compared.
 fn present<D: Depot>(store: &mut Store, depot: &mut D) -> Result<Turn, CarryFault>
-    requires unspent { IsUnspent store.old }
-    requires fits { IfSome (D.told depot.old) (λ t. StoreFits false store.old t.history) }
+    requires target { CanWrite (D.told depot.old) store.old }
     ensures works { (most : ℕ) → Works (KeepsStandingAt AtBegin most store.old []) (λ _. GathersAt AtBegin most store.old [] store.new)
         (D.told depot.old) (D.told depot.new) (D.faults depot.old) (D.faults depot.new) result }
     ensures spent { IfErr result (λ fault. SparesStore fault → ⊥) }
     ensures few { BeginsSegments 1 store.old store.new result }
     ensures present { IfOk result (λ turn. turn ≡ Turn.Present) }
     ensures pending { OnOk result (store.new.pending ≡ 0) }
-    ensures rest { OnOk result (KeepsRest store.old store.new) }
-    ensures fits { OnOk result (IfSome (D.told depot.new) (λ t. StoreFits false store.new t.history)) }
-    ensures stops { IfErr result (StopsPieces (D.told depot.new) (repo_view store.old.repo).keys) }
-    ensures unspent { OnOk result (IsUnspent store.new) }
-    ensures target { IfErr result (λ fault. is_target fault ≡ true) }
-    ensures drawn { IfErr result (λ fault. random_failed fault ≡ false) }
-    ensures shelf { IfErr result (λ fault. shelf_failed fault ≡ false) }
+    ensures target { OnlyAdds store.old (D.told depot.new) store.new result }
 {
     if store.pending() == 0 {
         return Ok(Turn::Present);

@@ -8,6 +8,7 @@ ghost use Rattle.ferry_carry.specs.Naming.{TaggedRecord};
 ghost use Rattle.ferry_carry.specs.Over.{GoesOver, OthersDid};
 ghost use Rattle.ferry_carry.specs.Refusals.{IsLeft};
 ghost use Rattle.ferry_carry.specs.declared.flight.Flight.{Flight};
+ghost use Rattle.ferry_carry.specs.States.{target_state};
 ghost use Rattle.ferry_carry.specs.declared.flight.Turn.{Turn};
 ghost use Rattle.ferry_disk.specs.Device.{Told, heard};
 ghost use Rattle.ferry_manifest.specs.declared.manifest.ArchiveRef.{ArchiveRef};
@@ -35,7 +36,8 @@ pub fn flight_laws()
         → OthersDid names added store store_now a b → (IsAmong names name → ⊥) → IsCommitted store name → IsCommitted store_now name }
     // That is what a turn of another did,
     ensures turn { (earlier : List Addition) (from : Origin) (name : List ℕ) (added : List Addition) (store store_now : Store) (a b : Option Told)
-        (count after : ℕ) (turn : Turn) → Flies earlier from name added store store_now a b count after (Ok turn) → KeepsMost store store_now
+        (count after : ℕ) (turn : Turn) → Flies earlier from name added (target_state a count store) (target_state b after store_now) (Ok turn)
+        → KeepsMost store store_now
         → IsNamedBy (accepted_in store) (name ∷ []) (accepted_in store_now) → OthersDid (name ∷ []) added store store_now a b }
     // by which its archive alone can be accepted,
     ensures named { (given : Option (List ℕ)) (source : RepoState) (store : Store) (named : ArchiveRef) (records : List TaggedRecord) (store_now : Store)
@@ -44,7 +46,7 @@ pub fn flight_laws()
     // and one that was refused, but not by the target.
     ensures refused { (earlier : List Addition) (from : Origin) (name : List ℕ) (at : Border) (limit most : ℕ) (added : List Addition)
         (store store_now : Store) (a b : Option Told) (count after : ℕ) (fault : CarryFault)
-        → Flies earlier from name added store store_now a b count after (Err fault)
+        → Flies earlier from name added (target_state a count store) (target_state b after store_now) (Err fault)
         → HoldsRefused {T = Turn} at limit store added store_now a b (Err fault) → is_target fault ≡ false → IsLeft most store b store_now
         → OthersDid [] added store store_now a b }
     // Over a source that others read.

@@ -18,5 +18,5 @@ pub use chosen::{carry, missing_name};
 pub use ferry_piece::CarryFault;
 pub use flight::{Flight, Turn};
 pub use laws::flight_laws;
-pub use naming::end_stream;
+pub use naming::{copied_archive, put_record};
 pub use options::{Carried, Options};

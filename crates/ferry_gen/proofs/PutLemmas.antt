@@ -1,17 +1,14 @@
 -- Lemmas on specs/Steps.antt: contents that are added, one after another, up to the record of an archive.
-use Rattle.std.proofs.Common.{◌≡◌, ◌≤◌, ◌<◌, ℕ, List, [], ◌∷◌, ◌++◌, length, map, All, true, Some, Option, Result, Ok, Err, IfOk, OnOk}
+use Rattle.std.proofs.Common.{◌≡◌, ◌≤◌, ℕ, List, [], ◌∷◌, ◌++◌, length, All, Option, Result, Ok, Err, IfOk, OnOk}
 use Rattle.std.proofs.Common.{refl, sym, ◌∙◌, ap, subst, arith}
 use Rattle.std.proofs.lemmas.List.{append_assoc, map-append}
-use Rattle.std.proofs.lemmas.Result.{IfOk-weaker}
 use Rattle.std.proofs.lemmas.List.Elements.{All-head, All-tail}
 use Rattle.std.specs.List.{AllByRecursion}
 use Rattle.ferry_base.specs.Limits.{content_limit}
-use Rattle.ferry_blob.specs.Blob.{content_id}
-use Rattle.ferry_carry.specs.Copied.{IsCopyOf, IsRead, adds_of, contents_of, copied_item, copied_stream, stream_block, stream_pieces}
+use Rattle.ferry_carry.specs.Copied.{IsRead, contents_of, copied_item, copied_stream, stream_block, stream_pieces}
 use Rattle.ferry_carry.specs.Naming.{copied_in}
 use Rattle.ferry_carry.specs.Naming.{PutsRecord as PutsUnder}
 use Rattle.ferry_disk.proofs.MomentLemmas.{between_map, between_then}
-use Rattle.ferry_disk.specs.Act.{History}
 use Rattle.ferry_disk.specs.Device.{Told}
 use Rattle.ferry_disk.specs.Moments.{Between}
 use Rattle.ferry_item.specs.declared.item.ChunkRef.{ChunkRef}
@@ -23,7 +20,7 @@ use Rattle.ferry_piece.proofs.PutsLemmas.{contents_append}
 use Rattle.ferry_piece.specs.Adding.{AddsOn}
 use Rattle.ferry_piece.specs.Gather.{Gathers, KeepsRest, chunk_of, chunks_of}
 use Rattle.ferry_piece.specs.Piece.{CountsOn, WritesOn}
-use Rattle.ferry_piece.specs.Puts.{Addition, ArePieces, Content, Stream, contents_in}
+use Rattle.ferry_piece.specs.Puts.{Addition, Content, contents_in}
 use Rattle.ferry_piece.specs.declared.piece.PieceWriter.{PieceWriter}
 use Rattle.ferry_piece.specs.declared.fault.CarryFault.{CarryFault}
 use Rattle.ferry_rechunk.proofs.CutLemmas.{cut_sizes}
@@ -35,7 +32,7 @@ use Rattle.ferry_store.specs.declared.store.Store.{Store}
 use Rattle.ferry_write.specs.Script.{AllDone}
 use Rattle.ferry_gen.proofs.ListLemmas.{drill_few, ids_of}
 use Rattle.ferry_gen.specs.Archives.{drill_items}
-use Rattle.ferry_gen.specs.Fields.{IsNewRecord, archive_fields}
+use Rattle.ferry_gen.specs.Fields.{IsNewRecord}
 use Rattle.ferry_gen.specs.Source.{source_block}
 use Rattle.ferry_gen.specs.Steps.{IsWritten, Puts, PutsArchive, PutsRecord, most_pending}
 
@@ -156,13 +153,13 @@ written_chunks keys keys_now block bytes store now a b writer same wrote =
 
 -- ---- the record
 
--- what is left of a stream, and the record
-pub record_puts : (r : Result (List ℕ) CarryFault) (most : ℕ) (last more : List Addition) (pieces : List (List ℕ)) (archive : ℕ) (keys : Keys)
-    (text : ArchiveText) (chunks : List ChunkRef) (store now : Store) (a b : Option Told) (n m : ℕ) (before after : Option (List ℕ)) → most ≡ most_pending
-    → IsNewRecord archive text → AddsOn {T = List ℕ} most store (last ++ more) now a b n m r → ArePieces Stream pieces last
-    → PutsUnder keys (copied_in text source_block chunks) more before after r → IfOk r (PutsRecord archive keys chunks pieces store now a b)
-record_puts (Err fault) most last more pieces archive keys text chunks store now a b n m before after same is adds last_is under = tt
-record_puts (Ok id) most last more pieces archive keys text chunks store now a b n m before after same is adds last_is under =
+-- a record that was added
+pub record_puts : (r : Result (List ℕ) CarryFault) (more : List Addition) (archive : ℕ) (keys : Keys) (text : ArchiveText) (chunks : List ChunkRef)
+    (store now : Store) (a b : Option Told) (n m : ℕ) (before after : Option (List ℕ)) → IsNewRecord archive text
+    → AddsOn {T = List ℕ} most_pending store more now a b n m r → PutsUnder keys (copied_in text source_block chunks) more before after r
+    → IfOk r (PutsRecord archive keys chunks [] store now a b)
+record_puts (Err fault) more archive keys text chunks store now a b n m before after is adds under = tt
+record_puts (Ok id) more archive keys text chunks store now a b n m before after is adds under =
     let record_is = under.adds in record {
       text = record_is.text;
       salt = record_is.salt;
@@ -176,9 +173,7 @@ record_puts (Ok id) most last more pieces archive keys text chunks store now a b
       reads = record_is.reads;
       small = record_is.small;
       id_is = under.id_is;
-      puts = puts_of {T = List ℕ} most (last ++ more) (pieces ++ record_is.text ∷ []) store now a b n m id same
-          (contents_append last more ∙ (ap (λ (l : List (List ℕ)). l ++ contents_in more) last_is.0
-          ∙ ap (λ (l : List Addition). pieces ++ contents_in l) record_is.more_is)) adds;
+      puts = puts_of {T = List ℕ} most_pending more (record_is.text ∷ []) store now a b n m id refl (ap contents_in record_is.more_is) adds;
     }
 
 -- the same behind pieces of the stream that became whole

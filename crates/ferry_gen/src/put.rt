@@ -20,7 +20,7 @@ ghost use Rattle.ferry_msgpack.specs.View.{value_view};
 use crate::content::file_content;
 use crate::fields::{item_fields, new_record};
 use ferry_base::Id;
-use ferry_carry::end_stream;
+use ferry_carry::copied_archive;
 use ferry_disk::{Depot, Entropy};
 use ferry_item::{ChunkRef, ChunkRefs, Item, write_item};
 use ferry_msgpack::Value;
@@ -264,7 +264,9 @@ fn put_record<D: Depot, E: Entropy>(
     ensures cause { HasCause target_failed (D.faults depot.old) (D.faults depot.new) result }
 {
     let mut made = new_record(alloc, archive)?;
-    end_stream(alloc, store, depot, entropy, &mut made, BLOCK, stream)
+    let pieces = finish_pieces(stream, store, depot)?;
+    copied_archive(alloc, &mut made, BLOCK, &pieces)?;
+    ferry_carry::put_record(alloc, store, depot, entropy, &made)
 }
 
 /// Adds the stream of an archive and its record, and answers the record's id.

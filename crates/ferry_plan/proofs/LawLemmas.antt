@@ -7,6 +7,7 @@ use Rattle.ferry_carry.specs.Counting.{CountsOf}
 use Rattle.ferry_store.specs.Commit.{IsSettled}
 use Rattle.ferry_carry.specs.Naming.{TaggedRecord}
 use Rattle.ferry_carry.specs.Listing.{ListsNames}
+use Rattle.ferry_carry.specs.States.{drawn_from, target_state}
 use Rattle.ferry_carry.specs.Telling.{ReportsWhole}
 use Rattle.ferry_carry.specs.declared.options.Carried.{Carried}
 use Rattle.ferry_disk.specs.Act.{files_now}
@@ -80,7 +81,8 @@ pub numbers_carried : (there : Files) (source : RepoState) (block : ℕ) (files 
     (time : Option (List ℕ)) (store store_now : Store) (before : Told) (now : Option Told) (count after : ℕ) (drawn drawn_now : Option (List ℕ))
     (carried : Carried) → IsSettled store → StoreFits false store before.history
     → Plans there source block files (repo_view store.repo) names planned
-    → (did : ReportsWhole (transfer_from there source block most time) names store store_now (Some before) now count after drawn drawn_now (Ok carried))
+    → (did : ReportsWhole (transfer_from there source block most time) names (target_state (Some before) count store)
+    (target_state now after store_now) (drawn_from drawn drawn_now) (Ok carried))
     → HaveOtherIds (repo_view store.repo).keys did.added → PutsPlanned planned carried
 numbers_carried there source block files names planned most time store store_now before now count after drawn drawn_now carried settled fits plans did others =
     let target = repo_view store.repo in

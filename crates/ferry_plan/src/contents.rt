@@ -1,6 +1,6 @@
 //! The content of an item, cut into pieces that are counted.
 ghost use Rattle.std.specs.Prelude.{◌≡◌, ◌≤◌, ◌<◌, ◌^◌, ◌-◌, [], List, Some, None, false, length, min, IfErr, IfOk, IfSome, OnOk};
-ghost use Rattle.ferry_carry.specs.Copying.{CopiesContent, WritesContent, WritesContents};
+ghost use Rattle.ferry_carry.specs.Copying.{CopiesContent, WritesContent, WritesContents, writer_state};
 ghost use Rattle.ferry_piece.specs.Puts.{Addition, AreOf, Content, contents_in};
 ghost use Rattle.ferry_carry.specs.Refusals.{IsTooLong, total_size};
 ghost use Rattle.ferry_disk.specs.Device.{HasCause, KeepsTold, told_files};
@@ -126,8 +126,8 @@ fn write_contents<S: Shelf>(
     requires source_fits { IfSome (S.told shelf.old) (λ t. FitsRepo (told_files t) (repo_view source.old) (cached_in source.old)) }
     ensures written { OnOk result ((more : List Addition)
         × (Takes Content (repo_view target.now).keys (repo_view target.now).log known.old pieces.old more known.new pieces.new
-        × WritesContents (S.told shelf.old) (repo_view source.old) (repo_view target.now).keys chunks.now pieces.old.cutter pieces.old.chunks.items
-        (contents_in more) pieces.new.cutter pieces.new.chunks.items)) }
+        × WritesContents (S.told shelf.old) (repo_view source.old) (repo_view target.now).keys chunks.now
+        (writer_state pieces.old.cutter pieces.old.chunks.items) (contents_in more) (writer_state pieces.new.cutter pieces.new.chunks.items))) }
     ensures refused { IfErr result (λ fault. IsOfFiles fault → IfSome (S.told shelf.old) (λ t.
         RefusesJoined (told_files t) (repo_view source.old).log (repo_view source.old).keys (Some chunks.now) fault)) }
     ensures source_fits { IfSome (S.told shelf.new) (λ t. FitsRepo (told_files t) (repo_view source.new) (cached_in source.new)) }
@@ -167,8 +167,8 @@ fn write_content<S: Shelf>(
     requires source_fits { IfSome (S.told shelf.old) (λ t. FitsRepo (told_files t) (repo_view source.old) (cached_in source.old)) }
     ensures written { OnOk result ((more : List Addition)
         × (Takes Content (repo_view target.now).keys (repo_view target.now).log known.old pieces.old more known.new pieces.new
-        × WritesContent (S.told shelf.old) (repo_view source.old) (repo_view target.now).keys chunk.now pieces.old.cutter pieces.old.chunks.items
-        (contents_in more) pieces.new.cutter pieces.new.chunks.items)) }
+        × WritesContent (S.told shelf.old) (repo_view source.old) (repo_view target.now).keys chunk.now
+        (writer_state pieces.old.cutter pieces.old.chunks.items) (contents_in more) (writer_state pieces.new.cutter pieces.new.chunks.items))) }
     ensures refused { IfErr result (λ fault. IsOfFiles fault → IfSome (S.told shelf.old) (λ t.
         RefusesContent (told_files t) (repo_view source.old).log (repo_view source.old).keys chunk.now fault)) }
     ensures source_fits { IfSome (S.told shelf.new) (λ t. FitsRepo (told_files t) (repo_view source.new) (cached_in source.new)) }

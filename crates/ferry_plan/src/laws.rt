@@ -7,6 +7,7 @@ ghost use Rattle.ferry_carry.specs.Listing.{ListsNames};
 ghost use Rattle.ferry_carry.specs.Naming.{TaggedRecord};
 ghost use Rattle.ferry_carry.specs.Telling.{ReportsWhole};
 ghost use Rattle.ferry_carry.specs.declared.options.Carried.{Carried as TheCarried};
+ghost use Rattle.ferry_carry.specs.States.{drawn_from, target_state};
 ghost use Rattle.ferry_disk.specs.Device.{Told, told_files};
 ghost use Rattle.ferry_disk.specs.Files.{Files};
 ghost use Rattle.ferry_mac.specs.declared.keys.Keys.{Keys};
@@ -32,7 +33,8 @@ pub fn plan_laws()
         (time : Option (List ℕ)) (store store_now : TheStore) (before : Told) (now : Option Told) (count after : ℕ) (drawn drawn_now : Option (List ℕ))
         (carried : TheCarried)
         → IsSettled store → StoreFits false store before.history → Plans there source block files (repo_view store.repo) names planned
-        → (did : ReportsWhole (transfer_from there source block most time) names store store_now (Some before) now count after drawn drawn_now (Ok carried))
+        → (did : ReportsWhole (transfer_from there source block most time) names (target_state (Some before) count store)
+        (target_state now after store_now) (drawn_from drawn drawn_now) (Ok carried))
         → HaveOtherIds (repo_view store.repo).keys did.added → PutsPlanned planned carried }
     // By the entries that the target's files showed, behind which that was added.
     ensures shown { (there : Files) (source : RepoState) (block : ℕ) (files : Files) (secret : Secret) (target : RepoState) (names : List (List ℕ))

@@ -4,7 +4,7 @@ use Rattle.std.proofs.Common.{unwrap_or, refl, sym, ◌∙◌, ap, subst, arith}
 use Rattle.std.proofs.lemmas.List.{length-map}
 use Rattle.ferry_carry.proofs.NextLemmas.{next_of}
 use Rattle.ferry_carry.specs.Carrying.{Origin, IsApart, IsCarried, IsWholeBy, CarriesOver}
-use Rattle.ferry_carry.specs.Grow.{Grown}
+use Rattle.ferry_carry.specs.Grow.{Grown, job}
 use Rattle.ferry_carry.specs.Lines.{total_line}
 use Rattle.ferry_carry.specs.Naming.{record_ids}
 use Rattle.ferry_carry.specs.Telling.{CarriesNames, IsReported, KeepsReported, ReportsWhole, ShowsReport, TellsWhole}
@@ -54,6 +54,7 @@ use Rattle.ferry_run_drill.proofs.TotalLemmas.{counts_all, totals_are}
 use Rattle.ferry_run_drill.specs.Drill.{HasCopied, NoneCollide, drill_time, target_block, target_secret}
 use Rattle.ferry_run_drill.specs.Steps.{CopiesNames, IsMadeNew, drill_checkpoint, drill_origin}
 use Rattle.ferry_write.specs.Room.{behind}
+use Rattle.ferry_carry.specs.States.{target_state, drawn_from}
 
 -- ---- a source that was made and opened
 
@@ -85,7 +86,7 @@ module _ (count : ℕ) (source : Files) (is : IsSource count source) (repo : Rep
   none : (accepted_in c.store).archives ≡ []
   none = new_archives c.store before c.begun c.made
 
-  grown : Grown [] (accepted_in c.store) (drill_origin source repo) (names_from 0 count) c.added false c.store c.store_now c.begun now c.made.fits
+  grown : Grown (job [] (accepted_in c.store) (drill_origin source repo) (names_from 0 count)) c.added false c.store c.store_now c.begun now c.made.fits
   grown = c.carries.0 false c.made.fits
 
   copied_keys : (repo_view c.store_now.repo).keys ≡ keys
@@ -214,7 +215,8 @@ made_works store timestamp bytes secret a b n m is time begun did makes untold o
   cause = did.cause;
 } where
   at_end : (a b : Option Told) → IfSome a (λ t. t.history.acts ≡ []) → Between a b (λ h g. AllDone h g × InitFits store h g)
-      → Between a b (InitMakes secret 1 timestamp bytes) → Between a b TellsNothing → IfSome b (λ t. OpensFilesTo (told_files t) secret (repo_view store.repo))
+      → Between a b (InitMakes secret 1 timestamp bytes) → Between a b TellsNothing
+      → IfSome b (λ t. OpensFilesTo (told_files t) secret (repo_view store.repo))
       → Between a b (λ h g. AllDone h g × IsMadeNew store h g)
   at_end None b begun fits makes untold opens = tt
   at_end (Some s) None begun fits makes untold opens = absurd (let e = fits.1 in let no : ⊥ = cc in no)
@@ -249,7 +251,8 @@ made_works store timestamp bytes secret a b n m is time begun did makes untold o
 -- names that were copied behind that, or not
 pub copied_works : (source : Files) (repo : RepoState) (names : List (List ℕ)) (store now : Store) (a b d : Option Told) (n m k : ℕ)
     (x y : Option (List ℕ)) (r : Result Carried CarryFault) → Works SettlesFirst IsMadeNew a b n m (Ok store)
-    → ReportsWhole (drill_origin source repo) names store now b d m k x y r → OnOk r (IsSettled now) → OnOk r (store.pending ≡ 0 → now.pending ≡ 0)
+    → ReportsWhole (drill_origin source repo) names (target_state b m store) (target_state d k now) (drawn_from x y) r → OnOk r (IsSettled now)
+    → OnOk r (store.pending ≡ 0 → now.pending ≡ 0)
     → store.pending ≡ 0 → Works SettlesFirst (CopiesNames source repo names) a d n k r
 copied_works source repo names store now a b d n m k x y (Ok total) made carried settled ended free =
     let from = drill_origin source repo in

@@ -6,6 +6,7 @@ use Rattle.ferry_carry.specs.Accepting.{LimitsNames}
 use Rattle.ferry_carry.specs.Carrying.{Origin}
 use Rattle.ferry_carry.specs.Refusals.{HasLargeRecord, HasLongItem, RefusesBehind, RefusesNames}
 use Rattle.ferry_carry.specs.Telling.{KeepsReported, ReportsWhole, StopsBehind, TellsNames}
+use Rattle.ferry_carry.specs.Turns.{StopsNames}
 use Rattle.ferry_carry.specs.declared.options.Carried.{Carried}
 use Rattle.ferry_disk.specs.Device.{Told, told_files}
 use Rattle.ferry_disk.specs.Files.{Files}
@@ -54,6 +55,7 @@ use Rattle.ferry_run_drill.specs.Steps.{IsMadeNew, drill_origin}
 use Rattle.ferry_run_drill.proofs.FewLemmas.{never_used}
 use Rattle.ferry_carry.specs.Listing.{BeginsNames}
 use Rattle.ferry_piece.specs.Adding.{BeginsSegments}
+use Rattle.ferry_carry.specs.States.{target_state, drawn_from}
 
 -- names of the drill's archives, from a source that was made, into a target that was made
 module _ (count : ℕ) (source : Files) (is : IsSource count source) (repo : RepoState) (opens : OpensFilesTo source source_secret repo) (most : count ≤ 64)
@@ -184,7 +186,8 @@ module _ (count : ℕ) (source : Files) (is : IsSource count source) (repo : Rep
       let both : Some t ≡ Some stops.each.0 = stops.each.1 in
       let same : stops.each.0 ≡ t = cc in
       let each : KeepsReported From stops.done store stops.added u.history t.history × TellsNames (accepted_in store) stops.done u.history t.history =
-      subst (λ (x : Told). KeepsReported From stops.done store stops.added u.history x.history × TellsNames (accepted_in store) stops.done u.history x.history)
+      subst (λ (x : Told). KeepsReported From stops.done store stops.added u.history x.history
+      × TellsNames (accepted_in store) stops.done u.history x.history)
       same stops.each.2 in
       let sizes = told_once (accepted_in store) u.history t.history stops.done one.done each.1 one.told in
       let fronts = one_front stops.done one.done stops.rest (one.name ∷ one.rest) (sym stops.split ∙ one.split) sizes in
@@ -220,14 +223,17 @@ module _ (count : ℕ) (source : Files) (is : IsSource count source) (repo : Rep
 -- the same, over what the target tells
 pub uncopied_ends : (source : Files) (repo : RepoState) (names : List (List ℕ)) (store now : Store) (a b d : Option Told) (n m k : ℕ)
     (x y : Option (List ℕ)) (fault : CarryFault) → OpensFilesTo source source_secret repo → names ≡ chosen_of [] repo.manifest
-    → Works SettlesFirst IsMadeNew a b n m (Ok store) → ReportsWhole (drill_origin source repo) names store now b d m k x y (Err fault)
+    → Works SettlesFirst IsMadeNew a b n m (Ok store) → ReportsWhole (drill_origin source repo) names (target_state b m store) (target_state d k now)
+    (drawn_from x y) (Err fault)
     → shelf_failed fault ≡ false
-    → (fault ≡ Carry.Target Stores.TooLarge → IfSome b (λ u. IfSome d (λ t. LimitsNames None repo.manifest (repo_view store.repo).keys (accepted_in store) names
+    → (fault ≡ Carry.Target Stores.TooLarge → IfSome b (λ u. IfSome d (λ t. LimitsNames None repo.manifest (repo_view store.repo).keys (accepted_in store)
+    names
     (λ told. TellsNames (accepted_in store) told u.history t.history))))
     → (IsOfWork fault → StopsBehind (drill_origin source repo) names store b d) → RefusesNames (drill_origin source repo) b store d now names fault
     → EndsFrom source a d fault
 uncopied_ends source repo names store now None b d n m k x y fault opens chosen made carried still limit stops refused = λ count most is plain apart. tt
-uncopied_ends source repo names store now (Some s) b None n m k x y fault opens chosen made carried still limit stops refused = λ count most is plain apart. tt
+uncopied_ends source repo names store now (Some s) b None n m k x y fault opens chosen made carried still limit stops refused = λ count most is plain
+    apart. tt
 uncopied_ends source repo names store now (Some s) None (Some t) n m k x y fault opens chosen made carried still limit stops refused =
     absurd (let e = made.end.1 in let no : ⊥ = cc in no)
 uncopied_ends source repo names store now (Some s) (Some u) (Some t) n m k x y fault opens chosen made carried still limit stops refused =
@@ -259,15 +265,13 @@ uncopied_ends source repo names store now (Some s) (Some u) (Some t) n m k x y f
 -- whatever came of them
 pub carried_ends : (source : Files) (repo : RepoState) (names : List (List ℕ)) (store now : Store) (a b d : Option Told) (n m k : ℕ)
     (x y : Option (List ℕ)) (r : Result Carried CarryFault) → Works SettlesFirst IsMadeNew a b n m (Ok store)
-    → ReportsWhole (drill_origin source repo) names store now b d m k x y r → IfErr r (λ fault. shelf_failed fault ≡ false)
-    → IfErr r (λ fault. fault ≡ Carry.Target Stores.TooLarge → IfSome b (λ u. IfSome d (λ t. LimitsNames None repo.manifest (repo_view store.repo).keys
-    (accepted_in store) names (λ told. TellsNames (accepted_in store) told u.history t.history))))
-    → IfErr r (λ fault. IsOfWork fault → StopsBehind (drill_origin source repo) names store b d)
-    → IfErr r (RefusesNames (drill_origin source repo) b store d now names)
+    → ReportsWhole (drill_origin source repo) names (target_state b m store) (target_state d k now) (drawn_from x y) r
+    → IfErr r (λ fault. shelf_failed fault ≡ false)
+    → IfErr r (StopsNames (drill_origin source repo) names store b d x y) → IfErr r (RefusesNames (drill_origin source repo) b store d now names)
     → IfErr r (λ fault. OpensFilesTo source source_secret repo → names ≡ chosen_of [] repo.manifest → EndsFrom source a d fault)
-carried_ends source repo names store now a b d n m k x y (Ok total) made carried still limit stops refused = tt
-carried_ends source repo names store now a b d n m k x y (Err fault) made carried still limit stops refused = λ opens chosen.
-    uncopied_ends source repo names store now a b d n m k x y fault opens chosen made carried still limit stops refused
+carried_ends source repo names store now a b d n m k x y (Ok total) made carried still stops refused = tt
+carried_ends source repo names store now a b d n m k x y (Err fault) made carried still stops refused = λ opens chosen.
+    uncopied_ends source repo names store now a b d n m k x y fault opens chosen made carried still stops.limit stops.stands refused
 
 -- where the names are those of all archives
 pub chosen_ends : (r : Result Carried CarryFault) (source : Files) (repo : RepoState) (names : List (List ℕ)) (a d : Option Told)

@@ -2,7 +2,7 @@
 use Rattle.std.proofs.Common.{◌≡◌, ◌≢◌, ◌⊎◌, inl, inr, ℕ, false, true, List, [], Option, Some, None, IsSome, refl, sym, ◌∙◌, ap, subst}
 use Rattle.ferry_base.specs.Limits.{zero_id}
 use Rattle.ferry_blob.specs.Blob.{OpensTo}
-use Rattle.ferry_carry.specs.Grow.{Grown}
+use Rattle.ferry_carry.specs.Grow.{Grown, job}
 use Rattle.ferry_carry.specs.declared.options.Carried.{Carried}
 use Rattle.ferry_check.specs.Verify.{AllOpen, IsChunk, Opens}
 use Rattle.ferry_disk.specs.Act.{History, files_now}
@@ -48,7 +48,7 @@ module _ (store : Store) (before begun : History) (made : IsMadeNew store before
 -- behind a copy each live chunk opens
 module _ (source : Files) (repo : RepoState) (names : List (List ℕ)) (carried : Carried) (before now : History)
     (c : CopiesNames source repo names carried before now) where
-  grown : Grown [] (accepted_in c.store) (drill_origin source repo) names c.added false c.store c.store_now c.begun now c.made.fits
+  grown : Grown (job [] (accepted_in c.store) (drill_origin source repo) names) c.added false c.store c.store_now c.begun now c.made.fits
   grown = c.carries.0 false c.made.fits
 
   abbrev next : RepoState

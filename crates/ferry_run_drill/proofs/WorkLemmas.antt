@@ -32,6 +32,7 @@ use Rattle.ferry_run_drill.proofs.CopyLemmas.{chosen_names, has_copied}
 use Rattle.ferry_run_drill.proofs.StartLemmas.{init_tells, names_tell}
 use Rattle.ferry_run_drill.specs.Drill.{HasCopied, TellsStart}
 use Rattle.ferry_run_drill.specs.Steps.{CopiesNames, IsMadeNew, drill_origin}
+use Rattle.ferry_carry.specs.States.{target_state, drawn_from}
 
 -- what any history says
 pub says_all : (told : Option Told) (P : Told → Type 0) → ((t : Told) → P t) → IfSome told P
@@ -119,7 +120,7 @@ uncopied_tells from names store store_now (Some s) b (Some u) n m E fault made e
 -- the same of what the copy says
 pub copied_tells : (source : Files) (repo : RepoState) (names : List (List ℕ)) (store store_now : Store) (a b d : Option Told) (n m k : ℕ)
     (x y : Option (List ℕ)) (r : Result Carried CarryFault) → Works SettlesFirst IsMadeNew a b n m (Ok store)
-    → ReportsWhole (drill_origin source repo) names store store_now b d m k x y r
+    → ReportsWhole (drill_origin source repo) names (target_state b m store) (target_state d k store_now) (drawn_from x y) r
     → IfErr r (RefusesNames (drill_origin source repo) b store d store_now names)
     → IfErr r (λ fault. IfSome a (λ t. TellsStart (told_files t) (carry_status fault)))
 copied_tells source repo names store store_now a b d n m k x y (Ok carried) made reports refused = tt

@@ -43,7 +43,8 @@ use Rattle.ferry_store.specs.declared.fault.StoreRefusal.TheVariants as Store
 use Rattle.ferry_store.specs.declared.store.Store.{Store as TheStore}
 use Rattle.ferry_run_transfer.proofs.TransferLemmas.{untold_yet}
 use Rattle.ferry_run_transfer.specs.Rerun.{LacksName}
-use Rattle.ferry_run_transfer.specs.Transfer.{Drawn, KeepsArchives, Request, TransferEach, asked, chosen_of, from_source}
+use Rattle.ferry_carry.specs.States.{Drawn}
+use Rattle.ferry_run_transfer.specs.Transfer.{KeepsArchives, Request, TransferEach, asked, chosen_of, from_source}
 use Rattle.ferry_run_transfer.specs.TransferCauses.{HasLargeTarget, IsOfChosen, IsOfNext, IsTaken}
 use Rattle.ferry_run_transfer.specs.TransferCauses.{RefusesAsked, RefusesTransfer, StopsWriting}
 use Rattle.ferry_status.specs.declared.status.Secrets.{Secrets}
@@ -82,7 +83,8 @@ module _ (secret : Secret) (now : TheStore) (h : History) (repo : RepoState) (fi
   says_held name whole had =
       let state = repo_view now.repo in
       let is : IsWhole (files_now h) repo.log repo.keys repo.manifest.archives name whole =
-      subst (λ (r : RepoState). IsWhole (files_now h) r.log r.keys r.manifest.archives name whole) (one_repo (files_now h) secret had.repo repo had.opens opens)
+      subst (λ (r : RepoState). IsWhole (files_now h) r.log r.keys r.manifest.archives name whole) (one_repo (files_now h) secret had.repo repo had.opens
+      opens)
       had.is in
       let kept : IsWhole (files_now h) state.log repo.keys state.manifest.archives name whole =
       whole_kept (files_now h) repo.log repo.keys (files_now h) state.log repo.manifest.archives state.manifest.archives name whole is
@@ -338,8 +340,9 @@ pub names_refused : (drawn : Drawn) (secrets : Secrets) (options : Options) (nam
     → Between a b TellsNothing → Between a d (TransferEach (asked secrets options names told)) → (fault : CarryFault)
     → (fault ≡ Carry.Target Store.TooLarge → IfSome b (λ x. IfSome d (λ y. LimitsNames options.timestamp source.manifest (repo_view store.repo).keys
     (accepted_in store) chosen (λ done. TellsNames (accepted_in store) done x.history y.history))))
-    → ((id : List ℕ) → IsChunk id fault → IfSome b (λ u. IfSome d (λ v. IfSome told (λ _. StopsAtChunk (origin_of told source options)
-    (repo_view store.repo).keys (accepted_in store) chosen (λ done. TellsNames (accepted_in store) done u.history v.history) drawn.before drawn.now id))))
+    → ((id : List ℕ) → IsChunk id fault → IfSome b (λ u. IfSome d (λ v. IfSome (origin_of told source options).files (λ _.
+    StopsAtChunk (origin_of told source options) (repo_view store.repo).keys (accepted_in store) chosen (λ done. TellsNames (accepted_in store) done
+    u.history v.history) drawn.before drawn.now id))))
     → RefusesNames (origin_of told source options) b store d now chosen fault → RefusesAsked (asked secrets options names told) drawn a d fault
 names_refused drawn secrets options names source None a b d chosen store now from is opens accepts untold each fault limit last refused = tt
 names_refused drawn secrets options names source (Some t) None b d chosen store now from is opens accepts untold each fault limit last refused = tt

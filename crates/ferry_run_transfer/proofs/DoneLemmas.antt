@@ -29,7 +29,8 @@ use Rattle.ferry_status.proofs.OpenedLemmas.{shut_here}
 use Rattle.ferry_run_transfer.proofs.RerunLemmas.{chosen_again}
 use Rattle.ferry_run_transfer.specs.Rerun.{EachChosen, IsAbsentOrEqual}
 use Rattle.ferry_status.specs.Status.{carry_status, repo_status, store_status, target_status}
-use Rattle.ferry_run_transfer.specs.Transfer.{Drawn, KeepsArchives, NoneCollide, Request, TransferEach, TransferLeaves, asked, chosen_of, drawn_from}
+use Rattle.ferry_carry.specs.States.{Drawn, drawn_from}
+use Rattle.ferry_run_transfer.specs.Transfer.{KeepsArchives, NoneCollide, Request, TransferEach, TransferLeaves, asked, chosen_of}
 use Rattle.ferry_run_transfer.specs.TransferCauses.{EndsDone, IsDoneUnless, IsFirstMissing, IsReadyFor, IsRefusedSo, IsTaken}
 use Rattle.ferry_run_transfer.specs.TransferCauses.{RefusesAsked, RefusesSource, RefusesTransfer, StopsWriting}
 use Rattle.ferry_status.specs.declared.status.Status.{Status}
@@ -81,7 +82,8 @@ module _ (request : Request) (drawn : Drawn) (source start image : Files) (lines
   -- the target opens
   opened_ends : (fault : RepoFault) → RefusesRepo start request.secrets.target fault → IsDoneUnless request source start lines image (target_status fault)
   opened_ends Repos.NoCommit refused = absurd (repo_apart start request.secrets.target ready.repo Repos.NoCommit ready.opens tt refused)
-  opened_ends (Repos.Damaged segment at) refused = absurd (repo_apart start request.secrets.target ready.repo (Repos.Damaged segment at) ready.opens tt refused)
+  opened_ends (Repos.Damaged segment at) refused = absurd (repo_apart start request.secrets.target ready.repo (Repos.Damaged segment at) ready.opens tt
+      refused)
   opened_ends (Repos.Config cause) refused = absurd (repo_apart start request.secrets.target ready.repo (Repos.Config cause) ready.opens tt refused)
   opened_ends (Repos.Key cause) refused = absurd (repo_apart start request.secrets.target ready.repo (Repos.Key cause) ready.opens tt refused)
   opened_ends (Repos.Missing id) refused = absurd (repo_apart start request.secrets.target ready.repo (Repos.Missing id) ready.opens tt refused)
@@ -255,7 +257,8 @@ ends_done request drawn before now status (inr refused) =
         (subst (λ (o : Option Told). IfSome o (λ x. IfSome now
         (λ y. x.history.acts ≡ [] → RefusesTransfer request drawn source (told_files x) (lines_of y.history.acts) (told_files y) refused.fault))) is
         (subst (λ (o : Option Files). IfSome o (λ f. IfSome before (λ x. IfSome now
-        (λ y. x.history.acts ≡ [] → RefusesTransfer request drawn f (told_files x) (lines_of y.history.acts) (told_files y) refused.fault)))) told asked)) begun
+        (λ y. x.history.acts ≡ [] → RefusesTransfer request drawn f (told_files x) (lines_of y.history.acts) (told_files y) refused.fault)))) told asked))
+        begun
 
 -- ---- a run that memory refused before its command
 

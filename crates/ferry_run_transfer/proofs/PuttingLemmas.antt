@@ -1,7 +1,6 @@
 -- Lemmas on `LeavesFirst` of specs/Putting.antt: what a refused transfer put is the first of what is added.
-use Rattle.std.proofs.Common.{◌≡◌, ◌⊎◌, inl, inr, ℕ, ◌≤◌, Bool, true, false, List, [], Option, Some, None, Ok, Err, refl, sym, ◌∙◌, ap, subst, IfSome}
+use Rattle.std.proofs.Common.{◌≡◌, inl, inr, ℕ, Bool, true, false, List, [], Option, Some, None, Ok, Err, refl, sym, ◌∙◌, ap, subst, IfSome}
 use Rattle.std.proofs.lemmas.List.{append-nil}
-use Rattle.std.specs.FinMap.{get}
 use Rattle.ferry_carry.specs.Carrying.{Origin}
 use Rattle.ferry_carry.specs.Flight.{origin_of}
 use Rattle.ferry_carry.specs.Listing.{BeginsNames}
@@ -12,13 +11,13 @@ use Rattle.ferry_disk.proofs.MomentLemmas.{between_map, between_then}
 use Rattle.ferry_disk.specs.Act.{History, files_now}
 use Rattle.ferry_disk.specs.Device.{Told, told_files}
 use Rattle.ferry_disk.specs.Files.{Files}
-use Rattle.ferry_disk.specs.Image.{Fate, at_rest, fate_in}
+use Rattle.ferry_disk.specs.Image.{Fate}
 use Rattle.ferry_disk.specs.Moments.{Between}
 use Rattle.ferry_nonce.specs.declared.fault.NonceFault.TheVariants as Nonces
 use Rattle.ferry_piece.proofs.AddingLemmas.{holds_until}
 use Rattle.ferry_piece.proofs.PutsLemmas.{allows_settled, first_at, shown_none}
 use Rattle.ferry_piece.proofs.WorkLemmas.{between_known}
-use Rattle.ferry_piece.specs.Adding.{HoldsRefused, HoldsUntil, SparesStore}
+use Rattle.ferry_piece.specs.Adding.{HoldsUntil, SparesStore}
 use Rattle.ferry_piece.specs.Fault.{target_fault}
 use Rattle.ferry_piece.specs.Puts.{Addition, AddsFirst, AtBegin, Border, Within}
 use Rattle.ferry_piece.specs.Stops.{is_target}
@@ -35,12 +34,12 @@ use Rattle.ferry_store.proofs.StepLemmas.{here_each}
 use Rattle.ferry_store.specs.Commit.{accepted_in, IsSettled}
 use Rattle.ferry_store.specs.Standing.{entries_of}
 use Rattle.ferry_store.specs.State.{Did, IsUnderWay, Written}
-use Rattle.ferry_store.specs.Store.{OpenEach, OpenFits, RefusesOpen, StoreFits}
+use Rattle.ferry_store.specs.Store.{OpenEach, OpenFits, RefusesOpen}
 use Rattle.ferry_store.specs.declared.fault.StoreRefusal.{StoreRefusal}
 use Rattle.ferry_store.specs.declared.fault.StoreRefusal.TheVariants as Store
 use Rattle.ferry_store.specs.declared.store.Store.{Store as StoreOf}
 use Rattle.ferry_run_transfer.proofs.CarriedLemmas.{begun_of}
-use Rattle.ferry_run_transfer.specs.Putting.{HasEntries, HoldsFirst, LeavesFirst, is_spared}
+use Rattle.ferry_run_transfer.specs.Putting.{HasEntries, LeavesFirst, is_spared}
 use Rattle.ferry_run_transfer.specs.Rerun.{HasNumber}
 use Rattle.ferry_run_transfer.specs.Transfer.{Request, asked, chosen_of}
 use Rattle.ferry_status.specs.Status.{carry_status}
@@ -48,6 +47,7 @@ use Rattle.ferry_status.specs.declared.status.Secrets.{Secrets}
 use Rattle.ferry_write.specs.Room.{behind}
 use Rattle.ferry_write.specs.Script.{AllDone}
 use Rattle.ferry_write.specs.declared.fault.WriteFault.TheVariants as Writes
+use Rattle.ferry_carry.specs.States.{target_state, drawn_from}
 
 -- ---- the status of a refusal
 
@@ -194,7 +194,8 @@ module _ (secrets : Secrets) (options : Options) (names : List (List ℕ)) (sour
   -- the copying was refused
   pub stopped_first : (store now : StoreOf) (a b d : Option Told) (n m k : ℕ) (x y : Option (List ℕ)) (fault : CarryFault) → IsSettled store
       → IfSome a (λ t. OpensFilesTo (files_now t.history) secrets.target (repo_view store.repo)) → Did OpenEach OpenFits a b n m (Ok store)
-      → ReportsWhole from chosen store now b d m k x y (Err fault) → is_spared (carry_status fault) ≡ true → Between a d (LeavesFirst request)
+      → ReportsWhole from chosen (target_state b m store) (target_state d k now) (drawn_from x y) (Err fault) → is_spared (carry_status fault) ≡ true
+      → Between a d (LeavesFirst request)
   stopped_first store now a b d n m k x y fault settled opens opened carried e =
       let added = carried.added in
       let target = is_target fault in

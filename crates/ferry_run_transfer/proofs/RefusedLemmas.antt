@@ -16,7 +16,8 @@ use Rattle.ferry_stops.specs.Tells.{lines_of}
 use Rattle.ferry_store.specs.Store.{RefusesOpen}
 use Rattle.ferry_store.specs.declared.fault.StoreRefusal.{StoreRefusal}
 use Rattle.ferry_store.specs.declared.fault.StoreRefusal.TheVariants as Store
-use Rattle.ferry_run_transfer.specs.Transfer.{Drawn, Request, asked, chosen_of}
+use Rattle.ferry_carry.specs.States.{Drawn}
+use Rattle.ferry_run_transfer.specs.Transfer.{Request, asked, chosen_of}
 use Rattle.ferry_run_transfer.specs.TransferCauses.{IsFound, RefusesAsked, RefusesTransfer, WhereRead}
 use Rattle.ferry_status.specs.declared.status.Secrets.{Secrets}
 

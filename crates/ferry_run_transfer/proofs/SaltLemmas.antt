@@ -9,7 +9,8 @@ use Rattle.ferry_carry.specs.Naming.{DrawsSalts, HasSalts, TaggedRecord, TagsDra
 use Rattle.ferry_disk.specs.Files.{Files}
 use Rattle.ferry_piece.specs.Puts.{Addition}
 use Rattle.ferry_repo.specs.Opening.{RepoState}
-use Rattle.ferry_run_transfer.specs.Transfer.{Drawn, Request, chosen_of, from_source}
+use Rattle.ferry_carry.specs.States.{Drawn}
+use Rattle.ferry_run_transfer.specs.Transfer.{Request, chosen_of, from_source}
 use Rattle.ferry_run_transfer.specs.TransferCauses.{IsOfAdded, IsOfNext}
 
 -- ---- records

@@ -12,7 +12,7 @@ use Rattle.ferry_carry.specs.Carrying.{AreCut, IsCarried, Origin}
 use Rattle.ferry_carry.specs.Accepting.{AreNamedNext}
 use Rattle.ferry_carry.specs.Flight.{origin_of}
 use Rattle.ferry_carry.specs.Naming.{TaggedRecord}
-use Rattle.ferry_carry.specs.Grow.{Grown, IsNamedBy, KeepsChunks, StandsOn}
+use Rattle.ferry_carry.specs.Grow.{Grown, IsNamedBy, KeepsChunks, StandsOn, job}
 use Rattle.ferry_piece.specs.Puts.{Addition, AddsAll, AtBegin, Border, GoesOn, border_behind}
 use Rattle.ferry_carry.specs.Telling.{AcceptsNames, BeginsAll, CarriesNames, IsReport, IsReported, KeepsReported, ReportsWhole, ShowsReport, TellsWhole}
 use Rattle.ferry_carry.specs.Lines.{total_line}
@@ -52,6 +52,7 @@ use Rattle.ferry_status.proofs.LeftLemmas.{now_left}
 use Rattle.ferry_run_transfer.specs.Transfer.{TransferLeaves}
 use Rattle.ferry_run_transfer.proofs.StandingLemmas.{all_shown, at_begin, none_pending, shown_keeps}
 use Rattle.ferry_run_transfer.proofs.CarriedLemmas.{all_listed, all_of, stands_keeps}
+use Rattle.ferry_carry.specs.States.{target_state, drawn_from}
 
 -- ---- the opening, and what follows
 
@@ -87,7 +88,7 @@ sound_kept from chosen within accepted repo h k written reported =
 -- what is committed in a store into which the archives came stands, with all of them
 grown_stands : (from : Origin) (chosen : List (List ℕ)) (added : List Addition) (accepted : ManifestText) (store now : Store) (h g : History)
     (fits : StoreFits false store h) → accepted_in now ≡ (repo_view now.repo).manifest
-    → (grown : Grown [] accepted from chosen added false store now h g fits)
+    → (grown : Grown (job [] accepted from chosen) added false store now h g fits)
     → (stands : StandsOn [] from chosen added accepted (repo_view store.repo) fits.written (files_now g)) × ((stands.done ≡ chosen)
     × ((committed_of grown.fits_now.written ≡ stands.entries) × (stands.manifest ≡ (repo_view now.repo).manifest)))
 grown_stands from chosen added accepted store now h g fits settled grown =
@@ -281,7 +282,8 @@ module _ (secrets : Secrets) (options : Options) (names : List (List ℕ)) (sour
   pub copied_all : {U : Type 0} (store now : Store) (a b c : Option Told) (n m k : ℕ) (x : Carried) (y : U) (drawn drawn_now : Option (List ℕ)) → IsSettled
       store → IsSettled now
       → now.pending ≡ 0 → IfSome a (λ t. OpensFilesTo (files_now t.history) secrets.target (repo_view store.repo)) → Between a b TellsNothing
-      → Did OpenEach OpenFits a b n m (Ok store) → ReportsWhole from chosen store now b c m k drawn drawn_now (Ok x)
+      → Did OpenEach OpenFits a b n m (Ok store) → ReportsWhole from chosen (target_state b m store) (target_state c k now) (drawn_from drawn drawn_now)
+      (Ok x)
       → Works (TransferEach request) (λ (_ : U). TransferEnds request drawn drawn_now) a c n k (Ok y)
   copied_all {U} store now a b c n m k x y drawn drawn_now settled settled_now none opens untold opened carried =
       let added = carried.added in
@@ -309,7 +311,8 @@ module _ (secrets : Secrets) (options : Options) (names : List (List ℕ)) (sour
   pub copied_some : {U : Type 0} (store now : Store) (a b c : Option Told) (n m k : ℕ) (drawn drawn_now : Option (List ℕ)) (fault : CarryFault) → IsSettled
       store
       → IfSome a (λ t. OpensFilesTo (files_now t.history) secrets.target (repo_view store.repo)) → Between a b TellsNothing
-      → Did OpenEach OpenFits a b n m (Ok store) → ReportsWhole from chosen store now b c m k drawn drawn_now (Err fault)
+      → Did OpenEach OpenFits a b n m (Ok store) → ReportsWhole from chosen (target_state b m store) (target_state c k now) (drawn_from drawn drawn_now)
+      (Err fault)
       → Works (TransferEach request) (λ (_ : U). TransferEnds request drawn drawn_now) a c n k (Err fault)
   copied_some {U} store now a b c n m k drawn drawn_now fault settled opens untold opened carried =
       let added = carried.added in

@@ -48,14 +48,6 @@ pub record Request : Type 0 where
   pub names : List (List ℕ)
   pub source : Option Files
 
--- what a source of random bytes had handed out before a run, and what at its end, where it tells
-pub record Drawn : Type 0 where
-  pub before : Option (List ℕ)
-  pub now : Option (List ℕ)
-
-abbrev pub drawn_from : Option (List ℕ) → Option (List ℕ) → Drawn
-drawn_from before now = record { before = before; now = now }
-
 abbrev pub asked : Secrets → Options → List (List ℕ) → Option Told → Request
 asked secrets options names told = record {
   secrets = secrets;

@@ -32,7 +32,8 @@ use Rattle.ferry_store.specs.declared.fault.StoreRefusal.TheVariants as Store
 use Rattle.ferry_run_transfer.specs.Rerun.{IsAbsentOrEqual, LacksName}
 use Rattle.ferry_status.specs.Devices.{IsRefusedBy}
 use Rattle.ferry_status.specs.Status.{carry_status}
-use Rattle.ferry_run_transfer.specs.Transfer.{Drawn, KeepsArchives, NoneCollide, Request, chosen_of, from_source}
+use Rattle.ferry_carry.specs.States.{Drawn}
+use Rattle.ferry_run_transfer.specs.Transfer.{KeepsArchives, NoneCollide, Request, chosen_of, from_source}
 use Rattle.ferry_status.specs.declared.status.Limit.{Limit}
 use Rattle.ferry_status.specs.declared.status.Limit.TheVariants as Limits
 use Rattle.ferry_status.specs.declared.status.Status.{Status}

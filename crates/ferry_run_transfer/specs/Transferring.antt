@@ -4,7 +4,8 @@ use Rattle.ferry_disk.specs.Moments.{Between}
 use Rattle.ferry_status.specs.Devices.{Devices}
 use Rattle.ferry_status.specs.Status.{is_of_work}
 use Rattle.ferry_run_transfer.specs.Putting.{LeavesFirst, is_spared}
-use Rattle.ferry_run_transfer.specs.Transfer.{LeavesTold, Request, drawn_from, TransferEach, TransferEnds, TransferLeaves}
+use Rattle.ferry_carry.specs.States.{drawn_from}
+use Rattle.ferry_run_transfer.specs.Transfer.{LeavesTold, Request, TransferEach, TransferEnds, TransferLeaves}
 use Rattle.ferry_run_transfer.specs.TransferCauses.{EndsDone, IsFound, IsRefusedSo}
 use Rattle.ferry_status.specs.declared.status.Status.{Status}
 use Rattle.ferry_status.specs.declared.status.Status.TheVariants.{Done}

@@ -10,7 +10,8 @@ ghost use Rattle.ferry_repo.specs.Opening.{FitsRepo, OpensFilesTo, cached_in, re
 ghost use Rattle.ferry_status.specs.Devices.{drawn, store};
 ghost use Rattle.ferry_run_transfer.specs.Putting.{LeavesFirst, is_spared};
 ghost use Rattle.ferry_status.specs.Status.{carry_status, entropy_failed, is_of_work, output_failed, source_failed, target_failed};
-ghost use Rattle.ferry_run_transfer.specs.Transfer.{LeavesTold, TransferEach, TransferEnds, TransferLeaves, asked, drawn_from};
+ghost use Rattle.ferry_carry.specs.States.{drawn_from};
+ghost use Rattle.ferry_run_transfer.specs.Transfer.{LeavesTold, TransferEach, TransferEnds, TransferLeaves, asked};
 ghost use Rattle.ferry_store.specs.Store.{OpenLeaves};
 ghost use Rattle.ferry_run_transfer.specs.TransferCauses.{EndsDone, IsFound, IsRefusedSo, RefusesAsked};
 

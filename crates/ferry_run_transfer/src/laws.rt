@@ -20,7 +20,8 @@ ghost use Rattle.ferry_repo.specs.Whole.{HasWhole, WholeArchive};
 ghost use Rattle.ferry_stops.specs.Counters.{SpellsNumber};
 ghost use Rattle.ferry_store.specs.New.{OpensNew};
 ghost use Rattle.ferry_run_transfer.specs.Rerun.{AreLeftInTurn, EachChosen, HasNumber, IsNamedOrChosen, KeepsNonce, LacksName, MeetsConditions};
-ghost use Rattle.ferry_run_transfer.specs.Transfer.{Drawn, HasTransferred, KeepsArchives, NoneCollide, Request, chosen_of, from_source};
+ghost use Rattle.ferry_carry.specs.States.{Drawn};
+ghost use Rattle.ferry_run_transfer.specs.Transfer.{HasTransferred, KeepsArchives, NoneCollide, Request, chosen_of, from_source};
 ghost use Rattle.ferry_run_transfer.specs.TransferCauses.{HasLargeTarget, IsOfAdded, IsReadyFor};
 
 /// What a transfer asks of its target, it finds again in what it left at a stop, with the same words and the same source: the files open, the file

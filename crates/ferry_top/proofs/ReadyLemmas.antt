@@ -19,7 +19,8 @@ use Rattle.ferry_run_delete.specs.Delete.{DeletesDone, Deletion, IsDeletedUnless
 use Rattle.ferry_run_plan.proofs.PlanCauseLemmas.{plan_completes}
 use Rattle.ferry_run_plan.specs.Planning.{CanBePlanned, IsPlannedUnless, PrintsPlan, Sends, planned_for}
 use Rattle.ferry_run_tag.specs.Tag.{IsTaggedUnless, LimitsTagging, OpensNew, Tagging, TagsDone, tagging}
-use Rattle.ferry_run_transfer.specs.Transfer.{Drawn, drawn_from, Request, asked}
+use Rattle.ferry_carry.specs.States.{Drawn, drawn_from}
+use Rattle.ferry_run_transfer.specs.Transfer.{Request, asked}
 use Rattle.ferry_run_transfer.specs.TransferCauses.{EndsDone, IsDoneUnless, MeetsLimit}
 use Rattle.ferry_status.specs.Devices.{Devices, Written}
 use Rattle.ferry_status.specs.Output.{Prints, PrintsAsRead}

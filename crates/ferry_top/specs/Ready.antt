@@ -13,7 +13,8 @@ use Rattle.ferry_run_compact.specs.Compact.{IsCompactedUnless}
 use Rattle.ferry_run_delete.specs.Delete.{IsReadyToDelete, LimitsDeletion, deletion}
 use Rattle.ferry_run_plan.specs.Planning.{CanBePlanned, planned_for}
 use Rattle.ferry_run_tag.specs.Tag.{IsReadyToTag, LimitsTagging, OpensNew, tagging}
-use Rattle.ferry_run_transfer.specs.Transfer.{Drawn, KeepsArchives, NoneCollide, Request, asked}
+use Rattle.ferry_carry.specs.States.{Drawn}
+use Rattle.ferry_run_transfer.specs.Transfer.{KeepsArchives, NoneCollide, Request, asked}
 use Rattle.ferry_run_transfer.specs.TransferCauses.{IsReadyFor, MeetsLimit}
 use Rattle.ferry_status.specs.declared.status.Limit.{Limit as LimitKind}
 use Rattle.ferry_status.specs.declared.status.Secrets.{Secrets}

@@ -4,7 +4,7 @@ ghost use Rattle.std.specs.List.{AllByRecursion};
 ghost use Rattle.ferry_disk.specs.Act.{History, files_now};
 ghost use Rattle.ferry_disk.specs.Moments.{Moments};
 ghost use Rattle.ferry_repo.specs.declared.secret.Secret.{Secret as TheSecret};
-ghost use Rattle.ferry_run_transfer.specs.Transfer.{drawn_from};
+ghost use Rattle.ferry_carry.specs.States.{drawn_from};
 ghost use Rattle.ferry_status.specs.Devices.{Devices};
 ghost use Rattle.ferry_status.specs.declared.status.Secrets.{Secrets as TheSecrets};
 ghost use Rattle.ferry_status.specs.declared.status.Status.{Status as TheStatus};

@@ -1,28 +1,23 @@
-use Rattle.std.proofs.Common.{rules, ◌≡◌, ℕ, List, None, Ok, Result, IfErr, IfSome, refl, subst}
-use Rattle.ferry_carry.proofs.AcceptingLemmas.{telling_small}
+use Rattle.std.proofs.Common.{rules, ◌≡◌, None, Ok, Result, IfErr, refl, subst}
 use Rattle.ferry_carry.proofs.CauseLemmas.{line_refused, names_refused, none_missing, not_there}
 use Rattle.ferry_carry.proofs.GrowLemmas.{accepts_on}
 use Rattle.ferry_piece.proofs.AddingLemmas.{target_apart}
 use Rattle.ferry_carry.proofs.HeldLemmas.{telling_spent}
-use Rattle.ferry_carry.proofs.ReportLemmas.{reports_whole, telling_unbroken, whole_err, whole_nothing, whole_untold, whole_unwritten}
+use Rattle.ferry_carry.proofs.ReportLemmas.{reports_whole, whole_err, whole_nothing, whole_untold, whole_unwritten}
 use Rattle.ferry_piece.proofs.WorkLemmas.{err_is}
 use Rattle.ferry_carry.proofs.chosen.carry.Goals as goal
-use Rattle.ferry_carry.specs.Accepting.{LimitsNames}
 use Rattle.ferry_carry.specs.Flight.{origin_of}
 use Rattle.ferry_carry.specs.Lines.{total_line}
-use Rattle.ferry_carry.specs.Refusals.{IsChunk, RefusesNames, StopsAtChunk}
-use Rattle.ferry_carry.proofs.ChunkLemmas.{no_chunk}
+use Rattle.ferry_carry.specs.Refusals.{RefusesNames}
 use Rattle.ferry_carry.specs.Counting.{nothing_carried}
-use Rattle.ferry_carry.specs.Telling.{Reports, ReportsWhole, StopsBehind, TellsNames}
+use Rattle.ferry_carry.specs.Telling.{Reports, ReportsWhole}
 use Rattle.ferry_piece.specs.declared.fault.CarryFault.{CarryFault}
-use Rattle.ferry_piece.specs.declared.fault.CarryFault.TheVariants.{NotFound, Memory, Target}
+use Rattle.ferry_piece.specs.declared.fault.CarryFault.TheVariants.{NotFound, Memory}
 use Rattle.ferry_carry.specs.declared.options.Carried.{Carried}
 use Rattle.ferry_repo.specs.Opening.{repo_view}
-use Rattle.ferry_store.specs.Commit.{accepted_in}
-use Rattle.ferry_store.specs.declared.fault.StoreRefusal.TheVariants.{TooLarge}
-use Rattle.ferry_carry.proofs.StandLemmas.{memory_apart, stops_here, telling_apart}
-use Rattle.ferry_piece.specs.Fault.{IsOfWork}
+use Rattle.ferry_carry.proofs.StandLemmas.{stops_here}
 use Rattle.ferry_piece.proofs.FewLemmas.{memory_unused}
+use Rattle.ferry_carry.specs.States.{target_state, drawn_from}
 
 pub returns-in_err-name-clause-works : goal.returns-in_err-name-clause-works
 returns-in_err-name-clause-works g c =
@@ -32,8 +27,9 @@ returns-in_err-name-clause-works g c =
     let a = g.D.Shelf.told c.args.depot.now in
     let n = g.D.Shelf.faults c.args.depot.now in
     let from = origin_of (g.S.Shelf.told c.args.shelf.now) (repo_view c.args.source.now) c.args.options.now in
-    err_is c.from_residual.result Memory (λ (r : Result Carried CarryFault). ReportsWhole from names store store a a n n x x r) c.from_residual.ensures.1
-    (whole_nothing from names store a n x x Memory (accepts_on store store c.requires.settled) refl tt (λ source. source) memory_unused)
+    err_is c.from_residual.result Memory (λ (r : Result Carried CarryFault). ReportsWhole from names (target_state a n store) (target_state a n store)
+    (drawn_from x x) r) c.from_residual.ensures.1
+    (whole_nothing from names store a n x x Memory (accepts_on store store c.requires.both.target.settled) refl tt (λ source. source) memory_unused)
 
 pub returns-in-Some-clause-works : goal.returns-in-Some-clause-works
 returns-in-Some-clause-works g c =
@@ -42,7 +38,7 @@ returns-in-Some-clause-works g c =
     whole_nothing
     (origin_of (g.S.Shelf.told c.args.shelf.now) (repo_view c.args.source.now) c.args.options.now) names store
     (g.D.Shelf.told c.args.depot.now) (g.D.Shelf.faults c.args.depot.now) (g.E.Entropy.drawn c.args.entropy.now) (g.E.Entropy.drawn c.args.entropy.now)
-    (NotFound c.new.result) (accepts_on store store c.requires.settled) refl
+    (NotFound c.new.result) (accepts_on store store c.requires.both.target.settled) refl
     tt (λ source. source) (λ e. let no : ⊥ = cc in no)
 
 pub returns-in_err-carry_all-clause-works : goal.returns-in_err-carry_all-clause-works
@@ -56,8 +52,8 @@ returns-in_err-carry_all-clause-works g c =
     let m = g.D.Shelf.faults c.carry_all.new.depot in
     let fault = c.in_err-carry_all.field-0.0 in
     let from = origin_of (g.S.Shelf.told c.args.shelf.now) (repo_view c.args.source.now) c.args.options.now in
-    err_is c.from_residual-in_err-carry_all.result fault (λ (r : Result Carried CarryFault). ReportsWhole from names store now a b n m (g.E.Entropy.drawn
-    c.args.entropy.now) (g.E.Entropy.drawn c.carry_all.new.entropy) r)
+    err_is c.from_residual-in_err-carry_all.result fault (λ (r : Result Carried CarryFault). ReportsWhole from names (target_state a n store) (target_state
+    b m now) (drawn_from (g.E.Entropy.drawn c.args.entropy.now) (g.E.Entropy.drawn c.carry_all.new.entropy)) r)
     c.from_residual-in_err-carry_all.ensures.1
     (whole_err from names store now _ _ a b n m (g.E.Entropy.drawn c.args.entropy.now) (g.E.Entropy.drawn c.carry_all.new.entropy) fault
     c.in_err-carry_all.ensures.works)
@@ -72,8 +68,8 @@ returns-in_err-line-clause-works g c =
     let n = g.D.Shelf.faults c.args.depot.now in
     let m = g.D.Shelf.faults c.carry_all.new.depot in
     let from = origin_of (g.S.Shelf.told c.args.shelf.now) (repo_view c.args.source.now) c.args.options.now in
-    err_is c.from_residual-in_err-line.result Memory (λ (r : Result Carried CarryFault). ReportsWhole from names store now a b n m (g.E.Entropy.drawn
-    c.args.entropy.now) (g.E.Entropy.drawn c.carry_all.new.entropy) r)
+    err_is c.from_residual-in_err-line.result Memory (λ (r : Result Carried CarryFault). ReportsWhole from names (target_state a n store) (target_state b m
+    now) (drawn_from (g.E.Entropy.drawn c.args.entropy.now) (g.E.Entropy.drawn c.carry_all.new.entropy)) r)
     c.from_residual-in_err-line.ensures.1
     (whole_unwritten from c.nothing-carried.result c.carry_all.new.carried names store now a b n m (g.E.Entropy.drawn c.args.entropy.now)
     (g.E.Entropy.drawn c.carry_all.new.entropy) c.in_ok-carry_all.ensures.works)
@@ -95,13 +91,14 @@ returns-in_err-tell-clause-works g c =
     let fault = c.in_err-tell.field-0.0 in
     let ensures = c.in_ok-carry_all.ensures in
     let from = origin_of (g.S.Shelf.told c.args.shelf.now) (repo_view c.args.source.now) c.args.options.now in
-    err_is c.from_residual-in_err-tell.result fault (λ (r : Result Carried CarryFault). ReportsWhole from names store now a d n k (g.E.Entropy.drawn
-    c.args.entropy.now) (g.E.Entropy.drawn c.carry_all.new.entropy) r)
+    err_is c.from_residual-in_err-tell.result fault (λ (r : Result Carried CarryFault). ReportsWhole from names (target_state a n store) (target_state d k
+    now) (drawn_from (g.E.Entropy.drawn c.args.entropy.now) (g.E.Entropy.drawn c.carry_all.new.entropy)) r)
     c.from_residual-in_err-tell.ensures.1
     (whole_untold from c.nothing-carried.result carried names line store now a b d n m k (g.E.Entropy.drawn c.args.entropy.now) (g.E.Entropy.drawn
     c.carry_all.new.entropy)
-    (g.E.Entropy.drawn c.carry_all.new.entropy) fault is c.requires.settled (accepts_on now now ensures.settled)
-    ensures.works (telling_spent fault c.in_err-tell.ensures.telling) (target_apart fault c.in_err-tell.ensures.target) c.in_err-tell.ensures.telling
+    (g.E.Entropy.drawn c.carry_all.new.entropy) fault is c.requires.both.target.settled (accepts_on now now ensures.both.target.settled)
+    ensures.works (telling_spent fault c.in_err-tell.ensures.target.telling) (target_apart fault c.in_err-tell.ensures.target.refusal.target)
+    c.in_err-tell.ensures.target.telling
     c.in_err-tell.ensures.works)
 
 pub returns-clause-works : goal.returns-clause-works
@@ -122,9 +119,9 @@ returns-clause-works g c =
     let from = origin_of (g.S.Shelf.told c.args.shelf.now) (repo_view c.args.source.now) c.args.options.now in
     let nothing : c.nothing-carried.result ≡ nothing_carried = c.nothing-carried.ensures in
     reports_whole from carried names line store now a b d n m k (g.E.Entropy.drawn c.args.entropy.now) (g.E.Entropy.drawn c.carry_all.new.entropy) is
-    c.requires.settled (accepts_on now now ensures.settled)
-    (subst (λ (before : Carried). Reports from names store now before carried a b n m (g.E.Entropy.drawn c.args.entropy.now) (g.E.Entropy.drawn
-    c.carry_all.new.entropy) (Ok tt)) nothing ensures.works) c.in_ok-tell.ensures.works
+    c.requires.both.target.settled (accepts_on now now ensures.both.target.settled)
+    (subst (λ (before : Carried). Reports from names (target_state a n store) (target_state b m now) before carried (drawn_from (g.E.Entropy.drawn
+    c.args.entropy.now) (g.E.Entropy.drawn c.carry_all.new.entropy)) (Ok tt)) nothing ensures.works) c.in_ok-tell.ensures.works
 
 pub returns-in_err-carry_all-clause-refused : goal.returns-in_err-carry_all-clause-refused
 returns-in_err-carry_all-clause-refused g c =
@@ -140,29 +137,31 @@ returns-in_err-carry_all-clause-refused g c =
     c.from_residual-in_err-carry_all.ensures.1
     (names_refused from a b store now names fault (c.missing_name.ensures.found none) c.in_err-carry_all.ensures.refused)
 
-pub returns-in_err-carry_all-clause-nothing : goal.returns-in_err-carry_all-clause-nothing
-returns-in_err-carry_all-clause-nothing g c =
-    λ missing is.
-    let none : c.missing_name.result ≡ None = search rules in
-    let from = origin_of (g.S.Shelf.told c.args.shelf.now) (repo_view c.args.source.now) c.args.options.now in
-    absurd (none_missing {T = Carried} from (g.D.Shelf.told c.args.depot.now) (g.D.Shelf.told c.carry_all.new.depot) c.args.store.now
-    c.carry_all.new.store c.args.names.now c.from_residual-in_err-carry_all.result c.in_err-carry_all.field-0.0 missing
-    (c.missing_name.ensures.found none) c.in_err-carry_all.ensures.refused c.from_residual-in_err-carry_all.ensures.1 is)
-
 pub returns-in_err-carry_all-clause-missing : goal.returns-in_err-carry_all-clause-missing
-returns-in_err-carry_all-clause-missing g c =
-    λ place name there lacks.
-    let none : c.missing_name.result ≡ None = search rules in absurd (not_there lacks (c.missing_name.ensures.found none place name there))
+returns-in_err-carry_all-clause-missing g c = (
+  λ place name there lacks.
+      let none : c.missing_name.result ≡ None = search rules in absurd (not_there lacks (c.missing_name.ensures.found none place name there)),
+  λ missing is.
+      let none : c.missing_name.result ≡ None = search rules in
+      let from = origin_of (g.S.Shelf.told c.args.shelf.now) (repo_view c.args.source.now) c.args.options.now in
+      absurd (none_missing {T = Carried} from (g.D.Shelf.told c.args.depot.now) (g.D.Shelf.told c.carry_all.new.depot) c.args.store.now
+      c.carry_all.new.store c.args.names.now c.from_residual-in_err-carry_all.result c.in_err-carry_all.field-0.0 missing
+      (c.missing_name.ensures.found none) c.in_err-carry_all.ensures.refused c.from_residual-in_err-carry_all.ensures.1 is),
+)
 
 pub returns-in_err-tell-clause-missing : goal.returns-in_err-tell-clause-missing
-returns-in_err-tell-clause-missing g c =
-    λ place name there lacks.
-    let none : c.missing_name.result ≡ None = search rules in absurd (not_there lacks (c.missing_name.ensures.found none place name there))
+returns-in_err-tell-clause-missing g c = (
+  λ place name there lacks.
+      let none : c.missing_name.result ≡ None = search rules in absurd (not_there lacks (c.missing_name.ensures.found none place name there)),
+  search rules,
+)
 
 pub returns-clause-missing : goal.returns-clause-missing
-returns-clause-missing g c =
-    λ place name there lacks.
-    let none : c.missing_name.result ≡ None = search rules in absurd (not_there lacks (c.missing_name.ensures.found none place name there))
+returns-clause-missing g c = (
+  λ place name there lacks.
+      let none : c.missing_name.result ≡ None = search rules in absurd (not_there lacks (c.missing_name.ensures.found none place name there)),
+  search rules,
+)
 
 pub returns-in_err-line-clause-refused : goal.returns-in_err-line-clause-refused
 returns-in_err-line-clause-refused g c =
@@ -178,76 +177,16 @@ returns-in_err-tell-clause-refused g c =
     let d = g.D.Shelf.told c.tell.new.depot in
     let from = origin_of (g.S.Shelf.told c.args.shelf.now) (repo_view c.args.source.now) c.args.options.now in
     line_refused {T = Carried} from a d c.args.store.now c.carry_all.new.store c.args.names.now (repo_view c.carry_all.new.store.repo).keys
-    c.from_residual-in_err-tell.result c.in_err-tell.field-0.0 c.from_residual-in_err-tell.ensures.1 c.in_ok-carry_all.ensures.most.keys
-    c.in_err-tell.ensures.telling c.in_err-tell.ensures.stops
+    c.from_residual-in_err-tell.result c.in_err-tell.field-0.0 c.from_residual-in_err-tell.ensures.1 c.in_ok-carry_all.ensures.both.target.most_kept.keys
+    c.in_err-tell.ensures.target.telling c.in_err-tell.ensures.target.stops
 
-pub returns-in_err-tell-clause-limit : goal.returns-in_err-tell-clause-limit
-returns-in_err-tell-clause-limit g c =
-    let store = c.args.store.now in
-    let a = g.D.Shelf.told c.args.depot.now in
-    let d = g.D.Shelf.told c.tell.new.depot in
-    let fault = c.in_err-tell.field-0.0 in
-    let accepted = accepted_in store in
-    let Large : Type 0 =
-    IfSome a (λ b. IfSome d (λ t. LimitsNames c.args.options.now.timestamp (repo_view c.args.source.now).manifest (repo_view store.repo).keys accepted
-    c.args.names.now (λ done. TellsNames accepted done b.history t.history))) in
-    err_is c.from_residual-in_err-tell.result fault (λ (r : Result Carried CarryFault). IfErr r (λ (f : CarryFault). f ≡ Target TooLarge → Large))
-    c.from_residual-in_err-tell.ensures.1 (telling_small Large fault c.in_err-tell.ensures.telling)
-
-pub returns-in_err-name-clause-stands : goal.returns-in_err-name-clause-stands
-returns-in_err-name-clause-stands g c =
-    let a = g.D.Shelf.told c.args.depot.now in
-    let from = origin_of (g.S.Shelf.told c.args.shelf.now) (repo_view c.args.source.now) c.args.options.now in
-    err_is c.from_residual.result Memory
-    (λ (r : Result Carried CarryFault). IfErr r (λ (f : CarryFault). IsOfWork f → StopsBehind from c.args.names.now c.args.store.now a a))
-    c.from_residual.ensures.1 (λ work. memory_apart work)
-
-pub returns-in-Some-clause-stands : goal.returns-in-Some-clause-stands
-returns-in-Some-clause-stands g c = λ _.
-    let store = c.args.store.now in
-    let from = origin_of (g.S.Shelf.told c.args.shelf.now) (repo_view c.args.source.now) c.args.options.now in
-    stops_here from c.args.names.now store (g.D.Shelf.told c.args.depot.now) (accepts_on store store c.requires.settled)
-
-pub returns-in_err-carry_all-clause-stands : goal.returns-in_err-carry_all-clause-stands
-returns-in_err-carry_all-clause-stands g c =
-    let a = g.D.Shelf.told c.args.depot.now in
-    let b = g.D.Shelf.told c.carry_all.new.depot in
-    let from = origin_of (g.S.Shelf.told c.args.shelf.now) (repo_view c.args.source.now) c.args.options.now in
-    err_is c.from_residual-in_err-carry_all.result c.in_err-carry_all.field-0.0
-    (λ (r : Result Carried CarryFault). IfErr r (λ (f : CarryFault). IsOfWork f → StopsBehind from c.args.names.now c.args.store.now a b))
-    c.from_residual-in_err-carry_all.ensures.1 c.in_err-carry_all.ensures.stands
-
-pub returns-in_err-line-clause-stands : goal.returns-in_err-line-clause-stands
-returns-in_err-line-clause-stands g c =
-    let a = g.D.Shelf.told c.args.depot.now in
-    let b = g.D.Shelf.told c.carry_all.new.depot in
-    let from = origin_of (g.S.Shelf.told c.args.shelf.now) (repo_view c.args.source.now) c.args.options.now in
-    err_is c.from_residual-in_err-line.result Memory
-    (λ (r : Result Carried CarryFault). IfErr r (λ (f : CarryFault). IsOfWork f → StopsBehind from c.args.names.now c.args.store.now a b))
-    c.from_residual-in_err-line.ensures.1 (λ work. memory_apart work)
-
-pub returns-in_err-tell-clause-stands : goal.returns-in_err-tell-clause-stands
-returns-in_err-tell-clause-stands g c =
-    let a = g.D.Shelf.told c.args.depot.now in
-    let d = g.D.Shelf.told c.tell.new.depot in
-    let from = origin_of (g.S.Shelf.told c.args.shelf.now) (repo_view c.args.source.now) c.args.options.now in
-    let fault = c.in_err-tell.field-0.0 in
-    err_is c.from_residual-in_err-tell.result fault
-    (λ (r : Result Carried CarryFault). IfErr r (λ (f : CarryFault). IsOfWork f → StopsBehind from c.args.names.now c.args.store.now a d))
-    c.from_residual-in_err-tell.ensures.1 (λ work. telling_apart fault c.in_err-tell.ensures.telling work)
-
-pub returns-in_err-tell-clause-chunk : goal.returns-in_err-tell-clause-chunk
-returns-in_err-tell-clause-chunk g c =
-    let store = c.args.store.now in
-    let a = g.D.Shelf.told c.args.depot.now in
-    let d = g.D.Shelf.told c.tell.new.depot in
-    let told = g.S.Shelf.told c.args.shelf.now in
-    let from = origin_of told (repo_view c.args.source.now) c.args.options.now in
-    let x = g.E.Entropy.drawn c.args.entropy.now in
-    let z = g.E.Entropy.drawn c.carry_all.new.entropy in
-    let fault = c.in_err-tell.field-0.0 in
-    err_is c.from_residual-in_err-tell.result fault
-    (λ (r : Result Carried CarryFault). IfErr r (λ (f : CarryFault). (id : List ℕ) → IsChunk id f
-    → IfSome a (λ u. IfSome d (λ v. IfSome told (λ _. StopsAtChunk from (repo_view store.repo).keys (accepted_in store) c.args.names.now
-    (λ l. TellsNames (accepted_in store) l u.history v.history) x z id))))) c.from_residual-in_err-tell.ensures.1
-    (λ id is. no_chunk _ fault id (telling_unbroken fault c.in_err-tell.ensures.telling) is)
+pub returns-in-Some-clause-stops : goal.returns-in-Some-clause-stops
+returns-in-Some-clause-stops g c = record {
+  limit = search rules;
+  chunk = search rules;
+  stands =
+      λ _.
+      let store = c.args.store.now in
+      let from = origin_of (g.S.Shelf.told c.args.shelf.now) (repo_view c.args.source.now) c.args.options.now in
+      stops_here from c.args.names.now store (g.D.Shelf.told c.args.depot.now) (accepts_on store store c.requires.both.target.settled);
+}

@@ -1,4 +1,4 @@
-use Rattle.std.proofs.Common.{◌≡◌, ◌≢◌, ◌⊎◌, inl, ◌≤◌, List, [], ◌++◌, Bool, true, false}
+use Rattle.std.proofs.Common.{◌≡◌, ◌≢◌, ◌⊎◌, inl, ◌≤◌, List, [], ◌++◌, Bool, true, false, rules}
 use Rattle.std.proofs.Common.{None, Result, Ok, Err, IsSome, refl, ◌∙◌, ap, subst, sym, IfErr, IfSome}
 use Rattle.ferry_carry.proofs.FlyLemmas.{TakesOn, origin_same, taken_err, takes_end, takes_last, takes_more, takes_none, takes_refused}
 use Rattle.ferry_carry.proofs.AcceptingLemmas.{flown_large, flown_named, flown_present}
@@ -11,7 +11,7 @@ use Rattle.ferry_carry.proofs.FlightLemmas.{settled_committed}
 use Rattle.ferry_carry.proofs.ThereLemmas.{tells_named, tells_present}
 use Rattle.ferry_piece.proofs.WorkLemmas.{err_is}
 use Rattle.ferry_carry.proofs.chosen.fly.Goals as goal
-use Rattle.ferry_carry.specs.Flight.{TakesTurn, flown_from}
+use Rattle.ferry_carry.specs.Flight.{TakesTurn, flown_from, archive_adds}
 use Rattle.ferry_piece.specs.Puts.{Addition}
 use Rattle.ferry_carry.specs.Accepting.{HasLargeNext}
 use Rattle.ferry_piece.specs.declared.fault.CarryFault.{CarryFault}
@@ -27,17 +27,19 @@ use Rattle.ferry_store.specs.Commit.{accepted_in}
 use Rattle.ferry_store.specs.declared.fault.StoreRefusal.TheVariants.{TooLarge}
 use Rattle.ferry_carry.proofs.CauseLemmas.{name_refused}
 use Rattle.ferry_carry.specs.Refusals.{RefusesName, WhereTold}
+use Rattle.ferry_carry.proofs.TurnLemmas.{stops_flight}
+use Rattle.ferry_carry.specs.States.{target_state}
 
 pub loop-init : goal.loop-init
 loop-init g c = record {
   flight = c.requires.flight;
   named = refl;
   options = refl;
-  source_fits = c.requires.source_fits;
-  unspent = c.requires.unspent;
-  fits = c.requires.fits;
-  packable = c.requires.packable;
-  settled = c.requires.settled;
+  source_fits = c.requires.both.source;
+  unspent = c.requires.both.target.unspent;
+  fits = c.requires.both.target.fits;
+  packable = c.requires.both.target.packable;
+  settled = c.requires.both.target.settled;
   accepted = refl;
   repo = refl;
   alike = refl;
@@ -45,24 +47,13 @@ loop-init g c = record {
   drawn = refl;
   undrawn = refl;
   most = most_here c.args.store.now;
-  pending = c.requires.pending;
+  pending = c.requires.both.target.pending;
   works = λ fits.
       takes_none (g.S.Shelf.told c.args.shelf.now) (repo_view c.args.source.now)
       (flown_from (g.S.Shelf.told c.args.shelf.now) (repo_view c.args.source.now) c.args.flight.now) c.args.flight.now.named.name c.args.store.now
       c.args.flight.now (g.D.Shelf.told c.args.depot.now) (g.D.Shelf.faults c.args.depot.now) fits
-      (accepts_on c.args.store.now c.args.store.now c.requires.settled);
+      (accepts_on c.args.store.now c.args.store.now c.requires.both.target.settled);
 }
-
-pub step-requires-clause-pending : goal.step-requires-clause-pending
-step-requires-clause-pending g c =
-    let invariant = c.loop.invariant in
-    subst (λ (o : Options). c.loop.store.pending ≤ o.checkpoint) (sym invariant.options) invariant.pending
-
-pub step-requires-clause-accepts : goal.step-requires-clause-accepts
-step-requires-clause-accepts g c = accepts_on c.loop.store c.loop.store c.loop.invariant.settled
-
-pub step-requires-clause-committed : goal.step-requires-clause-committed
-step-requires-clause-committed g c = settled_committed c.loop.store c.loop.flight.named.name c.loop.invariant.settled
 
 pub returns-in_err-step-clause-works : goal.returns-in_err-step-clause-works
 returns-in_err-step-clause-works g c =
@@ -140,18 +131,19 @@ returns-in-Named-clause-works g c =
     let before = invariant.works fits in
     let stepped = c.in_ok-step.ensures.works before.fits in
     let records = stepped.1.0 in
-    let turn = subst (λ (t : Turn). TakesTurn seen then other called before.fits.added stepped.0 records middle now flight b d m k (Ok t)) c.in-Named.is
+    let turn = subst (λ (t : Turn). TakesTurn seen then other (archive_adds called before.fits.added stepped.0 records) (target_state b m middle)
+    (target_state d k now) flight (Ok t)) c.in-Named.is
     stepped.1.1.0 in (
       before.more ++ stepped.0,
       (
         records,
         (
           takes_last later seen after then from other name called fits.added stepped.0 records store middle now c.loop.flight flight a b d n m k true same
-              names invariant.accepted invariant.most.keys (ap (λ (e : ArchiveRef). e.name) (c.step.ensures.name ∙ invariant.named)) before turn,
+              names invariant.accepted invariant.most.keys (ap (λ (e : ArchiveRef). e.name) (c.step.ensures.turn.turn.name ∙ invariant.named)) before turn,
           flown_named told c.args.flight.now.options c.loop.flight.options source after store middle now c.args.flight.now.named c.loop.flight.named records
               (g.E.Entropy.drawn c.args.entropy.now) (g.E.Entropy.drawn c.loop.entropy) (g.E.Entropy.drawn c.step.new.entropy) invariant.settled
               invariant.options invariant.repo invariant.named invariant.accepted invariant.most.keys c.requires.flight.stands.named
-              (c.in_ok-step.ensures.new (ap Ok c.in-Named.is)) invariant.undrawn (stepped.1.1.1 c.in-Named.is),
+              (c.in_ok-step.ensures.turn.turn.new (ap Ok c.in-Named.is)) invariant.undrawn (stepped.1.1.1 c.in-Named.is),
         ),
       ),
     )
@@ -186,19 +178,21 @@ returns-in-Present-clause-works g c =
     let before = invariant.works fits in
     let stepped = c.in_ok-step.ensures.works before.fits in
     let records = stepped.1.0 in
-    let turn = subst (λ (t : Turn). TakesTurn seen then other called before.fits.added stepped.0 records middle now flight b d m k (Ok t)) c.in-Present.is
+    let turn = subst (λ (t : Turn). TakesTurn seen then other (archive_adds called before.fits.added stepped.0 records) (target_state b m middle)
+    (target_state d k now) flight (Ok t)) c.in-Present.is
     stepped.1.1.0 in (
       before.more ++ stepped.0,
       (
         records,
         (
           takes_last later seen after then from other name called fits.added stepped.0 records store middle now c.loop.flight flight a b d n m k false same
-              names invariant.accepted invariant.most.keys (ap (λ (e : ArchiveRef). e.name) (c.step.ensures.name ∙ invariant.named)) before turn,
+              names invariant.accepted invariant.most.keys (ap (λ (e : ArchiveRef). e.name) (c.step.ensures.turn.turn.name ∙ invariant.named)) before turn,
           flown_present from name store now records (g.E.Entropy.drawn c.args.entropy.now) (g.E.Entropy.drawn c.step.new.entropy)
               (subst (λ (m : ManifestText). IsSome (archive_named name m.archives)) invariant.accepted
               (subst (λ (e : ArchiveRef). IsSome (archive_named e.name (accepted_in middle).archives)) invariant.named
-              (c.in_ok-step.ensures.there (ap Ok c.in-Present.is)))) (c.in_ok-step.ensures.still (ap Ok c.in-Present.is) ∙ invariant.accepted)
-              (c.in_ok-step.ensures.undrawn (subst (λ (t : Turn). t ≢ Named) (sym c.in-Present.is) (λ is. let no : ⊥ = cc in no)) ∙ invariant.undrawn)
+              (c.in_ok-step.ensures.turn.turn.there (ap Ok c.in-Present.is)))) (c.in_ok-step.ensures.turn.turn.still (ap Ok c.in-Present.is) ∙
+              invariant.accepted)
+              (c.in_ok-step.ensures.draws.undrawn (subst (λ (t : Turn). t ≢ Named) (sym c.in-Present.is) (λ is. let no : ⊥ = cc in no)) ∙ invariant.undrawn)
               turn.lists.0.0,
         ),
       ),
@@ -237,46 +231,28 @@ loop-preserved g c =
     let stepped = ensures.works before.fits in
     takes_more later seen after then from other name called start stepped.0 stepped.1.0 store middle now c.loop.flight flight a b d n m k same names
     (accepts_on middle middle invariant.settled) before
-    (subst (λ (t : Turn). TakesTurn seen then other called before.fits.added stepped.0 stepped.1.0 middle now flight b d m k (Ok t)) c.in-More.is
+    (subst (λ (t : Turn). TakesTurn seen then other (archive_adds called before.fits.added stepped.0 stepped.1.0) (target_state b m middle) (target_state d
+    k now) flight (Ok t)) c.in-More.is
     stepped.1.1.0) in
     record {
       flight = (turned c.requires.flight.added (invariant.works c.requires.flight)).fits;
-      named = ensures.name ∙ invariant.named;
-      options = ensures.options ∙ invariant.options;
-      source_fits = ensures.source_fits;
-      unspent = ensures.unspent;
-      fits = ensures.fits;
-      packable = ensures.packable;
-      settled = ensures.settled invariant.settled;
-      accepted = ensures.more (ap Ok c.in-More.is) ∙ invariant.accepted;
-      repo = ensures.kept ∙ invariant.repo;
-      alike = ensures.same ∙ invariant.alike;
-      faults = ensures.cause ∙ invariant.faults;
-      drawn = ensures.entropy ∙ invariant.drawn;
-      undrawn = ensures.undrawn (subst (λ (t : Turn). t ≢ Named) (sym c.in-More.is) (λ is. let no : ⊥ = cc in no)) ∙ invariant.undrawn;
-      most = most_then store middle now invariant.most ensures.most;
-      pending = subst (λ (o : Options). now.pending ≤ o.checkpoint) invariant.options ensures.pending;
+      named = ensures.turn.turn.name ∙ invariant.named;
+      options = ensures.turn.turn.options ∙ invariant.options;
+      source_fits = ensures.turn.source.fits;
+      unspent = ensures.turn.target.unspent;
+      fits = ensures.turn.target.fits;
+      packable = ensures.turn.target.packable;
+      settled = ensures.turn.target.settled invariant.settled;
+      accepted = ensures.turn.turn.more (ap Ok c.in-More.is) ∙ invariant.accepted;
+      repo = ensures.turn.source.kept ∙ invariant.repo;
+      alike = ensures.turn.source.same ∙ invariant.alike;
+      faults = ensures.turn.source.cause ∙ invariant.faults;
+      drawn = ensures.draws.entropy ∙ invariant.drawn;
+      undrawn = ensures.draws.undrawn (subst (λ (t : Turn). t ≢ Named) (sym c.in-More.is) (λ is. let no : ⊥ = cc in no)) ∙ invariant.undrawn;
+      most = most_then store middle now invariant.most ensures.turn.target.most_kept;
+      pending = subst (λ (o : Options). now.pending ≤ o.checkpoint) invariant.options ensures.turn.target.pending;
       works = λ fits. turned fits.added (invariant.works fits);
     }
-
-pub returns-in_err-step-clause-refused : goal.returns-in_err-step-clause-refused
-returns-in_err-step-clause-refused g c =
-    let invariant = c.loop.invariant in
-    let store = c.args.store.now in
-    let now = c.step.new.store in
-    let a = g.D.Shelf.told c.args.depot.now in
-    let b = g.D.Shelf.told c.loop.depot in
-    let d = g.D.Shelf.told c.step.new.depot in
-    let from = flown_from (g.S.Shelf.told c.args.shelf.now) (repo_view c.args.source.now) c.args.flight.now in
-    let other = flown_from (g.S.Shelf.told c.loop.shelf) (repo_view c.loop.source) c.loop.flight in
-    let name = c.args.flight.now.named.name in
-    let same : other ≡ from =
-    origin_same (g.S.Shelf.told c.args.shelf.now) (g.S.Shelf.told c.loop.shelf) (repo_view c.args.source.now) (repo_view c.loop.source)
-    c.args.flight.now.options c.loop.flight.options invariant.alike invariant.repo invariant.options in
-    let fault = c.in_err-step.field-0.0 in
-    err_is c.from_residual.result fault (λ (r : Result Bool CarryFault). IfErr r (RefusesName from a store d now name)) c.from_residual.ensures.1
-    (name_refused {T = Turn} from other a b d _ store c.loop.store now name c.loop.flight.named.name (Err fault) same
-    (ap (λ (e : ArchiveRef). e.name) invariant.named) (invariant.works c.requires.flight).works.each invariant.most c.in_err-step.ensures.refused)
 
 pub returns-in-Named-clause-word : goal.returns-in-Named-clause-word
 returns-in-Named-clause-word g c =
@@ -285,7 +261,7 @@ returns-in-Named-clause-word g c =
     tells_named (accepted_in c.args.store.now) name
     (subst (λ (m : ManifestText). archive_named name m.archives ≡ None) invariant.accepted
     (subst (λ (e : ArchiveRef). archive_named e.name (accepted_in c.loop.store).archives ≡ None) invariant.named
-    (c.in_ok-step.ensures.new (ap Ok c.in-Named.is))))
+    (c.in_ok-step.ensures.turn.turn.new (ap Ok c.in-Named.is))))
 
 pub returns-in-Present-clause-word : goal.returns-in-Present-clause-word
 returns-in-Present-clause-word g c =
@@ -294,7 +270,7 @@ returns-in-Present-clause-word g c =
     tells_present (accepted_in c.args.store.now) name
     (subst (λ (m : ManifestText). IsSome (archive_named name m.archives)) invariant.accepted
     (subst (λ (e : ArchiveRef). IsSome (archive_named e.name (accepted_in c.loop.store).archives)) invariant.named
-    (c.in_ok-step.ensures.there (ap Ok c.in-Present.is))))
+    (c.in_ok-step.ensures.turn.turn.there (ap Ok c.in-Present.is))))
 
 pub returns-clause-works : goal.returns-clause-works
 returns-clause-works g c =
@@ -311,7 +287,8 @@ returns-clause-works g c =
         [],
         (
           takes_end later after (cached_in c.loop.source) (flown_from told source flight) flight.named.name fits.added c.args.store.now c.loop.store
-              c.loop.flight (g.D.Shelf.told c.args.depot.now) (g.D.Shelf.told c.loop.depot) (g.D.Shelf.faults c.args.depot.now) (g.D.Shelf.faults c.loop.depot)
+              c.loop.flight (g.D.Shelf.told c.args.depot.now) (g.D.Shelf.told c.loop.depot) (g.D.Shelf.faults c.args.depot.now) (g.D.Shelf.faults
+              c.loop.depot)
               (origin_same told later source after flight.options c.loop.flight.options invariant.alike invariant.repo invariant.options)
               (ap (λ (e : ArchiveRef). e.name) invariant.named) invariant.accepted invariant.most.keys invariant.source_fits
               (accepts_on c.loop.store c.loop.store invariant.settled) before,
@@ -320,9 +297,27 @@ returns-clause-works g c =
       ),
     )
 
-pub returns-in_err-step-clause-limit : goal.returns-in_err-step-clause-limit
-returns-in_err-step-clause-limit g c =
-    let invariant = c.loop.invariant in
+pub returns-in_err-step-clause-refused : goal.returns-in_err-step-clause-refused
+returns-in_err-step-clause-refused g c =
+    stops_flight {T = Bool} _ _ _ _ _ _ c.from_residual.result
+    (let invariant = c.loop.invariant in
+    let store = c.args.store.now in
+    let now = c.step.new.store in
+    let a = g.D.Shelf.told c.args.depot.now in
+    let b = g.D.Shelf.told c.loop.depot in
+    let d = g.D.Shelf.told c.step.new.depot in
+    let from = flown_from (g.S.Shelf.told c.args.shelf.now) (repo_view c.args.source.now) c.args.flight.now in
+    let other = flown_from (g.S.Shelf.told c.loop.shelf) (repo_view c.loop.source) c.loop.flight in
+    let name = c.args.flight.now.named.name in
+    let same : other ≡ from =
+    origin_same (g.S.Shelf.told c.args.shelf.now) (g.S.Shelf.told c.loop.shelf) (repo_view c.args.source.now) (repo_view c.loop.source)
+    c.args.flight.now.options c.loop.flight.options invariant.alike invariant.repo invariant.options in
+    let fault = c.in_err-step.field-0.0 in
+    err_is c.from_residual.result fault (λ (r : Result Bool CarryFault). IfErr r (RefusesName from a store d now name)) c.from_residual.ensures.1
+    (name_refused {T = Turn} from other a b d _ store c.loop.store now name c.loop.flight.named.name (Err fault) same
+    (ap (λ (e : ArchiveRef). e.name) invariant.named) (invariant.works c.requires.flight).works.each invariant.most
+    c.in_err-step.ensures.turn.refused.refused))
+    (let invariant = c.loop.invariant in
     let flight = c.args.flight.now in
     let store = c.args.store.now in
     let source = repo_view c.args.source.now in
@@ -334,4 +329,22 @@ returns-in_err-step-clause-limit g c =
     c.from_residual.ensures.1
     (flown_large d flight.options.timestamp c.loop.flight.options.timestamp source (repo_view c.loop.source) store c.loop.store flight.named
     c.loop.flight.named fault invariant.settled (ap (λ (o : Options). o.timestamp) invariant.options) invariant.repo invariant.named invariant.accepted
-    invariant.most.keys c.requires.flight.stands.named c.in_err-step.ensures.limit)
+    invariant.most.keys c.requires.flight.stands.named c.in_err-step.ensures.turn.refused.limit))
+
+pub step-requires-clause-both : goal.step-requires-clause-both
+step-requires-clause-both g c = record {
+  source = search rules;
+  target =
+      record {
+        pending =
+            let invariant = c.loop.invariant in
+            subst (λ (o : Options). c.loop.store.pending ≤ o.checkpoint) (sym invariant.options) invariant.pending;
+        unspent = search rules;
+        fits = search rules;
+        packable = search rules;
+        accepts =
+            accepts_on c.loop.store c.loop.store c.loop.invariant.settled;
+        committed =
+            settled_committed c.loop.store c.loop.flight.named.name c.loop.invariant.settled;
+      };
+}

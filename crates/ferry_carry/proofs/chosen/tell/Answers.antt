@@ -1,4 +1,4 @@
-use Rattle.std.proofs.Common.{◌≡◌, true, Result, IfErr}
+use Rattle.std.proofs.Common.{◌≡◌, true, Result, IfErr, rules}
 use Rattle.ferry_disk.specs.Act.{TellOf}
 use Rattle.ferry_carry.proofs.AcceptingLemmas.{store_telling}
 use Rattle.ferry_carry.proofs.TellLemmas.{tell_fits, tell_works, untold_works}
@@ -29,18 +29,28 @@ returns-clause-works g c =
     tell_works c.args.line.now (g.D.Shelf.told c.args.depot.now) (g.D.Shelf.told c.tell.new.self) (g.D.Shelf.faults c.args.depot.now)
     (g.D.Shelf.faults c.tell.new.self) c.in_ok-tell.ensures.act c.in_ok-tell.ensures.cause
 
-pub returns-clause-fits : goal.returns-clause-fits
-returns-clause-fits g c =
-    let line = c.args.line.now in
-    let a = g.D.Shelf.told c.args.depot.now in
-    let b = g.D.Shelf.told c.tell.new.self in
-    let n = g.D.Shelf.faults c.args.depot.now in
-    let m = g.D.Shelf.faults c.tell.new.self in
-    tell_fits {T = Unit {0}} c.args.store.now line a b n m tt c.requires.fits
-    (tell_works line a b n m c.in_ok-tell.ensures.act c.in_ok-tell.ensures.cause)
+pub returns-clause-target : goal.returns-clause-target
+returns-clause-target g c = record {
+  fits =
+      let line = c.args.line.now in
+      let a = g.D.Shelf.told c.args.depot.now in
+      let b = g.D.Shelf.told c.tell.new.self in
+      let n = g.D.Shelf.faults c.args.depot.now in
+      let m = g.D.Shelf.faults c.tell.new.self in
+      tell_fits {T = Unit {0}} c.args.store.now line a b n m tt c.requires.fits
+      (tell_works line a b n m c.in_ok-tell.ensures.act c.in_ok-tell.ensures.cause);
+  stops = search rules;
+  telling = search rules;
+  refusal = search rules;
+}
 
-pub returns-in_err-tell-clause-telling : goal.returns-in_err-tell-clause-telling
-returns-in_err-tell-clause-telling g c =
-    let fault = c.in_err-tell.field-0.0 in
-    err_is c.from_residual.result (target_fault (store_refusal fault))
-    (λ (r : Result (Unit {0}) CarryFault). IfErr r (λ (f : CarryFault). is_of_telling f ≡ true)) c.from_residual.ensures.1 (store_telling fault)
+pub returns-in_err-tell-clause-target : goal.returns-in_err-tell-clause-target
+returns-in_err-tell-clause-target g c = record {
+  fits = search rules;
+  stops = search rules;
+  telling =
+      let fault = c.in_err-tell.field-0.0 in
+      err_is c.from_residual.result (target_fault (store_refusal fault))
+      (λ (r : Result (Unit {0}) CarryFault). IfErr r (λ (f : CarryFault). is_of_telling f ≡ true)) c.from_residual.ensures.1 (store_telling fault);
+  refusal = search rules;
+}

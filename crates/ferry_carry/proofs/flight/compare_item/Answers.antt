@@ -1,4 +1,4 @@
-use Rattle.std.proofs.Common.{◌≡◌, [], ◌∙◌, Ok, Result, ap, subst}
+use Rattle.std.proofs.Common.{◌≡◌, [], ◌∙◌, Ok, Result, ap, subst, rules}
 use Rattle.ferry_carry.proofs.FlightLemmas.{fits_read, same_read, works_read, works_unread}
 use Rattle.ferry_piece.proofs.WorkLemmas.{err_is}
 use Rattle.ferry_carry.proofs.flight.compare_item.Goals as goal
@@ -26,11 +26,6 @@ returns-in_err-compared-clause-works g c most =
     (works_unread {U = Compared} Compared most store c.step.new.target a b n m fault (c.step.ensures.target_kept ∙ ap repo_view c.repo.ensures.repo)
     c.in_err-compared.ensures.target_same c.in_err-compared.ensures.target_cause c.in_err-compared.ensures.refused_target c.step.ensures.target_fits)
 
-pub returns-in_err-compared-clause-fits : goal.returns-in_err-compared-clause-fits
-returns-in_err-compared-clause-fits g c =
-    fits_read {T = Compared} c.args.store.now c.step.new.target (g.D.Shelf.told c.args.depot.now) (g.D.Shelf.told c.step.new.other) c.step.result
-    (c.step.ensures.target_kept ∙ ap repo_view c.repo.ensures.repo) c.step.ensures.target_same c.step.ensures.target_fits c.requires.fits
-
 pub returns-clause-works : goal.returns-clause-works
 returns-clause-works g c most =
     let compared = c.in_ok-compared.compared in
@@ -38,25 +33,46 @@ returns-clause-works g c most =
     (g.D.Shelf.faults c.args.depot.now) (g.D.Shelf.faults c.step.new.other) compared compared (c.step.ensures.target_kept ∙ ap repo_view c.repo.ensures.repo)
     c.in_ok-compared.ensures.target_same c.in_ok-compared.ensures.target_cause c.step.ensures.target_fits
 
-pub returns-clause-fits : goal.returns-clause-fits
-returns-clause-fits g c =
-    fits_read {T = Compared} c.args.store.now c.step.new.target (g.D.Shelf.told c.args.depot.now) (g.D.Shelf.told c.step.new.other) c.step.result
-    (c.step.ensures.target_kept ∙ ap repo_view c.repo.ensures.repo) c.step.ensures.target_same c.step.ensures.target_fits c.requires.fits
+pub returns-clause-found : goal.returns-clause-found
+returns-clause-found g c = record {
+  equal = λ e block most time.
+      let is : c.in_ok-compared.compared ≡ Equal = cc in
+      same_read {T = Compared} (g.S.Shelf.told c.args.shelf.now) (g.D.Shelf.told c.args.depot.now) (g.D.Shelf.told c.step.new.other)
+      (repo_view c.args.source.now) block most time (repo_view c.args.store.now.repo) (repo_view c.step.new.target) (comparison_view c.args.comparison.now).name
+      c.in_ok-compared.compared (c.step.ensures.target_kept ∙ ap repo_view c.repo.ensures.repo) c.in_ok-compared.ensures.target_same
+      (subst (λ (r : RepoState). AreEqual (g.S.Shelf.told c.args.shelf.now) (repo_view c.args.source.now) (g.D.Shelf.told c.args.depot.now) r
+      (comparison_view c.args.comparison.now).name) (ap repo_view c.repo.ensures.repo) (c.in_ok-compared.ensures.equal (ap Ok is)));
+  differs_now = λ e block most time.
+      let is : c.in_ok-compared.compared ≡ Differs = cc in
+      differs_there {T = Compared} (g.S.Shelf.told c.args.shelf.now) (g.D.Shelf.told c.args.depot.now) (g.D.Shelf.told c.step.new.other)
+      (repo_view c.args.source.now) block most time (repo_view c.args.store.now.repo) (repo_view c.step.new.target) (comparison_view c.args.comparison.now).name
+      c.in_ok-compared.compared (c.step.ensures.target_kept ∙ ap repo_view c.repo.ensures.repo) c.in_ok-compared.ensures.target_same
+      (subst (λ (r : RepoState). Differ (g.S.Shelf.told c.args.shelf.now) (repo_view c.args.source.now) (g.D.Shelf.told c.args.depot.now) r
+      (comparison_view c.args.comparison.now).name) (ap repo_view c.repo.ensures.repo) (c.in_ok-compared.ensures.differs (ap Ok is)));
+}
 
-pub returns-clause-equal : goal.returns-clause-equal
-returns-clause-equal g c e block most time =
-    let is : c.in_ok-compared.compared ≡ Equal = cc in
-    same_read {T = Compared} (g.S.Shelf.told c.args.shelf.now) (g.D.Shelf.told c.args.depot.now) (g.D.Shelf.told c.step.new.other)
-    (repo_view c.args.source.now) block most time (repo_view c.args.store.now.repo) (repo_view c.step.new.target) (comparison_view c.args.comparison.now).name
-    c.in_ok-compared.compared (c.step.ensures.target_kept ∙ ap repo_view c.repo.ensures.repo) c.in_ok-compared.ensures.target_same
-    (subst (λ (r : RepoState). AreEqual (g.S.Shelf.told c.args.shelf.now) (repo_view c.args.source.now) (g.D.Shelf.told c.args.depot.now) r
-    (comparison_view c.args.comparison.now).name) (ap repo_view c.repo.ensures.repo) (c.in_ok-compared.ensures.equal (ap Ok is)))
+pub returns-clause-both : goal.returns-clause-both
+returns-clause-both g c = record {
+  source = search rules;
+  target =
+      record {
+        read = search rules;
+        fits =
+            fits_read {T = Compared} c.args.store.now c.step.new.target (g.D.Shelf.told c.args.depot.now) (g.D.Shelf.told c.step.new.other) c.step.result
+            (c.step.ensures.target_kept ∙ ap repo_view c.repo.ensures.repo) c.step.ensures.target_same c.step.ensures.target_fits c.requires.both.target;
+        stops = search rules;
+      };
+}
 
-pub returns-clause-differs_now : goal.returns-clause-differs_now
-returns-clause-differs_now g c e block most time =
-    let is : c.in_ok-compared.compared ≡ Differs = cc in
-    differs_there {T = Compared} (g.S.Shelf.told c.args.shelf.now) (g.D.Shelf.told c.args.depot.now) (g.D.Shelf.told c.step.new.other)
-    (repo_view c.args.source.now) block most time (repo_view c.args.store.now.repo) (repo_view c.step.new.target) (comparison_view c.args.comparison.now).name
-    c.in_ok-compared.compared (c.step.ensures.target_kept ∙ ap repo_view c.repo.ensures.repo) c.in_ok-compared.ensures.target_same
-    (subst (λ (r : RepoState). Differ (g.S.Shelf.told c.args.shelf.now) (repo_view c.args.source.now) (g.D.Shelf.told c.args.depot.now) r
-    (comparison_view c.args.comparison.now).name) (ap repo_view c.repo.ensures.repo) (c.in_ok-compared.ensures.differs (ap Ok is)))
+pub returns-in_err-compared-clause-both : goal.returns-in_err-compared-clause-both
+returns-in_err-compared-clause-both g c = record {
+  source = search rules;
+  target =
+      record {
+        read = search rules;
+        fits =
+            fits_read {T = Compared} c.args.store.now c.step.new.target (g.D.Shelf.told c.args.depot.now) (g.D.Shelf.told c.step.new.other) c.step.result
+            (c.step.ensures.target_kept ∙ ap repo_view c.repo.ensures.repo) c.step.ensures.target_same c.step.ensures.target_fits c.requires.both.target;
+        stops = search rules;
+      };
+}

@@ -1,4 +1,4 @@
-use Rattle.std.proofs.Common.{◌≡◌, ◌≤◌, [], length, Result, IfErr, refl, sym, ◌∙◌, ap, subst, arith}
+use Rattle.std.proofs.Common.{◌≡◌, ◌≤◌, [], length, Result, refl, sym, ◌∙◌, ap, subst, arith, rules}
 use Rattle.ferry_piece.proofs.FaultLemmas.{target_stops}
 use Rattle.ferry_carry.proofs.GrowLemmas.{commit_fits}
 use Rattle.ferry_carry.proofs.NamingLemmas.{commit_limit, commit_most, commit_works, commit_works_err, no_larger}
@@ -6,8 +6,6 @@ use Rattle.ferry_piece.proofs.WorkLemmas.{err_is}
 use Rattle.ferry_carry.proofs.naming.commit.Goals as goal
 use Rattle.ferry_piece.specs.Fault.{target_fault}
 use Rattle.ferry_carry.specs.Flight.{NamesArchive}
-use Rattle.ferry_carry.specs.Refusals.{LimitsManifest}
-use Rattle.ferry_piece.specs.Stops.{StopsTarget}
 use Rattle.ferry_piece.specs.declared.fault.CarryFault.{CarryFault}
 use Rattle.ferry_base.specs.Limits.{content_limit}
 use Rattle.ferry_manifest.specs.Manifest.Text.{ManifestText}
@@ -18,13 +16,14 @@ use Rattle.ferry_store.proofs.WritingLemmas.{told_writing}
 use Rattle.ferry_store.specs.Commit.{CommitsEntry, accepted_in, manifest_entry}
 use Rattle.ferry_store.specs.Content.{blob_for}
 use Rattle.ferry_store.specs.Standing.{with_manifest}
-use Rattle.ferry_carry.proofs.StandLemmas.{StandsAll, commit_stands}
-use Rattle.ferry_piece.proofs.AddingLemmas.{held_unspent, manifest_unbroken}
-use Rattle.ferry_piece.specs.Adding.{HoldsRefused, IsNoChunk, BeginsSegments}
+use Rattle.ferry_carry.proofs.StandLemmas.{commit_stands}
+use Rattle.ferry_piece.proofs.AddingLemmas.{held_unspent}
 use Rattle.ferry_piece.proofs.FewLemmas.{begun_err, begun_ok}
+use Rattle.ferry_carry.specs.Calls.{LeavesUnnamed}
+use Rattle.ferry_carry.specs.States.{target_state}
 
 pub commit-requires-clause-fits : goal.commit-requires-clause-fits
-commit-requires-clause-fits g c = told_writing c.args.store.now (g.D.Shelf.told c.args.depot.now) c.requires.fits
+commit-requires-clause-fits g c = told_writing c.args.store.now (g.D.Shelf.told c.args.depot.now) c.requires.target.fits
 
 pub returns-in_err-commit-clause-works : goal.returns-in_err-commit-clause-works
 returns-in_err-commit-clause-works g c accepted named one =
@@ -38,8 +37,10 @@ returns-in_err-commit-clause-works g c accepted named one =
     let text = written_at (accepted_in store) c.args.timestamp.now in
     let blob = blob_for (repo_view store.repo) store.counter (manifest_text (repo_view store.repo).keys made.0 text) in
     let refusal = c.in_err-commit.field-0.0 in
-    err_is c.from_residual.result (target_fault refusal) (λ (r : Result (Unit {0}) CarryFault). NamesArchive accepted named text store now a b n m r)
-    c.from_residual.ensures.1 (commit_works_err accepted named store now text blob a b n m refusal c.requires.accepts refl one c.commit.ensures.untold made.1.2)
+    err_is c.from_residual.result (target_fault refusal) (λ (r : Result (Unit {0}) CarryFault). NamesArchive accepted named text (target_state a n store)
+    (target_state b m now) r)
+    c.from_residual.ensures.1 (commit_works_err accepted named store now text blob a b n m refusal c.requires.target.accepts refl one
+    c.commit.ensures.untold made.1.2)
 
 pub returns-clause-works : goal.returns-clause-works
 returns-clause-works g c accepted named one =
@@ -54,54 +55,9 @@ returns-clause-works g c accepted named one =
     let blob = blob_for (repo_view store.repo) store.counter (manifest_text (repo_view store.repo).keys made.0 text) in
     let repo : repo_view now.repo ≡ with_manifest (repo_view store.repo) text = c.in_ok-commit.ensures.repo in
     let manifest : (repo_view now.repo).manifest ≡ text = ap (λ (r : RepoState). r.manifest) repo in
-    commit_works accepted named store now text blob a b n m c.requires.accepts (commit_most store now text repo c.requires.accepts) refl manifest
+    commit_works accepted named store now text blob a b n m c.requires.target.accepts (commit_most store now text repo c.requires.target.accepts) refl
+    manifest
     (c.in_ok-commit.ensures.accepted ∙ sym manifest) one c.commit.ensures.untold made.1.2
-
-pub returns-clause-fits : goal.returns-clause-fits
-returns-clause-fits g c =
-    let store = c.args.store.now in
-    let now = c.commit.new.self in
-    let made = c.in_ok-commit.ensures.committed in
-    let text = written_at (accepted_in store) c.args.timestamp.now in
-    let entry = manifest_entry (repo_view store.repo) store.counter text made.0 in
-    let blob = blob_for (repo_view store.repo) store.counter (manifest_text (repo_view store.repo).keys made.0 text) in
-    commit_fits (CommitsEntry (with_manifest (repo_view store.repo) text) store.session store.counter entry) store now blob
-    (g.D.Shelf.told c.args.depot.now) (g.D.Shelf.told c.commit.new.depot) (g.D.Shelf.faults c.args.depot.now) (g.D.Shelf.faults c.commit.new.depot)
-    c.requires.fits made.1.2
-
-pub returns-in_err-commit-clause-stops : goal.returns-in_err-commit-clause-stops
-returns-in_err-commit-clause-stops g c =
-    let b = g.D.Shelf.told c.commit.new.depot in
-    let keys = (repo_view c.args.store.now.repo).keys in
-    let refusal = c.in_err-commit.field-0.0 in
-    err_is c.from_residual.result (target_fault refusal) (λ (r : Result (Unit {0}) CarryFault). IfErr r (StopsTarget b keys)) c.from_residual.ensures.1
-    (target_stops b keys refusal c.in_err-commit.ensures.stops)
-
-pub returns-in_err-commit-clause-limit : goal.returns-in_err-commit-clause-limit
-returns-in_err-commit-clause-limit g c =
-    let store = c.args.store.now in
-    let keys = (repo_view store.repo).keys in
-    let made = c.in_err-commit.ensures.committed in
-    let text = written_at (accepted_in store) c.args.timestamp.now in
-    let refusal = c.in_err-commit.field-0.0 in
-    err_is c.from_residual.result (target_fault refusal) (λ (r : Result (Unit {0}) CarryFault). IfErr r (LimitsManifest keys text)) c.from_residual.ensures.1
-    (commit_limit store keys text made.0 refusal made.1.0 made.1.3)
-
-pub returns-in_err-commit-clause-stands : goal.returns-in_err-commit-clause-stands
-returns-in_err-commit-clause-stands g c =
-    let a = g.D.Shelf.told c.args.depot.now in
-    let b = g.D.Shelf.told c.commit.new.depot in
-    let store = c.args.store.now in
-    let refusal = c.in_err-commit.field-0.0 in
-    err_is c.from_residual.result (target_fault refusal) (λ (r : Result (Unit {0}) CarryFault). IfErr r (StandsAll store a b)) c.from_residual.ensures.1
-    (commit_stands store a b refusal c.commit.ensures.untold c.in_err-commit.ensures.keeps)
-
-pub returns-in_err-commit-clause-unbroken : goal.returns-in_err-commit-clause-unbroken
-returns-in_err-commit-clause-unbroken g c =
-    let made = c.in_err-commit.ensures.committed in
-    let refusal = c.in_err-commit.field-0.0 in
-    err_is c.from_residual.result (target_fault refusal) (λ (r : Result (Unit {0}) CarryFault). IfErr r IsNoChunk) c.from_residual.ensures.1
-    (manifest_unbroken c.args.store.now _ refusal made.1.3)
 
 pub returns-clause-salt : goal.returns-clause-salt
 returns-clause-salt g c =
@@ -116,24 +72,53 @@ returns-clause-salt g c =
       ),
     )
 
-pub returns-in_err-commit-clause-held : goal.returns-in_err-commit-clause-held
-returns-in_err-commit-clause-held g c at most =
+pub returns-in_err-commit-clause-refused : goal.returns-in_err-commit-clause-refused
+returns-in_err-commit-clause-refused g c =
     let a = g.D.Shelf.told c.args.depot.now in
     let b = g.D.Shelf.told c.commit.new.depot in
     let store = c.args.store.now in
     let now = c.commit.new.self in
+    let keys = (repo_view store.repo).keys in
+    let made = c.in_err-commit.ensures.committed in
+    let text = written_at (accepted_in store) c.args.timestamp.now in
     let refusal = c.in_err-commit.field-0.0 in
-    err_is c.from_residual.result (target_fault refusal) (λ (r : Result (Unit {0}) CarryFault). HoldsRefused at most store [] now a b r)
-    c.from_residual.ensures.1 (held_unspent (Unit {0}) at most store now [] a b refusal c.in_err-commit.ensures.kept)
+    err_is c.from_residual.result (target_fault refusal) (λ (r : Result (Unit {0}) CarryFault). LeavesUnnamed text store a b now r) c.from_residual.ensures.1
+    (record {
+      stands = commit_stands store a b refusal c.commit.ensures.untold c.in_err-commit.ensures.keeps;
+      held = λ at most. held_unspent (Unit {0}) at most store now [] a b refusal c.in_err-commit.ensures.kept;
+      stops = target_stops b keys refusal c.in_err-commit.ensures.stops;
+      limit = commit_limit store keys text made.0 refusal made.1.0 made.1.3;
+      few = begun_err {T = Unit {0}} {U = Unit {0}} 2 2 store now refusal (omega arith) c.in_err-commit.ensures.few;
+    })
 
-pub returns-in_err-commit-clause-few : goal.returns-in_err-commit-clause-few
-returns-in_err-commit-clause-few g c =
-    let store = c.args.store.now in
-    let now = c.commit.new.self in
-    let refusal = c.in_err-commit.field-0.0 in
-    err_is c.from_residual.result (target_fault refusal) (λ (r : Result (Unit {0}) CarryFault). BeginsSegments 2 store now r) c.from_residual.ensures.1
-    (begun_err {T = Unit {0}} {U = Unit {0}} 2 2 store now refusal (omega arith) c.in_err-commit.ensures.few)
+pub returns-clause-target : goal.returns-clause-target
+returns-clause-target g c = record {
+  all = record {
+    most = search rules;
+    accepted = search rules;
+    pending = search rules;
+    packable = search rules;
+    fits =
+        let store = c.args.store.now in
+        let now = c.commit.new.self in
+        let made = c.in_ok-commit.ensures.committed in
+        let text = written_at (accepted_in store) c.args.timestamp.now in
+        let entry = manifest_entry (repo_view store.repo) store.counter text made.0 in
+        let blob = blob_for (repo_view store.repo) store.counter (manifest_text (repo_view store.repo).keys made.0 text) in
+        commit_fits (CommitsEntry (with_manifest (repo_view store.repo) text) store.session store.counter entry) store now blob
+        (g.D.Shelf.told c.args.depot.now) (g.D.Shelf.told c.commit.new.depot) (g.D.Shelf.faults c.args.depot.now) (g.D.Shelf.faults c.commit.new.depot)
+        c.requires.target.fits made.1.2;
+    unspent = search rules;
+  };
+  named = search rules;
+}
 
-pub returns-clause-few : goal.returns-clause-few
-returns-clause-few g c =
-    begun_ok {T = Unit {0}} {U = Unit {0}} 2 2 c.args.store.now c.commit.new.self tt tt (omega arith) c.in_ok-commit.ensures.few
+pub returns-clause-refused : goal.returns-clause-refused
+returns-clause-refused g c = record {
+  stands = search rules;
+  held = search rules;
+  stops = search rules;
+  limit = search rules;
+  few =
+      begun_ok {T = Unit {0}} {U = Unit {0}} 2 2 c.args.store.now c.commit.new.self tt tt (omega arith) c.in_ok-commit.ensures.few;
+}

@@ -2,7 +2,7 @@ use Rattle.std.proofs.Common.{◌<◌, ◌+◌, ◌++◌, ℕ, List, [], Some, l
 use Rattle.ferry_carry.proofs.CopyLemmas.{contents_all, contents_written, nothing_written}
 use Rattle.ferry_piece.proofs.PutsLemmas.{contents_append}
 use Rattle.ferry_carry.proofs.RefusalLemmas.{contents_refused}
-use Rattle.ferry_carry.specs.Copying.{WritesContents}
+use Rattle.ferry_carry.specs.Copying.{WritesContents, writer_state}
 use Rattle.ferry_piece.specs.Puts.{Content, contents_in}
 use Rattle.ferry_piece.specs.declared.fault.CarryFault.TheVariants.{Source}
 use Rattle.ferry_disk.specs.Device.{told_files}
@@ -58,8 +58,8 @@ loop-place-preserved g c =
         (
           takes_then Content target.keys target.log c.args.known.now c.loop-place.known c.write_content.new.known pieces middle now so.0 next.0 so.1.0
               next.1.0,
-          subst (λ (contents : List (List ℕ)). WritesContents told source target.keys (take (c.loop-place.place + 1) c.args.chunks.now) pieces.cutter
-              pieces.chunks.items contents now.cutter now.chunks.items) (sym (contents_append so.0 next.0))
+          subst (λ (contents : List (List ℕ)). WritesContents told source target.keys (take (c.loop-place.place + 1) c.args.chunks.now)
+              (writer_state pieces.cutter pieces.chunks.items) contents (writer_state now.cutter now.chunks.items)) (sym (contents_append so.0 next.0))
               (contents_written told (g.S.Shelf.told c.loop-place.shelf) source (repo_view c.loop-place.source) target.keys target.keys c.args.chunks.now
               c.loop-place.place _ pieces.cutter middle.cutter now.cutter pieces.chunks.items middle.chunks.items now.chunks.items (contents_in so.0)
               (contents_in next.0) invariant.alike invariant.repo refl lt so.1.1 next.1.1),

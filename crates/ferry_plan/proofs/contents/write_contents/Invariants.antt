@@ -1,5 +1,5 @@
 use Rattle.std.proofs.Common.{◌≡◌, ◌<◌, List, IfSome, length, take}
-use Rattle.ferry_carry.specs.Copying.{WritesContents}
+use Rattle.ferry_carry.specs.Copying.{WritesContents, writer_state}
 use Rattle.ferry_piece.specs.Puts.{Addition, Content, contents_in}
 use Rattle.ferry_disk.specs.Device.{heard, told_files}
 use Rattle.ferry_plan.proofs.contents.write_contents.Given as goal
@@ -18,5 +18,5 @@ invariant-loop-place g l = record {
   written : (more : List Addition)
       × (Takes Content (repo_view l.fn.target).keys (repo_view l.fn.target).log l.fn.known l.fn.pieces more l.known l.pieces
       × WritesContents (g.S.Shelf.told l.fn.shelf) (repo_view l.fn.source) (repo_view l.fn.target).keys (take l.place l.chunks)
-      l.fn.pieces.cutter l.fn.pieces.chunks.items (contents_in more) l.pieces.cutter l.pieces.chunks.items);
+      (writer_state l.fn.pieces.cutter l.fn.pieces.chunks.items) (contents_in more) (writer_state l.pieces.cutter l.pieces.chunks.items));
 }

@@ -1,4 +1,4 @@
-use Rattle.std.proofs.Common.{◌≡◌, [], Result, IfErr}
+use Rattle.std.proofs.Common.{rules, ◌≡◌, [], Result, IfErr}
 use Rattle.ferry_carry.specs.Telling.{KeepsReported}
 use Rattle.ferry_carry.specs.declared.options.Carried.{Carried}
 use Rattle.ferry_disk.specs.Act.{files_now}
@@ -16,10 +16,19 @@ use Rattle.ferry_run_drill.proofs.DoneLemmas.{carried_ends}
 use Rattle.ferry_run_drill.specs.Complete.{EndsFrom}
 use Rattle.ferry_run_drill.proofs.fill.copy_names.Goals as goal
 
-pub carry-requires-clause-fits : goal.carry-requires-clause-fits
-carry-requires-clause-fits g c =
-    made_fits c.in_ok-store.store (g.D.Shelf.told c.args.target.now) (g.D.Shelf.told c.make_target.new.target) (g.D.Shelf.faults c.args.target.now)
-    (g.D.Shelf.faults c.make_target.new.target) c.in_ok-store.ensures.works
+pub carry-requires-clause-both : goal.carry-requires-clause-both
+carry-requires-clause-both g c = record {
+  source = search rules;
+  target = record {
+    pending = search rules;
+    unspent = search rules;
+    fits =
+        made_fits c.in_ok-store.store (g.D.Shelf.told c.args.target.now) (g.D.Shelf.told c.make_target.new.target) (g.D.Shelf.faults c.args.target.now)
+        (g.D.Shelf.faults c.make_target.new.target) c.in_ok-store.ensures.works;
+    packable = search rules;
+    settled = search rules;
+  };
+}
 
 pub returns-in_err-store-clause-works : goal.returns-in_err-store-clause-works
 returns-in_err-store-clause-works g c =
@@ -38,7 +47,7 @@ returns-clause-works g c =
     (g.D.Shelf.told c.args.target.now) (g.D.Shelf.told c.make_target.new.target) (g.D.Shelf.told c.carry.new.depot)
     (g.D.Shelf.faults c.args.target.now) (g.D.Shelf.faults c.make_target.new.target) (g.D.Shelf.faults c.carry.new.depot)
     (g.E.Entropy.drawn c.make_target.new.entropy) (g.E.Entropy.drawn c.carry.new.entropy) c.carry.result c.in_ok-store.ensures.works c.carry.ensures.works
-    c.carry.ensures.settled c.carry.ensures.ended c.in_ok-store.ensures.pending
+    c.carry.ensures.both.target.settled c.carry.ensures.both.target.ended c.in_ok-store.ensures.pending
 
 pub returns-clause-start : goal.returns-clause-start
 returns-clause-start g c =
@@ -56,7 +65,7 @@ returns-clause-kept g c =
     c.carry.ensures.works.added) c.in_ok-store.ensures.works c.carry.ensures.works.works.each
 
 pub returns-clause-own : goal.returns-clause-own
-returns-clause-own g c = never_failed c.carry.result c.carry.ensures.cause
+returns-clause-own g c = never_failed c.carry.result c.carry.ensures.both.source.cause
 
 pub returns-in_err-store-clause-completes : goal.returns-in_err-store-clause-completes
 returns-in_err-store-clause-completes g c =
@@ -73,5 +82,5 @@ returns-clause-completes g c =
     carried_ends (files_now c.args.source.now.history) (repo_view c.args.repo.now) c.args.names.now c.in_ok-store.store c.carry.new.store
     (g.D.Shelf.told c.args.target.now) (g.D.Shelf.told c.make_target.new.target) (g.D.Shelf.told c.carry.new.depot)
     (g.D.Shelf.faults c.args.target.now) (g.D.Shelf.faults c.make_target.new.target) (g.D.Shelf.faults c.carry.new.depot) _ _ c.carry.result
-    c.in_ok-store.ensures.works c.carry.ensures.works (never_failed c.carry.result c.carry.ensures.cause) c.carry.ensures.limit c.carry.ensures.stands
+    c.in_ok-store.ensures.works c.carry.ensures.works (never_failed c.carry.result c.carry.ensures.both.source.cause) c.carry.ensures.stops
     c.carry.ensures.refused

@@ -16,7 +16,8 @@ use Rattle.ferry_status.specs.Status.{carry_status}
 use Rattle.ferry_run_transfer.proofs.SourceLemmas.{asked_kept, source_fits, source_opens}
 use Rattle.ferry_run_transfer.proofs.UntouchedLemmas.{untouched}
 use Rattle.ferry_run_transfer.proofs.command.copy.Goals as goal
-use Rattle.ferry_run_transfer.specs.Transfer.{LeavesTold, Request, TransferEach, TransferEnds, asked, drawn_from}
+use Rattle.ferry_carry.specs.States.{drawn_from}
+use Rattle.ferry_run_transfer.specs.Transfer.{LeavesTold, Request, TransferEach, TransferEnds, asked}
 use Rattle.std.proofs.Common.{IfErr}
 use Rattle.ferry_run_transfer.proofs.RefusedLemmas.{asked_source, unread_refused, unused}
 use Rattle.ferry_run_transfer.specs.TransferCauses.{IsFound, RefusesAsked}

@@ -1,4 +1,4 @@
-use Rattle.std.proofs.Common.{◌≡◌, true, Result, IfErr, refl, ◌∙◌}
+use Rattle.std.proofs.Common.{rules, ◌≡◌, true, Result, IfErr, refl, ◌∙◌}
 use Rattle.ferry_piece.proofs.WorkLemmas.{err_is}
 use Rattle.ferry_piece.specs.Fault.{IsOfWork, target_fault}
 use Rattle.ferry_piece.specs.Work.{Works}
@@ -16,7 +16,8 @@ use Rattle.ferry_status.specs.Status.{carry_status}
 use Rattle.ferry_run_transfer.proofs.TransferLemmas.{copied_all, copied_some}
 use Rattle.ferry_run_transfer.proofs.UntouchedLemmas.{unopened, untouched}
 use Rattle.ferry_run_transfer.proofs.command.copy_into.Goals as goal
-use Rattle.ferry_run_transfer.specs.Transfer.{LeavesTold, TransferEach, TransferEnds, asked, drawn_from}
+use Rattle.ferry_carry.specs.States.{drawn_from}
+use Rattle.ferry_run_transfer.specs.Transfer.{LeavesTold, TransferEach, TransferEnds, asked}
 use Rattle.ferry_run_transfer.proofs.RefusedLemmas.{found_apart, memory_refused, missing_refused, names_found, unopened_refused, unused}
 use Rattle.ferry_run_transfer.proofs.CauseLemmas.{names_refused}
 use Rattle.ferry_run_transfer.specs.TransferCauses.{RefusesAsked}
@@ -40,7 +41,8 @@ returns-in_err-find_names-clause-works g c =
     err_is c.from_residual-in_err-find_names.result fault
     (λ (r : Result (Unit {0}) CarryFault). Works (TransferEach request) (λ _. TransferEnds request (g.E.Entropy.drawn c.args.entropy.now) (g.E.Entropy.drawn
     c.args.entropy.now)) a a n n r)
-    c.from_residual-in_err-find_names.ensures.1 (untouched {T = Unit {0}} request (g.E.Entropy.drawn c.args.entropy.now) (g.E.Entropy.drawn c.args.entropy.now)
+    c.from_residual-in_err-find_names.ensures.1 (untouched {T = Unit {0}} request (g.E.Entropy.drawn c.args.entropy.now) (g.E.Entropy.drawn
+    c.args.entropy.now)
     a n fault c.in_err-find_names.ensures.still)
 
 pub returns-in_err-store-clause-works : goal.returns-in_err-store-clause-works
@@ -57,10 +59,19 @@ returns-in_err-store-clause-works g c =
     (unopened {T = Unit {0}} request (g.E.Entropy.drawn c.args.entropy.now) (g.E.Entropy.drawn c.args.entropy.now) OpenFits a b n m refusal
     c.open.ensures.untold c.in_err-store.ensures.did)
 
-pub carry-requires-clause-fits : goal.carry-requires-clause-fits
-carry-requires-clause-fits g c =
-    fits_opened OpenEach c.in_ok-store.store (g.D.Shelf.told c.args.target.now) (g.D.Shelf.told c.open.new.depot) (g.D.Shelf.faults c.args.target.now)
-    (g.D.Shelf.faults c.open.new.depot) c.requires.begun c.in_ok-store.ensures.did
+pub carry-requires-clause-both : goal.carry-requires-clause-both
+carry-requires-clause-both g c = record {
+  source = search rules;
+  target = record {
+    pending = search rules;
+    unspent = search rules;
+    fits =
+        fits_opened OpenEach c.in_ok-store.store (g.D.Shelf.told c.args.target.now) (g.D.Shelf.told c.open.new.depot) (g.D.Shelf.faults c.args.target.now)
+        (g.D.Shelf.faults c.open.new.depot) c.requires.begun c.in_ok-store.ensures.did;
+    packable = search rules;
+    settled = search rules;
+  };
+}
 
 pub returns-in_err-carry-clause-works : goal.returns-in_err-carry-clause-works
 returns-in_err-carry-clause-works g c =
@@ -92,8 +103,8 @@ returns-clause-works g c =
     c.carry.new.store (g.D.Shelf.told c.args.target.now) (g.D.Shelf.told c.open.new.depot) (g.D.Shelf.told c.carry.new.depot)
     (g.D.Shelf.faults c.args.target.now) (g.D.Shelf.faults c.open.new.depot) (g.D.Shelf.faults c.carry.new.depot) c.in_ok-carry.field-0 tt
     (g.E.Entropy.drawn c.args.entropy.now) (g.E.Entropy.drawn c.carry.new.entropy)
-    c.in_ok-store.ensures.accepted c.in_ok-carry.ensures.settled
-    (c.in_ok-carry.ensures.ended c.in_ok-store.ensures.fresh.1) c.in_ok-store.ensures.opened c.open.ensures.untold c.in_ok-store.ensures.did
+    c.in_ok-store.ensures.accepted c.in_ok-carry.ensures.both.target.settled
+    (c.in_ok-carry.ensures.both.target.ended c.in_ok-store.ensures.fresh.1) c.in_ok-store.ensures.opened c.open.ensures.untold c.in_ok-store.ensures.did
     c.in_ok-carry.ensures.works
 
 pub returns-in_err-chosen-clause-refused : goal.returns-in_err-chosen-clause-refused
@@ -153,7 +164,7 @@ returns-in_err-carry-clause-refused g c =
     c.from_residual-in_err-carry.ensures.1
     (names_refused drawn c.args.secrets.now c.args.options.now c.args.names.now (repo_view c.args.repo.now) told a b d c.deref-2.result.now store
     c.carry.new.store c.requires.source_opens chosen_is c.in_ok-store.ensures.opened accepts c.open.ensures.untold works.each fault
-    c.in_err-carry.ensures.limit c.in_err-carry.ensures.chunk c.in_err-carry.ensures.refused)
+    c.in_err-carry.ensures.stops.limit c.in_err-carry.ensures.stops.chunk c.in_err-carry.ensures.refused)
 
 pub returns-in_err-chosen-clause-only_told : goal.returns-in_err-chosen-clause-only_told
 returns-in_err-chosen-clause-only_told g c =
@@ -209,7 +220,7 @@ returns-in_err-carry-clause-only_told g c =
     (λ w.
     stopped_told c.args.secrets.now c.args.options.now c.args.names.now (repo_view c.args.repo.now) told c.deref-2.result.now
     c.requires.source_opens chosen_is store a b d n m accepts c.in_ok-store.ensures.opened c.open.ensures.untold c.in_ok-store.ensures.did
-    works.each (c.in_err-carry.ensures.stands w))
+    works.each (c.in_err-carry.ensures.stops.stands w))
 
 pub returns-in_err-chosen-clause-put : goal.returns-in_err-chosen-clause-put
 returns-in_err-chosen-clause-put g c =

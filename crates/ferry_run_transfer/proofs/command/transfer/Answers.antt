@@ -3,7 +3,8 @@ use Rattle.ferry_run_transfer.proofs.UntouchedLemmas.{transfer_ended}
 use Rattle.ferry_run_transfer.proofs.command.transfer.Goals as goal
 use Rattle.ferry_run_transfer.specs.Putting.{is_spared}
 use Rattle.ferry_status.specs.Status.{is_of_work}
-use Rattle.ferry_run_transfer.specs.Transfer.{asked, drawn_from}
+use Rattle.ferry_carry.specs.States.{drawn_from}
+use Rattle.ferry_run_transfer.specs.Transfer.{asked}
 use Rattle.std.proofs.Common.{◌≡◌, false, true, inl, inr, refl, subst}
 use Rattle.ferry_disk.proofs.MomentLemmas.{between_map}
 use Rattle.ferry_run_transfer.proofs.DoneLemmas.{ends_done}

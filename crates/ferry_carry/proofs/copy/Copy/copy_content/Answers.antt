@@ -1,7 +1,6 @@
 use Rattle.std.proofs.Common.{◌≡◌, ◌≤◌, ◌++◌, ℕ, List, [], inl, Some, Result, Ok, Err, IfErr, IfOk, OnOk, length, refl, sym, ◌∙◌, ap, subst, arith}
 use Rattle.ferry_carry.proofs.CopyLemmas.{contents_begun, contents_from, content_copied, content_whole}
 use Rattle.ferry_carry.proofs.FillingLemmas.{filled_from, where_target}
-use Rattle.ferry_carry.proofs.LeftLemmas.{left_here, target_leaves}
 use Rattle.ferry_piece.proofs.PieceLemmas.{counts_then, pieces_then}
 use Rattle.ferry_piece.proofs.PutsLemmas.{contents_append, of_append}
 use Rattle.ferry_piece.proofs.WorkLemmas.{err_is, gathered_as, gathered_err, gathered_fault, gathered_nothing}
@@ -9,7 +8,6 @@ use Rattle.ferry_carry.proofs.copy.Copy.copy_content.Goals as goal
 use Rattle.ferry_piece.specs.Adding.{AddsOn}
 use Rattle.ferry_carry.specs.Copying.{BeginsContent, CopiesContent}
 use Rattle.ferry_carry.specs.Filling.{FillsContent, WhereSource}
-use Rattle.ferry_carry.specs.Refusals.{Leaves}
 use Rattle.ferry_piece.specs.Piece.{CountsOn}
 use Rattle.ferry_piece.specs.Puts.{AreOf, Content, contents_in}
 use Rattle.ferry_piece.specs.declared.fault.CarryFault.{CarryFault}
@@ -44,7 +42,7 @@ returns-in_err-write_contents-clause-copied g c =
     let more = wrote.0 in
     let ready = c.requires.ready in
     let contents = c.args.self.now.contents in
-    let contents_now = c.write_contents.new.writer in
+    let contents_now = c.write_contents.new.self.contents in
     let block = c.args.self.now.block in
     let most = contents.checkpoint in
     let store = c.args.store.now in
@@ -86,7 +84,7 @@ returns-in_err-copied-clause-copied g c =
     let more = wrote.0 ++ last.0 in
     let ready = c.requires.ready in
     let contents = c.args.self.now.contents in
-    let left = c.write_contents.new.writer in
+    let left = c.write_contents.new.self.contents in
     let contents_now = c.finish.new.self in
     let block = c.args.self.now.block in
     let most = contents.checkpoint in
@@ -115,7 +113,7 @@ returns-in_err-copied-clause-copied g c =
                 (pieces_then {T = Unit {0}} most most left.checkpoint store c.write_contents.new.store now wrote.0 last.0 a
                 (g.D.Shelf.told c.write_contents.new.depot) b n
                 (g.D.Shelf.faults c.write_contents.new.depot) m tt (Err fault) refl c.in_ok-write_contents.ensures.checkpoint
-                c.in_ok-write_contents.ensures.rest tt wrote.1.0 last.1.0),
+                c.in_ok-write_contents.ensures.both.target.rest tt wrote.1.0 last.1.0),
             (
               of_append Content wrote.0 last.0 wrote.1.1.0 last.1.1.0.1,
               (
@@ -138,7 +136,7 @@ returns-then-len-clause-copied g c =
     let more = wrote.0 ++ last.0 in
     let ready = c.requires.ready in
     let contents = c.args.self.now.contents in
-    let left = c.write_contents.new.writer in
+    let left = c.write_contents.new.self.contents in
     let block = c.args.self.now.block in
     let most = contents.checkpoint in
     let store = c.args.store.now in
@@ -156,7 +154,7 @@ returns-then-len-clause-copied g c =
             (pieces_then {T = Unit {0}} most most left.checkpoint store c.write_contents.new.store now wrote.0 last.0 a
             (g.D.Shelf.told c.write_contents.new.depot) b n
             (g.D.Shelf.faults c.write_contents.new.depot) m tt (Ok c.in_ok-copied.copied) refl c.in_ok-write_contents.ensures.checkpoint
-            c.in_ok-write_contents.ensures.rest
+            c.in_ok-write_contents.ensures.both.target.rest
             c.in_ok-copied.ensures.rest wrote.1.0 last.1.0),
         (
           of_append Content wrote.0 last.0 wrote.1.1.0 last.1.1.0.1,
@@ -177,7 +175,7 @@ returns-clause-copied g c =
     let more = wrote.0 ++ last.0 in
     let ready = c.requires.ready in
     let contents = c.args.self.now.contents in
-    let left = c.write_contents.new.writer in
+    let left = c.write_contents.new.self.contents in
     let block = c.args.self.now.block in
     let most = contents.checkpoint in
     let store = c.args.store.now in
@@ -201,7 +199,7 @@ returns-clause-copied g c =
             (pieces_then {T = Unit {0}} most most left.checkpoint store middle now wrote.0 last.0 a
             (g.D.Shelf.told c.write_contents.new.depot) b n
             (g.D.Shelf.faults c.write_contents.new.depot) m tt (Ok c.in_ok-copied.copied) refl c.in_ok-write_contents.ensures.checkpoint
-            c.in_ok-write_contents.ensures.rest
+            c.in_ok-write_contents.ensures.both.target.rest
             c.in_ok-copied.ensures.rest wrote.1.0 last.1.0),
         (
           of_append Content wrote.0 last.0 wrote.1.1.0 last.1.1.0.1,
@@ -216,7 +214,8 @@ returns-clause-copied g c =
                     (contents_in wrote.0 ++ cut left.cutter.block left.cutter.piece) (Some copied)) (sym c.new.ensures.chunks)
                     (content_copied told source block keys (repo_view middle.repo).keys refs contents.cutter left.cutter
                     contents.chunks.items left.chunks.items c.in_ok-copied.copied.items (contents_in wrote.0) least ready.contents_block
-                    ready.contents_piece ready.contents_chunks c.in_ok-write_contents.ensures.rest.keys wrote.1.1.1.1.1.0 c.in_ok-copied.ensures.chunks
+                    ready.contents_piece ready.contents_chunks c.in_ok-write_contents.ensures.both.target.rest.keys wrote.1.1.1.1.1.0
+                    c.in_ok-copied.ensures.chunks
                     few)),
                 counts_then Content contents left c.finish.new.self wrote.0 last.0 wrote.1.1.1.1.1.1 last.1.1.1,
               ),
@@ -225,22 +224,3 @@ returns-clause-copied g c =
         ),
       ),
     )
-
-pub returns-then-total_size-self-clause-left : goal.returns-then-total_size-self-clause-left
-returns-then-total_size-self-clause-left g c =
-    λ _. left_here c.args.self.now.contents.checkpoint c.args.store.now (g.D.Shelf.told c.args.depot.now) c.requires.fits c.requires.unspent
-    c.requires.pending
-
-pub returns-in_err-copied-clause-left : goal.returns-in_err-copied-clause-left
-returns-in_err-copied-clause-left g c =
-    let store = c.args.store.now in
-    let now = c.finish.new.store in
-    let b = g.D.Shelf.told c.finish.new.depot in
-    let most = c.args.self.now.contents.checkpoint in
-    let fault = c.in_err-copied.field-0.0 in
-    err_is c.from_residual-in_err-copied.result fault (λ (r : Result ChunkRefs CarryFault). IfErr r (Leaves most store b now))
-    c.from_residual-in_err-copied.ensures.1 (target_leaves most store b now fault c.in_err-copied.ensures.target)
-
-pub returns-then-len-clause-left : goal.returns-then-len-clause-left
-returns-then-len-clause-left g c =
-    target_leaves c.args.self.now.contents.checkpoint c.args.store.now (g.D.Shelf.told c.finish.new.depot) c.finish.new.store Memory refl

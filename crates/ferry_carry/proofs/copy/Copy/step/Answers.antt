@@ -1,7 +1,6 @@
 use Rattle.std.proofs.Common.{◌≡◌, ◌≤◌, ◌++◌, Bool, true, false, [], inl, Option, Result, Ok, Err, IfErr, refl, ◌∙◌, ap, arith}
 use Rattle.ferry_carry.proofs.CopyLemmas.{copied_packable}
 use Rattle.ferry_carry.proofs.FillingLemmas.{item_filled, next_filled, where_target}
-use Rattle.ferry_carry.proofs.LeftLemmas.{left_here, left_then, target_leaves}
 use Rattle.ferry_piece.proofs.GatherLemmas.{rest_here, rest_then}
 use Rattle.ferry_piece.proofs.PieceLemmas.{pieces_at, pieces_then}
 use Rattle.ferry_carry.proofs.RefusalLemmas.{item_refused, next_refused, next_unbroken, next_unused}
@@ -12,7 +11,7 @@ use Rattle.ferry_carry.proofs.copy.Copy.step.Goals as goal
 use Rattle.ferry_carry.specs.Carrying.{origin}
 use Rattle.ferry_carry.specs.Filling.{FillsCopy}
 use Rattle.ferry_piece.specs.Puts.{contents_in}
-use Rattle.ferry_carry.specs.Refusals.{Leaves, RefusesStep}
+use Rattle.ferry_carry.specs.Refusals.{RefusesStep}
 use Rattle.ferry_carry.specs.declared.copy.Copy.{Copy}
 use Rattle.ferry_piece.specs.declared.fault.CarryFault.{CarryFault}
 use Rattle.ferry_compare.proofs.StepLemmas.{some_holds}
@@ -27,8 +26,8 @@ pub write_item-requires-clause-packable : goal.write_item-requires-clause-packab
 write_item-requires-clause-packable g c =
     let copied = c.in_ok-chunks.ensures.copied in
     let block : c.next.new.self.block ≡ c.args.self.now.block = ap (λ (copy : Copy). copy.block) c.in_ok-item.ensures.others in
-    let least : 1 ≤ c.next.new.self.block = omega (arith, block, c.requires.ready.least) in
-    let most : c.next.new.self.block ≤ 8388608 = omega (arith, block, c.requires.ready.most) in
+    let least : 1 ≤ c.next.new.self.block = omega (arith, block, c.requires.copy.ready.least) in
+    let most : c.next.new.self.block ≤ 8388608 = omega (arith, block, c.requires.copy.ready.most) in
     let packable : IsPackable (item_view c.in-Some.item) =
     some_holds c.in_ok-item.field-0 c.in-Some.item (λ (item : Item). IsPackable (item_view item)) c.in-Some.is c.in_ok-item.ensures.packable in
     copied_packable (g.S.Shelf.told c.next.new.shelf) (repo_view c.next.new.source) c.next.new.self.block (repo_view c.args.store.now.repo).keys
@@ -45,7 +44,7 @@ returns-in_err-item-clause-steps g c =
     let fault = c.in_err-item.field-0.0 in (
       [],
       err_is c.from_residual.result fault (StepIs told source copy c.next.new.self store store [] a a n n) c.from_residual.ensures.1 (
-        gathered_nothing {T = Bool} copy.contents.checkpoint store a n fault c.in_err-item.ensures.still
+        gathered_nothing {T = Bool} copy.contents.checkpoint store a n fault c.in_err-item.ensures.spares.still
             (next_unbroken told source (walk_view copy.walk) fault c.in_err-item.ensures.refused)
             (next_unused told source (walk_view copy.walk) fault c.in_err-item.ensures.refused),
         ((inl refl, next_filled told source copy fault c.in_err-item.ensures.refused), tt),
@@ -96,11 +95,12 @@ returns-in_err-chunks-clause-steps g c =
             (
               (
                 content_begun told (g.S.Shelf.told c.next.new.shelf) source (repo_view c.next.new.source) (repo_view store.repo).keys copy next
-                    (item_view c.in-Some.item) came.0 c.in_ok-item.ensures.same c.in_ok-item.ensures.kept c.in_ok-item.ensures.others taken came.1.1.0
+                    (item_view c.in-Some.item) came.0 c.in_ok-item.ensures.source.same c.in_ok-item.ensures.source.kept c.in_ok-item.ensures.others taken
+                    came.1.1.0
                     came.1.1.1.0,
                 item_filled told (g.S.Shelf.told c.next.new.shelf) source (repo_view c.next.new.source) (cached_in c.args.source.now) copy next
-                    (item_view c.in-Some.item) came.0 fault c.in_ok-item.ensures.same c.in_ok-item.ensures.kept
-                    (ap (λ (x : Copy). x.block) c.in_ok-item.ensures.others) c.requires.source_fits taken came.1.1.0 came.1.1.1.1.0,
+                    (item_view c.in-Some.item) came.0 fault c.in_ok-item.ensures.source.same c.in_ok-item.ensures.source.kept
+                    (ap (λ (x : Copy). x.block) c.in_ok-item.ensures.others) c.requires.both.source taken came.1.1.0 came.1.1.1.1.0,
               ),
               tt,
             ),
@@ -116,7 +116,7 @@ returns-in_err-write_item-clause-steps g c =
     let middle = c.copy_chunks.new.self in
     let came = c.in_ok-chunks.ensures.copied in
     let begun = most_taken copy next c.in_ok-item.ensures.others in
-    let held = most_added copy next middle c.in_ok-item.ensures.others c.in_ok-chunks.ensures.others c.requires.ready.same in
+    let held = most_added copy next middle c.in_ok-item.ensures.others c.in_ok-chunks.ensures.contents.others c.requires.copy.ready.same in
     let wrote = c.in_err-write_item.ensures.written in
     let store = c.args.store.now in
     let now = c.write_item.new.store in
@@ -134,14 +134,14 @@ returns-in_err-write_item-clause-steps g c =
                 (pieces_then {T = Option ChunkRefs} {U = Unit {0}} copy.contents.checkpoint next.contents.checkpoint
                 middle.stream.checkpoint store c.copy_chunks.new.store now came.0 wrote.0 a
                 (g.D.Shelf.told c.copy_chunks.new.depot) b n (g.D.Shelf.faults c.copy_chunks.new.depot) m c.in_ok-chunks.chunks (Err fault)
-                begun held c.in_ok-chunks.ensures.rest tt came.1.0 wrote.1.0),
+                begun held c.in_ok-chunks.ensures.both.target.rest tt came.1.0 wrote.1.0),
             (
               (
                 spelling_begun told (g.S.Shelf.told c.next.new.shelf) source (repo_view c.next.new.source) (repo_view store.repo).keys copy next middle
-                    (item_view c.in-Some.item) c.in_ok-chunks.chunks came.0 wrote.0 c.in_ok-item.ensures.same c.in_ok-item.ensures.kept
-                    c.in_ok-item.ensures.others c.in_ok-chunks.ensures.others taken came.1.1.0 came.1.1.1.1.1.0 wrote.1.1.0 wrote.1.1.1.0,
+                    (item_view c.in-Some.item) c.in_ok-chunks.chunks came.0 wrote.0 c.in_ok-item.ensures.source.same c.in_ok-item.ensures.source.kept
+                    c.in_ok-item.ensures.others c.in_ok-chunks.ensures.contents.others taken came.1.1.0 came.1.1.1.1.1.0 wrote.1.1.0 wrote.1.1.1.0,
                 where_target told fault (λ there refusal. FillsCopy there source copy refusal more)
-                    c.in_err-write_item.ensures.target,
+                    c.in_err-write_item.ensures.refusal.target,
               ),
               tt,
             ),
@@ -158,7 +158,7 @@ returns-clause-steps g c =
     let copy_now = c.write_item.new.self in
     let came = c.in_ok-chunks.ensures.copied in
     let begun = most_taken copy next c.in_ok-item.ensures.others in
-    let held = most_added copy next middle c.in_ok-item.ensures.others c.in_ok-chunks.ensures.others c.requires.ready.same in
+    let held = most_added copy next middle c.in_ok-item.ensures.others c.in_ok-chunks.ensures.contents.others c.requires.copy.ready.same in
     let wrote = c.in_ok-write_item.ensures.written in
     let store = c.args.store.now in
     let now = c.write_item.new.store in
@@ -174,16 +174,18 @@ returns-clause-steps g c =
             (pieces_then {T = Option ChunkRefs} {U = Unit {0}} copy.contents.checkpoint next.contents.checkpoint
             middle.stream.checkpoint store c.copy_chunks.new.store now came.0 wrote.0 a
             (g.D.Shelf.told c.copy_chunks.new.depot) b n (g.D.Shelf.faults c.copy_chunks.new.depot) m c.in_ok-chunks.chunks (Ok tt)
-            begun held c.in_ok-chunks.ensures.rest c.in_ok-write_item.ensures.rest came.1.0 wrote.1.0),
+            begun held c.in_ok-chunks.ensures.both.target.rest c.in_ok-write_item.ensures.target.rest came.1.0 wrote.1.0),
         (
           tt,
           (
             step_copies told (g.S.Shelf.told c.next.new.shelf) source (repo_view c.next.new.source) (repo_view store.repo).keys
                 (repo_view c.copy_chunks.new.store.repo).keys copy next middle copy_now (item_view c.in-Some.item)
-                c.in_ok-chunks.chunks came.0 wrote.0 c.in_ok-item.ensures.same c.in_ok-item.ensures.kept c.in_ok-chunks.ensures.rest.keys
-                c.in_ok-item.ensures.others c.in_ok-chunks.ensures.others c.in_ok-write_item.ensures.others taken came.1.1.0 came.1.1.1.1.1.0 wrote.1.1.0
+                c.in_ok-chunks.chunks came.0 wrote.0 c.in_ok-item.ensures.source.same c.in_ok-item.ensures.source.kept
+                c.in_ok-chunks.ensures.both.target.rest.keys
+                c.in_ok-item.ensures.others c.in_ok-chunks.ensures.contents.others c.in_ok-write_item.ensures.others taken came.1.1.0 came.1.1.1.1.1.0
+                wrote.1.1.0
                 wrote.1.1.1.1.0 c.in_ok-write_item.ensures.again,
-            step_counts copy next middle copy_now came.0 wrote.0 c.in_ok-item.ensures.others c.in_ok-chunks.ensures.others
+            step_counts copy next middle copy_now came.0 wrote.0 c.in_ok-item.ensures.others c.in_ok-chunks.ensures.contents.others
                 c.in_ok-write_item.ensures.others came.1.1.0 wrote.1.1.0 came.1.1.1.1.1.1 wrote.1.1.1.1.1,
           ),
         ),
@@ -200,7 +202,7 @@ returns-in_err-item-clause-copied g c =
     let steps = returns-in_err-item-clause-steps g c in (
       steps.0,
       copied_refused time (g.S.Shelf.told c.args.shelf.now) a a (repo_view c.args.source.now) named store store copy c.next.new.self added steps.0 n n
-          c.requires.ready so (cached_in c.args.source.now) c.from_residual.result c.in_err-item.field-0.0 c.requires.source_fits
+          c.requires.copy.ready so (cached_in c.args.source.now) c.from_residual.result c.in_err-item.field-0.0 c.requires.both.source
           c.from_residual.ensures.1 steps.1,
     )
 
@@ -216,8 +218,9 @@ returns-in_default-clause-copied g c =
     let archive : copy_now.archive ≡ copy.archive = ap (λ (x : Copy). x.archive) c.in_ok-item.ensures.others in
     let block : copy_now.block ≡ copy.block = ap (λ (x : Copy). x.block) c.in_ok-item.ensures.others in (
       steps.0,
-      copied_behind time (g.S.Shelf.told c.args.shelf.now) a a (repo_view c.args.source.now) named store store copy copy_now added steps.0 n n c.requires.ready
-          so (cached_in c.args.source.now) false c.requires.source_fits c.requires.fits (rest_here store) archive block
+      copied_behind time (g.S.Shelf.told c.args.shelf.now) a a (repo_view c.args.source.now) named store store copy copy_now added steps.0 n n
+          c.requires.copy.ready
+          so (cached_in c.args.source.now) false c.requires.both.source c.requires.both.target.fits (rest_here store) archive block
           (most_taken copy copy_now c.in_ok-item.ensures.others) steps.1,
     )
 
@@ -228,8 +231,8 @@ returns-in_err-chunks-clause-copied g c =
       steps.0,
       copied_refused time (g.S.Shelf.told c.args.shelf.now) (g.D.Shelf.told c.args.depot.now) (g.D.Shelf.told c.copy_chunks.new.depot)
           (repo_view c.args.source.now) named c.args.store.now c.copy_chunks.new.store c.args.self.now c.copy_chunks.new.self added steps.0
-          (g.D.Shelf.faults c.args.depot.now) (g.D.Shelf.faults c.copy_chunks.new.depot) c.requires.ready so (cached_in c.args.source.now)
-          c.from_residual-in_err-chunks.result c.in_err-chunks.field-0.0 c.requires.source_fits c.from_residual-in_err-chunks.ensures.1 steps.1,
+          (g.D.Shelf.faults c.args.depot.now) (g.D.Shelf.faults c.copy_chunks.new.depot) c.requires.copy.ready so (cached_in c.args.source.now)
+          c.from_residual-in_err-chunks.result c.in_err-chunks.field-0.0 c.requires.both.source c.from_residual-in_err-chunks.ensures.1 steps.1,
     )
 
 pub returns-in_err-write_item-clause-copied : goal.returns-in_err-write_item-clause-copied
@@ -239,8 +242,8 @@ returns-in_err-write_item-clause-copied g c =
       steps.0,
       copied_refused time (g.S.Shelf.told c.args.shelf.now) (g.D.Shelf.told c.args.depot.now) (g.D.Shelf.told c.write_item.new.depot)
           (repo_view c.args.source.now) named c.args.store.now c.write_item.new.store c.args.self.now c.write_item.new.self added steps.0
-          (g.D.Shelf.faults c.args.depot.now) (g.D.Shelf.faults c.write_item.new.depot) c.requires.ready so (cached_in c.args.source.now)
-          c.from_residual-in_err-write_item.result c.in_err-write_item.field-0.0 c.requires.source_fits c.from_residual-in_err-write_item.ensures.1
+          (g.D.Shelf.faults c.args.depot.now) (g.D.Shelf.faults c.write_item.new.depot) c.requires.copy.ready so (cached_in c.args.source.now)
+          c.from_residual-in_err-write_item.result c.in_err-write_item.field-0.0 c.requires.both.source c.from_residual-in_err-write_item.ensures.1
           steps.1,
     )
 
@@ -255,18 +258,19 @@ returns-clause-copied g c =
     let steps = returns-clause-steps g c in
     let archive : copy_now.archive ≡ copy.archive =
     ap (λ (x : Copy). x.archive) c.in_ok-write_item.ensures.others
-    ∙ (ap (λ (x : Copy). x.archive) c.in_ok-chunks.ensures.others ∙ ap (λ (x : Copy). x.archive) c.in_ok-item.ensures.others) in
+    ∙ (ap (λ (x : Copy). x.archive) c.in_ok-chunks.ensures.contents.others ∙ ap (λ (x : Copy). x.archive) c.in_ok-item.ensures.others) in
     let block : copy_now.block ≡ copy.block =
     ap (λ (x : Copy). x.block) c.in_ok-write_item.ensures.others
-    ∙ (ap (λ (x : Copy). x.block) c.in_ok-chunks.ensures.others ∙ ap (λ (x : Copy). x.block) c.in_ok-item.ensures.others) in
+    ∙ (ap (λ (x : Copy). x.block) c.in_ok-chunks.ensures.contents.others ∙ ap (λ (x : Copy). x.block) c.in_ok-item.ensures.others) in
     let most : copy_now.contents.checkpoint ≡ copy.contents.checkpoint =
     ap (λ (x : Copy). x.contents.checkpoint) c.in_ok-write_item.ensures.others
-    ∙ (c.in_ok-chunks.ensures.checkpoint ∙ ap (λ (x : Copy). x.contents.checkpoint) c.in_ok-item.ensures.others) in (
+    ∙ (c.in_ok-chunks.ensures.contents.checkpoint ∙ ap (λ (x : Copy). x.contents.checkpoint) c.in_ok-item.ensures.others) in (
       steps.0,
       copied_behind time (g.S.Shelf.told c.args.shelf.now) (g.D.Shelf.told c.args.depot.now) (g.D.Shelf.told c.write_item.new.depot)
           (repo_view c.args.source.now) named store now copy copy_now added steps.0 (g.D.Shelf.faults c.args.depot.now)
-          (g.D.Shelf.faults c.write_item.new.depot) c.requires.ready so (cached_in c.args.source.now) true c.requires.source_fits c.requires.fits
-          (rest_then store middle now c.in_ok-chunks.ensures.rest c.in_ok-write_item.ensures.rest) archive block most steps.1,
+          (g.D.Shelf.faults c.write_item.new.depot) c.requires.copy.ready so (cached_in c.args.source.now) true c.requires.both.source
+          c.requires.both.target.fits
+          (rest_then store middle now c.in_ok-chunks.ensures.both.target.rest c.in_ok-write_item.ensures.target.rest) archive block most steps.1,
     )
 
 pub returns-in_err-item-clause-refused : goal.returns-in_err-item-clause-refused
@@ -280,7 +284,8 @@ returns-in_err-item-clause-refused g c =
     err_is c.from_residual.result fault
     (λ (r : Result Bool CarryFault). IfErr r (RefusesStep (origin told source copy.block copy.contents.checkpoint time) heard named.name))
     c.from_residual.ensures.1
-    (next_refused told heard source copy.block copy.contents.checkpoint time named c.args.store.now copy added fault named_is so c.in_err-item.ensures.refused)
+    (next_refused told heard source copy.block copy.contents.checkpoint time named c.args.store.now copy added fault named_is so
+    c.in_err-item.ensures.refused)
 
 pub returns-in_err-chunks-clause-refused : goal.returns-in_err-chunks-clause-refused
 returns-in_err-chunks-clause-refused g c =
@@ -297,37 +302,5 @@ returns-in_err-chunks-clause-refused g c =
     c.from_residual-in_err-chunks.ensures.1
     (item_refused told (g.S.Shelf.told c.next.new.shelf) heard source (repo_view c.next.new.source) (cached_in c.args.source.now) copy.block
     c.next.new.self.block copy.contents.checkpoint time named c.args.store.now copy added (item_view c.in-Some.item) (walk_view c.next.new.self.walk) fault
-    c.in_ok-item.ensures.same
-    c.in_ok-item.ensures.kept block c.requires.source_fits taken named_is so c.in_err-chunks.ensures.refused)
-
-pub returns-in_err-item-clause-left : goal.returns-in_err-item-clause-left
-returns-in_err-item-clause-left g c =
-    let store = c.args.store.now in
-    let a = g.D.Shelf.told c.args.depot.now in
-    let most = c.args.self.now.contents.checkpoint in
-    err_is c.from_residual.result c.in_err-item.field-0.0 (λ (r : Result Bool CarryFault). IfErr r (Leaves most store a store)) c.from_residual.ensures.1
-    (λ _. left_here most store a c.requires.fits c.requires.unspent c.requires.pending)
-
-pub returns-in_err-chunks-clause-left : goal.returns-in_err-chunks-clause-left
-returns-in_err-chunks-clause-left g c =
-    let store = c.args.store.now in
-    let now = c.copy_chunks.new.store in
-    let b = g.D.Shelf.told c.copy_chunks.new.depot in
-    let copy = c.args.self.now in
-    let next = c.next.new.self in
-    let most = copy.contents.checkpoint in
-    let fault = c.in_err-chunks.field-0.0 in
-    err_is c.from_residual-in_err-chunks.result fault (λ (r : Result Bool CarryFault). IfErr r (Leaves most store b now))
-    c.from_residual-in_err-chunks.ensures.1
-    (left_then most next.contents.checkpoint store store b now fault (most_taken copy next c.in_ok-item.ensures.others) (rest_here store)
-    c.in_err-chunks.ensures.left)
-
-pub returns-in_err-write_item-clause-left : goal.returns-in_err-write_item-clause-left
-returns-in_err-write_item-clause-left g c =
-    let store = c.args.store.now in
-    let now = c.write_item.new.store in
-    let b = g.D.Shelf.told c.write_item.new.depot in
-    let most = c.args.self.now.contents.checkpoint in
-    let fault = c.in_err-write_item.field-0.0 in
-    err_is c.from_residual-in_err-write_item.result fault (λ (r : Result Bool CarryFault). IfErr r (Leaves most store b now))
-    c.from_residual-in_err-write_item.ensures.1 (target_leaves most store b now fault c.in_err-write_item.ensures.target)
+    c.in_ok-item.ensures.source.same
+    c.in_ok-item.ensures.source.kept block c.requires.both.source taken named_is so c.in_err-chunks.ensures.refused)

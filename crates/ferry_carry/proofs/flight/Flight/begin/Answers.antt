@@ -20,10 +20,10 @@ returns-clause-flight c told heard store =
           options = subst AreRight (sym c.in_ok-copy_options.ensures.options)
               (record { least = right.least; most = right.most; checkpoint = right.checkpoint });
           named = ap (archive_named named.name) (sym there) ∙ (ap (λ n. archive_named n archives) name ∙ found);
+          uncounted = c.nothing.ensures;
         };
         added = [];
         work = refl;
-        uncounted = c.nothing.ensures;
       },
       refl,
     )

@@ -1,4 +1,4 @@
-use Rattle.std.proofs.Common.{[], ◌∙◌, Result, ap}
+use Rattle.std.proofs.Common.{[], ◌∙◌, Result, ap, rules}
 use Rattle.ferry_carry.proofs.FlightLemmas.{fits_read, works_read, works_unread}
 use Rattle.ferry_piece.proofs.WorkLemmas.{err_is}
 use Rattle.ferry_carry.proofs.flight.Flight.begin_comparing.Goals as goal
@@ -24,11 +24,6 @@ returns-in_err-comparison-clause-works g c most =
     c.in_err-comparison.ensures.target_same c.in_err-comparison.ensures.target_cause c.in_err-comparison.ensures.refused_target
     c.begin.ensures.target_fits)
 
-pub returns-in_err-comparison-clause-fits : goal.returns-in_err-comparison-clause-fits
-returns-in_err-comparison-clause-fits g c =
-    fits_read {T = Comparison} c.args.store.now c.begin.new.target (g.D.Shelf.told c.args.depot.now) (g.D.Shelf.told c.begin.new.other) c.begin.result
-    (c.begin.ensures.target_kept ∙ ap repo_view c.repo.ensures.repo) c.begin.ensures.target_same c.begin.ensures.target_fits c.requires.fits
-
 pub returns-clause-works : goal.returns-clause-works
 returns-clause-works g c most =
     let comparison = c.in_ok-comparison.comparison in
@@ -37,7 +32,28 @@ returns-clause-works g c most =
     (c.begin.ensures.target_kept ∙ ap repo_view c.repo.ensures.repo)
     c.in_ok-comparison.ensures.target_same c.in_ok-comparison.ensures.target_cause c.begin.ensures.target_fits
 
-pub returns-clause-fits : goal.returns-clause-fits
-returns-clause-fits g c =
-    fits_read {T = Comparison} c.args.store.now c.begin.new.target (g.D.Shelf.told c.args.depot.now) (g.D.Shelf.told c.begin.new.other) c.begin.result
-    (c.begin.ensures.target_kept ∙ ap repo_view c.repo.ensures.repo) c.begin.ensures.target_same c.begin.ensures.target_fits c.requires.fits
+pub returns-clause-both : goal.returns-clause-both
+returns-clause-both g c = record {
+  source = search rules;
+  target =
+      record {
+        read = search rules;
+        fits =
+            fits_read {T = Comparison} c.args.store.now c.begin.new.target (g.D.Shelf.told c.args.depot.now) (g.D.Shelf.told c.begin.new.other) c.begin.result
+            (c.begin.ensures.target_kept ∙ ap repo_view c.repo.ensures.repo) c.begin.ensures.target_same c.begin.ensures.target_fits c.requires.both.target;
+        stops = search rules;
+      };
+}
+
+pub returns-in_err-comparison-clause-both : goal.returns-in_err-comparison-clause-both
+returns-in_err-comparison-clause-both g c = record {
+  source = search rules;
+  target =
+      record {
+        read = search rules;
+        fits =
+            fits_read {T = Comparison} c.args.store.now c.begin.new.target (g.D.Shelf.told c.args.depot.now) (g.D.Shelf.told c.begin.new.other) c.begin.result
+            (c.begin.ensures.target_kept ∙ ap repo_view c.repo.ensures.repo) c.begin.ensures.target_same c.begin.ensures.target_fits c.requires.both.target;
+        stops = search rules;
+      };
+}

@@ -1,6 +1,4 @@
-use Rattle.std.proofs.Common.{◌≡◌, [], ◌∷◌, ℕ, List, Some, Result, Ok, Err, refl, sym, ◌∙◌, ap, subst, IfErr, IsSome, arith}
-use Rattle.std.proofs.lemmas.Result.{on_ok_weaker}
-use Rattle.ferry_carry.proofs.AcceptingLemmas.{still_rest}
+use Rattle.std.proofs.Common.{◌≡◌, [], ◌∷◌, ℕ, List, Some, Result, Ok, Err, refl, sym, ◌∙◌, ap, subst, IfErr, IsSome, arith, rules}
 use Rattle.ferry_carry.proofs.FlightLemmas.{read_rest, rest_accepts, rest_there, there_accepted}
 use Rattle.ferry_carry.proofs.FlyLemmas.{begins_there, filled_apart, fills_there, flies_as, flies_fault, present_flies, present_stands, stands_within}
 use Rattle.ferry_carry.proofs.FlyLemmas.{taken_still, taken_unbroken, turn_present, turned_err, present_few, taken_unused}
@@ -12,12 +10,10 @@ use Rattle.ferry_carry.proofs.WorkLemmas.{carried_from}
 use Rattle.ferry_piece.proofs.WorkLemmas.{err_is, gathered_fault}
 use Rattle.ferry_carry.proofs.flight.Flight.compare.Goals as goal
 use Rattle.ferry_carry.specs.Flight.{IsSame, WorkFits, flown_from}
-use Rattle.ferry_piece.specs.Gather.{KeepsRest}
-use Rattle.ferry_carry.specs.Grow.{AcceptsMore}
 use Rattle.ferry_piece.specs.Puts.{AtBegin, border_behind}
 use Rattle.ferry_piece.specs.declared.fault.CarryFault.{CarryFault}
 use Rattle.ferry_carry.specs.declared.flight.Turn.{Turn}
-use Rattle.ferry_carry.specs.declared.flight.Turn.TheVariants.{More, Present}
+use Rattle.ferry_carry.specs.declared.flight.Turn.TheVariants.{More}
 use Rattle.ferry_compare.specs.declared.comparison.Compared.{Compared}
 use Rattle.ferry_repo.specs.Archives.{archive_named}
 use Rattle.ferry_repo.specs.Opening.{RepoState, repo_view}
@@ -29,6 +25,7 @@ use Rattle.ferry_piece.specs.Stops.{StopsPieces}
 use Rattle.std.proofs.lemmas.Result.{IfErr-weaker}
 use Rattle.ferry_store.specs.Commit.{accepted_in}
 use Rattle.ferry_piece.proofs.FewLemmas.{begun_as, begun_same, begun_then}
+use Rattle.ferry_carry.proofs.TurnLemmas.{stops_turn, flies_present}
 
 pub returns-in-More-clause-works : goal.returns-in-More-clause-works
 returns-in-More-clause-works g c =
@@ -41,15 +38,15 @@ returns-in-More-clause-works g c =
     let n = g.D.Shelf.faults c.args.depot.now in
     let m = g.D.Shelf.faults c.compare_item-compared.new.depot in
     let compared = c.in_ok-compared.field-0 in
-    let read = c.compare_item-compared.ensures.read in
+    let read = c.compare_item-compared.ensures.both.target.read in
     let at = border_behind AtBegin [] in
     let works = c.in_ok-compared.ensures.works from.most in
     record {
       flies = flies_as {T = Compared} [] from name [] [] store now a b n m compared More refl
-          (carried_from {T = Compared} {U = Compared} [] from (name ∷ []) store now [] a b n m compared compared c.requires.accepts
+          (carried_from {T = Compared} {U = Compared} [] from (name ∷ []) store now [] a b n m compared compared c.requires.both.target.accepts
           (read_rest store now read) works);
       begins = begins_there a from (repo_view store.repo).keys (accepted_in store) name
-          (there_accepted store name c.requires.accepts c.requires.there);
+          (there_accepted store name c.requires.both.target.accepts c.requires.comparison.there);
       stands = stands_within at from.most store [] a b works.works.each;
       last = tt;
       held = tt;
@@ -58,29 +55,28 @@ returns-in-More-clause-works g c =
         record {
           stands = record {
             options = c.requires.flight.options;
-            named = subst (λ (r : RepoState). archive_named name r.manifest.archives ≡ Some c.args.self.now.named) (sym c.compare_item-compared.ensures.kept)
+            named = subst (λ (r : RepoState). archive_named name r.manifest.archives ≡ Some c.args.self.now.named) (sym
+                c.compare_item-compared.ensures.both.source.kept)
                 c.requires.flight.named;
+            uncounted = c.requires.flight.uncounted;
           };
           added = [];
           work = subst (WorkFits (g.S.Shelf.told c.compare_item-compared.new.shelf) (repo_view c.compare_item-compared.new.source) b now
               c.args.self.now.named c.args.self.now.options []) (sym c.renew.ensures) (
-                c.in_ok-compared.ensures.comparison (ap Ok c.in-More.is),
-                c.compare_item-compared.ensures.name ∙ c.requires.same_name,
-                subst (λ (r : RepoState). IsSome (archive_named name r.manifest.archives)) (sym read.repo) c.requires.there,
+                record {
+                  fits = record {
+                    comparison = c.in_ok-compared.ensures.comparison (ap Ok c.in-More.is);
+                    same_name = c.compare_item-compared.ensures.name ∙ c.requires.comparison.same_name;
+                  };
+                  there = subst (λ (r : RepoState). IsSome (archive_named name r.manifest.archives)) (sym read.repo) c.requires.comparison.there;
+                },
                 refl,
               );
-          uncounted = c.requires.uncounted;
         },
         refl,
       );
       few = begun_as {T = Compared} {U = Turn} 0 0 store now compared More (omega arith) works.few;
     }
-
-pub returns-in-More-clause-accepts : goal.returns-in-More-clause-accepts
-returns-in-More-clause-accepts g c =
-    let store = c.args.store.now in
-    let now = c.compare_item-compared.new.store in
-    rest_accepts store now (read_rest store now c.compare_item-compared.ensures.read) c.requires.accepts
 
 pub returns-in-Equal-clause-works : goal.returns-in-Equal-clause-works
 returns-in-Equal-clause-works g c =
@@ -95,38 +91,30 @@ returns-in-Equal-clause-works g c =
     let n = g.D.Shelf.faults c.args.depot.now in
     let m = g.D.Shelf.faults c.compare_item-compared.new.depot in
     let k = g.D.Shelf.faults c.present.new.depot in
-    let rest = read_rest store middle c.compare_item-compared.ensures.read in
+    let rest = read_rest store middle c.compare_item-compared.ensures.both.target.read in
     let same : IsSame from b (repo_view middle.repo) name =
-    subst (IsSame from b (repo_view middle.repo)) c.requires.same_name
-    (c.in_ok-compared.ensures.equal (ap Ok c.in-Equal.is) from.block from.most from.time) in
+    subst (IsSame from b (repo_view middle.repo)) c.requires.comparison.same_name
+    (c.in_ok-compared.ensures.found.equal (ap Ok c.in-Equal.is) from.block from.most from.time) in
     let compared = c.in_ok-compared.field-0 in
     let works = c.in_ok-compared.ensures.works from.most in
     let ends = c.present.ensures.works from.most in
-    let apart = targets_apart {T = Turn} c.present.result c.present.ensures.target in
+    let apart = targets_apart {T = Turn} c.present.result c.present.ensures.target.refusal.target in
     record {
-      flies = present_flies {T = Compared} from name store middle now a b d n m k compared c.present.result c.requires.accepts
-          (rest_accepts store middle rest c.requires.accepts) rest c.present.ensures.rest c.present.ensures.pending c.present.ensures.present
-          (rest_there store middle name rest c.requires.there) same works ends;
+      flies = present_flies {T = Compared} from name store middle now a b d n m k compared c.present.result c.requires.both.target.accepts
+          (rest_accepts store middle rest c.requires.both.target.accepts) rest c.present.ensures.target.rest c.present.ensures.pending
+          c.present.ensures.present
+          (rest_there store middle name rest c.requires.comparison.there) same works ends;
       begins = begins_there a from (repo_view store.repo).keys (accepted_in store) name
-          (there_accepted store name c.requires.accepts c.requires.there);
+          (there_accepted store name c.requires.both.target.accepts c.requires.comparison.there);
       stands = present_stands {T = Compared} from.most store middle a b d n m compared c.present.result rest.keys works ends.each;
       last = told_unbroken {T = Turn} a (repo_view store.repo).keys [] c.present.result (spent_chunk {T = Turn} c.present.result c.present.ensures.spent);
       held = held_spent {T = Turn} (border_behind AtBegin []) from.most store now [] a d c.present.result c.present.ensures.spent;
       fills = filled_apart {T = Turn} a from (repo_view store.repo).keys (accepted_in store) name [] c.present.result apart;
       lists = turn_present (g.S.Shelf.told c.compare_item-compared.new.shelf) (repo_view c.compare_item-compared.new.source) d now _ a from
-          (repo_view store.repo).keys c.present.result c.requires.uncounted c.present.ensures.present;
+          (repo_view store.repo).keys c.present.result c.requires.flight.uncounted c.present.ensures.present;
       few = present_few store now c.present.result c.present.ensures.present
           (begun_then {T = Compared} {U = Turn} 0 1 2 store middle now (Ok compared) c.present.result (omega arith) works.few c.present.ensures.few);
     }
-
-pub returns-in-Equal-clause-accepts : goal.returns-in-Equal-clause-accepts
-returns-in-Equal-clause-accepts g c =
-    let store = c.args.store.now in
-    let middle = c.compare_item-compared.new.store in
-    let now = c.present.new.store in
-    on_ok_weaker {P = KeepsRest middle now} {Q = AcceptsMore now} c.present.result
-    (λ rest. rest_accepts middle now rest (rest_accepts store middle (read_rest store middle c.compare_item-compared.ensures.read) c.requires.accepts))
-    c.present.ensures.rest
 
 pub returns-in_err-compared-clause-works : goal.returns-in_err-compared-clause-works
 returns-in_err-compared-clause-works g c =
@@ -142,14 +130,14 @@ returns-in_err-compared-clause-works g c =
     let at = border_behind AtBegin [] in
     let works = c.in_err-compared.ensures.works from.most in
     turned_err _ _ from name [] [] [] store now _ a b n m c.from_residual.result fault c.from_residual.ensures.1 (record {
-      flies = flies_fault {T = Compared} [] from name store now [] a b n m fault c.requires.accepts works;
+      flies = flies_fault {T = Compared} [] from name store now [] a b n m fault c.requires.both.target.accepts works;
       begins = begins_there a from (repo_view store.repo).keys (accepted_in store) name
-          (there_accepted store name c.requires.accepts c.requires.there);
+          (there_accepted store name c.requires.both.target.accepts c.requires.comparison.there);
       stands = λ _. stands_within at from.most store [] a b works.works.each;
       last = works.last;
       held = held_within {T = Turn} at from.most store now [] a b (Err fault) works.held;
       fills = fills_there a from (repo_view store.repo).keys (accepted_in store) name fault
-          (there_accepted store name c.requires.accepts c.requires.there);
+          (there_accepted store name c.requires.both.target.accepts c.requires.comparison.there);
       lists = tt;
       few = begun_same {T = Compared} {U = Turn} 0 2 store now fault (omega arith) works.few;
     })
@@ -171,123 +159,127 @@ returns-in-Differs-clause-works g c =
     (taken_unbroken c.taken.result c.as_slice.result.now c.taken.ensures.taken)
     (taken_unused c.taken.result c.as_slice.result.now c.taken.ensures.taken) works in
     record {
-      flies = flies_fault {T = Compared} [] from name store now [] a b n m c.taken.result c.requires.accepts refused;
+      flies = flies_fault {T = Compared} [] from name store now [] a b n m c.taken.result c.requires.both.target.accepts refused;
       begins = begins_there a from (repo_view store.repo).keys (accepted_in store) name
-          (there_accepted store name c.requires.accepts c.requires.there);
+          (there_accepted store name c.requires.both.target.accepts c.requires.comparison.there);
       stands = λ _. stands_within at from.most store [] a b works.works.each;
       last = refused.last;
       held = held_within {T = Turn} at from.most store now [] a b (Err c.taken.result) refused.held;
       fills = fills_there a from (repo_view store.repo).keys (accepted_in store) name c.taken.result
-          (there_accepted store name c.requires.accepts c.requires.there);
+          (there_accepted store name c.requires.both.target.accepts c.requires.comparison.there);
       lists = tt;
       few = begun_same {T = Compared} {U = Turn} 0 2 store now c.taken.result (omega arith) refused.few;
     }
 
-pub returns-in_err-compared-clause-refused : goal.returns-in_err-compared-clause-refused
-returns-in_err-compared-clause-refused g c =
-    let store = c.args.store.now in
-    let now = c.compare_item-compared.new.store in
-    let told = g.S.Shelf.told c.args.shelf.now in
-    let source = repo_view c.args.source.now in
-    let block = c.args.self.now.options.block in
-    let most = c.args.self.now.options.checkpoint in
-    let name = c.args.self.now.named.name in
-    let a = g.D.Shelf.told c.args.depot.now in
-    let b = g.D.Shelf.told c.compare_item-compared.new.depot in
-    let fault = c.in_err-compared.field-0.0 in
-    let compared = c.compare_item-compared.ensures in
-    let left = left_read most store b now compared.read compared.fits c.requires.unspent c.requires.pending in
-    err_is c.from_residual.result fault (λ (r : Result Turn CarryFault). IfErr r (RefusesName (origin told source block most c.args.self.now.options.timestamp)
-    a store b now name))
-    c.from_residual.ensures.1
-    (comparing_refused told a b source block most c.args.self.now.options.timestamp name store now fault c.in_err-compared.ensures.stops
-    (left_usable most store b now left c.requires.packable c.requires.accepts)
-    (subst (λ (n : List ℕ). RefusesComparing told source n fault) c.requires.same_name c.in_err-compared.ensures.refused))
+pub returns-in-Differs-clause-turn : goal.returns-in-Differs-clause-turn
+returns-in-Differs-clause-turn g c = record {
+  source = search rules;
+  target = search rules;
+  refused =
+      record {
+        refused =
+            let store = c.args.store.now in
+            let now = c.compare_item-compared.new.store in
+            let from = flown_from (g.S.Shelf.told c.args.shelf.now) (repo_view c.args.source.now) c.args.self.now in
+            let name = c.args.self.now.named.name in
+            let a = g.D.Shelf.told c.args.depot.now in
+            let b = g.D.Shelf.told c.compare_item-compared.new.depot in
+            let read = c.compare_item-compared.ensures.both.target.read in
+            let left = left_read from.most store b now read c.compare_item-compared.ensures.both.target.fits c.requires.both.target.unspent
+            c.requires.both.target.pending in
+            let differs : DiffersThere from b (repo_view now.repo) name =
+            subst (DiffersThere from b (repo_view now.repo)) c.requires.comparison.same_name
+            (c.in_ok-compared.ensures.found.differs_now (ap Ok c.in-Differs.is) from.block from.most from.time) in
+            taken_refused from a b store now name c.as_slice.result.now c.taken.result c.taken.ensures.taken c.as_slice.ensures differs (record {
+              usable = left_usable from.most store b now left c.requires.both.target.packable c.requires.both.target.accepts;
+              there = subst (λ (r : RepoState). IsSome (archive_named name r.manifest.archives)) (sym read.repo) c.requires.comparison.there;
+            });
+        limit =
+            let flight = c.args.self.now in
+            taken_limit (g.D.Shelf.told c.compare_item-compared.new.depot) flight.options.timestamp (repo_view c.args.source.now) c.args.store.now flight.named
+            c.as_slice.result.now c.taken.result c.taken.ensures.taken;
+        left =
+            let compared = c.compare_item-compared.ensures in
+            λ _. left_read c.args.self.now.options.checkpoint c.args.store.now (g.D.Shelf.told c.compare_item-compared.new.depot)
+            c.compare_item-compared.new.store compared.both.target.read compared.both.target.fits c.requires.both.target.unspent c.requires.both.target.pending;
+      };
+  turn = search rules;
+}
 
-pub returns-in-Differs-clause-refused : goal.returns-in-Differs-clause-refused
-returns-in-Differs-clause-refused g c =
-    let store = c.args.store.now in
-    let now = c.compare_item-compared.new.store in
-    let from = flown_from (g.S.Shelf.told c.args.shelf.now) (repo_view c.args.source.now) c.args.self.now in
-    let name = c.args.self.now.named.name in
-    let a = g.D.Shelf.told c.args.depot.now in
-    let b = g.D.Shelf.told c.compare_item-compared.new.depot in
-    let read = c.compare_item-compared.ensures.read in
-    let left = left_read from.most store b now read c.compare_item-compared.ensures.fits c.requires.unspent c.requires.pending in
-    let differs : DiffersThere from b (repo_view now.repo) name =
-    subst (DiffersThere from b (repo_view now.repo)) c.requires.same_name
-    (c.in_ok-compared.ensures.differs_now (ap Ok c.in-Differs.is) from.block from.most from.time) in
-    taken_refused from a b store now name c.as_slice.result.now c.taken.result c.taken.ensures.taken c.as_slice.ensures differs (record {
-      usable = left_usable from.most store b now left c.requires.packable c.requires.accepts;
-      there = subst (λ (r : RepoState). IsSome (archive_named name r.manifest.archives)) (sym read.repo) c.requires.there;
-    })
+pub returns-in-Equal-clause-turn : goal.returns-in-Equal-clause-turn
+returns-in-Equal-clause-turn g c = record {
+  source = search rules;
+  target =
+      let store = c.args.store.now in
+      let middle = c.compare_item-compared.new.store in
+      let ends = c.present.ensures in
+      flies_present {T = Turn} c.args.self.now.options.checkpoint c.args.self.now.named.name store middle (g.D.Shelf.told c.present.new.depot)
+      c.present.new.store
+      c.present.result (read_rest store middle c.compare_item-compared.ensures.both.target.read) c.requires.both.target.packable
+      c.requires.both.target.accepts
+      c.requires.both.target.committed ends.target.rest ends.target.fits ends.target.unspent ends.pending;
+  refused =
+      stops_turn {T = Turn} _ _ _ _ _ _ c.present.result
+      (let store = c.args.store.now in
+      let middle = c.compare_item-compared.new.store in
+      let from = flown_from (g.S.Shelf.told c.args.shelf.now) (repo_view c.args.source.now) c.args.self.now in
+      pending_refused {T = Turn} from (g.D.Shelf.told c.args.depot.now) (g.D.Shelf.told c.present.new.depot) store c.present.new.store
+      (repo_view middle.repo).keys c.args.self.now.named.name c.present.result (ap (λ (r : RepoState). r.keys)
+      c.compare_item-compared.ensures.both.target.read.repo)
+      c.present.ensures.target.refusal.target c.present.ensures.target.stops)
+      (let d = g.D.Shelf.told c.present.new.depot in
+      let store = c.args.store.now in
+      let flight = c.args.self.now in
+      let given = flight.options.timestamp in
+      let source = repo_view c.args.source.now in
+      let keys = (repo_view c.compare_item-compared.new.store.repo).keys in
+      IfErr-weaker c.present.result (StopsPieces d keys) (IsLimited d given source store flight.named)
+      (λ fault stops. pieces_limit d keys given source store flight.named fault stops) c.present.ensures.target.stops)
+      (targets_leave {T = Turn} c.args.self.now.options.checkpoint c.args.store.now (g.D.Shelf.told c.present.new.depot) c.present.new.store c.present.result
+      c.present.ensures.target.refusal.target);
+  turn = search rules;
+}
 
-pub returns-in-More-clause-more : goal.returns-in-More-clause-more
-returns-in-More-clause-more g c = λ _. (read_rest c.args.store.now c.compare_item-compared.new.store c.compare_item-compared.ensures.read).accepted
-
-pub returns-in-Equal-clause-there : goal.returns-in-Equal-clause-there
-returns-in-Equal-clause-there g c = λ _. there_accepted c.args.store.now c.args.self.now.named.name c.requires.accepts c.requires.there
-
-pub returns-in-Equal-clause-refused : goal.returns-in-Equal-clause-refused
-returns-in-Equal-clause-refused g c =
-    let store = c.args.store.now in
-    let middle = c.compare_item-compared.new.store in
-    let from = flown_from (g.S.Shelf.told c.args.shelf.now) (repo_view c.args.source.now) c.args.self.now in
-    pending_refused {T = Turn} from (g.D.Shelf.told c.args.depot.now) (g.D.Shelf.told c.present.new.depot) store c.present.new.store
-    (repo_view middle.repo).keys c.args.self.now.named.name c.present.result (ap (λ (r : RepoState). r.keys) c.compare_item-compared.ensures.read.repo)
-    c.present.ensures.target c.present.ensures.stops
-
-pub returns-in_err-compared-clause-limit : goal.returns-in_err-compared-clause-limit
-returns-in_err-compared-clause-limit g c =
-    let b = g.D.Shelf.told c.compare_item-compared.new.depot in
-    let store = c.args.store.now in
-    let flight = c.args.self.now in
-    let given = flight.options.timestamp in
-    let source = repo_view c.args.source.now in
-    let fault = c.in_err-compared.field-0.0 in
-    err_is c.from_residual.result fault (λ (r : Result Turn CarryFault). IfErr r (IsLimited b given source store flight.named)) c.from_residual.ensures.1
-    (pieces_limit b (repo_view store.repo).keys given source store flight.named fault c.in_err-compared.ensures.stops)
-
-pub returns-in-Equal-clause-limit : goal.returns-in-Equal-clause-limit
-returns-in-Equal-clause-limit g c =
-    let d = g.D.Shelf.told c.present.new.depot in
-    let store = c.args.store.now in
-    let flight = c.args.self.now in
-    let given = flight.options.timestamp in
-    let source = repo_view c.args.source.now in
-    let keys = (repo_view c.compare_item-compared.new.store.repo).keys in
-    IfErr-weaker c.present.result (StopsPieces d keys) (IsLimited d given source store flight.named)
-    (λ fault stops. pieces_limit d keys given source store flight.named fault stops) c.present.ensures.stops
-
-pub returns-in-Differs-clause-limit : goal.returns-in-Differs-clause-limit
-returns-in-Differs-clause-limit g c =
-    let flight = c.args.self.now in
-    taken_limit (g.D.Shelf.told c.compare_item-compared.new.depot) flight.options.timestamp (repo_view c.args.source.now) c.args.store.now flight.named
-    c.as_slice.result.now c.taken.result c.taken.ensures.taken
-
-pub returns-in-Equal-clause-still : goal.returns-in-Equal-clause-still
-returns-in-Equal-clause-still g c is =
-    let store = c.args.store.now in
-    let middle = c.compare_item-compared.new.store in
-    still_rest store middle c.present.new.store c.present.result Present (read_rest store middle c.compare_item-compared.ensures.read) c.present.ensures.rest is
-
-pub returns-in_err-compared-clause-left : goal.returns-in_err-compared-clause-left
-returns-in_err-compared-clause-left g c =
-    let store = c.args.store.now in
-    let now = c.compare_item-compared.new.store in
-    let b = g.D.Shelf.told c.compare_item-compared.new.depot in
-    let most = c.args.self.now.options.checkpoint in
-    let compared = c.compare_item-compared.ensures in
-    err_is c.from_residual.result c.in_err-compared.field-0.0 (λ (r : Result Turn CarryFault). IfErr r (Leaves most store b now)) c.from_residual.ensures.1
-    (λ _. left_read most store b now compared.read compared.fits c.requires.unspent c.requires.pending)
-
-pub returns-in-Differs-clause-left : goal.returns-in-Differs-clause-left
-returns-in-Differs-clause-left g c =
-    let compared = c.compare_item-compared.ensures in
-    λ _. left_read c.args.self.now.options.checkpoint c.args.store.now (g.D.Shelf.told c.compare_item-compared.new.depot)
-    c.compare_item-compared.new.store compared.read compared.fits c.requires.unspent c.requires.pending
-
-pub returns-in-Equal-clause-left : goal.returns-in-Equal-clause-left
-returns-in-Equal-clause-left g c =
-    targets_leave {T = Turn} c.args.self.now.options.checkpoint c.args.store.now (g.D.Shelf.told c.present.new.depot) c.present.new.store c.present.result
-    c.present.ensures.target
+pub returns-in_err-compared-clause-turn : goal.returns-in_err-compared-clause-turn
+returns-in_err-compared-clause-turn g c = record {
+  source = search rules;
+  target = search rules;
+  refused =
+      stops_turn {T = Turn} _ _ _ _ _ _ c.from_residual.result
+      (let store = c.args.store.now in
+      let now = c.compare_item-compared.new.store in
+      let told = g.S.Shelf.told c.args.shelf.now in
+      let source = repo_view c.args.source.now in
+      let block = c.args.self.now.options.block in
+      let most = c.args.self.now.options.checkpoint in
+      let name = c.args.self.now.named.name in
+      let a = g.D.Shelf.told c.args.depot.now in
+      let b = g.D.Shelf.told c.compare_item-compared.new.depot in
+      let fault = c.in_err-compared.field-0.0 in
+      let compared = c.compare_item-compared.ensures in
+      let left = left_read most store b now compared.both.target.read compared.both.target.fits c.requires.both.target.unspent
+      c.requires.both.target.pending in
+      err_is c.from_residual.result fault (λ (r : Result Turn CarryFault). IfErr r (RefusesName (origin told source block most
+      c.args.self.now.options.timestamp)
+      a store b now name))
+      c.from_residual.ensures.1
+      (comparing_refused told a b source block most c.args.self.now.options.timestamp name store now fault c.in_err-compared.ensures.both.target.stops
+      (left_usable most store b now left c.requires.both.target.packable c.requires.both.target.accepts)
+      (subst (λ (n : List ℕ). RefusesComparing told source n fault) c.requires.comparison.same_name c.in_err-compared.ensures.refused.refused)))
+      (let b = g.D.Shelf.told c.compare_item-compared.new.depot in
+      let store = c.args.store.now in
+      let flight = c.args.self.now in
+      let given = flight.options.timestamp in
+      let source = repo_view c.args.source.now in
+      let fault = c.in_err-compared.field-0.0 in
+      err_is c.from_residual.result fault (λ (r : Result Turn CarryFault). IfErr r (IsLimited b given source store flight.named)) c.from_residual.ensures.1
+      (pieces_limit b (repo_view store.repo).keys given source store flight.named fault c.in_err-compared.ensures.both.target.stops))
+      (let store = c.args.store.now in
+      let now = c.compare_item-compared.new.store in
+      let b = g.D.Shelf.told c.compare_item-compared.new.depot in
+      let most = c.args.self.now.options.checkpoint in
+      let compared = c.compare_item-compared.ensures in
+      err_is c.from_residual.result c.in_err-compared.field-0.0 (λ (r : Result Turn CarryFault). IfErr r (Leaves most store b now)) c.from_residual.ensures.1
+      (λ _. left_read most store b now compared.both.target.read compared.both.target.fits c.requires.both.target.unspent c.requires.both.target.pending));
+  turn = search rules;
+}

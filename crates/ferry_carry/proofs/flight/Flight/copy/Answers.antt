@@ -30,6 +30,7 @@ use Rattle.ferry_repo.specs.Archives.{archive_named}
 use Rattle.ferry_repo.specs.Opening.{RepoState, repo_view}
 use Rattle.ferry_store.specs.Commit.{accepted_in}
 use Rattle.ferry_piece.proofs.FewLemmas.{begun_as, begun_same}
+use Rattle.ferry_carry.proofs.TurnLemmas.{stops_turn}
 
 pub returns-in-Err-clause-works : goal.returns-in-Err-clause-works
 returns-in-Err-clause-works g c =
@@ -58,13 +59,13 @@ returns-in-Err-clause-works g c =
         [],
         (
           record {
-            flies = flies_fault {T = Bool} added from name store now stepped.0 a b n m fault c.requires.accepts works.0;
-            begins = begins_new a from (repo_view store.repo).keys (accepted_in store) name (added ++ stepped.0) c.requires.unnamed
+            flies = flies_fault {T = Bool} added from name store now stepped.0 a b n m fault c.requires.both.target.accepts works.0;
+            begins = begins_new a from (repo_view store.repo).keys (accepted_in store) name (added ++ stepped.0) c.requires.copy.1.unnamed
                 (works.1.0 c.requires.flight.named);
             stands = λ _. stands_within at from.most store stepped.0 a b works.0.works.each;
             last = works.0.last;
             held = held_within {T = Turn} at from.most store now stepped.0 a b (Err fault) works.0.held;
-            fills = fills_new a from (repo_view store.repo).keys (accepted_in store) name (added ++ stepped.0) fault c.requires.unnamed
+            fills = fills_new a from (repo_view store.repo).keys (accepted_in store) name (added ++ stepped.0) fault c.requires.copy.1.unnamed
                 (works.1.1.0 c.requires.flight.named);
             lists = tt;
             few = begun_same {T = Bool} {U = Turn} (2 * length stepped.0) (2 * length stepped.0 + 2) store now fault (omega arith) works.0.few;
@@ -97,7 +98,8 @@ returns-in-Ok-true-clause-works g c =
     let taken : more ≡ true = search rules in
     let at = border_behind AtBegin added in
     let stepped = ensures.copied from.time named added (so_far_as told source from.block from.most from.time named a store copy added so) in
-    let works = stepped_as told source from.block from.most copy.block copy.contents.checkpoint from.time named a b store now c.step.new.self added stepped.0 n
+    let works = stepped_as told source from.block from.most copy.block copy.contents.checkpoint from.time named a b store now c.step.new.self added
+    stepped.0 n
     m
     (Ok more) (sym so.0.block) (sym so.0.most) stepped.1 in
     let so_far : IsCopiedSoFar from named b now c.step.new.self (added ++ stepped.0) =
@@ -108,8 +110,9 @@ returns-in-Ok-true-clause-works g c =
         (
           record {
             flies = flies_as {T = Bool} added from name [] stepped.0 store now a b n m more More refl
-                (carried_from {T = Bool} {U = Bool} added from (name ∷ []) store now stepped.0 a b n m more more c.requires.accepts ensures.rest works.0);
-            begins = begins_new a from (repo_view store.repo).keys (accepted_in store) name (added ++ stepped.0) c.requires.unnamed
+                (carried_from {T = Bool} {U = Bool} added from (name ∷ []) store now stepped.0 a b n m more more c.requires.both.target.accepts
+                ensures.both.target.rest works.0);
+            begins = begins_new a from (repo_view store.repo).keys (accepted_in store) name (added ++ stepped.0) c.requires.copy.1.unnamed
                 (works.1.0 c.requires.flight.named);
             stands = stands_within at from.most store stepped.0 a b works.0.works.each;
             last = tt;
@@ -119,17 +122,18 @@ returns-in-Ok-true-clause-works g c =
               record {
                 stands = record {
                   options = c.requires.flight.options;
-                  named = subst (λ (r : RepoState). archive_named name r.manifest.archives ≡ Some named) (sym ensures.kept) c.requires.flight.named;
+                  named = subst (λ (r : RepoState). archive_named name r.manifest.archives ≡ Some named) (sym ensures.both.source.kept)
+                      c.requires.flight.named;
+                  uncounted = c.requires.flight.uncounted;
                 };
                 added = added ++ stepped.0;
-                work = subst (WorkFits later after b now named flight.options (added ++ stepped.0)) (sym c.renew.ensures) (
-                  ensures.ready,
-                  subst (λ (m : ManifestText). archive_named name m.archives ≡ None) (sym ensures.rest.accepted) c.requires.unnamed,
-                  ensures.walk_fits,
-                  so_far_later told later source after from.block from.most from.time named b now c.step.new.self (added ++ stepped.0) ensures.same
-                      ensures.kept so_far,
-                );
-                uncounted = c.requires.uncounted;
+                work = subst (WorkFits later after b now named flight.options (added ++ stepped.0)) (sym c.renew.ensures) (record {
+                  fits = record { ready = ensures.copy.ready; walk_fits = ensures.copy.walk_fits };
+                  unnamed = subst (λ (m : ManifestText). archive_named name m.archives ≡ None) (sym ensures.both.target.rest.accepted)
+                      c.requires.copy.1.unnamed;
+                  copied = so_far_later told later source after from.block from.most from.time named b now c.step.new.self (added ++ stepped.0)
+                      ensures.both.source.same ensures.both.source.kept so_far;
+                });
               },
               refl,
             );
@@ -139,12 +143,6 @@ returns-in-Ok-true-clause-works g c =
         ),
       ),
     )
-
-pub returns-in-Ok-true-clause-accepts : goal.returns-in-Ok-true-clause-accepts
-returns-in-Ok-true-clause-accepts g c = rest_accepts c.args.store.now c.step.new.store c.in-Ok-true.ensures.rest c.requires.accepts
-
-pub end_copy-put-requires-clause-accepts : goal.end_copy-put-requires-clause-accepts
-end_copy-put-requires-clause-accepts g c = rest_accepts c.args.store.now c.step.new.store c.in-Ok-false.ensures.rest c.requires.accepts
 
 pub returns-in_err-self-in-Ok-false-clause-works : goal.returns-in_err-self-in-Ok-false-clause-works
 returns-in_err-self-in-Ok-false-clause-works g c =
@@ -168,7 +166,7 @@ returns-in_err-self-in-Ok-false-clause-works g c =
     let copy = c.args.copy in
     let more = c.in-Ok-false.field-0 in
     let not_more : more ≡ false = search rules in
-    let rest = c.in-Ok-false.ensures.rest in
+    let rest = c.in-Ok-false.ensures.both.target.rest in
     let stepped = c.in-Ok-false.ensures.copied from.time named added (so_far_as told source from.block from.most from.time named a store copy added so) in
     let works = stepped_as told source from.block from.most copy.block copy.contents.checkpoint from.time named a b store middle c.step.new.self added
     stepped.0 n m
@@ -177,7 +175,7 @@ returns-in_err-self-in-Ok-false-clause-works g c =
     subst (CopiesOn from named b middle c.step.new.self added stepped.0) not_more works.1.1.1 in
     let first : AddsOn {T = Bool} from.most store [] middle a b n m (Ok more) =
     subst (λ (l : List Addition). AddsOn {T = Bool} from.most store l middle a b n m (Ok more)) ended.0 works.0 in
-    let kept = c.step.ensures.kept in
+    let kept = c.step.ensures.both.source.kept in
     let flown : IsFlown from (repo_view c.step.new.source) flight.options.timestamp named =
     record {
       repo = sym kept;
@@ -191,8 +189,10 @@ returns-in_err-self-in-Ok-false-clause-works g c =
         [],
         (
           turned_err _ _ from name added ends.0 [] store now _ a d n k c.from_residual.result fault c.from_residual.ensures.1
-              (turn_ended from name added ends.0 [] store middle now _ _ _ a b d n m k more (Err fault) c.requires.accepts rest c.requires.unnamed first
-              (flies_err {T = Carried} added from name (name ∷ []) ends.0 middle now now b d m k fault does.carries) does.begins does.stands does.last does.held
+              (turn_ended from name added ends.0 [] store middle now _ _ _ a b d n m k more (Err fault) c.requires.both.target.accepts rest
+              c.requires.copy.1.unnamed first
+              (flies_err {T = Carried} added from name (name ∷ []) ends.0 middle now now b d m k fault does.carries) does.begins does.stands does.last
+              does.held
               (end_apart from b (repo_view middle.repo).keys name fault
               (c.in_err-self-in-Ok-false.ensures.refused from added (ended.1 c.requires.flight.named))) tt
               (begun_same {T = Carried} {U = Turn} (2 * length ends.0 + 2) (2 * length ends.0 + 2) middle now fault (omega arith) does.few)),
@@ -224,7 +224,7 @@ returns-in_ok-self-in-Ok-false-clause-works g c =
     let copy = c.args.copy in
     let more = c.in-Ok-false.field-0 in
     let not_more : more ≡ false = search rules in
-    let rest = c.in-Ok-false.ensures.rest in
+    let rest = c.in-Ok-false.ensures.both.target.rest in
     let stepped = c.in-Ok-false.ensures.copied from.time named added (so_far_as told source from.block from.most from.time named a store copy added so) in
     let works = stepped_as told source from.block from.most copy.block copy.contents.checkpoint from.time named a b store middle c.step.new.self added
     stepped.0 n m
@@ -233,7 +233,7 @@ returns-in_ok-self-in-Ok-false-clause-works g c =
     subst (CopiesOn from named b middle c.step.new.self added stepped.0) not_more works.1.1.1 in
     let first : AddsOn {T = Bool} from.most store [] middle a b n m (Ok more) =
     subst (λ (l : List Addition). AddsOn {T = Bool} from.most store l middle a b n m (Ok more)) ended.0 works.0 in
-    let kept = c.step.ensures.kept in
+    let kept = c.step.ensures.both.source.kept in
     let flown : IsFlown from (repo_view c.step.new.source) flight.options.timestamp named =
     record {
       repo = sym kept;
@@ -247,7 +247,8 @@ returns-in_ok-self-in-Ok-false-clause-works g c =
       (
         records,
         (
-          turn_ended from name added ends.0 records store middle now _ _ _ a b d n m k more (Ok Named) c.requires.accepts rest c.requires.unnamed first
+          turn_ended from name added ends.0 records store middle now _ _ _ a b d n m k more (Ok Named) c.requires.both.target.accepts rest
+              c.requires.copy.1.unnamed first
               (flies_as {T = Carried} added from name (name ∷ []) ends.0 middle now b d m k c.in_ok-self-in-Ok-false.field-0 Named refl does.carries)
               does.begins tt tt tt tt (
                 refl,
@@ -265,108 +266,154 @@ returns-in_ok-self-in-Ok-false-clause-works g c =
       ),
     )
 
-pub returns-in_ok-self-in-Ok-false-clause-most : goal.returns-in_ok-self-in-Ok-false-clause-most
-returns-in_ok-self-in-Ok-false-clause-most g c =
-    let store = c.args.store.now in
-    let middle = c.step.new.store in
-    most_then store middle c.end_copy-put.new.store (most_from store middle c.in-Ok-false.ensures.rest) c.in_ok-self-in-Ok-false.ensures.most
+pub returns-in-Err-clause-turn : goal.returns-in-Err-clause-turn
+returns-in-Err-clause-turn g c = record {
+  source = search rules;
+  target = search rules;
+  refused =
+      record {
+        refused =
+            let a = g.D.Shelf.told c.args.depot.now in
+            let b = g.D.Shelf.told c.step.new.depot in
+            let store = c.args.store.now in
+            let now = c.step.new.store in
+            let fault = c.in-Err.fault in
+            let told = g.S.Shelf.told c.args.shelf.now in
+            let source = repo_view c.args.source.now in
+            let flight = c.args.self.now in
+            let block = flight.options.block in
+            let most = flight.options.checkpoint in
+            let time = flight.options.timestamp in
+            let named = flight.named in
+            let added = c.requires.copy.0 in
+            let so = c.requires.copy.1.copied in
+            let refused = c.in-Err.ensures.refused time named added c.requires.flight.named (so_far_as told source block most time named a store c.args.copy
+            added so)
+            in
+            let lacks = lacks_by (repo_view store.repo).manifest (accepted_in store) named.name c.requires.both.target.accepts c.requires.copy.1.unnamed in
+            let left = left_then most c.args.copy.contents.checkpoint store store b now fault (sym so.0.most) (rest_here store)
+            c.in-Err.ensures.both.target.left in
+            step_refused (origin told source block most time) a b store now named.name fault lacks c.in-Err.ensures.both.target.stops
+            (λ other. left_usable most store b now (left other) c.requires.both.target.packable c.requires.both.target.accepts)
+            (subst (λ (l : ℕ). RefusesStep (origin told source block l time) a named.name fault) (sym so.0.most)
+            (subst (λ (d : ℕ). RefusesStep (origin told source d c.args.copy.contents.checkpoint time) a named.name fault) (sym so.0.block) refused));
+        limit =
+            let b = g.D.Shelf.told c.step.new.depot in
+            let store = c.args.store.now in
+            let flight = c.args.self.now in
+            let given = flight.options.timestamp in
+            let source = repo_view c.args.source.now in
+            pieces_limit b (repo_view store.repo).keys given source store flight.named c.in-Err.fault c.in-Err.ensures.both.target.stops;
+        left =
+            let store = c.args.store.now in
+            left_then c.args.self.now.options.checkpoint c.args.copy.contents.checkpoint store store (g.D.Shelf.told c.step.new.depot) c.step.new.store
+            c.in-Err.fault
+            (sym c.requires.copy.1.copied.0.most) (rest_here store) c.in-Err.ensures.both.target.left;
+      };
+  turn = search rules;
+}
 
-pub returns-in-Err-clause-refused : goal.returns-in-Err-clause-refused
-returns-in-Err-clause-refused g c =
-    let a = g.D.Shelf.told c.args.depot.now in
-    let b = g.D.Shelf.told c.step.new.depot in
-    let store = c.args.store.now in
-    let now = c.step.new.store in
-    let fault = c.in-Err.fault in
-    let told = g.S.Shelf.told c.args.shelf.now in
-    let source = repo_view c.args.source.now in
-    let flight = c.args.self.now in
-    let block = flight.options.block in
-    let most = flight.options.checkpoint in
-    let time = flight.options.timestamp in
-    let named = flight.named in
-    let added = c.requires.copied.0 in
-    let so = c.requires.copied.1 in
-    let refused = c.in-Err.ensures.refused time named added c.requires.flight.named (so_far_as told source block most time named a store c.args.copy added so)
-    in
-    let lacks = lacks_by (repo_view store.repo).manifest (accepted_in store) named.name c.requires.accepts c.requires.unnamed in
-    let left = left_then most c.args.copy.contents.checkpoint store store b now fault (sym so.0.most) (rest_here store) c.in-Err.ensures.left in
-    step_refused (origin told source block most time) a b store now named.name fault lacks c.in-Err.ensures.stops
-    (λ other. left_usable most store b now (left other) c.requires.packable c.requires.accepts)
-    (subst (λ (l : ℕ). RefusesStep (origin told source block l time) a named.name fault) (sym so.0.most)
-    (subst (λ (d : ℕ). RefusesStep (origin told source d c.args.copy.contents.checkpoint time) a named.name fault) (sym so.0.block) refused))
+pub returns-in-Ok-true-clause-turn : goal.returns-in-Ok-true-clause-turn
+returns-in-Ok-true-clause-turn g c = record {
+  source = search rules;
+  target =
+      record {
+        pending = search rules;
+        unspent = search rules;
+        fits = search rules;
+        packable = search rules;
+        accepts =
+            rest_accepts c.args.store.now c.step.new.store c.in-Ok-true.ensures.both.target.rest c.requires.both.target.accepts;
+        committed = search rules;
+        most_kept = search rules;
+        settled = search rules;
+      };
+  refused = search rules;
+  turn = search rules;
+}
 
-pub returns-in_err-self-in-Ok-false-clause-refused : goal.returns-in_err-self-in-Ok-false-clause-refused
-returns-in_err-self-in-Ok-false-clause-refused g c =
-    let a = g.D.Shelf.told c.args.depot.now in
-    let b = g.D.Shelf.told c.step.new.depot in
-    let d = g.D.Shelf.told c.end_copy-put.new.depot in
-    let n = g.D.Shelf.faults c.args.depot.now in
-    let m = g.D.Shelf.faults c.step.new.depot in
-    let store = c.args.store.now in
-    let middle = c.step.new.store in
-    let now = c.end_copy-put.new.store in
-    let fault = c.in_err-self-in-Ok-false.field-0.0 in
-    let told = g.S.Shelf.told c.args.shelf.now in
-    let source = repo_view c.args.source.now in
-    let from = flown_from told source c.args.self.now in
-    let named = c.args.self.now.named in
-    let copy = c.args.copy in
-    let more = c.in-Ok-false.field-0 in
-    let not_more : more ≡ false = search rules in
-    let added = c.requires.copied.0 in
-    let so = c.requires.copied.1 in
-    let stepped = c.in-Ok-false.ensures.copied from.time named added (so_far_as told source from.block from.most from.time named a store copy added so) in
-    let works = stepped_as told source from.block from.most copy.block copy.contents.checkpoint from.time named a b store middle c.step.new.self added
-    stepped.0 n m
-    (Ok more) (sym so.0.block) (sym so.0.most) stepped.1 in
-    let ended : CopiesOn from named b middle c.step.new.self added stepped.0 false =
-    subst (CopiesOn from named b middle c.step.new.self added stepped.0) not_more works.1.1.1 in
-    let lacks = lacks_by (repo_view store.repo).manifest (accepted_in store) named.name c.requires.accepts c.requires.unnamed in
-    let left = left_then from.most c.step.new.self.contents.checkpoint store middle d now fault (c.in-Ok-false.ensures.checkpoint ∙ sym so.0.most)
-    c.in-Ok-false.ensures.rest c.in_err-self-in-Ok-false.ensures.left in
-    err_is c.from_residual.result fault (λ (r : Result Turn CarryFault). IfErr r (RefusesName from a store d now named.name))
-    c.from_residual.ensures.1
-    (end_refused from a b d (KeepsStanding from.most store stepped.0) store middle now named.name fault works.0.works.each c.in-Ok-false.ensures.rest.keys lacks
-    c.in_err-self-in-Ok-false.ensures.stops (λ other. left_usable from.most store d now (left other) c.requires.packable c.requires.accepts)
-    (c.in_err-self-in-Ok-false.ensures.refused from added (ended.1 c.requires.flight.named)))
+pub returns-in_err-self-in-Ok-false-clause-turn : goal.returns-in_err-self-in-Ok-false-clause-turn
+returns-in_err-self-in-Ok-false-clause-turn g c = record {
+  source = search rules;
+  target = search rules;
+  refused =
+      stops_turn {T = Turn} _ _ _ _ _ _ c.from_residual.result
+      (let a = g.D.Shelf.told c.args.depot.now in
+      let b = g.D.Shelf.told c.step.new.depot in
+      let d = g.D.Shelf.told c.end_copy-put.new.depot in
+      let n = g.D.Shelf.faults c.args.depot.now in
+      let m = g.D.Shelf.faults c.step.new.depot in
+      let store = c.args.store.now in
+      let middle = c.step.new.store in
+      let now = c.end_copy-put.new.store in
+      let fault = c.in_err-self-in-Ok-false.field-0.0 in
+      let told = g.S.Shelf.told c.args.shelf.now in
+      let source = repo_view c.args.source.now in
+      let from = flown_from told source c.args.self.now in
+      let named = c.args.self.now.named in
+      let copy = c.args.copy in
+      let more = c.in-Ok-false.field-0 in
+      let not_more : more ≡ false = search rules in
+      let added = c.requires.copy.0 in
+      let so = c.requires.copy.1.copied in
+      let stepped = c.in-Ok-false.ensures.copied from.time named added (so_far_as told source from.block from.most from.time named a store copy added so) in
+      let works = stepped_as told source from.block from.most copy.block copy.contents.checkpoint from.time named a b store middle c.step.new.self added
+      stepped.0 n m
+      (Ok more) (sym so.0.block) (sym so.0.most) stepped.1 in
+      let ended : CopiesOn from named b middle c.step.new.self added stepped.0 false =
+      subst (CopiesOn from named b middle c.step.new.self added stepped.0) not_more works.1.1.1 in
+      let lacks = lacks_by (repo_view store.repo).manifest (accepted_in store) named.name c.requires.both.target.accepts c.requires.copy.1.unnamed in
+      let left = left_then from.most c.step.new.self.contents.checkpoint store middle d now fault (c.in-Ok-false.ensures.copy.checkpoint ∙ sym so.0.most)
+      c.in-Ok-false.ensures.both.target.rest c.in_err-self-in-Ok-false.ensures.refusal.left in
+      err_is c.from_residual.result fault (λ (r : Result Turn CarryFault). IfErr r (RefusesName from a store d now named.name))
+      c.from_residual.ensures.1
+      (end_refused from a b d (KeepsStanding from.most store stepped.0) store middle now named.name fault works.0.works.each
+      c.in-Ok-false.ensures.both.target.rest.keys lacks
+      c.in_err-self-in-Ok-false.ensures.refusal.stops (λ other. left_usable from.most store d now (left other) c.requires.both.target.packable
+      c.requires.both.target.accepts)
+      (c.in_err-self-in-Ok-false.ensures.refused from added (ended.1 c.requires.flight.named))))
+      (let d = g.D.Shelf.told c.end_copy-put.new.depot in
+      let store = c.args.store.now in
+      let flight = c.args.self.now in
+      let given = flight.options.timestamp in
+      let source = repo_view c.args.source.now in
+      let fault = c.in_err-self-in-Ok-false.field-0.0 in
+      err_is c.from_residual.result fault (λ (r : Result Turn CarryFault). IfErr r (IsLimited d given source store flight.named))
+      c.from_residual.ensures.1
+      (rest_limit d given source (repo_view c.step.new.source) store c.step.new.store flight.named fault c.in-Ok-false.ensures.both.target.rest
+      c.step.ensures.both.source.kept
+      c.in_err-self-in-Ok-false.ensures.refusal.limit))
+      (let store = c.args.store.now in
+      let middle = c.step.new.store in
+      let now = c.end_copy-put.new.store in
+      let d = g.D.Shelf.told c.end_copy-put.new.depot in
+      let most = c.args.self.now.options.checkpoint in
+      let fault = c.in_err-self-in-Ok-false.field-0.0 in
+      err_is c.from_residual.result fault (λ (r : Result Turn CarryFault). IfErr r (Leaves most store d now)) c.from_residual.ensures.1
+      (left_then most c.step.new.self.contents.checkpoint store middle d now fault (c.in-Ok-false.ensures.copy.checkpoint ∙ sym
+      c.requires.copy.1.copied.0.most)
+      c.in-Ok-false.ensures.both.target.rest c.in_err-self-in-Ok-false.ensures.refusal.left));
+  turn = search rules;
+}
 
-pub returns-in-Err-clause-limit : goal.returns-in-Err-clause-limit
-returns-in-Err-clause-limit g c =
-    let b = g.D.Shelf.told c.step.new.depot in
-    let store = c.args.store.now in
-    let flight = c.args.self.now in
-    let given = flight.options.timestamp in
-    let source = repo_view c.args.source.now in
-    pieces_limit b (repo_view store.repo).keys given source store flight.named c.in-Err.fault c.in-Err.ensures.stops
-
-pub returns-in_err-self-in-Ok-false-clause-limit : goal.returns-in_err-self-in-Ok-false-clause-limit
-returns-in_err-self-in-Ok-false-clause-limit g c =
-    let d = g.D.Shelf.told c.end_copy-put.new.depot in
-    let store = c.args.store.now in
-    let flight = c.args.self.now in
-    let given = flight.options.timestamp in
-    let source = repo_view c.args.source.now in
-    let fault = c.in_err-self-in-Ok-false.field-0.0 in
-    err_is c.from_residual.result fault (λ (r : Result Turn CarryFault). IfErr r (IsLimited d given source store flight.named))
-    c.from_residual.ensures.1
-    (rest_limit d given source (repo_view c.step.new.source) store c.step.new.store flight.named fault c.in-Ok-false.ensures.rest c.step.ensures.kept
-    c.in_err-self-in-Ok-false.ensures.limit)
-
-pub returns-in-Err-clause-left : goal.returns-in-Err-clause-left
-returns-in-Err-clause-left g c =
-    let store = c.args.store.now in
-    left_then c.args.self.now.options.checkpoint c.args.copy.contents.checkpoint store store (g.D.Shelf.told c.step.new.depot) c.step.new.store c.in-Err.fault
-    (sym c.requires.copied.1.0.most) (rest_here store) c.in-Err.ensures.left
-
-pub returns-in_err-self-in-Ok-false-clause-left : goal.returns-in_err-self-in-Ok-false-clause-left
-returns-in_err-self-in-Ok-false-clause-left g c =
-    let store = c.args.store.now in
-    let middle = c.step.new.store in
-    let now = c.end_copy-put.new.store in
-    let d = g.D.Shelf.told c.end_copy-put.new.depot in
-    let most = c.args.self.now.options.checkpoint in
-    let fault = c.in_err-self-in-Ok-false.field-0.0 in
-    err_is c.from_residual.result fault (λ (r : Result Turn CarryFault). IfErr r (Leaves most store d now)) c.from_residual.ensures.1
-    (left_then most c.step.new.self.contents.checkpoint store middle d now fault (c.in-Ok-false.ensures.checkpoint ∙ sym c.requires.copied.1.0.most)
-    c.in-Ok-false.ensures.rest c.in_err-self-in-Ok-false.ensures.left)
+pub returns-in_ok-self-in-Ok-false-clause-turn : goal.returns-in_ok-self-in-Ok-false-clause-turn
+returns-in_ok-self-in-Ok-false-clause-turn g c = record {
+  source = search rules;
+  target =
+      record {
+        pending = search rules;
+        unspent = search rules;
+        fits = search rules;
+        packable = search rules;
+        accepts = search rules;
+        committed = search rules;
+        most_kept =
+            let store = c.args.store.now in
+            let middle = c.step.new.store in
+            most_then store middle c.end_copy-put.new.store (most_from store middle c.in-Ok-false.ensures.both.target.rest)
+            c.in_ok-self-in-Ok-false.ensures.target.most;
+        settled = search rules;
+      };
+  refused = search rules;
+  turn = search rules;
+}

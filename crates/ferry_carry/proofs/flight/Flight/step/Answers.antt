@@ -1,10 +1,11 @@
 use Rattle.std.proofs.Common.{rules, ◌≡◌, [], List, sym, subst}
 use Rattle.ferry_carry.proofs.TagLemmas.{unnamed_all}
 use Rattle.ferry_carry.proofs.flight.Flight.step.Goals as goal
-use Rattle.ferry_carry.specs.Flight.{TakesTurn, WorkFits, flown_from}
+use Rattle.ferry_carry.specs.Flight.{TakesTurn, WorkFits, flown_from, archive_adds}
 use Rattle.ferry_piece.specs.Puts.{Addition}
 use Rattle.ferry_carry.specs.declared.flight.Work.TheVariants.{Waiting, Copying, Comparing}
 use Rattle.ferry_repo.specs.Opening.{repo_view}
+use Rattle.ferry_carry.specs.States.{target_state}
 
 pub returns-in-Waiting-clause-works : goal.returns-in-Waiting-clause-works
 returns-in-Waiting-clause-works g c =
@@ -21,25 +22,23 @@ returns-in-Waiting-clause-works g c =
       (
         taken.1.0,
         (
-          subst (λ (l : List Addition). TakesTurn (g.S.Shelf.told c.take_first.new.shelf) (repo_view c.take_first.new.source) (flown_from told source flight)
-              flight.named.name l taken.0 taken.1.0 store c.take_first.new.store c.take_first.new.self a (g.D.Shelf.told c.take_first.new.depot)
-              (g.D.Shelf.faults c.args.depot.now) (g.D.Shelf.faults c.take_first.new.depot) c.take_first.result) (sym none) taken.1.1.0,
+          subst (λ (l : List Addition). TakesTurn (g.S.Shelf.told c.take_first.new.shelf) (repo_view c.take_first.new.source) (flown_from told source
+              flight) (archive_adds flight.named.name l taken.0 taken.1.0) (target_state a (g.D.Shelf.faults c.args.depot.now) store) (target_state
+              (g.D.Shelf.told c.take_first.new.depot) (g.D.Shelf.faults c.take_first.new.depot) c.take_first.new.store) c.take_first.new.self
+              c.take_first.result) (sym none) taken.1.1.0,
           taken.1.1.1,
         ),
       ),
     )
 
-pub take_first-requires-clause-uncounted : goal.take_first-requires-clause-uncounted
-take_first-requires-clause-uncounted g c = c.requires.flight.uncounted
-
-pub copy-requires-clause-copied : goal.copy-requires-clause-copied
-copy-requires-clause-copied g c =
+pub copy-requires-clause-copy : goal.copy-requires-clause-copy
+copy-requires-clause-copy g c =
     let fits = c.requires.flight in
     let flight = c.args.self.now in
     let is : flight.work ≡ Copying c.in-Copying.copy = search rules in
     let work = subst (WorkFits (g.S.Shelf.told c.args.shelf.now) (repo_view c.args.source.now) (g.D.Shelf.told c.args.depot.now) c.args.store.now
     flight.named flight.options fits.added) is fits.work in
-    (fits.added, work.3)
+    (fits.added, work)
 
 pub returns-in-Copying-clause-works : goal.returns-in-Copying-clause-works
 returns-in-Copying-clause-works g c =
@@ -48,7 +47,7 @@ returns-in-Copying-clause-works g c =
     let is : flight.work ≡ Copying c.in-Copying.copy = search rules in
     let work = subst (WorkFits (g.S.Shelf.told c.args.shelf.now) (repo_view c.args.source.now) (g.D.Shelf.told c.args.depot.now) c.args.store.now
     flight.named flight.options fits.added) is fits.work in
-    c.copy.ensures.works fits.added work.3
+    c.copy.ensures.works fits.added work.copied
 
 pub returns-in-Comparing-clause-works : goal.returns-in-Comparing-clause-works
 returns-in-Comparing-clause-works g c =
@@ -65,9 +64,10 @@ returns-in-Comparing-clause-works g c =
         [],
         (
           subst (λ (l : List Addition). TakesTurn (g.S.Shelf.told c.compare.new.shelf) (repo_view c.compare.new.source) (flown_from told source flight)
-              flight.named.name l [] [] store c.compare.new.store c.compare.new.self a (g.D.Shelf.told c.compare.new.depot)
-              (g.D.Shelf.faults c.args.depot.now) (g.D.Shelf.faults c.compare.new.depot) c.compare.result) (sym work.3) c.compare.ensures.works,
-          unnamed_all _ (repo_view store.repo).keys (g.E.Entropy.drawn c.args.entropy.now) c.compare.result c.compare.ensures.unnamed,
+              (archive_adds flight.named.name l [] []) (target_state a (g.D.Shelf.faults c.args.depot.now) store) (target_state (g.D.Shelf.told
+              c.compare.new.depot) (g.D.Shelf.faults c.compare.new.depot) c.compare.new.store) c.compare.new.self c.compare.result) (sym work.1)
+              c.compare.ensures.works,
+          unnamed_all _ (repo_view store.repo).keys (g.E.Entropy.drawn c.args.entropy.now) c.compare.result c.compare.ensures.only.unnamed,
         ),
       ),
     )

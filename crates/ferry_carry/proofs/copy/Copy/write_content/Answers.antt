@@ -3,12 +3,10 @@ use Rattle.ferry_piece.proofs.AddingLemmas.{none_refused, source_unbroken}
 use Rattle.ferry_piece.proofs.FaultLemmas.{source_still}
 use Rattle.ferry_piece.proofs.PieceLemmas.{ok_to}
 use Rattle.ferry_piece.proofs.WorkLemmas.{err_is, gathered_nothing}
-use Rattle.ferry_carry.proofs.LeftLemmas.{left_here, targets_leave}
-use Rattle.ferry_carry.proofs.copy.write_content.Goals as goal
+use Rattle.ferry_carry.proofs.copy.Copy.write_content.Goals as goal
 use Rattle.ferry_piece.specs.Adding.{AddsOn}
-use Rattle.ferry_carry.specs.Copying.{BeginsChunk, WritesContent}
+use Rattle.ferry_carry.specs.Copying.{BeginsChunk, WritesContent, writer_state}
 use Rattle.ferry_piece.specs.Fault.{IsOfSource, source_fault}
-use Rattle.ferry_carry.specs.Refusals.{Leaves}
 use Rattle.ferry_piece.specs.Piece.{CountsOn, WritesOn}
 use Rattle.ferry_piece.specs.Puts.{Addition, AreOf, Content, contents_in}
 use Rattle.ferry_piece.specs.declared.fault.CarryFault.{CarryFault}
@@ -23,7 +21,7 @@ returns-in_err-content-clause-written g c =
     let store = c.args.store.now in
     let a = g.D.Shelf.told c.args.depot.now in
     let n = g.D.Shelf.faults c.args.depot.now in
-    let writer = c.args.writer.now in
+    let writer = c.args.self.now.contents in
     let told = g.S.Shelf.told c.args.shelf.now in
     let source = repo_view c.args.source.now in
     let fault = c.in_err-content.field-0.0 in
@@ -33,8 +31,8 @@ returns-in_err-content-clause-written g c =
           (λ (r : Result (Unit {0}) CarryFault). AddsOn writer.checkpoint store [] store a a n n r
           × (AreOf Content [] × (BeginsChunk told source c.args.chunk.now writer.cutter []
           × ((IfErr r (λ f. IsOfSource f → none ≡ []))
-          × OnOk r (WritesContent told source (repo_view store.repo).keys c.args.chunk.now
-          writer.cutter writer.chunks.items [] writer.cutter writer.chunks.items × CountsOn Content writer [] writer))))) c.from_residual.ensures.1 (
+          × OnOk r (WritesContent told source (repo_view store.repo).keys c.args.chunk.now (writer_state writer.cutter writer.chunks.items) []
+          (writer_state writer.cutter writer.chunks.items) × CountsOn Content writer [] writer))))) c.from_residual.ensures.1 (
             gathered_nothing {T = Unit {0}} writer.checkpoint store a n (source_fault fault) (source_still fault) (source_unbroken fault)
                 (source_unused fault),
             (tt, (inl refl, (λ of. refl, tt))),
@@ -60,7 +58,8 @@ returns-clause-written g c =
     subst (λ (w : PieceWriter). (some : List Addition) × (AddsOn w.checkpoint store some c.write.new.store (g.D.Shelf.told c.args.depot.now)
     (g.D.Shelf.told c.write.new.depot) (g.D.Shelf.faults c.args.depot.now) (g.D.Shelf.faults c.write.new.depot) r
     × (AreOf Content some × (BeginsChunk told source ref w.cutter (contents_in some) × ((IfErr r (λ f. IsOfSource f → some ≡ []))
-    × OnOk r (WritesContent told source keys ref w.cutter w.chunks.items (contents_in some) writer_now.cutter writer_now.chunks.items
+    × OnOk r (WritesContent told source keys ref (writer_state w.cutter w.chunks.items) (contents_in some) (writer_state writer_now.cutter
+    writer_now.chunks.items)
     × CountsOn Content w some writer_now)))))) c.foresee.ensures.same (
       more,
       (
@@ -73,7 +72,8 @@ returns-clause-written g c =
               none_refused {T = Unit {0}} (more ≡ []) c.write.result c.write.ensures.target,
               ok_to {T = Unit {0}} (WritesOn keys writer.cutter writer.chunks.items content (contents_in more) writer_now.cutter writer_now.chunks.items
                   × CountsOn Content writer more writer_now)
-                  (WritesContent told source keys ref writer.cutter writer.chunks.items (contents_in more) writer_now.cutter writer_now.chunks.items
+                  (WritesContent told source keys ref (writer_state writer.cutter writer.chunks.items) (contents_in more) (writer_state writer_now.cutter
+                  writer_now.chunks.items)
                   × CountsOn Content writer more writer_now) c.write.result
                   (λ writes. (record { content = content; comes = comes; writes = writes.0 }, writes.1)) wrote.1.1.1.1,
             ),
@@ -81,17 +81,3 @@ returns-clause-written g c =
         ),
       ),
     )
-
-pub returns-in_err-content-clause-left : goal.returns-in_err-content-clause-left
-returns-in_err-content-clause-left g c =
-    let store = c.args.store.now in
-    let a = g.D.Shelf.told c.args.depot.now in
-    let most = c.args.writer.now.checkpoint in
-    err_is c.from_residual.result (source_fault c.in_err-content.field-0.0)
-    (λ (r : Result (Unit {0}) CarryFault). IfErr r (Leaves most store a store)) c.from_residual.ensures.1
-    (λ _. left_here most store a c.requires.fits c.requires.unspent c.requires.pending)
-
-pub returns-clause-left : goal.returns-clause-left
-returns-clause-left g c =
-    targets_leave {T = Unit {0}} c.args.writer.now.checkpoint c.args.store.now (g.D.Shelf.told c.write.new.depot) c.write.new.store c.write.result
-    c.write.ensures.target
