@@ -28,7 +28,8 @@ use Rattle.ferry_store.specs.Commit.{accepted_in}
 use Rattle.ferry_store.specs.declared.store.Store.{Store}
 use Rattle.ferry_store.proofs.ReadLemmas.{known_read}
 use Rattle.ferry_carry.proofs.LeftLemmas.{usable_before}
-use Rattle.ferry_carry.proofs.ProgressLemmas.{any_told, stream_ids}
+use Rattle.ferry_carry.proofs.ProgressLemmas.{any_told}
+use Rattle.ferry_carry.proofs.ProgressEndLemmas.{stream_ids}
 use Rattle.ferry_piece.proofs.AmongLemmas.{among_next}
 use Rattle.ferry_carry.specs.Carrying.{Origin, SaysIn, origin}
 use Rattle.ferry_carry.specs.Copied.{stream_pieces}

@@ -13,7 +13,7 @@ use Rattle.ferry_repo.specs.Opening.{RepoState, repo_view}
 use Rattle.ferry_store.specs.Commit.{accepted_in}
 use Rattle.ferry_store.specs.declared.store.Store.{Store}
 use Rattle.ferry_write.specs.Script.{AllDone}
-use Rattle.ferry_carry.proofs.FlyLemmas.{TakesOn, takes_added}
+use Rattle.ferry_carry.proofs.FlownLemmas.{TakesOn, takes_added}
 use Rattle.ferry_carry.proofs.NamesLemmas.{name_behind}
 use Rattle.ferry_carry.proofs.TagLemmas.{TagsOr, tags_behind, work_apart}
 use Rattle.ferry_carry.proofs.ThereLemmas.{Extends}

@@ -1,5 +1,6 @@
 -- Lemmas on specs/Adding.antt and specs/Filling.antt: what a refusal left of what was added, and what is known of that from body to body.
-use Rattle.std.proofs.Common.{◌≡◌, ◌⊎◌, inl, inr, true, false, Bool, List, [], ◌++◌, ℕ, Option, Some, None, Result, Ok, Err, IfErr, IfSome, subst, sym, ap, ◌∙◌}
+use Rattle.std.proofs.Common.{◌≡◌, ◌⊎◌, inl, inr, true, false, Bool, List, [], ◌++◌, ℕ, Option, Some, None, Result, Ok, Err, IfErr, IfSome, subst}
+use Rattle.std.proofs.Common.{sym, ap, ◌∙◌}
 use Rattle.ferry_disk.proofs.MomentLemmas.{between_map, between_then}
 use Rattle.ferry_disk.specs.Act.{History}
 use Rattle.ferry_disk.specs.Device.{Told}
@@ -16,7 +17,7 @@ use Rattle.ferry_store.specs.declared.store.Store.{Store}
 use Rattle.ferry_piece.proofs.AddingLemmas.{HoldsAll, held_until, spent_unbroken, target_apart}
 use Rattle.ferry_piece.proofs.PutsLemmas.{Allows, adds_at, adds_here, adds_then, allows_within, first_at, first_then}
 use Rattle.ferry_piece.specs.Adding.{HoldsRefused, HoldsUntil, IsNoChunk, SparesStore}
-use Rattle.ferry_carry.proofs.GrowLemmas.{accepted_as}
+use Rattle.ferry_carry.proofs.GrowNamedLemmas.{accepted_as}
 use Rattle.ferry_carry.specs.Carrying.{Origin}
 use Rattle.ferry_piece.specs.Fault.{IsOfSource}
 use Rattle.ferry_carry.specs.Filling.{WhereHeard}

@@ -11,7 +11,7 @@ use Rattle.ferry_store.specs.Commit.{accepted_in, ReadsStore}
 use Rattle.ferry_store.specs.Store.{IsUnspent, StoreFits}
 use Rattle.ferry_store.specs.declared.store.Store.{Store}
 use Rattle.ferry_carry.proofs.FlightLemmas.{read_rest, rest_accepts, rest_packable}
-use Rattle.ferry_carry.proofs.GrowLemmas.{most_from, most_then}
+use Rattle.ferry_carry.proofs.GrowsLemmas.{most_from, most_then}
 use Rattle.ferry_carry.specs.Grow.{AcceptsMore, KeepsMost}
 use Rattle.ferry_carry.specs.Refusals.{IsLeft, Leaves, UsableAt}
 

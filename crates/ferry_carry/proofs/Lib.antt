@@ -33,3 +33,12 @@ pub mod LeftLemmas
 pub mod SmallLemmas
 pub mod OverLemmas
 pub mod TurnLemmas
+pub mod BegunLemmas
+pub mod UnnamedLemmas
+pub mod FlownLemmas
+pub mod GrowsLemmas
+pub mod GrowNamedLemmas
+pub mod ProgressEndLemmas
+pub mod OverFlightLemmas
+pub mod NamingManifestLemmas
+pub mod ReportNamesLemmas

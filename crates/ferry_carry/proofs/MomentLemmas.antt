@@ -17,8 +17,9 @@ use Rattle.ferry_store.specs.Store.{StoreFits}
 use Rattle.ferry_store.specs.declared.store.Store.{Store}
 use Rattle.ferry_write.specs.Script.{AllDone}
 use Rattle.ferry_piece.proofs.GatherLemmas.{rest_here, sound_map, standing_from}
-use Rattle.ferry_carry.proofs.GrowLemmas.{Follows, follows_allows, growing_here, growing_longer, grows_from, grows_then, on_from, on_then, on_wider}
-use Rattle.ferry_carry.proofs.GrowLemmas.{stands_on_at}
+use Rattle.ferry_carry.proofs.GrowsLemmas.{Follows, follows_allows, growing_here, grows_from, grows_then}
+use Rattle.ferry_carry.proofs.GrowLemmas.{growing_longer, on_from, on_then, on_wider}
+use Rattle.ferry_carry.proofs.GrowsLemmas.{stands_on_at}
 use Rattle.ferry_piece.proofs.PutsLemmas.{front_of}
 use Rattle.ferry_carry.proofs.TellLemmas.{told_gathers, told_stands}
 use Rattle.ferry_carry.proofs.ThereLemmas.{Extends, extends_by}

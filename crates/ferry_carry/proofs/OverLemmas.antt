@@ -1,67 +1,39 @@
 -- Lemmas on specs/Over.antt: what fits a flight stays so over what others add.
-use Rattle.std.proofs.Common.{◌≡◌, ◌≢◌, ◌⊎◌, inl, inr, ℕ, zero, Bool, true, false, cond, List, [], ◌∷◌, ◌++◌, take, Option, Some, None, IfSome, IsSome}
-use Rattle.std.proofs.Common.{Result, Ok, Err, refl, sym, ◌∙◌, ap, append_assoc, subst}
+use Rattle.std.proofs.Common.{◌≡◌, ◌≢◌, ◌⊎◌, inl, inr, ℕ, true, false, List, [], ◌∷◌, ◌++◌, take, Option, Some, None, IsSome}
+use Rattle.std.proofs.Common.{refl, sym, ◌∙◌, ap, append_assoc, subst}
 use Rattle.std.proofs.lemmas.List.{append-nil}
-use Rattle.std.proofs.lemmas.Option.{IfSome_then}
-use Rattle.std.proofs.lemmas.Slice.Eq.{bytes_eq-Decides}
 use Rattle.std.specs.List.{AllByRecursion}
-use Rattle.std.specs.Str.{bytes_eq}
 use Rattle.ferry_base.specs.Limits.{zero_id}
 use Rattle.ferry_blob.specs.Blob.{content_id}
-use Rattle.ferry_compare.specs.Compare.{ComparisonState, FitsTold, ReadsSoFar, StandsBeside, comparison_view}
-use Rattle.ferry_disk.proofs.DeviceLemmas.{told_same}
-use Rattle.ferry_disk.proofs.MomentLemmas.{between_map}
+use Rattle.ferry_compare.specs.Compare.{ReadsSoFar, StandsBeside}
 use Rattle.ferry_disk.specs.Act.{History, files_now}
-use Rattle.ferry_disk.specs.Device.{Told, heard, told_files}
-use Rattle.ferry_disk.specs.Faults.{EndsAtFault, FailedWhere, failed_told}
 use Rattle.ferry_disk.specs.Files.{Files}
-use Rattle.ferry_disk.specs.Moments.{Between}
 use Rattle.ferry_mac.specs.declared.keys.Keys.{Keys}
 use Rattle.ferry_manifest.specs.Manifest.Text.{ManifestText}
 use Rattle.ferry_manifest.specs.declared.manifest.ArchiveRef.{ArchiveRef}
 use Rattle.ferry_piece.proofs.AmongLemmas.{each_to}
-use Rattle.ferry_next.proofs.PlaceLemmas.{with_named}
-use Rattle.ferry_piece.specs.Adding.{HoldsRefused, HoldsUntil, SparesStore}
-use Rattle.ferry_piece.specs.Fault.{target_failed}
-use Rattle.ferry_piece.specs.Gather.{IsAmong, NoCollision, chunks_of}
-use Rattle.ferry_piece.specs.Puts.{Addition, AddsAll, AtBegin, AtEnd, Border, ComesBefore, IsAddedBehind, MayCome, Within, border_behind, border_of}
+use Rattle.ferry_piece.specs.Gather.{NoCollision, chunks_of}
+use Rattle.ferry_piece.specs.Puts.{Addition, AddsAll, AtBegin, AtEnd, Border, ComesBefore, IsAddedBehind, MayCome, Within, border_of}
 use Rattle.ferry_piece.specs.Puts.{manifests_committed}
-use Rattle.ferry_piece.specs.Stops.{is_target}
-use Rattle.ferry_piece.specs.declared.fault.CarryFault.{CarryFault}
-use Rattle.ferry_piece.specs.declared.fault.CarryFault.TheVariants.{Source, Target, Taken, NotFound, Pieces, Memory, Record}
 use Rattle.ferry_rechunk.specs.Cutting.{IsFed}
 use Rattle.ferry_repo.specs.Archives.{archive_named}
 use Rattle.ferry_repo.specs.Objects.{HoldsChunk}
 use Rattle.ferry_repo.specs.Opening.{RepoState, repo_view}
-use Rattle.ferry_repo.specs.Walk.{FitsWalk, WalkState, walk_view}
+use Rattle.ferry_repo.specs.Walk.{FitsWalk, WalkState}
 use Rattle.ferry_repo.specs.Whole.{IsWhole, WholeArchive, WholeItem}
 use Rattle.ferry_segment.specs.Entry.{LogEntry, PutEntry, CommitEntry}
 use Rattle.ferry_store.proofs.LiveLemmas.{live_commit, live_other, same_or}
-use Rattle.ferry_store.specs.Commit.{accepted_in}
 use Rattle.ferry_store.specs.Standing.{entries_of, live_in}
 use Rattle.ferry_store.specs.Store.{StoreFits}
 use Rattle.ferry_store.specs.declared.store.Store.{Store}
-use Rattle.ferry_write.specs.Script.{AllDone}
-use Rattle.ferry_carry.proofs.FlyLemmas.{so_far_later}
-use Rattle.ferry_carry.proofs.GrowLemmas.{has_kept, most_from}
 use Rattle.ferry_carry.proofs.WholeLemmas.{KeepsChunks as KeepsHeld, chunks_kept, whole_kept, wholes_kept}
-use Rattle.ferry_carry.specs.Accepting.{NamesNew}
-use Rattle.ferry_carry.specs.Carrying.{HoldsApart, Origin, origin}
+use Rattle.ferry_carry.specs.Carrying.{HoldsApart}
 use Rattle.ferry_carry.specs.Copied.{IsRead, contents_of, copied_item, copied_stream, stream_block}
-use Rattle.ferry_carry.specs.Flight.{FlightFits, FlightStands, Flies, IsCommitted, WorkFits, carried_by}
-use Rattle.ferry_carry.specs.Grow.{Grows, IsNamedBy, KeepsChunks, KeepsMost, KeepsNames}
+use Rattle.ferry_carry.specs.Grow.{KeepsChunks, KeepsNames}
 use Rattle.ferry_carry.specs.Listing.{ListsItems}
-use Rattle.ferry_carry.specs.Naming.{TaggedRecord, entry_for}
-use Rattle.ferry_carry.specs.Over.{AddsBetween, AddsOver, ArePresent, GoesOver, OthersDid}
-use Rattle.ferry_carry.specs.Progress.{CopiesSoFar, IsCopiedSoFar, WritesItems}
-use Rattle.ferry_carry.specs.Refusals.{IsLeft}
+use Rattle.ferry_carry.specs.Over.{AddsOver, ArePresent}
+use Rattle.ferry_carry.specs.Progress.{CopiesSoFar, WritesItems}
 use Rattle.ferry_carry.specs.declared.copy.Copy.{Copy}
-use Rattle.ferry_carry.specs.declared.flight.Flight.{Flight}
-use Rattle.ferry_carry.specs.declared.flight.Turn.{Turn}
-use Rattle.ferry_carry.specs.declared.flight.Work.{Work}
-use Rattle.ferry_carry.specs.declared.flight.Work.TheVariants.{Waiting, Copying, Comparing}
-use Rattle.ferry_carry.specs.declared.options.Options.{Options}
-use Rattle.ferry_carry.specs.States.{target_state}
 
 -- ---- what is live
 
@@ -134,7 +106,7 @@ live_present at keys most a (one ∷ rest) b p none id apart =
 -- ---- chunks
 
 -- a chunk that was there is there
-over_held : (added : List Addition) (store now : Store) (h g : History) (fits : StoreFits false store h) (over : AddsOver added store now h g fits)
+pub over_held : (added : List Addition) (store now : Store) (h g : History) (fits : StoreFits false store h) (over : AddsOver added store now h g fits)
     → KeepsHeld (files_now h) (repo_view store.repo).log (repo_view store.repo).keys (files_now g) (repo_view now.repo).log
 over_held added store now h g fits over id content chunk =
     let object = chunk.object in
@@ -149,7 +121,7 @@ over_held added store now h g fits over id content chunk =
     }
 
 -- and nothing else where nothing was put
-over_back : (added : List Addition) (store now : Store) (h g : History) (fits : StoreFits false store h) (over : AddsOver added store now h g fits)
+pub over_back : (added : List Addition) (store now : Store) (h g : History) (fits : StoreFits false store h) (over : AddsOver added store now h g fits)
     → ArePresent added
     → KeepsHeld (files_now g) (repo_view now.repo).log (repo_view store.repo).keys (files_now h) (repo_view store.repo).log
 over_back added store now h g fits over none id content chunk =
@@ -191,7 +163,7 @@ items_over f g repo now copy wholes added keys keeps w =
       lists = subst (λ (k : Keys). ListsItems k copy.block [] wholes added copy.stream.cutter.piece) back w.lists;
     }
 
-copies_over : (there f g : Files) (source : RepoState) (named : ArchiveRef) (repo now : RepoState) (copy : Copy) (added : List Addition)
+pub copies_over : (there f g : Files) (source : RepoState) (named : ArchiveRef) (repo now : RepoState) (copy : Copy) (added : List Addition)
     → now.keys ≡ repo.keys → KeepsHeld f repo.log repo.keys g now.log → CopiesSoFar there source named f repo copy added
     → CopiesSoFar there source named g now copy added
 copies_over there f g source named repo now copy added keys keeps so = record {
@@ -247,7 +219,7 @@ same_named before after name keeps has = by (archive_named name before.archives)
   by None e is = absurd (let no : ⊥ = cc in no)
   by (Some entry) e is = keeps name entry e ∙ sym e
 
-beside_over : (f g : Files) (repo now : RepoState) (name : List ℕ) (walk : Option WalkState) (front : WholeArchive) → now.keys ≡ repo.keys
+pub beside_over : (f g : Files) (repo now : RepoState) (name : List ℕ) (walk : Option WalkState) (front : WholeArchive) → now.keys ≡ repo.keys
     → KeepsHeld f repo.log repo.keys g now.log → IsSome walk ⊎ KeepsHeld g now.log repo.keys f repo.log → KeepsNames repo.manifest now.manifest
     → IsSome (archive_named name repo.manifest.archives) → StandsBeside f repo name walk front → StandsBeside g now name walk front
 beside_over f g repo now name None front keys keeps (inl met) names there stands = absurd (let no : ⊥ = cc in no)
@@ -256,232 +228,3 @@ beside_over f g repo now name None front keys keeps (inr back) names there stand
     (subst (λ (k : Keys). IsWhole g now.log k now.manifest.archives name whole) keys says) back
     (sym (same_named repo.manifest now.manifest name names there))) more
 beside_over f g repo now name (Some walk) front keys keeps met names there stands = reads_over f g repo now name walk front keys keeps names stands
-
--- ---- a flight
-
--- a name that was lacked, and that came with none of these, is lacked
-lacked_over : (store now : Store) (names : List (List ℕ)) (name : List ℕ) → IsNamedBy (accepted_in store) names (accepted_in now)
-    → (IsAmong names name → ⊥) → archive_named name (accepted_in store).archives ≡ None → archive_named name (accepted_in now).archives ≡ None
-lacked_over store now names name only other lacks = by (archive_named name (accepted_in now).archives) refl where
-  never : (entry : ArchiveRef) → (archive_named name (accepted_in store).archives ≡ Some entry) ⊎ IsAmong names name → ⊥
-  never entry (inl is) = let both : None ≡ Some entry = sym lacks ∙ is in let no : ⊥ = cc in no
-  never entry (inr among) = other among
-
-  by : (o : Option ArchiveRef) → archive_named name (accepted_in now).archives ≡ o → archive_named name (accepted_in now).archives ≡ None
-  by None e = e
-  by (Some entry) e = absurd (never entry (only name entry e))
-
--- where the target tells its files
-copied_told : (from : Origin) (named : ArchiveRef) (a b : Told) (store now : Store) (copy : Copy) (others added : List Addition)
-    (fits : StoreFits false store a.history) → (repo_view now.repo).keys ≡ (repo_view store.repo).keys → AddsOver others store now a.history b.history fits
-    → IsCopiedSoFar from named (Some a) store copy added → IsCopiedSoFar from named (Some b) now copy added
-copied_told from named a b store now copy others added fits keys over so = (
-  so.0,
-  IfSome_then from.files so.1 (λ there c.
-      copies_over there (told_files a) (told_files b) from.repo named (repo_view store.repo) (repo_view now.repo) copy added keys
-      (over_held others store now a.history b.history fits over) c),
-)
-
-held_or : (a b : Told) (store now : Store) (others : List Addition) (fits : StoreFits false store a.history) (M : Type 0)
-    → AddsOver others store now a.history b.history fits → M ⊎ ArePresent others
-    → M ⊎ KeepsHeld (told_files b) (repo_view now.repo).log (repo_view store.repo).keys (told_files a) (repo_view store.repo).log
-held_or a b store now others fits M over (inl met) = inl met
-held_or a b store now others fits M over (inr none) = inr (over_back others store now a.history b.history fits over none)
-
-compared_told : (told : Option Told) (source : RepoState) (state : ComparisonState) (a b : Told) (store now : Store) (others : List Addition)
-    (fits : StoreFits false store a.history) → KeepsMost store now → IsSome (archive_named state.name (repo_view store.repo).manifest.archives)
-    → AddsOver others store now a.history b.history fits → IsSome state.other ⊎ ArePresent others
-    → FitsTold told source (Some a) (repo_view store.repo) state → FitsTold told source (Some b) (repo_view now.repo) state
-compared_told told source state a b store now others fits kept there over goes p = record {
-  front = p.front;
-  read = p.read;
-  beside = beside_over (told_files a) (told_files b) (repo_view store.repo) (repo_view now.repo) state.name state.other p.front kept.keys
-      (over_held others store now a.history b.history fits over) (held_or a b store now others fits (IsSome state.other) over goes) kept.names there p.beside;
-}
-
--- whether it tells or not
-copied_by : (from : Origin) (named : ArchiveRef) (a b : Option Told) (store now : Store) (copy : Copy) (others added : List Addition)
-    → (repo_view now.repo).keys ≡ (repo_view store.repo).keys → IfSome a (λ t. StoreFits false store t.history) → AddsBetween others store now a b
-    → IsCopiedSoFar from named a store copy added → IsCopiedSoFar from named b now copy added
-copied_by from named None b store now copy others added keys fits over so =
-    subst (λ (o : Option Told). IsCopiedSoFar from named o now copy added) (sym (over.none refl)) so
-copied_by from named (Some a) b store now copy others added keys fits over so =
-    let to = over.adds in
-    subst (λ (o : Option Told). IsCopiedSoFar from named o now copy added) (sym to.1)
-    (copied_told from named a to.0 store now copy others added fits keys (to.2 fits) so)
-
-compared_by : (told : Option Told) (source : RepoState) (state : ComparisonState) (a b : Option Told) (store now : Store) (others : List Addition)
-    → KeepsMost store now → IsSome (archive_named state.name (repo_view store.repo).manifest.archives) → IfSome a (λ t. StoreFits false store t.history)
-    → AddsBetween others store now a b → IsSome state.other ⊎ ArePresent others → FitsTold told source a (repo_view store.repo) state
-    → FitsTold told source b (repo_view now.repo) state
-compared_by told source state None b store now others kept there fits over goes p =
-    subst (λ (o : Option Told). FitsTold told source o (repo_view now.repo) state) (sym (over.none refl)) (record {
-      front = p.front;
-      read = p.read;
-      beside = tt;
-    })
-compared_by told source state (Some a) b store now others kept there fits over goes p =
-    let to = over.adds in
-    subst (λ (o : Option Told). FitsTold told source o (repo_view now.repo) state) (sym to.1)
-    (compared_told told source state a to.0 store now others fits kept there (to.2 fits) goes p)
-
-work_over : (told : Option Told) (source : RepoState) (a b : Option Told) (store now : Store) (names : List (List ℕ)) (others : List Addition)
-    (named : ArchiveRef) (options : Options) (added : List Addition) (work : Work) → IfSome a (λ t. StoreFits false store t.history)
-    → OthersDid names others store now a b → (IsAmong names named.name → ⊥) → GoesOver work others
-    → WorkFits told source a store named options added work → WorkFits told source b now named options added work
-work_over told source a b store now names others named options added Waiting fits did other goes is = is
-work_over told source a b store now names others named options added (Copying copy) fits did other goes is = record {
-  fits = is.fits;
-  unnamed = lacked_over store now names named.name did.only other is.unnamed;
-  copied = copied_by (origin told source options.block options.checkpoint options.timestamp) named a b store now copy others added did.kept.keys fits did.adds
-      is.copied;
-}
-work_over told source a b store now names others named options added (Comparing comparison) fits did other goes is =
-    let repo = repo_view store.repo in
-    let was = is.0 in
-    let there = subst (λ (name : List ℕ). IsSome (archive_named name repo.manifest.archives)) (sym was.same_name) was.there in (
-      record {
-        fits = record {
-          comparison = compared_by told source (comparison_view comparison) a b store now others did.kept there fits did.adds goes was.comparison;
-          same_name = was.same_name;
-        };
-        there = has_kept repo.manifest (repo_view now.repo).manifest named.name did.kept.names was.there;
-      },
-      is.1,
-    )
-
--- what fits a flight fits it over what others did
-pub flight_over : (told : Option Told) (source : RepoState) (a b : Option Told) (store now : Store) (flight : Flight) (names : List (List ℕ))
-    (others : List Addition) → FlightFits told source a store flight → IfSome a (λ t. StoreFits false store t.history) → OthersDid names others store now a b
-    → (IsAmong names flight.named.name → ⊥) → GoesOver flight.work others → FlightFits told source b now flight
-flight_over told source a b store now flight names others p fits did other goes = record {
-  stands = p.stands;
-  added = p.added;
-  work = work_over told source a b store now names others flight.named flight.options p.added flight.work fits did other goes p.work;
-}
-
--- what was accepted of its name is committed still
-pub committed_over : (store now : Store) (names : List (List ℕ)) (others : List Addition) (a b : Option Told) (name : List ℕ)
-    → OthersDid names others store now a b → (IsAmong names name → ⊥) → IsCommitted store name → IsCommitted now name
-committed_over store now names others a b name did other committed entry is = by (did.only name entry is) where
-  by : (archive_named name (accepted_in store).archives ≡ Some entry) ⊎ IsAmong names name
-      → archive_named name (repo_view now.repo).manifest.archives ≡ Some entry
-  by (inl was) = did.kept.names name entry (committed entry was)
-  by (inr among) = absurd (other among)
-
--- ---- what a turn of another does
-
-none_told : (b : Option Told) → failed_told b ≡ None → b ≡ None
-none_told None e = refl
-none_told (Some t) e = absurd (let no : ⊥ = cc in no)
-
-none_failed : (failed : Bool) (b : Option Told) → FailedWhere failed None b → b ≡ None
-none_failed false b e = none_told b e
-none_failed true None e = refl
-none_failed true (Some t) e = absurd (let no : ⊥ = cc in no)
-
-ends_none : {T : Type 0} (a b : Option Told) (result : Result T CarryFault) → EndsAtFault target_failed a b result → a ≡ None → b ≡ None
-ends_none {T} None b (Ok x) ends none = none_told b ends
-ends_none {T} None b (Err fault) ends none = none_failed (target_failed fault) b ends
-ends_none {T} (Some t) b result ends none = absurd (let no : ⊥ = cc in no)
-
-named_by : (name : List ℕ) (named : ArchiveRef) (id : List ℕ) (archives : List ArchiveRef) (entry : ArchiveRef) (same : Bool)
-    → bytes_eq named.name name ≡ same → cond (bytes_eq named.name name) (Some (entry_for named id)) (archive_named name archives) ≡ Some entry
-    → (archive_named name archives ≡ Some entry) ⊎ IsAmong (named.name ∷ []) name
-named_by name named id archives entry true e found = inr (zero, ap Some ((bytes_eq-Decides named.name name).0 e))
-named_by name named id archives entry false e found =
-    inl (subst (λ (b : Bool). cond b (Some (entry_for named id)) (archive_named name archives) ≡ Some entry) e found)
-
--- what it accepted, as an archive is named
-pub named_only : (given : Option (List ℕ)) (source : RepoState) (store : Store) (named : ArchiveRef) (records : List TaggedRecord) (now : Store)
-    (x y : Option (List ℕ)) → NamesNew given source store named records now x y → IsNamedBy (accepted_in store) (named.name ∷ []) (accepted_in now)
-named_only given source store named records now x y new name entry is =
-    named_by name named (content_id (repo_view store.repo).keys new.one.text) (accepted_in store).archives entry (bytes_eq named.name name) refl
-    (sym (with_named name (accepted_in store).archives (entry_for named (content_id (repo_view store.repo).keys new.one.text)))
-    ∙ (ap (λ (m : ManifestText). archive_named name m.archives) (sym new.accepted) ∙ is))
-
--- a turn that was taken
-pub turn_did : (earlier : List Addition) (from : Origin) (name : List ℕ) (added : List Addition) (store now : Store) (a b : Option Told) (n m : ℕ)
-    (turn : Turn) → Flies earlier from name added (target_state a n store) (target_state b m now) (Ok turn) → KeepsMost store now
-    → IsNamedBy (accepted_in store) (name ∷ []) (accepted_in now) → OthersDid (name ∷ []) added store now a b
-turn_did earlier from name added store now a b n m turn flies kept only = record {
-  adds = record {
-    none = ends_none {T = Turn} a b (Ok turn) flies.ends;
-    adds = between_map a b (λ h g. AllDone h g × Grows earlier from (carried_by turn name) added store now h g)
-        (λ h g. (fits : StoreFits false store h) → AddsOver added store now h g fits)
-        (λ h g e fits. let end = e.1 false fits in
-        record { fits_now = end.fits_now; at = border_behind AtBegin earlier; most = from.most; adds = end.puts }) flies.end;
-  };
-  kept = kept;
-  only = only;
-}
-
--- a turn that was refused, but not by the target
-spares_other : (fault : CarryFault) → is_target fault ≡ false → SparesStore fault
-spares_other (Source fault) other = tt
-spares_other (Target refusal) other = absurd (let no : ⊥ = cc in no)
-spares_other (Taken name) other = tt
-spares_other (NotFound name) other = tt
-spares_other Pieces other = tt
-spares_other Memory other = absurd (let no : ⊥ = cc in no)
-spares_other Record other = tt
-
-pub refusal_did : (earlier : List Addition) (from : Origin) (name : List ℕ) (at : Border) (limit most : ℕ) (added : List Addition) (store now : Store)
-    (a b : Option Told) (n m : ℕ) (fault : CarryFault) → Flies earlier from name added (target_state a n store) (target_state b m now) (Err fault)
-    → HoldsRefused {T = Turn} at limit store added now a b (Err fault) → is_target fault ≡ false → IsLeft most store b now
-    → OthersDid [] added store now a b
-refusal_did earlier from name at limit most added store now a b n m fault flies held other left = record {
-  adds = record {
-    none = ends_none {T = Turn} a b (Err fault) flies.ends;
-    adds = between_map a b (HoldsUntil false at limit store added now) (λ h g. (fits : StoreFits false store h) → AddsOver added store now h g fits)
-        (λ h g e fits. let end = e false fits in record { fits_now = end.0; at = at; most = limit; adds = end.1 })
-        (subst (λ (target : Bool). Between a b (HoldsUntil target at limit store added now)) other (held (spares_other fault other)).1);
-  };
-  kept = most_from store now left.rest;
-  only = λ called entry is. inl (ap (λ (m : ManifestText). archive_named called m.archives) (sym left.rest.accepted) ∙ is);
-}
-
--- ---- the source
-
-walk_later : (told later : Option Told) (source after : RepoState) (walk : WalkState) → heard later ≡ heard told → after ≡ source
-    → IfSome told (λ t. FitsWalk (told_files t) source.log source.keys walk) → IfSome later (λ t. FitsWalk (told_files t) after.log after.keys walk)
-walk_later told later source after walk alike same fits =
-    subst (λ (r : RepoState). IfSome later (λ t. FitsWalk (told_files t) r.log r.keys walk)) (sym same)
-    (told_same told later (λ f. FitsWalk f source.log source.keys walk) alike fits)
-
-work_later : (told later : Option Told) (source after : RepoState) (a : Option Told) (store : Store) (named : ArchiveRef) (options : Options)
-    (added : List Addition) (work : Work) → heard later ≡ heard told → after ≡ source → WorkFits told source a store named options added work
-    → WorkFits later after a store named options added work
-work_later told later source after a store named options added Waiting alike same is = is
-work_later told later source after a store named options added (Copying copy) alike same is = record {
-  fits = record { ready = is.ready; walk_fits = walk_later told later source after (walk_view copy.walk) alike same is.walk_fits };
-  unnamed = is.unnamed;
-  copied = so_far_later told later source after options.block options.checkpoint options.timestamp named a store copy added alike same is.copied;
-}
-work_later told later source after a store named options added (Comparing comparison) alike same is =
-    let state = comparison_view comparison in
-    let was = is.0 in
-    let so = was.comparison in (
-      record {
-        fits = record {
-          comparison = record {
-            front = so.front;
-            read = subst (λ (r : RepoState). IfSome later (λ t. ReadsSoFar (told_files t) r state.name state.walk so.front)) (sym same)
-                (told_same told later (λ f. ReadsSoFar f source state.name state.walk so.front) alike so.read);
-            beside = so.beside;
-          };
-          same_name = was.same_name;
-        };
-        there = was.there;
-      },
-      is.1,
-    )
-
--- where the source's files were only read
-pub flight_later : (told later : Option Told) (source after : RepoState) (a : Option Told) (store : Store) (flight : Flight) → heard later ≡ heard told
-    → after ≡ source → FlightFits told source a store flight → FlightFits later after a store flight
-flight_later told later source after a store flight alike same p = record {
-  stands = subst (λ (r : RepoState). FlightStands r flight) (sym same) p.stands;
-  added = p.added;
-  work = work_later told later source after a store flight.named flight.options p.added flight.work alike same p.work;
-}

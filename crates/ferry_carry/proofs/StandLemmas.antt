@@ -17,7 +17,9 @@ use Rattle.ferry_write.specs.Script.{AllDone}
 use Rattle.ferry_write.specs.declared.fault.WriteFault.TheVariants as Writes
 use Rattle.ferry_piece.proofs.FaultLemmas.{failed_target}
 use Rattle.ferry_piece.proofs.GatherLemmas.{add_stands, each_then}
-use Rattle.ferry_carry.proofs.GrowLemmas.{Follows, growing_by, growing_here, growing_then, standing_accepted}
+use Rattle.ferry_carry.proofs.GrowsLemmas.{Follows, growing_here, growing_then}
+use Rattle.ferry_carry.proofs.GrowLemmas.{growing_by}
+use Rattle.ferry_carry.proofs.GrowNamedLemmas.{standing_accepted}
 use Rattle.ferry_carry.proofs.MomentLemmas.{names_here, reported_growing, reported_here, reported_then}
 use Rattle.ferry_carry.proofs.NamesLemmas.{all_nothing, all_then, all_wider}
 use Rattle.ferry_carry.proofs.NextLemmas.{next_of}

@@ -2,7 +2,7 @@
 use Rattle.std.proofs.Common.{◌≡◌, ◌≤◌, ◌∙◌, ℕ, false, List, [], Option, Result, Ok, Err, IfErr, IfSome, OnOk, ap, arith, subst, sym}
 use Rattle.std.proofs.lemmas.Result.{IfErr-weaker, on_ok_weaker}
 use Rattle.ferry_carry.proofs.FlightLemmas.{rest_accepts, rest_packable}
-use Rattle.ferry_carry.proofs.GrowLemmas.{most_from, most_then}
+use Rattle.ferry_carry.proofs.GrowsLemmas.{most_from, most_then}
 use Rattle.ferry_carry.specs.Calls.{FitsDepot}
 use Rattle.ferry_carry.specs.Carrying.{Origin}
 use Rattle.ferry_carry.specs.Flight.{IsCommitted}

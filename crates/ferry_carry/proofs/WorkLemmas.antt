@@ -3,8 +3,9 @@ use Rattle.std.proofs.Common.{◌≡◌, ℕ, false, List, [], ◌++◌, Option,
 use Rattle.ferry_disk.specs.Device.{Told}
 use Rattle.ferry_piece.specs.Fault.{target_failed}
 use Rattle.ferry_piece.proofs.GatherLemmas.{standing_wider}
-use Rattle.ferry_carry.proofs.GrowLemmas.{Follows, growing_by, growing_follows, growing_here, growing_longer, growing_then, growing_wider, growing_within}
-use Rattle.ferry_carry.proofs.GrowLemmas.{grows_follows, grows_from, grows_here, grows_then, grows_within}
+use Rattle.ferry_carry.proofs.GrowsLemmas.{Follows, growing_follows, growing_here, growing_then}
+use Rattle.ferry_carry.proofs.GrowLemmas.{growing_by, growing_longer, growing_wider, growing_within}
+use Rattle.ferry_carry.proofs.GrowsLemmas.{grows_follows, grows_from, grows_here, grows_then, grows_within}
 use Rattle.ferry_piece.specs.Adding.{AddsOn}
 use Rattle.ferry_carry.specs.Carrying.{Origin}
 use Rattle.ferry_carry.specs.Grow.{AcceptsMore, Grows, KeepsGrowing}

@@ -2,3 +2,4 @@ pub mod FieldLemmas
 pub mod ListLemmas
 pub mod PutLemmas
 pub mod MadeLemmas
+pub mod MadeFilesLemmas

@@ -24,7 +24,8 @@ use Rattle.ferry_write.specs.Session.{SettlesFirst}
 use Rattle.ferry_disk.specs.Act.{History, files_now}
 use Rattle.ferry_disk.specs.Files.{Files}
 use Rattle.ferry_gen.proofs.ListLemmas.{entries_none}
-use Rattle.ferry_gen.proofs.MadeLemmas.{settings_read, shows}
+use Rattle.ferry_gen.proofs.MadeLemmas.{settings_read}
+use Rattle.ferry_gen.proofs.MadeFilesLemmas.{shows}
 use Rattle.ferry_gen.specs.Archives.{AreRecordsOf, HasArchives, contents_from, drill_archive, entries_from}
 use Rattle.ferry_gen.specs.Content.{archive_name}
 use Rattle.ferry_gen.specs.Source.{IsSource, source_block, source_secret}

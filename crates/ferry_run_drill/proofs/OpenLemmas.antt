@@ -7,7 +7,8 @@ use Rattle.ferry_carry.specs.declared.options.Carried.{Carried}
 use Rattle.ferry_check.specs.Verify.{AllOpen, IsChunk, Opens}
 use Rattle.ferry_disk.specs.Act.{History, files_now}
 use Rattle.ferry_disk.specs.Files.{Files}
-use Rattle.ferry_gen.proofs.MadeLemmas.{entries_are, settings_read, shows}
+use Rattle.ferry_gen.proofs.MadeFilesLemmas.{entries_are, shows}
+use Rattle.ferry_gen.proofs.MadeLemmas.{settings_read}
 use Rattle.ferry_log.proofs.FitsLemmas.{place_holds}
 use Rattle.ferry_log.specs.State.{LogState, place_in}
 use Rattle.ferry_log.specs.declared.place.Place.{Place}

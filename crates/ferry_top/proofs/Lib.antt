@@ -6,3 +6,4 @@ pub mod InitLemmas
 pub mod RunLemmas
 pub mod ReadyLemmas
 pub mod FollowingLemmas
+pub mod ReadyTargetLemmas

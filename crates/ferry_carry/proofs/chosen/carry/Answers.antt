@@ -1,6 +1,6 @@
 use Rattle.std.proofs.Common.{rules, ◌≡◌, None, Ok, Result, IfErr, refl, subst}
 use Rattle.ferry_carry.proofs.CauseLemmas.{line_refused, names_refused, none_missing, not_there}
-use Rattle.ferry_carry.proofs.GrowLemmas.{accepts_on}
+use Rattle.ferry_carry.proofs.GrowNamedLemmas.{accepts_on}
 use Rattle.ferry_piece.proofs.AddingLemmas.{target_apart}
 use Rattle.ferry_carry.proofs.HeldLemmas.{telling_spent}
 use Rattle.ferry_carry.proofs.ReportLemmas.{reports_whole, whole_err, whole_nothing, whole_untold, whole_unwritten}

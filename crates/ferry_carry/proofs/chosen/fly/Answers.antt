@@ -1,12 +1,14 @@
 use Rattle.std.proofs.Common.{◌≡◌, ◌≢◌, ◌⊎◌, inl, ◌≤◌, List, [], ◌++◌, Bool, true, false, rules}
 use Rattle.std.proofs.Common.{None, Result, Ok, Err, IsSome, refl, ◌∙◌, ap, subst, sym, IfErr, IfSome}
-use Rattle.ferry_carry.proofs.FlyLemmas.{TakesOn, origin_same, taken_err, takes_end, takes_last, takes_more, takes_none, takes_refused}
+use Rattle.ferry_carry.proofs.FlownLemmas.{TakesOn, taken_err, takes_end, takes_last, takes_more, takes_none, takes_refused}
+use Rattle.ferry_carry.proofs.FlyLemmas.{origin_same}
 use Rattle.ferry_carry.proofs.AcceptingLemmas.{flown_large, flown_named, flown_present}
 use Rattle.ferry_carry.proofs.ChunkLemmas.{flown_tags}
 use Rattle.ferry_carry.proofs.TagLemmas.{match_err}
 use Rattle.ferry_carry.specs.Naming.{TagsDrawn}
 use Rattle.ferry_piece.specs.Adding.{IsNoChunk}
-use Rattle.ferry_carry.proofs.GrowLemmas.{accepts_on, most_here, most_then}
+use Rattle.ferry_carry.proofs.GrowNamedLemmas.{accepts_on}
+use Rattle.ferry_carry.proofs.GrowsLemmas.{most_here, most_then}
 use Rattle.ferry_carry.proofs.FlightLemmas.{settled_committed}
 use Rattle.ferry_carry.proofs.ThereLemmas.{tells_named, tells_present}
 use Rattle.ferry_piece.proofs.WorkLemmas.{err_is}

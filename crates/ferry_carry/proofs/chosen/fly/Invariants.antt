@@ -1,5 +1,5 @@
 use Rattle.std.proofs.Common.{◌≡◌, ◌≤◌, false, IfSome}
-use Rattle.ferry_carry.proofs.FlyLemmas.{TakesOn}
+use Rattle.ferry_carry.proofs.FlownLemmas.{TakesOn}
 use Rattle.ferry_carry.proofs.chosen.fly.Given as goal
 use Rattle.ferry_carry.specs.Flight.{FlightFits, flown_from}
 use Rattle.ferry_carry.specs.Grow.{KeepsMost}

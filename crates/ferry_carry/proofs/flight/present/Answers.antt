@@ -1,5 +1,5 @@
 use Rattle.std.proofs.Common.{rules, ◌≢◌, [], Result, arith}
-use Rattle.ferry_carry.proofs.FlyLemmas.{nothing_pending, pending_committed, pending_uncommitted}
+use Rattle.ferry_carry.proofs.UnnamedLemmas.{nothing_pending, pending_committed, pending_uncommitted}
 use Rattle.ferry_piece.proofs.WorkLemmas.{err_is}
 use Rattle.ferry_carry.proofs.flight.present.Goals as goal
 use Rattle.ferry_piece.specs.Gather.{GathersAt, KeepsStandingAt}

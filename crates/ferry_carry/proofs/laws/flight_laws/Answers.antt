@@ -1,4 +1,4 @@
-use Rattle.ferry_carry.proofs.OverLemmas.{committed_over, flight_later, flight_over, named_only, refusal_did, turn_did}
+use Rattle.ferry_carry.proofs.OverFlightLemmas.{committed_over, flight_later, flight_over, named_only, refusal_did, turn_did}
 use Rattle.ferry_carry.proofs.laws.flight_laws.Goals as goal
 
 pub returns : goal.returns

@@ -1,7 +1,8 @@
 use Rattle.std.proofs.Common.{◌≡◌, ◌≤◌, [], length, Result, refl, sym, ◌∙◌, ap, subst, arith, rules}
 use Rattle.ferry_piece.proofs.FaultLemmas.{target_stops}
-use Rattle.ferry_carry.proofs.GrowLemmas.{commit_fits}
-use Rattle.ferry_carry.proofs.NamingLemmas.{commit_limit, commit_most, commit_works, commit_works_err, no_larger}
+use Rattle.ferry_carry.proofs.GrowNamedLemmas.{commit_fits}
+use Rattle.ferry_carry.proofs.NamingManifestLemmas.{commit_limit, commit_most, no_larger}
+use Rattle.ferry_carry.proofs.NamingManifestLemmas.{commit_works, commit_works_err}
 use Rattle.ferry_piece.proofs.WorkLemmas.{err_is}
 use Rattle.ferry_carry.proofs.naming.commit.Goals as goal
 use Rattle.ferry_piece.specs.Fault.{target_fault}

@@ -2,9 +2,9 @@ use Rattle.std.proofs.Common.{rules, ◌≡◌, ◌≤◌, ℕ, List, [], length
 use Rattle.ferry_carry.specs.Refusals.{LimitsManifest}
 use Rattle.ferry_mac.specs.declared.keys.Keys.{Keys}
 use Rattle.ferry_next.specs.Next.{next_manifest, written_at}
-use Rattle.ferry_carry.proofs.GrowLemmas.{accepts_one, names_next}
+use Rattle.ferry_carry.proofs.GrowNamedLemmas.{accepts_one, names_next}
 use Rattle.ferry_carry.proofs.HeldLemmas.{held_accepted}
-use Rattle.ferry_carry.proofs.NamingLemmas.{named_behind, names_nothing}
+use Rattle.ferry_carry.proofs.NamingManifestLemmas.{named_behind, names_nothing}
 use Rattle.ferry_piece.proofs.WorkLemmas.{err_is}
 use Rattle.ferry_carry.proofs.naming.commit_named.Goals as goal
 use Rattle.ferry_carry.specs.Flight.{NamesArchive}

@@ -1,5 +1,5 @@
 use Rattle.std.proofs.Common.{refl}
-use Rattle.ferry_gen.proofs.MadeLemmas.{plain_made, source_made}
+use Rattle.ferry_gen.proofs.MadeFilesLemmas.{plain_made, source_made}
 use Rattle.ferry_gen.proofs.source.make.Goals as goal
 
 pub returns-clause-made : goal.returns-clause-made

@@ -1,6 +1,7 @@
 use Rattle.std.proofs.Common.{◌≡◌, ◌+◌, ℕ, suc, false, refl, ap, sym, ◌∙◌, subst, arith}
 use Rattle.ferry_carry.proofs.FlightLemmas.{rest_packable}
-use Rattle.ferry_gen.proofs.MadeLemmas.{archive_made, free_told, next_fits, next_has, told_on}
+use Rattle.ferry_gen.proofs.MadeFilesLemmas.{archive_made, next_fits, next_has, told_on}
+use Rattle.ferry_gen.proofs.MadeLemmas.{free_told}
 use Rattle.ferry_gen.proofs.source.make_archive.Goals as goal
 use Rattle.ferry_manifest.specs.Manifest.Writing.{manifest_text}
 use Rattle.ferry_next.specs.Next.{written_at}

@@ -1,5 +1,5 @@
 use Rattle.std.proofs.Common.{◌≡◌, refl}
-use Rattle.ferry_gen.proofs.MadeLemmas.{first_fits, first_has, told_first}
+use Rattle.ferry_gen.proofs.MadeFilesLemmas.{first_fits, first_has, told_first}
 use Rattle.ferry_gen.proofs.source.make_first.Goals as goal
 
 pub returns-clause-made : goal.returns-clause-made

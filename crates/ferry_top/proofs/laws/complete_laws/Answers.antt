@@ -1,4 +1,4 @@
-use Rattle.ferry_top.proofs.ReadyLemmas.{completes}
+use Rattle.ferry_top.proofs.ReadyTargetLemmas.{completes}
 use Rattle.ferry_top.proofs.laws.complete_laws.Goals as goal
 
 pub returns : goal.returns

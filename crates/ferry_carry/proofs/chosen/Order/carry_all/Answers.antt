@@ -1,9 +1,11 @@
 use Rattle.std.proofs.Common.{◌≡◌, ℕ, List, ◌<◌, ◌≤◌, ◌+◌, Result, Ok, Err, length, take, drop, get_or, refl, ◌∙◌, ap, arith, IfErr, IfSome, inr}
 use Rattle.ferry_carry.proofs.AcceptingLemmas.{one_large}
 use Rattle.ferry_carry.proofs.FlyLemmas.{origin_kept}
-use Rattle.ferry_carry.proofs.GrowLemmas.{accepts_on, most_here, most_then}
+use Rattle.ferry_carry.proofs.GrowNamedLemmas.{accepts_on}
+use Rattle.ferry_carry.proofs.GrowsLemmas.{most_here, most_then}
 use Rattle.ferry_carry.proofs.NextLemmas.{next_of}
-use Rattle.ferry_carry.proofs.ReportLemmas.{reports_all, reports_begin, reports_front, reports_more}
+use Rattle.ferry_carry.proofs.ReportNamesLemmas.{reports_all, reports_front, reports_more}
+use Rattle.ferry_carry.proofs.ReportLemmas.{reports_begin}
 use Rattle.ferry_carry.proofs.SmallLemmas.{ids_sized}
 use Rattle.ferry_piece.proofs.WorkLemmas.{err_is}
 use Rattle.ferry_carry.proofs.chosen.Order.carry_all.Goals as goal

@@ -1,5 +1,5 @@
 use Rattle.std.proofs.Common.{◌≡◌, ◌≤◌, false, Ok, IfSome, take}
-use Rattle.ferry_carry.proofs.GrowLemmas.{Follows}
+use Rattle.ferry_carry.proofs.GrowsLemmas.{Follows}
 use Rattle.ferry_carry.proofs.chosen.Order.carry_all.Given as goal
 use Rattle.ferry_carry.specs.Flight.{origin_of}
 use Rattle.ferry_carry.specs.Grow.{KeepsMost}

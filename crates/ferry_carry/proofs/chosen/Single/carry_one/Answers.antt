@@ -1,8 +1,9 @@
 use Rattle.std.proofs.Common.{◌≡◌, [], ◌∷◌, ℕ, List, false, Result, ap, IfErr, IfSome, refl, subst, sym}
 use Rattle.ferry_carry.proofs.AcceptingLemmas.{begin_small}
-use Rattle.ferry_carry.proofs.GrowLemmas.{accepts_on}
+use Rattle.ferry_carry.proofs.GrowNamedLemmas.{accepts_on}
 use Rattle.ferry_carry.proofs.HeldLemmas.{begin_apart}
-use Rattle.ferry_carry.proofs.ReportLemmas.{reports_as, reports_nothing}
+use Rattle.ferry_carry.proofs.ReportNamesLemmas.{reports_as}
+use Rattle.ferry_carry.proofs.ReportLemmas.{reports_nothing}
 use Rattle.ferry_carry.proofs.TellLemmas.{begin_unbroken, begin_still, begin_unused}
 use Rattle.ferry_piece.proofs.WorkLemmas.{err_is}
 use Rattle.ferry_carry.proofs.chosen.Single.carry_one.Goals as goal

@@ -1,7 +1,11 @@
 use Rattle.std.proofs.Common.{◌≡◌, [], ◌∷◌, ℕ, List, Some, Result, Ok, Err, refl, sym, ◌∙◌, ap, subst, IfErr, IsSome, arith, rules}
 use Rattle.ferry_carry.proofs.FlightLemmas.{read_rest, rest_accepts, rest_there, there_accepted}
-use Rattle.ferry_carry.proofs.FlyLemmas.{begins_there, filled_apart, fills_there, flies_as, flies_fault, present_flies, present_stands, stands_within}
-use Rattle.ferry_carry.proofs.FlyLemmas.{taken_still, taken_unbroken, turn_present, turned_err, present_few, taken_unused}
+use Rattle.ferry_carry.proofs.BegunLemmas.{begins_there, filled_apart, fills_there}
+use Rattle.ferry_carry.proofs.FlyLemmas.{flies_as, flies_fault, present_flies}
+use Rattle.ferry_carry.proofs.UnnamedLemmas.{present_stands, stands_within}
+use Rattle.ferry_carry.proofs.FlyLemmas.{taken_still, taken_unbroken, taken_unused}
+use Rattle.ferry_carry.proofs.BegunLemmas.{turn_present}
+use Rattle.ferry_carry.proofs.UnnamedLemmas.{turned_err, present_few}
 use Rattle.ferry_carry.proofs.HeldLemmas.{held_within, spent_chunk, targets_apart}
 use Rattle.ferry_carry.proofs.LeftLemmas.{left_read, left_usable, targets_leave}
 use Rattle.ferry_carry.proofs.ReportLemmas.{told_unbroken}
@@ -18,7 +22,7 @@ use Rattle.ferry_compare.specs.declared.comparison.Compared.{Compared}
 use Rattle.ferry_repo.specs.Archives.{archive_named}
 use Rattle.ferry_repo.specs.Opening.{RepoState, repo_view}
 use Rattle.ferry_carry.proofs.CauseLemmas.{comparing_refused, pending_refused, taken_refused}
-use Rattle.ferry_carry.proofs.NamingLemmas.{pieces_limit, taken_limit}
+use Rattle.ferry_carry.proofs.NamingManifestLemmas.{pieces_limit, taken_limit}
 use Rattle.ferry_carry.specs.Carrying.{origin}
 use Rattle.ferry_carry.specs.Refusals.{DiffersThere, IsLimited, Leaves, RefusesComparing, RefusesName}
 use Rattle.ferry_piece.specs.Stops.{StopsPieces}

@@ -1,7 +1,7 @@
 use Rattle.std.proofs.Common.{◌∙◌, ap, ◌≡◌, ◌⊎◌, ◌++◌, ℕ, List, [], ◌∷◌, Bool, false, Result, Ok, Err, IfErr, subst, sym, IfSome}
 use Rattle.ferry_carry.proofs.AcceptingLemmas.{telling_small}
-use Rattle.ferry_carry.proofs.FlyLemmas.{takes_begin}
-use Rattle.ferry_carry.proofs.GrowLemmas.{accepts_on}
+use Rattle.ferry_carry.proofs.FlownLemmas.{takes_begin}
+use Rattle.ferry_carry.proofs.GrowNamedLemmas.{accepts_on}
 use Rattle.ferry_piece.proofs.AddingLemmas.{target_apart}
 use Rattle.ferry_carry.proofs.CountingLemmas.{counts_one}
 use Rattle.ferry_carry.proofs.HeldLemmas.{telling_spent}

@@ -3,12 +3,14 @@ use Rattle.std.proofs.Common.{◌+◌, ◌*◌, length, arith}
 use Rattle.ferry_carry.proofs.CauseLemmas.{end_refused, lacks_by, step_refused}
 use Rattle.ferry_carry.proofs.AcceptingLemmas.{next_rest}
 use Rattle.ferry_carry.proofs.FlightLemmas.{rest_accepts}
-use Rattle.ferry_carry.proofs.FlyLemmas.{begins_new, done_before, end_apart, fills_new, flies_as, flies_err, flies_fault, so_far_as, so_far_later}
-use Rattle.ferry_carry.proofs.FlyLemmas.{stands_within, stepped_as, turn_ended, turned_err}
-use Rattle.ferry_carry.proofs.GrowLemmas.{most_from, most_then}
+use Rattle.ferry_carry.proofs.BegunLemmas.{begins_new, done_before, fills_new, so_far_as, so_far_later}
+use Rattle.ferry_carry.proofs.FlyLemmas.{end_apart, flies_as, flies_err, flies_fault}
+use Rattle.ferry_carry.proofs.UnnamedLemmas.{stands_within, turn_ended, turned_err}
+use Rattle.ferry_carry.proofs.BegunLemmas.{stepped_as}
+use Rattle.ferry_carry.proofs.GrowsLemmas.{most_from, most_then}
 use Rattle.ferry_carry.proofs.HeldLemmas.{held_within}
 use Rattle.ferry_carry.proofs.LeftLemmas.{left_then, left_usable}
-use Rattle.ferry_carry.proofs.NamingLemmas.{pieces_limit, rest_limit}
+use Rattle.ferry_carry.proofs.NamingManifestLemmas.{pieces_limit, rest_limit}
 use Rattle.ferry_carry.proofs.TagLemmas.{TagsOr, match_err, tags_as, tags_none}
 use Rattle.ferry_carry.proofs.WorkLemmas.{carried_from}
 use Rattle.ferry_piece.proofs.GatherLemmas.{rest_here}

@@ -2,15 +2,16 @@ use Rattle.std.proofs.Common.{◌≡◌, inl, ℕ, List, [], ◌∷◌, ◌++◌
 use Rattle.std.proofs.lemmas.List.{append-nil}
 use Rattle.ferry_piece.proofs.AddingLemmas.{stops_unbroken}
 use Rattle.ferry_carry.proofs.AcceptingLemmas.{record_named}
-use Rattle.ferry_carry.proofs.GrowLemmas.{most_from, most_then}
-use Rattle.ferry_carry.proofs.FlyLemmas.{added_all}
+use Rattle.ferry_carry.proofs.GrowsLemmas.{most_from, most_then}
+use Rattle.ferry_carry.proofs.UnnamedLemmas.{added_all}
 use Rattle.ferry_carry.proofs.HeldLemmas.{held_then, held_within}
 use Rattle.ferry_carry.proofs.LeftLemmas.{left_then, target_leaves}
 use Rattle.ferry_piece.proofs.FaultLemmas.{stops_of_pieces}
-use Rattle.ferry_carry.proofs.NamingLemmas.{begins_done, behind_record, counts_done, lists_done, pieces_limit, record_limit, tagged_as, unnamed_rest}
+use Rattle.ferry_carry.proofs.NamingLemmas.{begins_done, behind_record, counts_done, lists_done, tagged_as, unnamed_rest}
+use Rattle.ferry_carry.proofs.NamingManifestLemmas.{pieces_limit, record_limit}
 use Rattle.ferry_carry.proofs.NextLemmas.{behind_named}
 use Rattle.ferry_piece.proofs.PieceLemmas.{pieces_at}
-use Rattle.ferry_carry.proofs.ProgressLemmas.{readies}
+use Rattle.ferry_carry.proofs.ProgressEndLemmas.{readies}
 use Rattle.ferry_carry.proofs.TagLemmas.{TagsOr, match_err, tags_last}
 use Rattle.ferry_piece.proofs.PutsLemmas.{front_all}
 use Rattle.ferry_carry.proofs.WorkLemmas.{carried_as, carried_err, carried_from, carried_from_err, carried_then}

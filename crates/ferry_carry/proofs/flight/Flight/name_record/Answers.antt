@@ -1,5 +1,5 @@
 use Rattle.std.proofs.Common.{rules, ◌≡◌, ℕ, List, Result, refl, subst}
-use Rattle.ferry_carry.proofs.NamingLemmas.{names_nothing}
+use Rattle.ferry_carry.proofs.NamingManifestLemmas.{names_nothing}
 use Rattle.ferry_piece.proofs.WorkLemmas.{err_is}
 use Rattle.ferry_carry.proofs.flight.Flight.name_record.Goals as goal
 use Rattle.ferry_carry.specs.Accepting.{named_next}

@@ -1,12 +1,14 @@
 use Rattle.std.proofs.Common.{rules, ◌≡◌, inr, MatchResult, [], ◌∷◌, Result, Err, refl, sym, IfErr, IsSome, subst, arith}
 use Rattle.ferry_piece.proofs.AddingLemmas.{stops_unbroken}
 use Rattle.ferry_carry.proofs.FlightLemmas.{read_rest}
-use Rattle.ferry_carry.proofs.FlyLemmas.{begins_none, fills_begin, fills_there, flies_err, flies_fault, origin_kept, record_unbroken, stands_within}
-use Rattle.ferry_carry.proofs.FlyLemmas.{turned_behind, turned_err}
-use Rattle.ferry_carry.proofs.GrowLemmas.{most_from}
+use Rattle.ferry_carry.proofs.BegunLemmas.{begins_none, fills_begin, fills_there}
+use Rattle.ferry_carry.proofs.FlyLemmas.{flies_err, flies_fault, origin_kept, record_unbroken}
+use Rattle.ferry_carry.proofs.UnnamedLemmas.{stands_within}
+use Rattle.ferry_carry.proofs.UnnamedLemmas.{turned_behind, turned_err}
+use Rattle.ferry_carry.proofs.GrowsLemmas.{most_from}
 use Rattle.ferry_carry.proofs.HeldLemmas.{held_nothing, held_within}
 use Rattle.ferry_carry.proofs.LeftLemmas.{left_here, left_read, left_usable, lefts_then}
-use Rattle.ferry_carry.proofs.ProgressLemmas.{begin_copied}
+use Rattle.ferry_carry.proofs.ProgressEndLemmas.{begin_copied}
 use Rattle.ferry_carry.proofs.WorkLemmas.{carried_nothing}
 use Rattle.ferry_piece.proofs.WorkLemmas.{err_is}
 use Rattle.ferry_carry.proofs.flight.Flight.take_first.Goals as goal
@@ -25,7 +27,7 @@ use Rattle.ferry_carry.specs.Accepting.{NamesNew}
 use Rattle.ferry_carry.specs.Carrying.{Origin, origin}
 use Rattle.ferry_piece.specs.Gather.{KeepsStanding}
 use Rattle.ferry_carry.specs.Refusals.{IsLimited, Leaves, RefusesName, RefusesBegin}
-use Rattle.ferry_carry.proofs.NamingLemmas.{begin_limit, pieces_limit, rest_limit}
+use Rattle.ferry_carry.proofs.NamingManifestLemmas.{begin_limit, pieces_limit, rest_limit}
 use Rattle.std.proofs.lemmas.Result.{IfErr-weaker}
 use Rattle.ferry_piece.proofs.GatherLemmas.{stands_here}
 use Rattle.ferry_store.proofs.StepLemmas.{here_each}
