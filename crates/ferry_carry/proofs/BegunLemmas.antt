@@ -1,7 +1,7 @@
 -- Lemmas on what the turns of a flight added: how far an archive is, and where its source refused.
 use Rattle.std.proofs.Common.{◌≡◌, inl, inr, Bool, true, false, ℕ, List, [], ◌++◌}
 use Rattle.std.proofs.Common.{Option, Some, None, Result, Ok, Err, IfErr, IfOk, IfSome, IsSome, MatchResult}
-use Rattle.std.proofs.Common.{refl, sym, ◌∙◌, subst, ◌+◌}
+use Rattle.std.proofs.Common.{refl, sym, ◌∙◌, subst}
 use Rattle.std.proofs.lemmas.List.{append-nil}
 use Rattle.ferry_disk.specs.Act.{History}
 use Rattle.ferry_disk.specs.Device.{Told, heard, told_files}
@@ -16,6 +16,7 @@ use Rattle.ferry_repo.specs.Opening.{FitsRepo, RepoState, repo_view}
 use Rattle.ferry_repo.specs.declared.fault.RepoFault.{RepoFault}
 use Rattle.ferry_store.specs.Commit.{accepted_in}
 use Rattle.ferry_store.specs.declared.store.Store.{Store}
+use Rattle.ferry_carry.proofs.CountingLemmas.{counts_nothing}
 use Rattle.ferry_carry.proofs.ListingLemmas.{copied_begun}
 use Rattle.ferry_carry.proofs.ThereLemmas.{tells_named}
 use Rattle.ferry_carry.proofs.HeldLemmas.{heard_apart, heard_back, heard_each, heard_map}
@@ -31,7 +32,7 @@ use Rattle.ferry_piece.specs.Fault.{IsOfSource}
 use Rattle.ferry_carry.specs.Filling.{FillsFlight, FillsName, FillsOne, WhereHeard}
 use Rattle.ferry_carry.specs.Listing.{BeginsName, BeginsOne, ListsOne}
 use Rattle.ferry_carry.specs.Progress.{CopiesOn, IsCopiedSoFar}
-use Rattle.ferry_piece.specs.Puts.{Addition, put_bytes, put_count}
+use Rattle.ferry_piece.specs.Puts.{Addition}
 use Rattle.ferry_carry.specs.Refusals.{RefusesBegin}
 use Rattle.ferry_carry.specs.declared.copy.Copy.{Copy}
 use Rattle.ferry_piece.specs.declared.fault.CarryFault.TheVariants.{Source, Target, Taken, NotFound, Pieces, Memory, Record}
@@ -124,18 +125,13 @@ turns_before told source target store flight from other keys others added more r
     turn_before told source target store flight from other keys others added more records turn E a b between is same lists
 turns_before told source target store flight from other keys others added more records (Err fault) E a b between is same lists = tt
 
--- nothing was put of nothing
-counts_none : CountsOf [] nothing_carried
-unfolding put_count put_bytes
-counts_none = record { chunks = refl; bytes = refl; meta = refl }
-
 -- where an archive is there nothing was added
 pub turn_present : (told : Option Told) (source : RepoState) (target : Option Told) (store : Store) (flight : Flight) (before : Option Told)
     (from : Origin) (keys : Keys) (result : Result Turn CarryFault) → flight.put ≡ nothing_carried → IfOk result (λ turn. turn ≡ Present)
     → IfOk result (TurnLists told source target store flight (ListsDone before from keys flight.named.name) (archive_adds flight.named.name [] [] []))
 turn_present told source target store flight before from keys (Ok turn) uncounted is =
     subst (TurnLists told source target store flight (ListsDone before from keys flight.named.name) (archive_adds flight.named.name [] [] [])) (sym is)
-    ((refl, refl), subst (CountsOf []) (sym uncounted) counts_none)
+    ((refl, refl), subst (CountsOf []) (sym uncounted) counts_nothing)
 turn_present told source target store flight before from keys (Err fault) uncounted is = tt
 
 -- ---- how far it came

@@ -1,11 +1,11 @@
 -- Lemmas on specs/Counting.antt: the numbers of names, and of names behind them.
-use Rattle.std.proofs.Common.{◌≡◌, ℕ, suc, Bool, true, false, if◌then◌else◌, List, [], ◌∷◌, ◌++◌, refl, sym, subst, arith, min, ◌^◌, ◌-◌, append_assoc, ◌<◌}
+use Rattle.std.proofs.Common.{◌≡◌, ℕ, suc, Bool, true, false, if◌then◌else◌, List, [], ◌∷◌, ◌++◌, refl, sym, subst, arith, min, ◌^◌, ◌-◌, append_assoc}
 use Rattle.std.proofs.Common.{◌+◌}
 use Rattle.std.proofs.lemmas.List.{append-nil}
 use Rattle.ferry_manifest.specs.Manifest.Text.{ManifestText}
 use Rattle.ferry_piece.proofs.PutsLemmas.{bytes_append, count_append}
 use Rattle.ferry_carry.proofs.ThereLemmas.{Extends, tells_behind}
-use Rattle.ferry_carry.specs.Counting.{CountsMore, CountsNames, CountsOf, TellsNew}
+use Rattle.ferry_carry.specs.Counting.{CountsMore, CountsNames, CountsOf, TellsNew, nothing_carried}
 use Rattle.ferry_piece.specs.Puts.{Addition, Content, Stream, put_bytes, put_count}
 use Rattle.ferry_carry.specs.declared.options.Carried.{Carried}
 
@@ -89,17 +89,20 @@ counts_then accepted middle some others added more carried between after extends
   };
 }
 
--- those of no name
-pub counts_none : (accepted : ManifestText) (carried : Carried) → carried.transferred < 2 ^ 64 → carried.present < 2 ^ 64 → carried.chunks < 2 ^ 64
-    → carried.bytes < 2 ^ 128 → carried.meta < 2 ^ 64 → CountsMore accepted [] [] carried carried
+-- nothing was put
+pub counts_nothing : CountsOf [] nothing_carried
 unfolding put_count put_bytes
-counts_none accepted carried transferred present chunks bytes meta = record {
+counts_nothing = record { chunks = refl; bytes = refl; meta = refl }
+
+-- those of no name
+pub counts_none : (accepted : ManifestText) → CountsMore accepted [] [] nothing_carried nothing_carried
+counts_none accepted = record {
   copied = 0;
   present = 0;
   names = (refl, refl);
-  transferred_is = omega (arith, transferred);
-  present_is = omega (arith, present);
-  put = record { chunks = omega (arith, chunks); bytes = omega (arith, bytes); meta = omega (arith, meta) };
+  transferred_is = refl;
+  present_is = refl;
+  put = counts_nothing;
 }
 
 -- those of one

@@ -1,7 +1,7 @@
 -- Turns of a flight, one after another.
 use Rattle.std.proofs.Common.{◌≡◌, ◌⊎◌, inl, inr, false, ℕ, List, [], ◌∷◌, ◌++◌}
 use Rattle.std.proofs.Common.{Option, Some, None, Result, Ok, Err, IfOk, IsSome, OnOk}
-use Rattle.std.proofs.Common.{refl, sym, ◌∙◌, ap, subst, ◌+◌}
+use Rattle.std.proofs.Common.{refl, sym, ◌∙◌, ap, subst}
 use Rattle.ferry_disk.specs.Act.{files_now}
 use Rattle.ferry_disk.specs.Device.{Heard, Told, heard, heard_of}
 use Rattle.ferry_mac.specs.declared.keys.Keys.{Keys}

@@ -190,7 +190,8 @@ counts_done from copy stream added last more keys archive carried is of counts a
     let meta_all : put_count Stream all ≡ put_count Stream added + put_count Stream last =
     omega (arith, counted Stream, count_apart Stream Record more refl record_of) in
     let meta : stream.put ≡ min (put_count Stream all) (2 ^ 64 - 1) =
-    counts_then (2 ^ 64 - 1) copy.stream.put (put_count Stream added) stream.put (put_count Stream last) (put_count Stream all) is.meta counts.put
+    counts_then (2 ^ 64 - 1) copy.stream.put (put_count Stream added) stream.put (put_count Stream last) (put_count Stream all) is.meta
+    (counts.put (omega (arith, is.meta)))
     meta_all in
     record {
       chunks = omega (arith, chunks_are, is.chunks, chunks_all);

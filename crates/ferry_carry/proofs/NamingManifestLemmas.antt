@@ -1,5 +1,5 @@
 -- Lemmas on the manifest that names an archive: that it is committed, or is too large.
-use Rattle.std.proofs.Common.{◌≡◌, ◌⊎◌, inl, inr, Bool, ℕ, List, [], ◌∷◌, Option, None, Result, Ok, Err, IfSome, ◌-◌}
+use Rattle.std.proofs.Common.{◌≡◌, ◌⊎◌, inl, inr, Bool, ℕ, List, [], ◌∷◌, Option, None, Result, Ok, Err, IfSome}
 use Rattle.std.proofs.Common.{length, ◌<◌, ◌≤◌, sym, ◌∙◌, ap, subst, false}
 use Rattle.std.proofs.lemmas.Bool.{cases_lt}
 use Rattle.std.proofs.lemmas.Option.{IfSome_then}

@@ -282,11 +282,11 @@ copy_from from copy copy_now added more same same_most counts is = record {
   block = is.block ∙ sym same;
   most = is.most ∙ sym same_most;
   chunks = counts_then (2 ^ 64 - 1) copy.contents.put (put_count Content added) copy_now.contents.put (put_count Content more)
-      (put_count Content (added ++ more)) is.chunks counts.contents.put (count_append Content added more);
+      (put_count Content (added ++ more)) is.chunks (counts.contents.put (omega (arith, is.chunks))) (count_append Content added more);
   bytes = counts_then (2 ^ 128 - 1) copy.contents.bytes (put_bytes Content added) copy_now.contents.bytes (put_bytes Content more)
-      (put_bytes Content (added ++ more)) is.bytes counts.contents.bytes (bytes_append Content added more);
+      (put_bytes Content (added ++ more)) is.bytes (counts.contents.bytes (omega (arith, is.bytes))) (bytes_append Content added more);
   meta = counts_then (2 ^ 64 - 1) copy.stream.put (put_count Stream added) copy_now.stream.put (put_count Stream more)
-      (put_count Stream (added ++ more)) is.meta counts.stream.put (count_append Stream added more);
+      (put_count Stream (added ++ more)) is.meta (counts.stream.put (omega (arith, is.meta))) (count_append Stream added more);
 }
 
 -- the same where nothing was counted

@@ -1,5 +1,5 @@
 -- Lemmas on `Reports` and `ReportsWhole` of specs/Telling.antt: what bodies did that tell names, one after another.
-use Rattle.std.proofs.Common.{◌≡◌, inl, ℕ, Bool, true, false, List, [], ◌∷◌, Option, Ok, Err, Result, refl, sym, subst, ◌^◌, ◌<◌, ◌+◌}
+use Rattle.std.proofs.Common.{◌≡◌, inl, ℕ, Bool, true, false, List, [], ◌∷◌, Option, Ok, Err, Result, refl, sym, subst, ◌+◌}
 use Rattle.std.proofs.Common.{length, IfErr, OnOk, ◌*◌, arith}
 use Rattle.ferry_disk.specs.Act.{TellOf, History}
 use Rattle.ferry_disk.specs.Device.{Told}
@@ -68,18 +68,16 @@ telling_unbroken Carry.Memory telling = tt
 telling_unbroken Carry.Record telling = tt
 
 -- where no call of the target was made
-reports_none : (from : Origin) (store : Store) (carried : Carried) (a : Option Told) (n : ℕ) (x : Option (List ℕ)) → AcceptsMore store → carried.transferred <
-    2 ^ 64
-    → carried.present < 2 ^ 64 → carried.chunks < 2 ^ 64 → carried.bytes < 2 ^ 128 → carried.meta < 2 ^ 64
-    → Reports from [] (target_state a n store) (target_state a n store) carried carried (drawn_from x x) (Ok tt)
-reports_none from store carried a n x accepts transferred present chunks bytes meta = record {
+reports_none : (from : Origin) (store : Store) (carried : Carried) (a : Option Told) (n : ℕ) (x : Option (List ℕ)) → AcceptsMore store
+    → carried ≡ nothing_carried → Reports from [] (target_state a n store) (target_state a n store) carried carried (drawn_from x x) (Ok tt)
+reports_none from store carried a n x accepts uncounted = record {
   added = [];
   records = [];
   begins = all_nothing a from store [];
   works = works_none (KeepsReported from [] store []) (EndsNames {T = Unit {0}} from [] [] [] store store) a n tt
       (λ h. reported_here from [] store [] h accepts) (λ h. ((grows_here [] from store h, (refl, refl)), names_here (accepted_in store) h));
   accepts = accepts_none from store x;
-  counted = counts_none (accepted_in store) carried transferred present chunks bytes meta;
+  counted = subst (λ (count : Carried). CountsMore (accepted_in store) [] [] count count) (sym uncounted) (counts_none (accepted_in store));
   last = tt;
   held = tt;
   fills = tt;
@@ -87,13 +85,11 @@ reports_none from store carried a n x accepts transferred present chunks bytes m
 }
 
 -- and nothing was added
-pub reports_begin : (from : Origin) (store : Store) (carried : Carried) (a : Option Told) (n : ℕ) (x : Option (List ℕ)) → AcceptsMore store →
-    carried.transferred < 2 ^ 64
-    → carried.present < 2 ^ 64 → carried.chunks < 2 ^ 64 → carried.bytes < 2 ^ 128 → carried.meta < 2 ^ 64
+pub reports_begin : (from : Origin) (store : Store) (carried : Carried) (a : Option Told) (n : ℕ) (x : Option (List ℕ)) → AcceptsMore store
+    → carried ≡ nothing_carried
     → (p : Reports from [] (target_state a n store) (target_state a n store) carried carried (drawn_from x x) (Ok tt)) × Follows p.added store
 unfolding reports_none
-reports_begin from store carried a n x accepts transferred present chunks bytes meta =
-    (reports_none from store carried a n x accepts transferred present chunks bytes meta, inl refl)
+reports_begin from store carried a n x accepts uncounted = (reports_none from store carried a n x accepts uncounted, inl refl)
 
 pub reports_nothing : (from : Origin) (names : List (List ℕ)) (store : Store) (carried after : Carried) (a : Option Told) (n : ℕ) (x y : Option (List ℕ))
     (fault : CarryFault) → AcceptsMore store → target_failed fault ≡ false → IsNoChunk fault → (IsOfSource fault → ⊥) → (fault ≡ used_up → ⊥)

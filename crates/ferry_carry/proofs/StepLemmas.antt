@@ -173,8 +173,8 @@ spelling_begun told later source after keys copy next middle item copied content
 counts_as : (kind : Kind) (writer writer_now : PieceWriter) (more all : List Addition) → put_count kind all ≡ put_count kind more
     → put_bytes kind all ≡ put_bytes kind more → CountsOn kind writer more writer_now → CountsOn kind writer all writer_now
 counts_as kind writer writer_now more all puts bytes counts = record {
-  put = counts.put ∙ ap (λ (count : ℕ). min (writer.put + count) (2 ^ 64 - 1)) (sym puts);
-  bytes = counts.bytes ∙ ap (λ (count : ℕ). min (writer.bytes + count) (2 ^ 128 - 1)) (sym bytes);
+  put = λ range. counts.put range ∙ ap (λ (count : ℕ). min (writer.put + count) (2 ^ 64 - 1)) (sym puts);
+  bytes = λ range. counts.bytes range ∙ ap (λ (count : ℕ). min (writer.bytes + count) (2 ^ 128 - 1)) (sym bytes);
 }
 
 -- a step counts what was put of a content, and of the stream

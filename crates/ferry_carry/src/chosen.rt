@@ -2,7 +2,7 @@
 ghost use Rattle.std.specs.Prelude.{◌≡◌, ◌⊎◌, ◌++◌, ℕ, List, [], ◌∷◌, None, Some};
 ghost use Rattle.std.specs.Prelude.{Err, true, false, slice_get, IfErr, IfOk, IfSome, IsSome, MatchResult, OnOk};
 ghost use Rattle.ferry_carry.specs.Chosen.{IsMissingName, TellsLine};
-ghost use Rattle.ferry_carry.specs.Counting.{TellsNew};
+ghost use Rattle.ferry_carry.specs.Counting.{TellsNew, nothing_carried};
 ghost use Rattle.ferry_carry.specs.Flight.{AreRight, FlightFits, TakesAll, flown_from, origin_of, archive_adds};
 ghost use Rattle.ferry_carry.specs.Lines.{name_line, told_of};
 ghost use Rattle.ferry_carry.specs.Naming.{TaggedRecord, TagsDrawn};
@@ -104,7 +104,7 @@ struct Order<'a> {
 }
 
 impl Order<'_> {
-    /// Copies or compares the archives of these names, one after another.
+    /// Copies or compares the archives of these names, one after another, and counts them from none on.
     fn carry_all<S: Shelf, D: Depot, E: Entropy>(
         &self,
         source: &mut Repo,
@@ -117,6 +117,7 @@ impl Order<'_> {
         requires both { CanCarryFrom self.now.options.now.checkpoint (source_state (S.told shelf.old) (S.faults shelf.old) source.old)
             (target_state (D.told depot.old) (D.faults depot.old) store.old) }
         requires options { AreRight self.now.options.now }
+        requires uncounted { carried.old ≡ nothing_carried }
         ensures works { Reports (origin_of (S.told shelf.old) (repo_view source.old) self.now.options.now) self.now.names.now
             (target_state (D.told depot.old) (D.faults depot.old) store.old) (target_state (D.told depot.new) (D.faults depot.new) store.new) carried.old
             carried.new (drawn_from (E.drawn entropy.old) (E.drawn entropy.new)) result }
@@ -128,8 +129,6 @@ impl Order<'_> {
             (source_state (S.told shelf.new) (S.faults shelf.new) source.new) (target_state (D.told depot.old) (D.faults depot.old) store.old)
             (target_state (D.told depot.new) (D.faults depot.new) store.new) (E.faults entropy.old) (E.faults entropy.new) result }
     {
-        // A number that was read is known to be in its range.
-        let _meta = carried.meta;
         for place in 0..self.names.len() {
             let name = self.names[place].as_slice();
             let single = Single {

@@ -1,5 +1,5 @@
 //! An archive that the target lacks.
-ghost use Rattle.std.specs.Prelude.{◌≡◌, ◌≤◌, ◌<◌, ◌^◌, ◌-◌, ◌++◌, [], List, Some, None, Ok};
+ghost use Rattle.std.specs.Prelude.{◌≡◌, ◌≤◌, ◌^◌, ◌-◌, ◌++◌, [], List, Some, None, Ok};
 ghost use Rattle.std.specs.Prelude.{true, false, min, IfErr, IfOk, IfSome, MatchResult, OnOk, Option, ℕ};
 ghost use Rattle.ferry_disk.specs.Device.{told_files};
 ghost use Rattle.ferry_disk.specs.Files.{Files};
@@ -224,8 +224,6 @@ impl Copy {
             (source_state (S.told shelf.new) (S.faults shelf.new) source.new) (target_state (D.told depot.old) (D.faults depot.old) store.old)
             (target_state (D.told depot.new) (D.faults depot.new) store.new) result }
     {
-        // A number that was read is known to be in its range.
-        let _counted = self.contents.put();
         match chunks {
             Some(chunks) => {
                 let copied = self.copy_content(source, shelf, store, depot, chunks.as_slice())?;
@@ -298,8 +296,6 @@ impl Copy {
             (source_state (S.told shelf.new) (S.faults shelf.new) source.new) (target_state (D.told depot.old) (D.faults depot.old) store.old)
             (target_state (D.told depot.new) (D.faults depot.new) store.new) result }
     {
-        // A number that was read is known to be in its range.
-        let _counted = self.contents.put();
         for place in 0..chunks.len() {
             let later = &chunks[place..];
             self.write_content(source, shelf, store, depot, &chunks[place], later)?;

@@ -1,13 +1,12 @@
 -- Lemmas on specs/Fields.antt: records and items of these fields can be packed.
-use Rattle.std.proofs.Common.{◌≡◌, ◌≤◌, ◌<◌, ◌^◌, ℕ, List, [], ◌∷◌, length, codes, false, true, None, Some, pos, refl, sym, subst, arith, rules}
+use Rattle.std.proofs.Common.{◌≡◌, ◌≤◌, ℕ, List, length, false, true, None, Some, refl, sym, subst, arith, rules}
 use Rattle.std.specs.List.{AllByRecursion}
 use Rattle.ferry_base.specs.Limits.{content_limit}
 use Rattle.ferry_fields.specs.Fields.{value_of}
 use Rattle.ferry_fields.specs.Others.{has_among}
-use Rattle.ferry_item.specs.Item.{ItemText, is_healed}
+use Rattle.ferry_item.specs.Item.{is_healed}
 use Rattle.ferry_item.specs.Writing.{IsPackable, field_pairs}
 use Rattle.ferry_item.specs.declared.item.ChunkRef.{ChunkRef}
-use Rattle.ferry_manifest.specs.Record.Text.{ArchiveText}
 use Rattle.ferry_manifest.specs.Record.Writing.{IsPackableArchive}
 use Rattle.ferry_msgpack.specs.Tree.{Tree}
 use Rattle.ferry_msgpack.specs.Writable.{IsWritable}

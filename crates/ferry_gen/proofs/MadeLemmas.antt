@@ -1,5 +1,5 @@
 -- Lemmas on specs/Steps.antt: the archives that are there, from a new repository on, and what the files say behind them.
-use Rattle.std.proofs.Common.{◌≡◌, ◌≢◌, ◌⊎◌, inl, inr, ◌<◌, ◌+◌, ◌-◌, ℕ, suc, false, List, [], ◌∷◌, ◌++◌}
+use Rattle.std.proofs.Common.{◌≡◌, ◌≢◌, ◌⊎◌, inl, inr, ◌<◌, ◌+◌, ℕ, suc, false, List, [], ◌∷◌, ◌++◌}
 use Rattle.std.proofs.Common.{length, Option, Some, None}
 use Rattle.std.proofs.Common.{IfSome, IsSome, refl, sym, ◌∙◌, ap, subst, arith, length-append}
 use Rattle.ferry_base.specs.Limits.{zero_id}

@@ -1,7 +1,7 @@
 -- The drill's source, and why it isn't made.
-use Rattle.std.specs.Prelude.{◌≡◌, ◌⊎◌, ℕ, codes, [], ◌∷◌, List, Option, Some, IfSome, None}
+use Rattle.std.specs.Prelude.{◌≡◌, ◌⊎◌, ℕ, codes, [], ◌∷◌, List, Option, Some, None}
 use Rattle.ferry_disk.specs.Act.{History}
-use Rattle.ferry_disk.specs.Device.{Told, told_files}
+use Rattle.ferry_disk.specs.Device.{Told}
 use Rattle.ferry_disk.specs.Files.{Files, file_at}
 use Rattle.ferry_disk.specs.declared.name.Name.{Name}
 use Rattle.ferry_manifest.specs.Manifest.Text.{ManifestText}

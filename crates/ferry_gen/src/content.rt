@@ -1,7 +1,7 @@
 //! The names and the contents of the drill's archives.
 ghost use Rattle.std.specs.Prelude.{◌≡◌, ◌<◌, IfOk};
 ghost use Rattle.ferry_gen.specs.Content.{archive_name, archive_time, block_number, digit, file_byte, file_content, file_front, file_path};
-ghost use Rattle.ferry_gen.specs.Content.{file_size, number_byte};
+ghost use Rattle.ferry_gen.specs.Content.{number_byte};
 
 use std::alloc::{AllocError, Global};
 

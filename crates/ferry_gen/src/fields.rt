@@ -1,5 +1,5 @@
 //! The records and the items of the drill's archives.
-ghost use Rattle.std.specs.Prelude.{◌≡◌, ◌<◌, IfOk};
+ghost use Rattle.std.specs.Prelude.{◌≡◌, IfOk};
 ghost use Rattle.ferry_manifest.specs.Record.Text.{archive_view};
 ghost use Rattle.ferry_manifest.specs.Record.Writing.{IsPackableArchive};
 ghost use Rattle.ferry_msgpack.specs.View.{value_view};

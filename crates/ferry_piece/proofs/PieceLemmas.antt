@@ -1,6 +1,6 @@
 -- Lemmas on specs/Piece.antt: a writer of pieces from round to round, and what its last piece is.
 use Rattle.std.proofs.Common.{◌≡◌, ◌≤◌, ◌<◌, ◌+◌, ◌-◌, ◌^◌, ℕ, inl, inr, Bool, true, false, if◌then◌else◌, List, [], ◌∷◌, ◌++◌}
-use Rattle.std.proofs.Common.{Option, Some, None, IsSome, is_some, Result, Ok, Err, IfErr, OnOk}
+use Rattle.std.proofs.Common.{Option, Some, None, IsSome, is_some, Result, Ok, Err, OnOk}
 use Rattle.std.proofs.Common.{length, min, take, drop, refl, sym, ◌∙◌, ap, subst, arith}
 use Rattle.std.proofs.lemmas.Bool.{cases_lt}
 use Rattle.std.proofs.lemmas.List.{append-nil, append_assoc, drop_all, length-append, length-take, map-append}
@@ -166,16 +166,19 @@ begins_nothing cutter bytes =
 
 -- ---- how much was put
 
-pub counts_none : (kind : Kind) (writer : PieceWriter) (put bytes : ℕ) → (put ≡ writer.put) × (bytes ≡ writer.bytes) × (put < 2 ^ 64) × (bytes < 2 ^ 128)
-    → CountsOn kind writer [] writer
+pub counts_none : (kind : Kind) (writer : PieceWriter) → CountsOn kind writer [] writer
 unfolding put_count put_bytes
-counts_none kind writer put bytes read = record { put = omega (arith, read.0, read.2); bytes = omega (arith, read.1, read.3) }
+counts_none kind writer = record { put = λ range. omega (arith, range); bytes = λ range. omega (arith, range) }
 
 pub counts_then : (kind : Kind) (writer middle now : PieceWriter) (some more : List Addition) → CountsOn kind writer some middle
     → CountsOn kind middle more now → CountsOn kind writer (some ++ more) now
 counts_then kind writer middle now some more p q = record {
-  put = omega (arith, p.put, q.put, count_append kind some more);
-  bytes = omega (arith, p.bytes, q.bytes, bytes_append kind some more);
+  put = λ range.
+      let so : middle.put ≡ min (writer.put + put_count kind some) (2 ^ 64 - 1) = p.put range in
+      omega (arith, so, q.put (omega (arith, so)), count_append kind some more);
+  bytes = λ range.
+      let so : middle.bytes ≡ min (writer.bytes + put_bytes kind some) (2 ^ 128 - 1) = p.bytes range in
+      omega (arith, so, q.bytes (omega (arith, so)), bytes_append kind some more);
 }
 
 -- one that is put counts as one
@@ -197,8 +200,8 @@ pub counts_one : (kind : Kind) (writer now : PieceWriter) (content : List ℕ) (
     → now.put ≡ min (writer.put + (if put then 1 else 0)) (2 ^ 64 - 1) → now.bytes ≡ min (writer.bytes + (if put then size else 0)) (2 ^ 128 - 1)
     → CountsOn kind writer (addition kind content put ∷ []) now
 counts_one kind writer now content put size is counted counted_bytes = record {
-  put = counted ∙ ap (λ (n : ℕ). min (writer.put + n) (2 ^ 64 - 1)) (sym (count_one kind content put));
-  bytes = counted_bytes ∙ (ap (λ (n : ℕ). min (writer.bytes + (if put then n else 0)) (2 ^ 128 - 1)) (sym is)
+  put = λ range. counted ∙ ap (λ (n : ℕ). min (writer.put + n) (2 ^ 64 - 1)) (sym (count_one kind content put));
+  bytes = λ range. counted_bytes ∙ (ap (λ (n : ℕ). min (writer.bytes + (if put then n else 0)) (2 ^ 128 - 1)) (sym is)
       ∙ ap (λ (n : ℕ). min (writer.bytes + n) (2 ^ 128 - 1)) (sym (bytes_one kind content put)));
 }
 
@@ -206,8 +209,10 @@ counts_one kind writer now content put size is counted counted_bytes = record {
 pub counts_by : (kind : Kind) (writer other now last : PieceWriter) (more : List Addition) → other.put ≡ writer.put → other.bytes ≡ writer.bytes
     → last.put ≡ now.put → last.bytes ≡ now.bytes → CountsOn kind writer more now → CountsOn kind other more last
 counts_by kind writer other now last more put bytes put_now bytes_now p = record {
-  put = put_now ∙ (p.put ∙ ap (λ (n : ℕ). min (n + put_count kind more) (2 ^ 64 - 1)) (sym put));
-  bytes = bytes_now ∙ (p.bytes ∙ ap (λ (n : ℕ). min (n + put_bytes kind more) (2 ^ 128 - 1)) (sym bytes));
+  put = λ range. put_now ∙ (p.put (subst (λ (n : ℕ). n < 2 ^ 64) put range)
+      ∙ ap (λ (n : ℕ). min (n + put_count kind more) (2 ^ 64 - 1)) (sym put));
+  bytes = λ range. bytes_now ∙ (p.bytes (subst (λ (n : ℕ). n < 2 ^ 128) bytes range)
+      ∙ ap (λ (n : ℕ). min (n + put_bytes kind more) (2 ^ 128 - 1)) (sym bytes));
 }
 
 -- ---- a checkpoint before a piece

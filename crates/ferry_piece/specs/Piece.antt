@@ -31,10 +31,10 @@ pub record AreFullOf (block : ℕ) (content : List ℕ) (full : List (List ℕ))
 abbrev pub BeginsOn : Cutting → List ℕ → List (List ℕ) → Type 0
 BeginsOn cutter bytes full = AreFullOf cutter.block (cutter.piece ++ bytes) full
 
--- A writer has counted what was put of these, up to the greatest numbers.
+-- A writer whose counts are in their range has counted what was put of these, up to the greatest numbers.
 pub record CountsOn (kind : Kind) (writer : PieceWriter) (more : List Addition) (writer_now : PieceWriter) : Type 0 where
-  pub put : writer_now.put ≡ min (writer.put + put_count kind more) (2 ^ 64 - 1)
-  pub bytes : writer_now.bytes ≡ min (writer.bytes + put_bytes kind more) (2 ^ 128 - 1)
+  pub put : writer.put < 2 ^ 64 → writer_now.put ≡ min (writer.put + put_count kind more) (2 ^ 64 - 1)
+  pub bytes : writer.bytes < 2 ^ 128 → writer_now.bytes ≡ min (writer.bytes + put_bytes kind more) (2 ^ 128 - 1)
 
 -- Where a content of a kind would be put, fewer are pending than there is room for.
 pub record HasRoom (most : ℕ) (kind : Kind) (content : List ℕ) (store : Store) : Type 0 where

@@ -234,8 +234,6 @@ impl PieceWriter {
         ensures target { IfErr result (λ fault. is_target fault ≡ true) }
         ensures drawn { IfErr result (λ fault. random_failed fault ≡ false) }
     {
-        // A number that was read is known to be in its range.
-        let _counted = self.put();
         let mut rest = bytes;
         loop {
             let taken = self.cutter.feed(rest);
@@ -307,8 +305,6 @@ impl PieceWriter {
         ensures target { IfErr result (λ fault. is_target fault ≡ true) }
         ensures drawn { IfErr result (λ fault. random_failed fault ≡ false) }
     {
-        // A number that was read is known to be in its range.
-        let _counted = self.put();
         if self.cutter.last().is_none() {
             return Ok(());
         }

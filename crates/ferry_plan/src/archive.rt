@@ -1,5 +1,5 @@
 //! An archive that the target lacks.
-ghost use Rattle.std.specs.Prelude.{◌≡◌, ◌<◌, [], List, false, length, IfErr, IfOk, IfSome, IsSome, OnOk};
+ghost use Rattle.std.specs.Prelude.{◌≡◌, [], List, false, IfErr, IfSome, IsSome, OnOk};
 ghost use Rattle.ferry_carry.specs.Copied.{stream_block};
 ghost use Rattle.ferry_carry.specs.Listing.{FillsOn};
 ghost use Rattle.ferry_piece.specs.Puts.{Addition, ArePieces, Stream};

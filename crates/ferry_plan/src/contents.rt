@@ -1,5 +1,5 @@
 //! The content of an item, cut into pieces that are counted.
-ghost use Rattle.std.specs.Prelude.{◌≡◌, ◌≤◌, ◌<◌, ◌^◌, ◌-◌, [], List, Some, None, false, length, min, IfErr, IfOk, IfSome, OnOk};
+ghost use Rattle.std.specs.Prelude.{◌≡◌, ◌≤◌, ◌<◌, ◌^◌, ◌-◌, List, Some, None, false, length, min, IfErr, IfOk, IfSome, OnOk};
 ghost use Rattle.ferry_carry.specs.Copying.{CopiesContent, WritesContent, WritesContents, writer_state};
 ghost use Rattle.ferry_piece.specs.Puts.{Addition, AreOf, Content, contents_in};
 ghost use Rattle.ferry_carry.specs.Refusals.{IsTooLong, total_size};

@@ -1,5 +1,5 @@
 //! An archive that the target has.
-ghost use Rattle.std.specs.Prelude.{◌≡◌, ◌⊎◌, ◌↔◌, List, ℕ, Ok, true, false, IfErr, IfOk, IfSome, IsSome, IsTrue, OnOk};
+ghost use Rattle.std.specs.Prelude.{◌≡◌, ◌⊎◌, ◌↔◌, ℕ, Ok, true, false, IfErr, IfOk, IfSome, IsSome, IsTrue, OnOk};
 ghost use Rattle.ferry_piece.specs.Gather.{IsAmong};
 ghost use Rattle.ferry_compare.specs.Compare.{AreEqual, Differ, FitsTold, comparison_view};
 ghost use Rattle.ferry_compare.specs.Fault.{RefusesTarget, source_failed, target_failed as other_failed};

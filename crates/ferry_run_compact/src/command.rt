@@ -6,7 +6,7 @@ ghost use Rattle.ferry_config.specs.declared.config.Config.{Config};
 ghost use Rattle.ferry_disk.specs.Act.{TellOf, with_act};
 ghost use Rattle.ferry_disk.specs.Device.{HasCause, KeepsTold, RoseWhere, told_files};
 ghost use Rattle.ferry_disk.specs.Faults.{FailedWhere};
-ghost use Rattle.ferry_disk.specs.Files.{Files, contents_at};
+ghost use Rattle.ferry_disk.specs.Files.{contents_at};
 ghost use Rattle.ferry_disk.specs.Moments.{Between};
 ghost use Rattle.ferry_disk.specs.declared.name.Name.TheVariants as FileName;
 ghost use Rattle.ferry_log.specs.State.{IsStateOf};

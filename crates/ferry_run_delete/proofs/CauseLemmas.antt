@@ -1,7 +1,7 @@
 -- Lemmas on specs/Delete.antt: why an archive isn't deleted, and that it is where nothing refuses.
-use Rattle.std.proofs.Common.{◌≡◌, ◌⊎◌, inl, inr, ℕ, true, false, List, [], length, Option, Some, None, IfSome, IsSome, refl, sym, ◌∙◌, subst}
+use Rattle.std.proofs.Common.{◌≡◌, ◌⊎◌, inl, inr, ℕ, true, false, List, [], Option, Some, None, IfSome, IsSome, refl, sym, ◌∙◌, subst}
 use Rattle.ferry_check.specs.Verify.{IsNamed}
-use Rattle.ferry_disk.specs.Act.{History, files_now}
+use Rattle.ferry_disk.specs.Act.{files_now}
 use Rattle.ferry_disk.specs.Device.{Told, told_files}
 use Rattle.ferry_disk.specs.Files.{Files}
 use Rattle.ferry_disk.specs.Moments.{Between}
@@ -15,7 +15,6 @@ use Rattle.ferry_refs.proofs.SameLemmas.{delete_refused_same}
 use Rattle.ferry_refs.specs.Deleting.{RefusesDelete, time_of}
 use Rattle.ferry_refs.specs.Refs.{RefusesRefs}
 use Rattle.ferry_repo.proofs.LawLemmas.{one_repo, repo_apart}
-use Rattle.ferry_repo.specs.Archives.{archive_named}
 use Rattle.ferry_repo.specs.Fault.{IsOfFiles}
 use Rattle.ferry_repo.specs.Opening.{OpensFilesTo, RefusesRepo, RepoState, repo_view}
 use Rattle.ferry_repo.specs.declared.fault.RepoFault.{RepoFault}
@@ -24,7 +23,7 @@ use Rattle.ferry_run_delete.proofs.ShowLemmas.{lie_before}
 use Rattle.ferry_run_delete.specs.Delete.{DeletesDone, Deletion, IsDeletedUnless, IsDeletionRefused, IsReadyToDelete, RefusesDeletion, RefusesOpened}
 use Rattle.ferry_run_delete.specs.Delete.{RefusesStore}
 use Rattle.ferry_run_delete.specs.Steps.{GoesAway}
-use Rattle.ferry_status.specs.Status.{carry_status, store_status, target_status}
+use Rattle.ferry_status.specs.Status.{carry_status, target_status}
 use Rattle.ferry_status.specs.Telling.{RefusesTelling}
 use Rattle.ferry_status.specs.declared.status.Status.{Status}
 use Rattle.ferry_status.specs.declared.status.Status.TheVariants as Statuses

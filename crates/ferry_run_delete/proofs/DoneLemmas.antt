@@ -1,7 +1,6 @@
 -- Lemmas on specs/Delete.antt: a run that memory refused before it began.
-use Rattle.std.proofs.Common.{◌≡◌, inr, inl, true, false, Option, Some, None, refl}
+use Rattle.std.proofs.Common.{inr, inl, Option, Some, None, refl}
 use Rattle.ferry_disk.specs.Device.{Told}
-use Rattle.ferry_disk.specs.Moments.{Between}
 use Rattle.ferry_piece.specs.declared.fault.CarryFault.TheVariants as Carry
 use Rattle.ferry_status.proofs.OpenedLemmas.{shut_here}
 use Rattle.ferry_run_delete.proofs.CauseLemmas.{deletes_done}

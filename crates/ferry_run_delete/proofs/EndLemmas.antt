@@ -1,5 +1,5 @@
 -- Lemmas on specs/Delete.antt: what is there where an archive was deleted, and that it was told.
-use Rattle.std.proofs.Common.{◌≡◌, ◌⊎◌, inl, inr, ℕ, Bool, true, false, List, [], ◌∷◌, ◌++◌, length, Option, Some, None, is_some, Result, Ok, Err}
+use Rattle.std.proofs.Common.{◌≡◌, ◌⊎◌, inl, inr, ℕ, Bool, true, false, List, [], ◌∷◌, ◌++◌, Option, Some, None, is_some, Result, Ok, Err}
 use Rattle.std.proofs.Common.{IfSome, OnOk, refl, sym, ◌∙◌, ap, subst}
 use Rattle.ferry_check.specs.Verify.{IsNamed}
 use Rattle.ferry_disk.proofs.MomentLemmas.{between_both, between_map, between_then}
@@ -7,7 +7,6 @@ use Rattle.ferry_disk.specs.Act.{TellOf, History, files_now, with_act}
 use Rattle.ferry_disk.specs.Device.{RoseWhere, Told, told_files}
 use Rattle.ferry_disk.specs.Faults.{FailedWhere}
 use Rattle.ferry_disk.specs.Files.{Files}
-use Rattle.ferry_disk.specs.Image.{settled}
 use Rattle.ferry_disk.specs.Moments.{Between}
 use Rattle.ferry_piece.proofs.FaultLemmas.{failed_target}
 use Rattle.ferry_piece.proofs.WorkLemmas.{works_both, works_err, works_ok, works_then}
@@ -17,15 +16,14 @@ use Rattle.ferry_piece.specs.declared.fault.CarryFault.{CarryFault}
 use Rattle.ferry_piece.specs.declared.fault.CarryFault.TheVariants as Carry
 use Rattle.ferry_refs.proofs.DeletedLemmas.{deleted_keeps}
 use Rattle.ferry_refs.proofs.SameLemmas.{going_same}
-use Rattle.ferry_refs.specs.Deleting.{AreGoing, Deletes, DeletesSound, LeavesCommitted, ShowsDeleted, next_without, time_of, with_deleted}
+use Rattle.ferry_refs.specs.Deleting.{Deletes, DeletesSound, LeavesCommitted, ShowsDeleted, next_without, time_of, with_deleted}
 use Rattle.ferry_manifest.specs.declared.manifest.ArchiveRef.{ArchiveRef}
 use Rattle.ferry_repo.specs.Archives.{archive_named}
 use Rattle.ferry_repo.specs.Opening.{OpensFilesTo, RepoState, repo_view}
 use Rattle.ferry_run_delete.proofs.ShowLemmas.{LeavesEach, all_left, each_deleted, each_opened, each_told, leaves_each, lie_before, lie_behind}
 use Rattle.ferry_run_delete.proofs.ShowLemmas.{standing_now}
 use Rattle.ferry_run_delete.specs.Delete.{DeleteEach, DeleteEnds, Deletion, LeavesAll, LeavesOthers, deleted_line}
-use Rattle.ferry_run_delete.specs.Steps.{GoesAway, HasGone}
-use Rattle.ferry_segment.specs.Entry.{LogEntry}
+use Rattle.ferry_run_delete.specs.Steps.{GoesAway}
 use Rattle.ferry_status.proofs.TellLemmas.{settled_some, tells_same}
 use Rattle.ferry_stops.proofs.TellLemmas.{line_told}
 use Rattle.ferry_stops.specs.Tells.{TellsNothing, lines_of}

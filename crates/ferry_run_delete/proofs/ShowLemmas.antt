@@ -1,5 +1,5 @@
 -- Lemmas on specs/Delete.antt: what each stop leaves while an archive is deleted, and while that is told.
-use Rattle.std.proofs.Common.{◌≡◌, ◌≢◌, ◌⊎◌, inl, inr, ℕ, suc, Bool, true, false, List, [], ◌∷◌, ◌++◌, Option, Some, None, map, refl, sym, ◌∙◌, ap, subst}
+use Rattle.std.proofs.Common.{◌≡◌, inl, inr, ℕ, suc, Bool, true, false, List, [], Some, map, refl, sym, ◌∙◌, ap, subst}
 use Rattle.std.proofs.lemmas.List.{append-nil}
 use Rattle.ferry_disk.proofs.ImageLemmas.{plain_read}
 use Rattle.ferry_disk.specs.Act.{TellOf, History, files_now}
@@ -13,7 +13,6 @@ use Rattle.ferry_refs.proofs.DeletedLemmas.{either_keeps, standing_keeps}
 use Rattle.ferry_refs.proofs.SameLemmas.{LieIn, going_same}
 use Rattle.ferry_refs.specs.Deleting.{DeletesSound, LeavesCommitted, ShowsDeleted, ShowsEither, time_of}
 use Rattle.ferry_repo.proofs.LawLemmas.{one_repo}
-use Rattle.ferry_repo.specs.Objects.{HasBlob}
 use Rattle.ferry_repo.specs.Opening.{OpensFilesTo, RepoState, repo_view}
 use Rattle.ferry_run_delete.specs.Delete.{DeleteEach, DeleteLeaves, Deletion, LeavesAll, LeavesOthers}
 use Rattle.ferry_segment.specs.Entry.{LogEntry}

@@ -2,10 +2,9 @@
 ghost use Rattle.std.specs.Prelude.{◌≡◌, ◌≤◌, [], false, IfErr, IfOk, IfSome, OnOk};
 ghost use Rattle.ferry_disk.specs.Act.{files_now};
 ghost use Rattle.ferry_disk.specs.Device.{HasCause, told_files};
-ghost use Rattle.ferry_disk.specs.Faults.{EndsAtFault};
 ghost use Rattle.ferry_disk.specs.Moments.{Between};
 ghost use Rattle.ferry_gen.specs.Source.{HasPlain, IsSource, source_secret};
-ghost use Rattle.ferry_piece.specs.Fault.{random_failed, shelf_failed, target_failed};
+ghost use Rattle.ferry_piece.specs.Fault.{random_failed, shelf_failed};
 ghost use Rattle.ferry_piece.specs.Work.{Works};
 ghost use Rattle.ferry_repo.specs.Opening.{FitsRepo, OpensFilesTo, RepoState, cached_in, repo_view};
 ghost use Rattle.ferry_run_drill.specs.Complete.{EndsCopy, EndsFrom};

@@ -1,7 +1,7 @@
 //! The command that restores an archive.
 ghost use Rattle.std.specs.Prelude.{◌≡◌, ◌⊎◌, ℕ, map, string_bytes, IfErr, IfOk, IfSome, MatchResult, OnErr};
 ghost use Rattle.ferry_disk.specs.Device.{HasCause, KeepsTold, KeptWhere, RoseWhere, heard, told_files};
-ghost use Rattle.ferry_repo.specs.Opening.{FitsRepo, OpensFilesTo, cached_in, repo_view};
+ghost use Rattle.ferry_repo.specs.Opening.{FitsRepo, cached_in, repo_view};
 ghost use Rattle.ferry_run_restore.specs.Restored.{counts_line, source_failed, tree_failed};
 ghost use Rattle.ferry_run_restore.specs.Restoring.{Answers, DoesWords, IsStatusOf, Leaves, RefusesOpened, RefusesRestoring, Restores, Runs, Sends};
 ghost use Rattle.ferry_status.specs.Devices.{written};

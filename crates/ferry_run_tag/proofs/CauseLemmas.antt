@@ -1,6 +1,6 @@
 -- Lemmas on specs/Tag.antt: why archives aren't tagged, and that they are where nothing refuses.
-use Rattle.std.proofs.Common.{◌≡◌, ◌⊎◌, inl, inr, ℕ, true, false, List, [], length, Option, Some, None, IfSome, IsSome, refl, sym, ◌∙◌, subst}
-use Rattle.ferry_disk.specs.Act.{History, files_now}
+use Rattle.std.proofs.Common.{◌≡◌, ◌⊎◌, inl, inr, ℕ, true, false, List, [], Option, Some, None, IfSome, refl, sym, ◌∙◌, subst}
+use Rattle.ferry_disk.specs.Act.{files_now}
 use Rattle.ferry_disk.specs.Device.{Told, told_files}
 use Rattle.ferry_disk.specs.Files.{Files}
 use Rattle.ferry_disk.specs.Moments.{Between}
@@ -22,7 +22,7 @@ use Rattle.ferry_run_tag.proofs.ShowLemmas.{lie_before}
 use Rattle.ferry_run_tag.specs.Tag.{TagsDone, Tagging, IsTaggedUnless, IsTaggingRefused, IsReadyToTag, RefusesTags, RefusesOpened}
 use Rattle.ferry_run_tag.specs.Tag.{RefusesStore}
 use Rattle.ferry_run_tag.specs.Steps.{GetsTags}
-use Rattle.ferry_status.specs.Status.{carry_status, store_status, target_status}
+use Rattle.ferry_status.specs.Status.{carry_status, target_status}
 use Rattle.ferry_status.specs.Telling.{RefusesTelling}
 use Rattle.ferry_status.specs.declared.status.Status.{Status}
 use Rattle.ferry_status.specs.declared.status.Status.TheVariants as Statuses

@@ -1,6 +1,6 @@
 -- Lemmas on specs/Tag.antt: what is there where archives were tagged, and that it was told.
-use Rattle.std.proofs.Common.{◌≡◌, ◌⊎◌, inl, inr, ℕ, Bool, true, false, List, [], ◌∷◌, ◌++◌, length, Option, Some, None, is_some, Result, Ok, Err}
-use Rattle.std.proofs.Common.{IfSome, OnOk, refl, sym, ◌∙◌, ap, subst}
+use Rattle.std.proofs.Common.{◌≡◌, inl, inr, ℕ, Bool, true, false, List, [], ◌∷◌, ◌++◌, Option, Some, Result, Ok, Err}
+use Rattle.std.proofs.Common.{IfSome, refl, sym, ◌∙◌, ap, subst}
 use Rattle.ferry_disk.proofs.MomentLemmas.{between_both, between_map, between_then}
 use Rattle.ferry_disk.specs.Act.{TellOf, History, files_now, with_act}
 use Rattle.ferry_disk.specs.Device.{RoseWhere, Told, told_files}
@@ -21,12 +21,11 @@ use Rattle.ferry_refs.proofs.NeedlessLemmas.{needless_left}
 use Rattle.ferry_refs.proofs.TaggedLemmas.{standing_left, tagged_left}
 use Rattle.ferry_refs.specs.Deleting.{LeavesCommitted, time_of, with_deleted}
 use Rattle.ferry_refs.specs.Tagging.{BringsTexts, HasTagged, KeepsArchives, NeedsNoTag, ShowsTagged, Tags, TagsSound, next_tagged, with_puts}
-use Rattle.ferry_repo.specs.Opening.{OpensFilesTo, RepoState, repo_view}
+use Rattle.ferry_repo.specs.Opening.{OpensFilesTo, repo_view}
 use Rattle.ferry_run_tag.proofs.ShowLemmas.{LeavesEach, all_left, each_tagged, each_opened, each_told, leaves_each, lie_before, lie_behind}
 use Rattle.ferry_run_tag.proofs.ShowLemmas.{standing_now}
 use Rattle.ferry_run_tag.specs.Tag.{TagEach, TagEnds, Tagging, LeavesAll, tagged_line}
 use Rattle.ferry_run_tag.specs.Steps.{GetsTags, HasTags}
-use Rattle.ferry_segment.specs.Entry.{LogEntry}
 use Rattle.ferry_status.proofs.TellLemmas.{settled_some, tells_same}
 use Rattle.ferry_stops.proofs.TellLemmas.{line_told}
 use Rattle.ferry_stops.specs.Tells.{TellsNothing, lines_of}

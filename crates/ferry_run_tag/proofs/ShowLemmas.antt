@@ -1,5 +1,5 @@
 -- Lemmas on specs/Tag.antt: what each stop leaves while archives are tagged, and while that is told.
-use Rattle.std.proofs.Common.{◌≡◌, ◌≢◌, ◌⊎◌, inl, inr, ℕ, suc, Bool, true, false, List, [], ◌∷◌, ◌++◌, Option, Some, None, map, refl, sym, ◌∙◌, ap, subst}
+use Rattle.std.proofs.Common.{◌≡◌, inl, inr, ℕ, suc, Bool, true, false, List, [], Some, map, refl, sym, ◌∙◌, ap, subst}
 use Rattle.std.proofs.lemmas.List.{append-nil}
 use Rattle.ferry_disk.proofs.ImageLemmas.{plain_read}
 use Rattle.ferry_disk.specs.Act.{TellOf, History, files_now}
@@ -15,7 +15,6 @@ use Rattle.ferry_refs.proofs.TaggedLemmas.{renewed_left, standing_left}
 use Rattle.ferry_refs.specs.Deleting.{LeavesCommitted, time_of}
 use Rattle.ferry_refs.specs.Tagging.{KeepsArchives, ShowsRenewed, ShowsTagged, TagsSound}
 use Rattle.ferry_repo.proofs.LawLemmas.{one_repo}
-use Rattle.ferry_repo.specs.Objects.{HasBlob}
 use Rattle.ferry_repo.specs.Opening.{OpensFilesTo, RepoState, repo_view}
 use Rattle.ferry_run_tag.specs.Tag.{KeepsEach, LeavesAll, TagEach, TagLeaves, Tagging}
 use Rattle.ferry_segment.specs.Entry.{LogEntry}

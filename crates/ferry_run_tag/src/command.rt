@@ -1,6 +1,6 @@
 //! The command that tags archives.
 ghost use Rattle.std.specs.Option.{option_copied};
-ghost use Rattle.std.specs.Prelude.{◌≡◌, ◌⊎◌, ℕ, List, [], false, true, IfErr, IfOk, IfSome};
+ghost use Rattle.std.specs.Prelude.{◌≡◌, ◌⊎◌, ℕ, [], false, true, IfErr, IfOk, IfSome};
 ghost use Rattle.ferry_piece.specs.Fault.{IsOfWork, random_failed, shelf_failed};
 ghost use Rattle.ferry_piece.specs.Work.{Works};
 ghost use Rattle.ferry_disk.specs.Act.{TellOf, with_act};

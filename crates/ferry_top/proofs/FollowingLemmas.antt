@@ -1,6 +1,6 @@
 -- Lemmas on specs/Following.antt: what a run leaves is what a run may begin with.
-use Rattle.std.proofs.Common.{◌≡◌, ◌⊎◌, inl, inr, ℕ, ◌+◌, ◌-◌, ◌<◌, ◌≤◌, ◌/◌, Bool, true, false, cond, nat_lt, List, [], ◌∷◌, ◌++◌, length, map}
-use Rattle.std.proofs.Common.{Option, Some, None, Ok, if◌then◌else◌, refl, sym, ◌∙◌, ap, subst, arith, append-nil}
+use Rattle.std.proofs.Common.{◌≡◌, ◌⊎◌, inl, inr, ℕ, ◌<◌, ◌≤◌, Bool, true, false, cond, List, [], ◌∷◌, length}
+use Rattle.std.proofs.Common.{Option, Some, None, Ok, refl, sym, ◌∙◌, ap, subst, arith}
 use Rattle.std.proofs.lemmas.Bool.{le-ltb}
 use Rattle.std.specs.List.{AllByRecursion}
 use Rattle.ferry_base.specs.Limits.{zero_id}
@@ -8,14 +8,13 @@ use Rattle.ferry_blob.specs.Blob.{IsBlockOf, block_count, nonce_of}
 use Rattle.ferry_compact.proofs.LastLemmas.{blob_after, live_after, live_step}
 use Rattle.ferry_compact.proofs.LiesLemmas.{entries_in}
 use Rattle.ferry_compact.proofs.RunLemmas.{files_begun, log_blob}
-use Rattle.ferry_compact.specs.Compact.{ShowsLive}
 use Rattle.ferry_compact.specs.Steps.{IsPutAmong}
-use Rattle.ferry_disk.proofs.MomentLemmas.{all_moments, did_all, ending, steps_end, steps_end_undone, with_acts}
-use Rattle.ferry_disk.specs.Act.{Act, History, Step, after_run, after_stop, files_now, with_act}
+use Rattle.ferry_disk.proofs.MomentLemmas.{all_moments}
+use Rattle.ferry_disk.specs.Act.{History, after_stop, files_now}
 use Rattle.ferry_disk.specs.Device.{Told}
 use Rattle.ferry_disk.specs.Files.{Files}
 use Rattle.ferry_disk.specs.Image.{settled}
-use Rattle.ferry_disk.specs.Moments.{Between, IsMoment, Moments, with_steps}
+use Rattle.ferry_disk.specs.Moments.{Between, Moments}
 use Rattle.ferry_log.proofs.LawLemmas.{one_log, uncommitted_apart}
 use Rattle.ferry_log.proofs.PlacesLemmas.{state_of_log}
 use Rattle.ferry_log.specs.Live.{live_blob, names_key, put_blob}
@@ -34,7 +33,7 @@ use Rattle.ferry_status.proofs.LeftLemmas.{now_left}
 use Rattle.ferry_status.specs.Devices.{Devices}
 use Rattle.ferry_status.specs.declared.status.Secrets.{Secrets}
 use Rattle.ferry_status.specs.declared.status.Status.{Status}
-use Rattle.ferry_stops.proofs.BlobLemmas.{begin_traced, stop_blob}
+use Rattle.ferry_stops.proofs.BlobLemmas.{stop_blob}
 use Rattle.ferry_stops.proofs.KeptLemmas.{stop_kept}
 use Rattle.ferry_stops.specs.Blobs.{AllTraced, BlobOf}
 use Rattle.ferry_stops.specs.Chance.{EachStop, IsLeft}

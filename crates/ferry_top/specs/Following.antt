@@ -1,6 +1,5 @@
 -- Runs of the commands that write a target, one behind the other: each begins with what the one before left, where it ended and where it was stopped.
-use Rattle.std.specs.Prelude.{◌≡◌, ℕ, List, [], ◌∷◌, Option, Some, Ok}
-use Rattle.std.specs.List.{AllByRecursion}
+use Rattle.std.specs.Prelude.{◌≡◌, ℕ, List, [], ◌∷◌, Some, Ok}
 use Rattle.ferry_disk.specs.Act.{History, after_run, after_stop, files_now}
 use Rattle.ferry_disk.specs.Device.{Told}
 use Rattle.ferry_disk.specs.Files.{Files}

@@ -1,4 +1,4 @@
-use Rattle.std.proofs.Common.{◌≡◌, ◌≤◌, Vec, Global, refl, arith}
+use Rattle.std.proofs.Common.{Vec, Global, refl, arith}
 use Rattle.ferry_gen.proofs.PutLemmas.{puts_adds}
 use Rattle.ferry_gen.proofs.put.finish_pieces.Goals as goal
 use Rattle.ferry_item.specs.declared.item.ChunkRef.{ChunkRef}

@@ -1,4 +1,4 @@
-use Rattle.std.proofs.Common.{◌≡◌, refl, ◌∙◌}
+use Rattle.std.proofs.Common.{◌∙◌}
 use Rattle.ferry_gen.proofs.PutLemmas.{archive_puts}
 use Rattle.ferry_gen.proofs.put.put_archive.Goals as goal
 use Rattle.ferry_repo.specs.Opening.{repo_view}

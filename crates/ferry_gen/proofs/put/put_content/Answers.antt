@@ -1,4 +1,4 @@
-use Rattle.std.proofs.Common.{◌≡◌, ◌≤◌, ℕ, List, ◌++◌, refl, sym, ◌∙◌, ap, arith}
+use Rattle.std.proofs.Common.{ℕ, ◌++◌, ◌∙◌, ap, arith}
 use Rattle.ferry_gen.proofs.PutLemmas.{puts_as, puts_then, written_chunks}
 use Rattle.ferry_gen.proofs.put.put_content.Goals as goal
 use Rattle.ferry_gen.specs.Source.{source_block}

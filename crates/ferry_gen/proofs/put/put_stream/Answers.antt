@@ -1,4 +1,4 @@
-use Rattle.std.proofs.Common.{◌≡◌, ◌≤◌, ℕ, ◌++◌, refl, ◌∙◌, ap, arith}
+use Rattle.std.proofs.Common.{ℕ, ◌++◌, ◌∙◌, ap, arith}
 use Rattle.ferry_carry.specs.Copied.{stream_block}
 use Rattle.ferry_gen.proofs.PutLemmas.{record_behind, written_chunks}
 use Rattle.ferry_gen.proofs.put.put_stream.Goals as goal

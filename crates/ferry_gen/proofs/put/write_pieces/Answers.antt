@@ -1,4 +1,4 @@
-use Rattle.std.proofs.Common.{◌≡◌, ◌≤◌, ◌<◌, length, ℕ, List, [], Result, Ok, Err, OnOk, refl, sym, ◌∙◌, subst, arith}
+use Rattle.std.proofs.Common.{◌<◌, length, ℕ, List, refl, sym, subst, arith}
 use Rattle.ferry_gen.proofs.PutLemmas.{written_so}
 use Rattle.ferry_gen.proofs.put.write_pieces.Goals as goal
 use Rattle.ferry_piece.specs.Puts.{Content}

@@ -1,4 +1,3 @@
-use Rattle.std.proofs.Common.{refl}
 use Rattle.ferry_gen.proofs.MadeFilesLemmas.{plain_made, source_made}
 use Rattle.ferry_gen.proofs.source.make.Goals as goal
 

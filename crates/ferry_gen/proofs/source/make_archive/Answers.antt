@@ -1,4 +1,4 @@
-use Rattle.std.proofs.Common.{◌≡◌, ◌+◌, ℕ, suc, false, refl, ap, sym, ◌∙◌, subst, arith}
+use Rattle.std.proofs.Common.{◌≡◌, ◌+◌, ℕ, suc, false, refl, subst, arith}
 use Rattle.ferry_carry.proofs.FlightLemmas.{rest_packable}
 use Rattle.ferry_gen.proofs.MadeFilesLemmas.{archive_made, next_fits, next_has, told_on}
 use Rattle.ferry_gen.proofs.MadeLemmas.{free_told}

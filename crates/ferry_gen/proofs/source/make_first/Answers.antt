@@ -1,4 +1,4 @@
-use Rattle.std.proofs.Common.{◌≡◌, refl}
+use Rattle.std.proofs.Common.{refl}
 use Rattle.ferry_gen.proofs.MadeFilesLemmas.{first_fits, first_has, told_first}
 use Rattle.ferry_gen.proofs.source.make_first.Goals as goal
 

@@ -1,4 +1,4 @@
-use Rattle.std.proofs.Common.{◌≢◌, ◌∷◌, [], Result, Err, IfErr, refl, arith}
+use Rattle.std.proofs.Common.{◌≢◌, ◌∷◌, [], Result, IfErr, refl, arith}
 use Rattle.std.proofs.lemmas.Option.{IfSome_then}
 use Rattle.ferry_disk.specs.Device.{told_files}
 use Rattle.ferry_store.specs.Fault.{depot_failed}

@@ -1,4 +1,4 @@
-use Rattle.std.proofs.Common.{rules, ◌≡◌, inl, inr, ℕ, List, refl, subst}
+use Rattle.std.proofs.Common.{rules, ◌≡◌, inr, ℕ, List, subst}
 use Rattle.ferry_disk.proofs.MomentLemmas.{between_map}
 use Rattle.ferry_disk.specs.Moments.{Between}
 use Rattle.ferry_run_delete.proofs.CauseLemmas.{deletes_done}

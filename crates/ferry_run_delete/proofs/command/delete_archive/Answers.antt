@@ -1,6 +1,5 @@
-use Rattle.std.proofs.Common.{◌≡◌, ℕ, List, Option, Result, Ok, Err, IfErr, IfSome, ap, subst}
+use Rattle.std.proofs.Common.{ℕ, List, Option, Result, IfErr, IfSome, subst}
 use Rattle.std.proofs.lemmas.Result.{IfErr-weaker}
-use Rattle.std.specs.Option.{option_copied}
 use Rattle.ferry_disk.specs.Device.{told_files}
 use Rattle.ferry_disk.specs.Moments.{Between}
 use Rattle.ferry_piece.proofs.WorkLemmas.{err_is}

@@ -1,4 +1,4 @@
-use Rattle.std.proofs.Common.{◌≡◌, inl, inr, refl}
+use Rattle.std.proofs.Common.{inr}
 use Rattle.ferry_disk.proofs.MomentLemmas.{between_map}
 use Rattle.ferry_run_tag.proofs.CauseLemmas.{tags_done}
 use Rattle.ferry_run_tag.proofs.EndLemmas.{tagged_ended}

@@ -47,7 +47,7 @@ loop-place-init g c = record {
   works = reports_begin
       (origin_of (g.S.Shelf.told c.args.shelf.now) (repo_view c.args.source.now) c.args.self.now.options.now)
       c.args.store.now c.args.carried.now (g.D.Shelf.told c.args.depot.now) (g.D.Shelf.faults c.args.depot.now) (g.E.Entropy.drawn c.args.entropy.now)
-      (accepts_on c.args.store.now c.args.store.now c.requires.both.target.settled) (omega arith) (omega arith) (omega arith) (omega arith) (omega arith);
+      (accepts_on c.args.store.now c.args.store.now c.requires.both.target.settled) c.requires.uncounted;
 }
 
 pub loop-place-preserved : goal.loop-place-preserved

@@ -1,4 +1,4 @@
-use Rattle.std.proofs.Common.{◌≡◌, [], ◌∷◌, ℕ, List, false, Result, ap, IfErr, IfSome, refl, subst, sym}
+use Rattle.std.proofs.Common.{◌≡◌, [], ◌∷◌, ℕ, List, false, Result, ap, IfErr, IfSome, refl, subst}
 use Rattle.ferry_carry.proofs.AcceptingLemmas.{begin_small}
 use Rattle.ferry_carry.proofs.GrowNamedLemmas.{accepts_on}
 use Rattle.ferry_carry.proofs.HeldLemmas.{begin_apart}

@@ -67,7 +67,7 @@ returns-in-None-clause-copied g c =
               tt,
               (
                 subst (λ (chunks : Option (List ChunkRef)). CopiesContent told source block keys chunks [] None) (sym c.in-None.is) refl,
-                counts_none Content c.args.self.now.contents c.put-counted.result.0 c.put-counted.result.1 c.put-counted.ensures,
+                counts_none Content c.args.self.now.contents,
               ),
             ),
           ),

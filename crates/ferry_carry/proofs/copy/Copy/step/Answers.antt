@@ -1,4 +1,4 @@
-use Rattle.std.proofs.Common.{◌≡◌, ◌≤◌, ◌++◌, Bool, true, false, [], inl, Option, Result, Ok, Err, IfErr, refl, ◌∙◌, ap, arith}
+use Rattle.std.proofs.Common.{◌≡◌, ◌≤◌, ◌++◌, Bool, true, false, [], inl, Option, Result, Ok, Err, IfErr, refl, ◌∙◌, ap, arith, rules}
 use Rattle.ferry_carry.proofs.CopyLemmas.{copied_packable}
 use Rattle.ferry_carry.proofs.FillingLemmas.{item_filled, next_filled, where_target}
 use Rattle.ferry_piece.proofs.GatherLemmas.{rest_here, rest_then}
@@ -304,3 +304,23 @@ returns-in_err-chunks-clause-refused g c =
     c.next.new.self.block copy.contents.checkpoint time named c.args.store.now copy added (item_view c.in-Some.item) (walk_view c.next.new.self.walk) fault
     c.in_ok-item.ensures.source.same
     c.in_ok-item.ensures.source.kept block c.requires.both.source taken named_is so c.in_err-chunks.ensures.refused)
+
+pub returns-clause-copy : goal.returns-clause-copy
+returns-clause-copy g c = record {
+  archive = search rules;
+  checkpoint = search rules;
+  block = search rules;
+  ready = record {
+    least = search rules;
+    most = search rules;
+    contents_block = search rules;
+    contents_piece = search rules;
+    contents_chunks = search rules;
+    stream_block_is = search rules;
+    stream_room = search rules;
+    checkpoint = search rules;
+    same = search rules;
+    packable = search rules;
+  };
+  walk_fits = search rules;
+}

@@ -42,7 +42,7 @@ loop-place-init g c =
             (
               nothing_written (g.S.Shelf.told c.args.shelf.now) (repo_view c.args.source.now) (repo_view store.repo).keys c.args.self.now.contents.cutter
                   c.args.self.now.contents.chunks.items c.requires.writer.room,
-              counts_none Content c.args.self.now.contents c.put-counted.result.0 c.put-counted.result.1 c.put-counted.ensures,
+              counts_none Content c.args.self.now.contents,
             ),
           ),
         ),

@@ -6,7 +6,7 @@ use Rattle.ferry_mac.specs.declared.keys.Keys.{Keys}
 use Rattle.ferry_piece.proofs.ForeseenLemmas.{foreseen_at}
 use Rattle.ferry_piece.proofs.foreseen.Foreseen.new.Goals as goal
 use Rattle.ferry_piece.specs.Foreseen.{IsForeseen, pieces_in}
-use Rattle.ferry_repo.specs.Opening.{mode_of, repo_view}
+use Rattle.ferry_repo.specs.Opening.{repo_view}
 use Rattle.ferry_store.specs.Piece.{Prepares}
 
 pub invariant_of-result : goal.invariant_of-result

@@ -21,7 +21,7 @@ returns-then-is_none-clause-works g c kind piece_is =
       [],
       (
         gathered_none {T = Unit {0}} most store a n tt,
-        ((sym none, tt), counts_none kind c.args.self.now c.put-counted.result.0 c.put-counted.result.1 c.put-counted.ensures),
+        ((sym none, tt), counts_none kind c.args.self.now),
       ),
     )
 

@@ -32,7 +32,7 @@ loop-rest-init g c =
             tt,
             (
               none_written (repo_view store.repo).keys c.args.self.now.cutter c.args.self.now.chunks.items c.args.bytes.now,
-              counts_none kind c.args.self.now c.put-counted.result.0 c.put-counted.result.1 c.put-counted.ensures,
+              counts_none kind c.args.self.now,
             ),
           ),
         ),
