@@ -47,7 +47,8 @@ use Rattle.ferry_carry.proofs.CutLemmas.{cut_same}
 use Rattle.ferry_piece.proofs.GatherLemmas.{moved_here, stands_here}
 use Rattle.ferry_carry.proofs.GrowLemmas.{growing_by, has_kept}
 use Rattle.ferry_carry.proofs.GrowsLemmas.{most_from}
-use Rattle.ferry_piece.proofs.PutsLemmas.{adds_here, goes_same}
+use Rattle.ferry_piece.proofs.PutsLemmas.{adds_here}
+use Rattle.ferry_piece.proofs.GoesLemmas.{goes_same}
 use Rattle.ferry_piece.specs.Adding.{AddsOn, IsNoChunk}
 use Rattle.ferry_piece.specs.Stops.{is_target}
 use Rattle.ferry_piece.specs.Fault.{compare_fault, target_failed}

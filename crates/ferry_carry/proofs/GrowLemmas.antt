@@ -22,9 +22,11 @@ use Rattle.ferry_store.specs.declared.store.Store.{Store}
 use Rattle.ferry_carry.proofs.CarryLemmas.{all_carried, apart_behind, apart_parts}
 use Rattle.ferry_carry.proofs.CutLemmas.{cut_none, cut_then}
 use Rattle.ferry_carry.proofs.NextLemmas.{behind_still, behind_then}
-use Rattle.ferry_piece.proofs.GatherLemmas.{keeps_at, opening_then, sound_moments}
+use Rattle.ferry_piece.proofs.FrontLemmas.{front_then, front_wider, with_moments}
+use Rattle.ferry_piece.proofs.GatherLemmas.{keeps_at, opening_then}
+use Rattle.ferry_piece.specs.Front.{HoldsFront}
 use Rattle.ferry_piece.proofs.PutsLemmas.{border_append, front_all}
-use Rattle.ferry_piece.proofs.PutsLemmas.{goes_then, goes_wider}
+use Rattle.ferry_piece.proofs.GoesLemmas.{goes_then, goes_wider}
 use Rattle.ferry_piece.proofs.AmongLemmas.{all_both, among_behind, among_front, each_to}
 use Rattle.ferry_piece.specs.Gather.{BringsOpening, IsAmong, KeepsStanding, KeepsStandingAt, StandsFrom}
 use Rattle.ferry_carry.specs.Grow.{AcceptsMore, IsBehind, IsNamedBy, KeepsChunks, KeepsGrowing, KeepsGrowingBy, KeepsNames}
@@ -107,9 +109,10 @@ pub growing_by : (earlier : List Addition) (from : Origin) (chosen : List (List 
 growing_by earlier from chosen accepted store within h g accepts keeps = (
   keeps.0,
   λ counts fits.
-      sound_moments (StandsFrom (border_behind AtBegin earlier) (repo_view store.repo).keys from.most within fits.written)
-      (StandsOn earlier from chosen within accepted (repo_view store.repo) fits.written) counts h g
-      (λ image stands. on_from earlier from chosen within accepted counts store h fits image accepts stands) (keeps.1 counts fits),
+      let Read : Files → Type 0 = HoldsFront (border_behind AtBegin earlier) (repo_view store.repo).keys from.most (entries_of fits.written) within in
+      with_moments (StandsFrom (border_behind AtBegin earlier) (repo_view store.repo).keys from.most within fits.written)
+      (StandsOn earlier from chosen within accepted (repo_view store.repo) fits.written) Read Read counts h g
+      (λ image stands. on_from earlier from chosen within accepted counts store h fits image accepts stands) (λ files has. has) (keeps.1 counts fits),
 )
 
 -- what stands within an archive does so behind whatever was added
@@ -156,6 +159,16 @@ pub goes_both : (earlier added : List Addition) (keys : Keys) (most : ℕ) (othe
     → GoesOn (border_behind (border_behind AtBegin earlier) added) keys most others written entries
 goes_both earlier added keys most others written entries goes =
     subst (λ (at : Border). GoesOn at keys most others written entries) (border_append AtBegin earlier added) goes
+
+-- and all that the segments have then
+pub front_both : (earlier added : List Addition) (keys keys_now : Keys) (most : ℕ) (others : List Addition) (before middle : List LogEntry) (files : Files)
+    → keys_now ≡ keys → AddsAll (border_behind AtBegin earlier) keys most before added middle
+    → HoldsFront (border_behind AtBegin (earlier ++ added)) keys_now most middle others files
+    → HoldsFront (border_behind AtBegin earlier) keys most before (added ++ others) files
+front_both earlier added keys keys_now most others before middle files same adds read =
+    front_then (border_behind AtBegin earlier) keys most before middle added others files adds
+    (subst (λ (at : Border). HoldsFront at keys most middle others files) (border_append AtBegin earlier added)
+    (subst (λ (k : Keys). HoldsFront (border_behind AtBegin (earlier ++ added)) k most middle others files) same read))
 
 -- what stands from later on stands from before
 unfoldable pub on_then : (earlier : List Addition) (from : Origin) (some more : List (List ℕ)) (added others : List Addition)
@@ -236,9 +249,13 @@ growing_more earlier from some more store within all h g first growing = (
   growing.0,
   λ counts fits.
       let repo = repo_view store.repo in
-      sound_moments (StandsOn earlier from some within (accepted_in store) repo fits.written)
-      (StandsOn earlier from (some ++ more) all (accepted_in store) repo fits.written) counts h g
-      (λ image stands. on_wider earlier from some more within all (accepted_in store) repo fits.written image first stands) (growing.1 counts fits),
+      let at = border_behind AtBegin earlier in
+      let before = entries_of fits.written in
+      with_moments (StandsOn earlier from some within (accepted_in store) repo fits.written)
+      (StandsOn earlier from (some ++ more) all (accepted_in store) repo fits.written) (HoldsFront at repo.keys from.most before within)
+      (HoldsFront at repo.keys from.most before all) counts h g
+      (λ image stands. on_wider earlier from some more within all (accepted_in store) repo fits.written image first stands)
+      (λ files read. front_wider at repo.keys from.most before within all files first read) (growing.1 counts fits),
 )
 
 pub growing_wider : (earlier : List Addition) (from : Origin) (some more : List (List ℕ)) (store : Store) (within : List Addition) (h g : History)

@@ -28,7 +28,10 @@ use Rattle.ferry_store.specs.declared.store.Store.{Store}
 use Rattle.ferry_write.specs.Script.{AllDone}
 use Rattle.ferry_carry.proofs.CarryLemmas.{named_carried}
 use Rattle.ferry_carry.proofs.CutLemmas.{cut_one}
-use Rattle.ferry_piece.proofs.GatherLemmas.{sound_moments, standing_from}
+use Rattle.ferry_piece.proofs.FrontLemmas.{manifest_way, with_moments, with_read}
+use Rattle.ferry_piece.proofs.GatherLemmas.{standing_from}
+use Rattle.ferry_piece.specs.Front.{HoldsFront}
+use Rattle.ferry_store.specs.Writing.{WritesManifest}
 use Rattle.ferry_piece.proofs.PutsLemmas.{adds_manifest, first_all}
 use Rattle.ferry_piece.specs.Gather.{IsAmong, KeepsStandingAt}
 use Rattle.ferry_carry.specs.Grow.{AcceptsMore, GrowsBy, IsBehind, KeepsGrowingBy, KeepsMost, KeepsNames, job}
@@ -102,14 +105,18 @@ module _ (from : Origin) (earlier : List Addition) (at_end : border_behind AtBeg
       → AcceptsOne accepted store entry → IsBehind from accepted (repo_view store.repo).manifest (entry.name ∷ []) manifest
       → IsReadyToName from earlier (files_now h) (repo_view store.repo) entry → TellsNothing h g
       → CommitsEntry (with_manifest (repo_view store.repo) manifest) store.session store.counter (PutEntry zero_id blob) h g
+      → (other : List ℕ) → WritesManifest other store.session store.counter h g
       → KeepsGrowingBy earlier accepted from (entry.name ∷ []) store [] h g
-  commit_growing h g names archives one behind ready untold commits = (
+  commit_growing h g names archives one behind ready untold commits other writes = (
     untold,
     λ counts fits.
-        sound_moments (ShowsManifest (with_manifest (repo_view store.repo) manifest) (with_entry fits.written (PutEntry zero_id blob)))
-        (StandsOn earlier from (entry.name ∷ []) [] accepted (repo_view store.repo) fits.written) counts h g
-        (λ image shown. commit_on counts h fits image names archives one behind ready shown)
-        (commits counts fits.written fits.under_way),
+        let at = border_behind AtBegin earlier in
+        let Shows : Files → Type 0 = ShowsManifest (with_manifest (repo_view store.repo) manifest) (with_entry fits.written (PutEntry zero_id blob)) in
+        let Read : Files → Type 0 = HoldsFront at (repo_view store.repo).keys from.most (entries_of fits.written) [] in
+        with_moments Shows (StandsOn earlier from (entry.name ∷ []) [] accepted (repo_view store.repo) fits.written) Read Read counts h g
+        (λ image shown. commit_on counts h fits image names archives one behind ready shown) (λ files has. has)
+        (with_read Shows Read counts h g (commits counts fits.written fits.under_way)
+        (manifest_way at from.most store other h g at_end writes counts fits)),
   )
 
   pub commit_grows : (now : Store) (h g : History) → KeepsMost store now → manifest.archives ≡ (accepted_in store).archives

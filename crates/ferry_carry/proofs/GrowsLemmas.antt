@@ -13,23 +13,27 @@ use Rattle.ferry_stops.proofs.TellLemmas.{untold_then}
 use Rattle.ferry_store.proofs.StepLemmas.{moments_then}
 use Rattle.ferry_store.specs.Commit.{accepted_in}
 use Rattle.ferry_store.specs.Standing.{committed_of, entries_of}
-use Rattle.ferry_store.specs.State.{IsSound, Written}
+use Rattle.ferry_store.specs.State.{Written}
 use Rattle.ferry_store.specs.Store.{StoreFits}
 use Rattle.ferry_store.specs.declared.store.Store.{Store}
 use Rattle.ferry_write.specs.Script.{AllDone}
 use Rattle.ferry_carry.proofs.CarryLemmas.{all_carried, apart_parts}
 use Rattle.ferry_carry.proofs.CutLemmas.{cut_none, cut_then}
 use Rattle.ferry_carry.proofs.NextLemmas.{behind_still, behind_then}
-use Rattle.ferry_piece.proofs.GatherLemmas.{gathers_at, opening_same, opening_then, sound_moments, stands_still}
+use Rattle.ferry_piece.proofs.GatherLemmas.{gathers_at, opening_same, opening_then, stands_still}
+use Rattle.ferry_piece.proofs.FrontLemmas.{front_at, with_moments}
+use Rattle.ferry_piece.specs.Front.{HoldsFront, IsSoundWith}
 use Rattle.ferry_piece.proofs.PutsLemmas.{Allows, adds_at, adds_here, adds_then, allows_settled, border_append}
-use Rattle.ferry_piece.proofs.PutsLemmas.{front_of, goes_at, goes_same, goes_then, none_of}
+use Rattle.ferry_piece.proofs.PutsLemmas.{front_of, goes_at}
+use Rattle.ferry_piece.proofs.GoesLemmas.{goes_same, goes_then}
+use Rattle.ferry_piece.proofs.PendingLemmas.{none_of}
 use Rattle.ferry_piece.proofs.AmongLemmas.{all_both}
 use Rattle.ferry_piece.specs.Gather.{BringsOpening, Gathers, GathersAt, KeepsRest}
 use Rattle.ferry_carry.specs.Grow.{AcceptsMore, Grows, KeepsGrowing, KeepsMost, KeepsNames}
 use Rattle.ferry_carry.specs.Grow.{StandsOn}
 use Rattle.ferry_carry.specs.Carrying.{AreCut, IsCarried, Origin}
 use Rattle.ferry_piece.specs.Puts.{Addition, AddsAll, AtBegin, Border, GoesOn, border_behind}
-use Rattle.ferry_carry.proofs.GrowLemmas.{names_here, names_then, all_kept, chunks_then, keeps_chunks, growing_by, named_then, goes_both, on_then}
+use Rattle.ferry_carry.proofs.GrowLemmas.{front_both, names_here, names_then, all_kept, chunks_then, keeps_chunks, growing_by, named_then, goes_both, on_then}
 use Rattle.ferry_carry.proofs.GrowLemmas.{growing_longer}
 use Rattle.ferry_carry.proofs.GrowLemmas.{carried_both}
 
@@ -91,6 +95,13 @@ stands_on_at earlier from chosen within accepted repo written image allows stand
   only = stands.only;
 }
 
+-- and all that the segments have
+pub front_on : (earlier : List Addition) (keys : Keys) (most : ℕ) (before : List LogEntry) (within : List Addition) (files : Files)
+    → Allows AtBegin (border_behind AtBegin earlier) before → HoldsFront (border_behind AtBegin []) keys most before within files
+    → HoldsFront (border_behind AtBegin earlier) keys most before within files
+unfolding border_behind
+front_on earlier keys most before within files allows read = front_at AtBegin (border_behind AtBegin earlier) keys most before within files allows read
+
 -- what goes on so from the begin goes on behind what was added
 pub growing_follows : (earlier : List Addition) (from : Origin) (chosen : List (List ℕ)) (store : Store) (within : List Addition) (h g : History)
     → Follows earlier store → KeepsGrowing [] from chosen store within h g → KeepsGrowing earlier from chosen store within h g
@@ -99,10 +110,13 @@ growing_follows earlier from chosen store within h g follows growing = (
   λ counts fits.
       let accepted = accepted_in store in
       let repo = repo_view store.repo in
-      sound_moments (StandsOn [] from chosen within accepted repo fits.written) (StandsOn earlier from chosen within accepted repo fits.written) counts h g
-      (λ image stands.
-      stands_on_at earlier from chosen within accepted repo fits.written image (follows_allows earlier counts store h fits follows) stands)
-      (growing.1 counts fits),
+      let before = entries_of fits.written in
+      let allows = follows_allows earlier counts store h fits follows in
+      with_moments (StandsOn [] from chosen within accepted repo fits.written) (StandsOn earlier from chosen within accepted repo fits.written)
+      (HoldsFront (border_behind AtBegin []) repo.keys from.most before within) (HoldsFront (border_behind AtBegin earlier) repo.keys from.most before within)
+      counts h g
+      (λ image stands. stands_on_at earlier from chosen within accepted repo fits.written image allows stands)
+      (λ files read. front_on earlier repo.keys from.most before within files allows read) (growing.1 counts fits),
 )
 
 pub grows_follows : (earlier : List Addition) (from : Origin) (chosen : List (List ℕ)) (added : List Addition) (store now : Store) (h g : History)
@@ -247,15 +261,21 @@ growing_then earlier from some more added others store middle h g i before done 
       let repo = repo_view store.repo in
       let next = repo_view middle.repo in
       let all = added ++ others in
-      moments_then (IsSound (StandsOn earlier from (some ++ more) all (accepted_in store) repo fits.written) counts) h g i
+      let at = border_behind AtBegin earlier in
+      let start = entries_of fits.written in
+      let between = entries_of first.fits_now.written in
+      moments_then (IsSoundWith (StandsOn earlier from (some ++ more) all (accepted_in store) repo fits.written) (HoldsFront at repo.keys from.most start all)
+      counts) h g i
       ((growing_longer earlier from (some ++ more) store added all h g (front_of added others) before).1 counts fits) done
-      (sound_moments (StandsOn (earlier ++ added) from more others (accepted_in middle) next first.fits_now.written)
-      (StandsOn earlier from (some ++ more) all (accepted_in store) repo fits.written) counts g i
+      (with_moments (StandsOn (earlier ++ added) from more others (accepted_in middle) next first.fits_now.written)
+      (StandsOn earlier from (some ++ more) all (accepted_in store) repo fits.written)
+      (HoldsFront (border_behind AtBegin (earlier ++ added)) next.keys from.most between others) (HoldsFront at repo.keys from.most start all) counts g i
       (λ image stands. on_then earlier from some more added others (accepted_in store) (accepted_in middle) repo next fits.written first.fits_now.written
       image
       first.most.keys first.most.names first.chunks first.opening first.puts first.committed first.config first.carried first.cut first.only first.settled
       first.next
       stands)
+      (λ files read. front_both earlier added repo.keys next.keys from.most others start between files first.most.keys first.puts read)
       (after.1 counts first.fits_now)),
 )
 

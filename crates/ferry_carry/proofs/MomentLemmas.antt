@@ -2,7 +2,7 @@
 use Rattle.std.proofs.Common.{◌≡◌, ◌⊎◌, inl, inr, ℕ, Bool, true, false, List, [], ◌∷◌, ◌++◌, Some, None, refl, sym, ◌∙◌, ap, subst, append_assoc}
 use Rattle.std.proofs.lemmas.List.{append-nil, append_cancel_left}
 use Rattle.ferry_disk.proofs.MomentLemmas.{all_moments, moments_all, steps_end, steps_end_undone}
-use Rattle.ferry_disk.specs.Act.{Step, TellOf, Act, History, with_act}
+use Rattle.ferry_disk.specs.Act.{Step, TellOf, Act, History, files_now, with_act}
 use Rattle.ferry_disk.specs.Files.{Files}
 use Rattle.ferry_disk.specs.Moments.{IsMoment, Moments, last_undone, with_steps}
 use Rattle.ferry_manifest.specs.Manifest.Text.{ManifestText}
@@ -12,16 +12,19 @@ use Rattle.ferry_stops.specs.Tells.{TellsNothing, line_of, lines_of}
 use Rattle.ferry_store.proofs.SoundLemmas.{stands_now}
 use Rattle.ferry_store.proofs.StepLemmas.{moments_map, moments_then, step_moments}
 use Rattle.ferry_store.specs.Commit.{accepted_in, IsSettled}
-use Rattle.ferry_store.specs.State.{IsSound, IsStep, ShowsStanding, Written}
+use Rattle.ferry_store.specs.Standing.{entries_of}
+use Rattle.ferry_store.specs.State.{IsStep, ShowsStanding, Written}
 use Rattle.ferry_store.specs.Store.{StoreFits}
 use Rattle.ferry_store.specs.declared.store.Store.{Store}
 use Rattle.ferry_write.specs.Script.{AllDone}
+use Rattle.ferry_piece.proofs.FrontLemmas.{front_still, front_wider, with_map}
 use Rattle.ferry_piece.proofs.GatherLemmas.{rest_here, sound_map, standing_from}
-use Rattle.ferry_carry.proofs.GrowsLemmas.{Follows, follows_allows, growing_here, grows_from, grows_then}
-use Rattle.ferry_carry.proofs.GrowLemmas.{growing_longer, on_from, on_then, on_wider}
+use Rattle.ferry_piece.specs.Front.{HoldsFront, IsSoundWith}
+use Rattle.ferry_carry.proofs.GrowsLemmas.{Follows, follows_allows, front_on, growing_here, grows_from, grows_then}
+use Rattle.ferry_carry.proofs.GrowLemmas.{front_both, growing_longer, on_from, on_then, on_wider}
 use Rattle.ferry_carry.proofs.GrowsLemmas.{stands_on_at}
 use Rattle.ferry_piece.proofs.PutsLemmas.{front_of}
-use Rattle.ferry_carry.proofs.TellLemmas.{told_gathers, told_stands}
+use Rattle.ferry_carry.proofs.TellLemmas.{told_gathers, told_same, told_stands}
 use Rattle.ferry_carry.proofs.ThereLemmas.{Extends, extends_by}
 use Rattle.ferry_carry.proofs.LinesLemmas.{lines_then, report_none, report_then, report_one, report_whole}
 use Rattle.ferry_carry.specs.Naming.{TaggedRecord}
@@ -83,51 +86,68 @@ untold_moments P h g untold m = by_end m.now_is where
 -- ---- moments at which something was told
 
 -- where nothing was told
-reported_none : (P : Files → Type 0) (Q : List (List ℕ) → Files → Type 0) (counts : Bool) (h g : History) → ((image : Files) → P image → Q [] image)
-    → TellsNothing h g → Moments (IsSound P counts) h g → Moments (IsReported Q counts h) h g
-reported_none P Q counts h g step untold m =
-    moments_map (λ k. IsSound P counts k × TellsNothing h k) (IsReported Q counts h) h g
-    (λ k s. record { lines = []; told = s.1 ∙ sym (append-nil (lines_of h.acts)); sound = sound_map P (Q []) counts k step s.0 })
-    (untold_moments (IsSound P counts) h g untold m)
+reported_none : (P : Files → Type 0) (Q : List (List ℕ) → Files → Type 0) (R : Files → Type 0) (counts : Bool) (h g : History)
+    → ((image : Files) → P image → Q [] image) → TellsNothing h g → Moments (IsSoundWith P R counts) h g → Moments (IsReported Q R counts h) h g
+reported_none P Q R counts h g step untold m =
+    moments_map (λ k. IsSoundWith P R counts k × TellsNothing h k) (IsReported Q R counts h) h g
+    (λ k s. record {
+      lines = [];
+      told = s.1 ∙ sym (append-nil (lines_of h.acts));
+      sound = with_map P (Q []) R R counts k step (λ files has. has) s.0;
+    })
+    (untold_moments (IsSoundWith P R counts) h g untold m)
 
 -- behind what was told
-reported_behind : (P Q : List (List ℕ) → Files → Type 0) (counts : Bool) (h g i : History) (some : List (List ℕ))
+reported_behind : (P Q : List (List ℕ) → Files → Type 0) (R S : Files → Type 0) (counts : Bool) (h g i : History) (some : List (List ℕ))
     → lines_of g.acts ≡ lines_of h.acts ++ some → ((lines : List (List ℕ)) (image : Files) → P lines image → Q (some ++ lines) image)
-    → Moments (IsReported P counts g) g i → Moments (IsReported Q counts h) g i
-reported_behind P Q counts h g i some is step m =
-    moments_map (IsReported P counts g) (IsReported Q counts h) g i
+    → ((files : Files) → R files → S files) → Moments (IsReported P R counts g) g i → Moments (IsReported Q S counts h) g i
+reported_behind P Q R S counts h g i some is step read m =
+    moments_map (IsReported P R counts g) (IsReported Q S counts h) g i
     (λ k s. record {
       lines = some ++ s.lines;
       told = s.told ∙ (ap (λ (l : List (List ℕ)). l ++ s.lines) is ∙ append_assoc (lines_of h.acts) some s.lines);
-      sound = sound_map (P s.lines) (Q (some ++ s.lines)) counts k (step s.lines) s.sound;
+      sound = with_map (P s.lines) (Q (some ++ s.lines)) R S counts k (step s.lines) read s.sound;
     }) m
 
-reported_map : (P Q : List (List ℕ) → Files → Type 0) (counts : Bool) (h g i : History)
-    → ((lines : List (List ℕ)) (image : Files) → P lines image → Q lines image) → Moments (IsReported P counts h) g i → Moments (IsReported Q counts h) g i
-reported_map P Q counts h g i step m =
-    moments_map (IsReported P counts h) (IsReported Q counts h) g i
-    (λ k s. record { lines = s.lines; told = s.told; sound = sound_map (P s.lines) (Q s.lines) counts k (step s.lines) s.sound }) m
+reported_map : (P Q : List (List ℕ) → Files → Type 0) (R S : Files → Type 0) (counts : Bool) (h g i : History)
+    → ((lines : List (List ℕ)) (image : Files) → P lines image → Q lines image) → ((files : Files) → R files → S files)
+    → Moments (IsReported P R counts h) g i → Moments (IsReported Q S counts h) g i
+reported_map P Q R S counts h g i step read m =
+    moments_map (IsReported P R counts h) (IsReported Q S counts h) g i
+    (λ k s. record { lines = s.lines; told = s.told; sound = with_map (P s.lines) (Q s.lines) R S counts k (step s.lines) read s.sound }) m
 
 -- a line is told, or isn't: what stands is what stood
 told_moments : (at : Border) (most : ℕ) (store : Store) (line : List ℕ) (h g : History) (counts : Bool) (fits : StoreFits counts store h)
     → IsStep (TellOf line) h g
     → Moments (IsReported (λ lines image. ((lines ≡ []) ⊎ (lines ≡ line ∷ [])) × StandsFrom at (repo_view store.repo).keys most [] fits.written image)
-    counts h) h g
+    (HoldsFront at (repo_view store.repo).keys most (entries_of fits.written) []) counts h) h g
 told_moments at most store line h g counts fits is =
-    step_moments (IsReported Show counts h) (TellOf line) h g (record {
+    step_moments (IsReported Show Read counts h) (TellOf line) h g (record {
       lines = [];
       told = sym (append-nil (lines_of h.acts));
-      sound = sound_map (ShowsStanding fits.written) (Show []) counts h
-          (λ image shown. (inl refl, standing_from at most [] counts store h fits image shown))
-          (stands_now counts store.session store.counter fits.written h fits.under_way);
+      sound = record {
+        sound = sound_map (ShowsStanding fits.written) (Show []) counts h
+            (λ image shown. (inl refl, standing_from at most [] counts store h fits image shown))
+            (stands_now counts store.session store.counter fits.written h fits.under_way);
+        read = still;
+      };
     }) (λ done. record {
       lines = line ∷ [];
       told = line_told h line done;
-      sound = sound_map (ShowsStanding fits.written) (Show (line ∷ [])) counts (with_act (TellOf line) done h)
-          (λ image shown. (inr refl, standing_from at most [] counts store h fits image shown))
-          (stands_now counts store.session store.counter fits.written (with_act (TellOf line) done h)
-          (told_stands counts store fits.written line done h fits.under_way));
+      sound = record {
+        sound = sound_map (ShowsStanding fits.written) (Show (line ∷ [])) counts (with_act (TellOf line) done h)
+            (λ image shown. (inr refl, standing_from at most [] counts store h fits image shown))
+            (stands_now counts store.session store.counter fits.written (with_act (TellOf line) done h)
+            (told_stands counts store fits.written line done h fits.under_way));
+        read = subst Read (sym (told_same line done h)) still;
+      };
     }) is where
+      Read : Files → Type 0
+      Read = HoldsFront at (repo_view store.repo).keys most (entries_of fits.written) []
+
+      still : Read (files_now h)
+      still = front_still at most counts store h fits []
+
       Show : List (List ℕ) → Files → Type 0
       Show lines image = ((lines ≡ []) ⊎ (lines ≡ line ∷ [])) × StandsFrom at (repo_view store.repo).keys most [] fits.written image
 
@@ -140,7 +160,8 @@ ShowsReportOn earlier from chosen within accepted repo written lines image =
 
 abbrev KeepsReportedOn : List Addition → Origin → List (List ℕ) → Store → List Addition → History → History → Type 0
 KeepsReportedOn earlier from chosen store within before now = (counts : Bool) (fits : StoreFits counts store before)
-    → Moments (IsReported (ShowsReportOn earlier from chosen within (accepted_in store) (repo_view store.repo) fits.written) counts before) before now
+    → Moments (IsReported (ShowsReportOn earlier from chosen within (accepted_in store) (repo_view store.repo) fits.written)
+    (HoldsFront (border_behind AtBegin earlier) (repo_view store.repo).keys from.most (entries_of fits.written) within) counts before) before now
 
 -- what was reported behind nothing was reported behind these
 reported_follows : (earlier : List Addition) (from : Origin) (chosen : List (List ℕ)) (store : Store) (within : List Addition) (h g : History)
@@ -149,11 +170,13 @@ unfolding stands_on_at
 reported_follows earlier from chosen store within h g follows reported counts fits =
     let accepted = accepted_in store in
     let repo = repo_view store.repo in
-    reported_map (ShowsReport from chosen within accepted repo fits.written) (ShowsReportOn earlier from chosen within accepted repo fits.written) counts h h g
-    (λ lines image s. (
-      stands_on_at earlier from chosen within accepted repo fits.written image (follows_allows earlier counts store h fits follows) s.0,
-      s.1,
-    )) (reported counts fits)
+    let before = entries_of fits.written in
+    let allows = follows_allows earlier counts store h fits follows in
+    reported_map (ShowsReport from chosen within accepted repo fits.written) (ShowsReportOn earlier from chosen within accepted repo fits.written)
+    (HoldsFront (border_behind AtBegin []) repo.keys from.most before within) (HoldsFront (border_behind AtBegin earlier) repo.keys from.most before within)
+    counts h h g
+    (λ lines image s. (stands_on_at earlier from chosen within accepted repo fits.written image allows s.0, s.1))
+    (λ files read. front_on earlier repo.keys from.most before within files allows read) (reported counts fits)
 
 -- ---- bodies that told nothing
 
@@ -162,7 +185,8 @@ pub reported_growing : (from : Origin) (chosen : List (List ℕ)) (store : Store
 reported_growing from chosen store within h g growing counts fits =
     let accepted = accepted_in store in
     let repo = repo_view store.repo in
-    reported_none (StandsOn [] from chosen within accepted repo fits.written) (ShowsReport from chosen within accepted repo fits.written) counts h g
+    reported_none (StandsOn [] from chosen within accepted repo fits.written) (ShowsReport from chosen within accepted repo fits.written)
+    (HoldsFront (border_behind AtBegin []) repo.keys from.most (entries_of fits.written) within) counts h g
     (λ image stands. (stands, report_none accepted stands.done)) growing.0 (growing.1 counts fits)
 
 pub reported_here : (from : Origin) (chosen : List (List ℕ)) (store : Store) (within : List Addition) (h : History) → AcceptsMore store
@@ -181,8 +205,12 @@ unfolding on_wider
 reported_wider from some more store within all h g first reported counts fits =
     let accepted = accepted_in store in
     let repo = repo_view store.repo in
-    reported_map (ShowsReport from some within accepted repo fits.written) (ShowsReport from (some ++ more) all accepted repo fits.written) counts h h g
-    (λ lines image s. (on_wider [] from some more within all accepted repo fits.written image first s.0, s.1)) (reported counts fits)
+    let at = border_behind AtBegin [] in
+    let before = entries_of fits.written in
+    reported_map (ShowsReport from some within accepted repo fits.written) (ShowsReport from (some ++ more) all accepted repo fits.written)
+    (HoldsFront at repo.keys from.most before within) (HoldsFront at repo.keys from.most before all) counts h h g
+    (λ lines image s. (on_wider [] from some more within all accepted repo fits.written image first s.0, s.1))
+    (λ files read. front_wider at repo.keys from.most before within all files first read) (reported counts fits)
 
 -- behind a body, from where it left them
 reported_behind_at : (from : Origin) (some more : List (List ℕ)) (added others : List Addition) (store middle : Store) (h g i : History)
@@ -197,16 +225,21 @@ reported_behind_at from some more added others store middle h g i settled accept
     let repo = repo_view store.repo in
     let next = repo_view middle.repo in
     let all = added ++ others in
-    moments_then (IsReported (ShowsReport from (some ++ more) all accepted repo fits.written) counts h) h g i
+    let start = entries_of fits.written in
+    let middle_start = entries_of first.fits_now.written in
+    let Read : Files → Type 0 = HoldsFront (border_behind AtBegin []) repo.keys from.most start all in
+    moments_then (IsReported (ShowsReport from (some ++ more) all accepted repo fits.written) Read counts h) h g i
     (reported_wider from some more store added all h g (front_of added others) before counts fits) done
     (reported_behind (ShowsReportOn added from more others between next first.fits_now.written)
-    (ShowsReport from (some ++ more) all accepted repo fits.written) counts h g i told.0 told.1.0 (λ lines image s. (
+    (ShowsReport from (some ++ more) all accepted repo fits.written) (HoldsFront (border_behind AtBegin added) next.keys from.most middle_start others) Read
+    counts h g i told.0 told.1.0 (λ lines image s. (
       on_then [] from some more added others accepted between repo next fits.written first.fits_now.written image first.most.keys first.most.names
           first.chunks first.opening first.puts first.committed first.config first.carried first.cut first.only first.settled
           first.next s.0,
       report_then accepted between told.0 lines some s.0.done (extends_by store middle some settled accepts first.most first.named first.only) told.1.1
           s.1,
-    )) (after counts first.fits_now))
+    )) (λ files read. front_both [] added repo.keys next.keys from.most others start middle_start files first.most.keys first.puts read)
+    (after counts first.fits_now))
 
 pub reported_then : (from : Origin) (some more : List (List ℕ)) (added others : List Addition) (store middle : Store) (h g i : History)
     → IsSettled store → AcceptsMore middle → Follows added middle → KeepsReported from some store added h g → AllDone h g
@@ -245,16 +278,20 @@ reported_name from copied name added store middle h g i growing done grows accep
           let now = first.fits_now.written in
           let at = border_behind AtBegin added in
           let none : lines_of g.acts ≡ lines_of h.acts ++ [] = growing.0 ∙ sym (append-nil (lines_of h.acts)) in
-          moments_then (IsReported (ShowsReport from (name ∷ []) (added ++ []) accepted repo fits.written) counts h) h g i
+          let start = entries_of fits.written in
+          let Read : Files → Type 0 = HoldsFront (border_behind AtBegin []) repo.keys from.most start (added ++ []) in
+          moments_then (IsReported (ShowsReport from (name ∷ []) (added ++ []) accepted repo fits.written) Read counts h) h g i
           (reported_growing from (name ∷ []) store (added ++ []) h g
           (growing_longer [] from (name ∷ []) store added (added ++ []) h g (front_of added []) growing) counts fits) done
           (reported_behind (λ lines image. ((lines ≡ []) ⊎ (lines ≡ line ∷ [])) × StandsFrom at next.keys from.most [] now image)
-          (ShowsReport from (name ∷ []) (added ++ []) accepted repo fits.written) counts h g i [] none (λ lines image s.
+          (ShowsReport from (name ∷ []) (added ++ []) accepted repo fits.written) (HoldsFront at next.keys from.most (entries_of now) []) Read
+          counts h g i [] none (λ lines image s.
           let stands : StandsOn added from [] [] between next now image = on_from added from [] [] between counts middle g first.fits_now image accepts s.1 in (
             on_then [] from (name ∷ []) [] added [] accepted between repo next fits.written now image first.most.keys first.most.names first.chunks
                 first.opening first.puts first.committed first.config first.carried first.cut first.only first.settled first.next stands,
             report_one accepted copied name lines stands.done new s.0,
-          )) (told_moments at from.most middle line g i counts first.fits_now is))
+          )) (λ files read. front_both [] added repo.keys next.keys from.most [] start (entries_of now) files first.most.keys first.puts read)
+          (told_moments at from.most middle line g i counts first.fits_now is))
 
 pub told_name : (accepted : ManifestText) (copied : Bool) (name : List ℕ) (h g i : History) → TellsNew accepted [] name copied → TellsNothing h g
     → TellsLine (name_line (told_of copied) name) g i → TellsNames accepted (name ∷ []) h i
@@ -303,10 +340,13 @@ reported_whole from carried names added store middle h g i settled accepts befor
       last counts fits =
           reported_map
           (λ lines image. ((lines ≡ []) ⊎ (lines ≡ line ∷ [])) × StandsFrom at (repo_view middle.repo).keys from.most [] fits.written image)
-          (ShowsReportOn added from [] [] (accepted_in middle) (repo_view middle.repo) fits.written) counts g g i (λ lines image s.
+          (ShowsReportOn added from [] [] (accepted_in middle) (repo_view middle.repo) fits.written)
+          (HoldsFront at (repo_view middle.repo).keys from.most (entries_of fits.written) [])
+          (HoldsFront at (repo_view middle.repo).keys from.most (entries_of fits.written) []) counts g g i (λ lines image s.
           let stands : StandsOn added from [] [] (accepted_in middle) (repo_view middle.repo) fits.written image =
           on_from added from [] [] (accepted_in middle) counts middle g fits image accepts s.1 in
-          (stands, report_whole (accepted_in middle) carried lines stands.done s.0)) (told_moments at from.most middle line g i counts fits is)
+          (stands, report_whole (accepted_in middle) carried lines stands.done s.0)) (λ files has. has)
+          (told_moments at from.most middle line g i counts fits is)
 
 pub told_whole : (accepted : ManifestText) (names : List (List ℕ)) (added : List Addition) (carried : Carried) (h g i : History)
     → IsTotalOf accepted names added carried → TellsNames accepted names h g → TellsLine (total_line carried) g i

@@ -18,7 +18,6 @@ use Rattle.ferry_rechunk.specs.Cut.{cut}
 use Rattle.ferry_repo.specs.Opening.{RepoState, repo_view}
 use Rattle.ferry_repo.specs.Whole.{WholeItem}
 use Rattle.ferry_store.specs.Commit.{accepted_in}
-use Rattle.ferry_store.specs.declared.fault.StoreRefusal.TheVariants as Stores
 use Rattle.ferry_store.specs.declared.store.Store.{Store}
 use Rattle.ferry_carry.proofs.ListingLemmas.{bytes_apart, count_apart, counts_then, items_ended}
 use Rattle.ferry_carry.proofs.ProgressEndLemmas.{stream_ids}
@@ -34,10 +33,10 @@ use Rattle.ferry_carry.specs.Listing.{BeginsOne, ListsArchive, ListsContents}
 use Rattle.ferry_carry.specs.Naming.{AddsRecord, BeginsRecord, Draws, PutsRecord, TaggedRecord, copied_in}
 use Rattle.ferry_piece.specs.Piece.{CountsOn}
 use Rattle.ferry_carry.specs.Progress.{CopiesAll, IsAllCopied, IsCopyFrom, WritesItems}
-use Rattle.ferry_piece.specs.Puts.{Addition, AreOf, ArePieces, AtBegin, AtEnd, Content, Kind, Record, Stream, addition, border_behind, put_bytes, put_count}
+use Rattle.ferry_piece.specs.Puts.{Addition, AreOf, ArePieces, AtBegin, AtEnd, Border, Content, Kind, Record, Stream, addition, border_behind, put_bytes}
+use Rattle.ferry_piece.specs.Puts.{put_count}
 use Rattle.ferry_carry.specs.declared.copy.Copy.{Copy}
 use Rattle.ferry_piece.specs.declared.fault.CarryFault.{CarryFault}
-use Rattle.ferry_piece.specs.declared.fault.CarryFault.TheVariants as Carry
 use Rattle.ferry_carry.specs.declared.options.Carried.{Carried}
 use Rattle.ferry_piece.specs.declared.piece.PieceWriter.{PieceWriter}
 
@@ -200,6 +199,11 @@ counts_done from copy stream added last more keys archive carried is of counts a
     }
 
 -- behind its record an archive is at its end
+pub record_ends : (at : Border) (keys : Keys) (archive : ArchiveText) (last more : List Addition) → AddsRecord keys archive more
+    → border_behind at (last ++ more) ≡ AtEnd
+record_ends at keys archive last more adds =
+    ap (λ (l : List Addition). border_behind at (last ++ l)) adds.more_is ∙ border_record at last adds.text adds.put
+
 pub behind_record : (keys : Keys) (archive : ArchiveText) (added last more : List Addition) → AddsRecord keys archive more
     → border_behind AtBegin (added ++ (last ++ more)) ≡ AtEnd
 behind_record keys archive added last more adds =

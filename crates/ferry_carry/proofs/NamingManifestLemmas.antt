@@ -39,6 +39,7 @@ use Rattle.ferry_carry.specs.Carrying.{IsReadyToName, Origin}
 use Rattle.ferry_piece.specs.Fault.{target_failed, target_fault}
 use Rattle.ferry_carry.specs.Flight.{AcceptsOne, NamesArchive}
 use Rattle.ferry_piece.specs.Gather.{KeepsRest}
+use Rattle.ferry_store.specs.Writing.{WritesManifest}
 use Rattle.ferry_carry.specs.Grow.{AcceptsMore, GrowsBy, IsBehind, KeepsGrowingBy, KeepsMost, KeepsNames, job}
 use Rattle.ferry_carry.specs.Naming.{entry_for}
 use Rattle.ferry_piece.specs.Puts.{Addition, AtBegin, AtEnd, border_behind}
@@ -58,23 +59,27 @@ module _ (accepted : ManifestText) (entry : ArchiveRef) (store now : Store) (man
       → IfSome a (λ t. IsReadyToName from earlier (told_files t) (repo_view store.repo) entry)
       → IsBehind from accepted (repo_view store.repo).manifest (entry.name ∷ []) manifest → Between a b TellsNothing
       → Between a b (CommitsEntry (with_manifest (repo_view store.repo) manifest) store.session store.counter (PutEntry zero_id blob))
+      → (other : List ℕ) → Between a b (WritesManifest other store.session store.counter)
       → Between a b (KeepsGrowingBy earlier accepted from (entry.name ∷ []) store [])
-  commit_each names archives one from earlier at_end ready behind untold each =
+  commit_each names archives one from earlier at_end ready behind untold each other writes =
       let commits = CommitsEntry (with_manifest (repo_view store.repo) manifest) store.session store.counter (PutEntry zero_id blob) in
+      let written = WritesManifest other store.session store.counter in
       between_map a b
-      (λ h g. IsReadyToName from earlier (files_now h) (repo_view store.repo) entry × (TellsNothing h g × commits h g))
+      (λ h g. IsReadyToName from earlier (files_now h) (repo_view store.repo) entry × (TellsNothing h g × (commits h g × written h g)))
       (KeepsGrowingBy earlier accepted from (entry.name ∷ []) store [])
-      (λ h g e. commit_growing from earlier at_end accepted entry store manifest blob h g names archives one behind e.0 e.1.0 e.1.1)
-      (between_known (λ h. IsReadyToName from earlier (files_now h) (repo_view store.repo) entry) (λ h g. TellsNothing h g × commits h g) a b ready
-      (between_both a b TellsNothing commits untold each))
+      (λ h g e. commit_growing from earlier at_end accepted entry store manifest blob h g names archives one behind e.0 e.1.0 e.1.1.0 other e.1.1.1)
+      (between_known (λ h. IsReadyToName from earlier (files_now h) (repo_view store.repo) entry)
+      (λ h g. TellsNothing h g × (commits h g × written h g)) a b ready
+      (between_both a b TellsNothing (λ h g. commits h g × written h g) untold (between_both a b commits written each writes)))
 
   pub commit_works_err : (refusal : StoreRefusal) → KeepsNames (repo_view store.repo).manifest manifest
       → manifest.archives ≡ (accepted_in store).archives → AcceptsOne accepted store entry → Between a b TellsNothing
       → Did {T = Unit {0}} (CommitsEntry (with_manifest (repo_view store.repo) manifest) store.session store.counter (PutEntry zero_id blob))
       (λ _. Commits store (PutEntry zero_id blob) now) a b n m (Err refusal)
+      → (other : List ℕ) → Between a b (WritesManifest other store.session store.counter)
       → NamesArchive accepted entry manifest (target_state a n store) (target_state b m now) (Err (target_fault refusal))
-  commit_works_err refusal names archives one untold did from earlier at_end ready behind = record {
-    each = commit_each names archives one from earlier at_end ready behind untold did.each;
+  commit_works_err refusal names archives one untold did other writes from earlier at_end ready behind = record {
+    each = commit_each names archives one from earlier at_end ready behind untold did.each other writes;
     end = tt;
     ends = subst (λ (d : Bool). FailedWhere d a b) (sym (failed_target refusal)) did.ends;
     cause = subst (λ (d : Bool). RoseWhere d n m) (sym (failed_target refusal)) did.cause;
@@ -85,9 +90,10 @@ module _ (accepted : ManifestText) (entry : ArchiveRef) (store now : Store) (man
       → Between a b TellsNothing
       → Did {T = Unit {0}} (CommitsEntry (with_manifest (repo_view store.repo) manifest) store.session store.counter (PutEntry zero_id blob))
       (λ _. Commits store (PutEntry zero_id blob) now) a b n m (Ok tt)
+      → (other : List ℕ) → Between a b (WritesManifest other store.session store.counter)
       → NamesArchive accepted entry manifest (target_state a n store) (target_state b m now) (Ok tt)
-  commit_works names most archives manifest_is accepted_is one untold did from earlier at_end ready behind = record {
-    each = commit_each names archives one from earlier at_end ready behind untold did.each;
+  commit_works names most archives manifest_is accepted_is one untold did other writes from earlier at_end ready behind = record {
+    each = commit_each names archives one from earlier at_end ready behind untold did.each other writes;
     end = between_map a b
         (λ h g. IsReadyToName from earlier (files_now h) (repo_view store.repo) entry × (AllDone h g × Commits store (PutEntry zero_id blob) now h g))
         (λ h g. AllDone h g × GrowsBy (job earlier accepted from (entry.name ∷ [])) [] store now h g)

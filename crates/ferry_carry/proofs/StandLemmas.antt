@@ -16,7 +16,10 @@ use Rattle.ferry_store.specs.declared.store.Store.{Store}
 use Rattle.ferry_write.specs.Script.{AllDone}
 use Rattle.ferry_write.specs.declared.fault.WriteFault.TheVariants as Writes
 use Rattle.ferry_piece.proofs.FaultLemmas.{failed_target}
-use Rattle.ferry_piece.proofs.GatherLemmas.{add_stands, each_then}
+use Rattle.ferry_piece.proofs.FrontLemmas.{manifest_way}
+use Rattle.ferry_piece.proofs.GatherLemmas.{each_behind, keeps_at}
+use Rattle.ferry_piece.proofs.AddedLemmas.{stands_with}
+use Rattle.ferry_store.specs.Writing.{WritesManifest}
 use Rattle.ferry_carry.proofs.GrowsLemmas.{Follows, growing_here, growing_then}
 use Rattle.ferry_carry.proofs.GrowLemmas.{growing_by}
 use Rattle.ferry_carry.proofs.GrowNamedLemmas.{standing_accepted}
@@ -28,7 +31,7 @@ use Rattle.ferry_carry.specs.Carrying.{Origin}
 use Rattle.ferry_piece.specs.Fault.{IsOfWork, target_fault}
 use Rattle.ferry_piece.specs.Gather.{Gathers, KeepsStanding, KeepsStandingAt}
 use Rattle.ferry_carry.specs.Grow.{AcceptsMore, Grows, KeepsGrowing}
-use Rattle.ferry_piece.specs.Puts.{Addition, AtBegin, Within, border_behind}
+use Rattle.ferry_piece.specs.Puts.{Addition, AtBegin, AtEnd, Border, Within, border_behind}
 use Rattle.ferry_carry.specs.Naming.{record_ids}
 use Rattle.ferry_carry.specs.Refusals.{is_of_telling}
 use Rattle.ferry_carry.specs.Telling.{BeginsAll, CarriesNames, KeepsReported, Reports, StopsBehind, StopsUnnamed, TellsNames}
@@ -42,7 +45,7 @@ use Rattle.ferry_carry.specs.States.{target_state, drawn_from}
 
 -- Where a refusal is of what was asked for, or a limit, nothing is added and nothing is named, whatever may be pending.
 abbrev pub StandsAll : Store → Option Told → Option Told → CarryFault → Type 0
-StandsAll store before now fault = IsOfWork fault → (most : ℕ) → Between before now (KeepsStanding most store [])
+StandsAll store before now fault = IsOfWork fault → (most : ℕ) → Between before now (KeepsStandingAt AtEnd most store [])
 
 -- want of memory is no such refusal
 pub memory_apart : {X : Type 0} → IsOfWork Carry.Memory → X
@@ -71,29 +74,44 @@ telling_apart {X} Carry.Record telling work = absurd (let never : ⊥ = cc in ne
 
 pub commit_stands : (store : Store) (a b : Option Told) (refusal : StoreRefusal) → Between a b TellsNothing
     → (depot_failed refusal ≡ false → refusal ≢ Stores.Memory → Between a b (KeepsSound store.session store.counter))
-    → StandsAll store a b (target_fault refusal)
-commit_stands store a b refusal untold keeps work most =
+    → (blob : List ℕ) → Between a b (WritesManifest blob store.session store.counter) → StandsAll store a b (target_fault refusal)
+commit_stands store a b refusal untold keeps blob writes work most =
     let sound = keeps (sym (failed_target refusal) ∙ work.target) (λ is. work.memory (ap target_fault is)) in
-    between_map a b (λ h g. TellsNothing h g × KeepsSound store.session store.counter h g) (KeepsStanding most store [])
-    (λ h g e. add_stands most store [] h g e.0 e.1) (between_both a b TellsNothing (KeepsSound store.session store.counter) untold sound)
+    let Sound = KeepsSound store.session store.counter in
+    let Written = WritesManifest blob store.session store.counter in
+    between_map a b (λ h g. TellsNothing h g × (Sound h g × Written h g)) (KeepsStandingAt AtEnd most store [])
+    (λ h g e. stands_with AtEnd most store [] h g e.0 e.1.0 (manifest_way AtEnd most store blob h g refl e.1.1))
+    (between_both a b TellsNothing (λ h g. Sound h g × Written h g) untold (between_both a b Sound Written sound writes))
 
 -- behind an archive that was accepted
-pub accepted_stands : (most : ℕ) (store middle : Store) (within : List Addition) (a b : Option Told) → middle ≡ record store { accepted = middle.accepted }
-    → Between a b (KeepsStanding most middle within) → Between a b (KeepsStanding most store within)
-accepted_stands most store middle within a b same standing =
-    between_map a b (KeepsStanding most middle within) (KeepsStanding most store within)
-    (λ h g e. standing_accepted Within most store middle within h g same e) standing
+pub accepted_stands : (at : Border) (most : ℕ) (store middle : Store) (within : List Addition) (a b : Option Told)
+    → middle ≡ record store { accepted = middle.accepted } → Between a b (KeepsStandingAt at most middle within)
+    → Between a b (KeepsStandingAt at most store within)
+accepted_stands at most store middle within a b same standing =
+    between_map a b (KeepsStandingAt at most middle within) (KeepsStandingAt at most store within)
+    (λ h g e. standing_accepted at most store middle within h g same e) standing
 
 -- ---- behind contents that were added
 
+pub stands_behind_at : {T : Type 0} (most : ℕ) (store middle : Store) (added more : List Addition) (a b c : Option Told) (n m : ℕ) (x : T)
+    → (repo_view middle.repo).keys ≡ (repo_view store.repo).keys
+    → Works (KeepsStanding most store added) (λ (_ : T). Gathers most store added middle) a b n m (Ok x)
+    → Between b c (KeepsStandingAt (border_behind Within added) most middle more) → Between a c (KeepsStanding most store (added ++ more))
+stands_behind_at {T} most store middle added more a b c n m x keys p after =
+    between_then a b c (λ h g. KeepsStanding most store added h g × (AllDone h g × Gathers most store added middle h g))
+    (KeepsStandingAt (border_behind Within added) most middle more)
+    (KeepsStanding most store (added ++ more)) (λ h g i e f. each_behind Within most store middle added more h g i keys e.0 e.1.0 e.1.1 f)
+    (between_both a b (KeepsStanding most store added) (λ h g. AllDone h g × Gathers most store added middle h g) p.each p.end) after
+
+-- the same within an archive
 pub stands_behind : {T : Type 0} (most : ℕ) (store middle : Store) (added more : List Addition) (a b c : Option Told) (n m : ℕ) (x : T)
     → (repo_view middle.repo).keys ≡ (repo_view store.repo).keys
     → Works (KeepsStanding most store added) (λ (_ : T). Gathers most store added middle) a b n m (Ok x) → Between b c (KeepsStanding most middle more)
     → Between a c (KeepsStanding most store (added ++ more))
 stands_behind {T} most store middle added more a b c n m x keys p after =
-    between_then a b c (λ h g. KeepsStanding most store added h g × (AllDone h g × Gathers most store added middle h g)) (KeepsStanding most middle more)
-    (KeepsStanding most store (added ++ more)) (λ h g i e f. each_then most store middle added more h g i keys e.0 e.1.0 e.1.1 f)
-    (between_both a b (KeepsStanding most store added) (λ h g. AllDone h g × Gathers most store added middle h g) p.each p.end) after
+    let at = border_behind Within added in
+    stands_behind_at {T = T} most store middle added more a b c n m x keys p
+    (between_map b c (KeepsStanding most middle more) (KeepsStandingAt at most middle more) (λ h g e. keeps_at at most middle more h g e) after)
 
 -- ---- behind turns of a flight
 

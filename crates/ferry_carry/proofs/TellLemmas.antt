@@ -27,7 +27,8 @@ use Rattle.ferry_write.proofs.PlainLemmas.{plain_next}
 use Rattle.ferry_write.specs.Script.{AllDone}
 use Rattle.ferry_write.specs.Session.{KeepsPlain, rests_at}
 use Rattle.ferry_piece.proofs.GatherLemmas.{moved_here}
-use Rattle.ferry_piece.proofs.PutsLemmas.{adds_here, goes_same}
+use Rattle.ferry_piece.proofs.PutsLemmas.{adds_here}
+use Rattle.ferry_piece.proofs.GoesLemmas.{goes_same}
 use Rattle.ferry_piece.proofs.WorkLemmas.{works_known, works_nothing}
 use Rattle.ferry_piece.specs.Adding.{IsNoChunk}
 use Rattle.ferry_carry.specs.Chosen.{TellsLine}
@@ -42,6 +43,10 @@ use Rattle.ferry_piece.proofs.FewLemmas.{used_up}
 -- ---- a line that is told, or isn't
 
 -- what a read gives is the same
+pub told_same : (line : List ℕ) (done : Bool) (h : History) → files_now (with_act (TellOf line) done h) ≡ files_now h
+told_same line true h = applied-push h.start h.acts (record { step = TellOf line; done = true })
+told_same line false h = applied-push h.start h.acts (record { step = TellOf line; done = false })
+
 files_told : (line : List ℕ) (h : History) → files_now (with_act (TellOf line) true h) ≡ files_now h
 files_told line h = applied-push h.start h.acts (record { step = TellOf line; done = true })
 

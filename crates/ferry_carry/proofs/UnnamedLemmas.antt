@@ -13,7 +13,10 @@ use Rattle.ferry_repo.specs.Opening.{RepoState, repo_view}
 use Rattle.ferry_store.specs.Commit.{accepted_in}
 use Rattle.ferry_store.specs.declared.store.Store.{Store}
 use Rattle.ferry_piece.proofs.AddingLemmas.{HoldsAll, held_gathered, stops_then}
-use Rattle.ferry_piece.proofs.GatherLemmas.{checkpoint_gathers, checkpoint_stands, moved_here, sound_moments, standing_wider, stands_at, stands_here}
+use Rattle.ferry_piece.proofs.FrontLemmas.{front_then, with_moments}
+use Rattle.ferry_piece.proofs.CheckpointLemmas.{checkpoint_gathers, checkpoint_stands}
+use Rattle.ferry_piece.proofs.GatherLemmas.{keeps_at, moved_here, standing_wider, stands_here}
+use Rattle.ferry_piece.specs.Front.{CommitsPieces, HoldsFront, IsSoundWith}
 use Rattle.ferry_piece.proofs.GatherLemmas.{stands_then}
 use Rattle.ferry_carry.proofs.StandLemmas.{stands_behind}
 use Rattle.ferry_carry.proofs.WorkLemmas.{carried_by_then, carried_from}
@@ -21,7 +24,8 @@ use Rattle.ferry_piece.proofs.WorkLemmas.{err_is}
 use Rattle.ferry_piece.proofs.WorkLemmas.{works_as, works_front, works_none}
 use Rattle.ferry_carry.proofs.HeldLemmas.{held_then, holds_within}
 use Rattle.ferry_carry.proofs.HeldLemmas.{known_back}
-use Rattle.ferry_piece.proofs.PutsLemmas.{adds_at, adds_here, allows_within, goes_at, goes_same}
+use Rattle.ferry_piece.proofs.PutsLemmas.{adds_at, adds_here, allows_within, goes_at}
+use Rattle.ferry_piece.proofs.GoesLemmas.{goes_same}
 use Rattle.ferry_piece.specs.Adding.{AddsOn, HoldsRefused, StopsLast, BeginsSegments}
 use Rattle.ferry_carry.specs.Naming.{TaggedRecord}
 use Rattle.ferry_carry.specs.Carrying.{Origin, origin}
@@ -40,8 +44,6 @@ use Rattle.ferry_carry.specs.declared.flight.Turn.TheVariants.{More, Named, Pres
 use Rattle.ferry_stops.proofs.TellLemmas.{untold_then}
 use Rattle.ferry_store.proofs.StepLemmas.{moments_then}
 use Rattle.ferry_store.specs.Standing.{committed_of, entries_of}
-use Rattle.ferry_store.specs.State.{CommitsSound, IsSound}
-use Rattle.ferry_stops.specs.Tells.{TellsNothing}
 use Rattle.ferry_store.specs.Adding.{Checkpoints}
 use Rattle.ferry_write.specs.Script.{AllDone}
 use Rattle.ferry_piece.proofs.FewLemmas.{begun_then}
@@ -54,13 +56,7 @@ use Rattle.ferry_carry.proofs.BegunLemmas.{turns_before, begins_new, begins_befo
 -- what stands within an archive stands at any border
 standing_within : (at : Border) (most : ℕ) (store : Store) (more : List Addition) (h g : History) → KeepsStanding most store more h g
     → KeepsStandingAt at most store more h g
-standing_within at most store more h g standing = (
-  standing.0,
-  λ counts fits.
-      let keys = (repo_view store.repo).keys in
-      sound_moments (StandsFrom Within keys most more fits.written) (StandsFrom at keys most more fits.written) counts h g
-      (λ image stands. stands_at Within at keys most more fits.written image (allows_within at (entries_of fits.written)) stands) (standing.1 counts fits),
-)
+standing_within at most store more h g standing = keeps_at at most store more h g standing
 
 pub stands_within : (at : Border) (most : ℕ) (store : Store) (more : List Addition) (a b : Option Told) → Between a b (KeepsStanding most store more)
     → Between a b (KeepsStandingAt at most store more)
@@ -81,12 +77,18 @@ standing_behind at most store middle more h g i same before done gathers after =
       let next = first.fits_now.written in
       let within = standing_wider most store [] more h g (more, refl) before in
       let allows = allows_within at (entries_of written) in
-      moments_then (IsSound (StandsFrom at keys most more written) counts) h g i ((standing_within at most store more h g within).1 counts fits) done
-      (sound_moments (StandsFrom at (repo_view middle.repo).keys most more next) (StandsFrom at keys most more written) counts g i
-      (λ image stands. stands_then at keys most written next [] more image first.moved
-      (adds_at Within at keys most (entries_of written) [] (entries_of next) allows first.puts)
+      let start = entries_of written in
+      let between = entries_of next in
+      let adds = adds_at Within at keys most start [] between allows first.puts in
+      moments_then (IsSoundWith (StandsFrom at keys most more written) (HoldsFront at keys most start more) counts) h g i
+      ((standing_within at most store more h g within).1 counts fits) done
+      (with_moments (StandsFrom at (repo_view middle.repo).keys most more next) (StandsFrom at keys most more written)
+      (HoldsFront at (repo_view middle.repo).keys most between more) (HoldsFront at keys most start more) counts g i
+      (λ image stands. stands_then at keys most written next [] more image first.moved adds
       (goes_at Within at keys most [] written (committed_of next) allows first.committed)
-      (subst (λ (k : Keys). StandsFrom at k most more next image) same stands)) (after.1 counts first.fits_now)),
+      (subst (λ (k : Keys). StandsFrom at k most more next image) same stands))
+      (λ files read. front_then at keys most start between [] more files adds (subst (λ (k : Keys). HoldsFront at k most between more files) same read))
+      (after.1 counts first.fits_now)),
 )
 
 pub stands_read : {T : Type 0} (at : Border) (most : ℕ) (store middle : Store) (more : List Addition) (a b c : Option Told) (n m : ℕ) (x : T)
@@ -148,21 +150,21 @@ nothing_pending {T} most store a n x =
 -- something was, and is committed
 pub pending_committed : {T U : Type 0} (most : ℕ) (store now : Store) (a b : Option Told) (n m : ℕ) (x : T) (y : U) → now.repo ≡ store.repo
     → store.pending ≢ 0
-    → Works (λ h g. TellsNothing h g × CommitsSound store.session store.counter h g) (λ (_ : T). Checkpoints store now) a b n m (Ok x)
+    → Works (CommitsPieces store) (λ (_ : T). Checkpoints store now) a b n m (Ok x)
     → Works (KeepsStandingAt AtBegin most store []) (λ (_ : U). GathersAt AtBegin most store [] now) a b n m (Ok y)
 pending_committed {T} {U} most store now a b n m x y repo some p =
-    works_as (λ h g. TellsNothing h g × CommitsSound store.session store.counter h g) (λ (_ : T). Checkpoints store now)
+    works_as (CommitsPieces store) (λ (_ : T). Checkpoints store now)
     (KeepsStandingAt AtBegin most store []) (λ (_ : U). GathersAt AtBegin most store [] now) a b n m x y
-    (λ h g e. checkpoint_stands most store [] h g some e.0 e.1) (λ h g e. checkpoint_gathers most store now h g repo some e) p
+    (λ h g e. checkpoint_stands most store [] h g some e) (λ h g e. checkpoint_gathers most store now h g repo some e) p
 
 -- or isn't
 pub pending_uncommitted : {T U : Type 0} (most : ℕ) (store now : Store) (a b : Option Told) (n m : ℕ) (fault : CarryFault) → store.pending ≢ 0
-    → Works (λ h g. TellsNothing h g × CommitsSound store.session store.counter h g) (λ (_ : T). Checkpoints store now) a b n m (Err fault)
+    → Works (CommitsPieces store) (λ (_ : T). Checkpoints store now) a b n m (Err fault)
     → Works (KeepsStandingAt AtBegin most store []) (λ (_ : U). GathersAt AtBegin most store [] now) a b n m (Err fault)
 pending_uncommitted {T} {U} most store now a b n m fault some p =
-    works_front (λ h g. TellsNothing h g × CommitsSound store.session store.counter h g) (λ (_ : T). Checkpoints store now)
+    works_front (CommitsPieces store) (λ (_ : T). Checkpoints store now)
     (KeepsStandingAt AtBegin most store []) (λ (_ : U). GathersAt AtBegin most store [] now) a b n m fault
-    (λ h g e. checkpoint_stands most store [] h g some e.0 e.1) p
+    (λ h g e. checkpoint_stands most store [] h g some e) p
 
 -- the segments of it, where it ends a flight
 pub present_few : (store now : Store) (result : Result Turn CarryFault) → IfOk result (λ turn. turn ≡ Present) → BeginsSegments 2 store now result

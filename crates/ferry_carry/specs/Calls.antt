@@ -10,8 +10,8 @@ use Rattle.ferry_manifest.specs.Manifest.Writing.{IsPackable}
 use Rattle.ferry_manifest.specs.Record.Text.{ArchiveText, archive_of, as_tagged}
 use Rattle.ferry_piece.specs.Adding.{BeginsSegments, HoldsRefused, IsNoChunk, IsUsedUp}
 use Rattle.ferry_piece.specs.Fault.{IsOfWork, random_failed, shelf_failed, target_failed}
-use Rattle.ferry_piece.specs.Gather.{KeepsRest, KeepsStanding}
-use Rattle.ferry_piece.specs.Puts.{Border, IsCheckpoint}
+use Rattle.ferry_piece.specs.Gather.{KeepsRest, KeepsStandingAt}
+use Rattle.ferry_piece.specs.Puts.{AtEnd, Border, IsCheckpoint}
 use Rattle.ferry_piece.specs.Stops.{StopsPieces, StopsTarget, is_target}
 use Rattle.ferry_piece.specs.declared.fault.CarryFault.{CarryFault}
 use Rattle.ferry_piece.specs.declared.piece.PieceWriter.{PieceWriter}
@@ -180,7 +180,7 @@ pub record CommitsThis (manifest : ManifestText) (store : Store) (now : Option T
 -- what is written as it was. Two segments are begun at most.
 pub record LeavesUnnamed {T : Type 0} (manifest : ManifestText) (store : Store) (before now : Option Told) (store_now : Store) (result : Result T CarryFault)
     : Type 0 where
-  pub stands : IfErr result (λ fault. IsOfWork fault → (most : ℕ) → Between before now (KeepsStanding most store []))
+  pub stands : IfErr result (λ fault. IsOfWork fault → (most : ℕ) → Between before now (KeepsStandingAt AtEnd most store []))
   pub held : (at : Border) (most : ℕ) → HoldsRefused at most store [] store_now before now result
   pub stops : IfErr result (StopsTarget now (repo_view store.repo).keys)
   pub limit : IfErr result (LimitsManifest (repo_view store.repo).keys manifest)

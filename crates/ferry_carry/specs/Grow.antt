@@ -14,11 +14,12 @@ use Rattle.ferry_stops.specs.Entries.{Shows}
 use Rattle.ferry_stops.specs.Tells.{TellsNothing}
 use Rattle.ferry_store.specs.Commit.{accepted_in}
 use Rattle.ferry_store.specs.Standing.{HoldsManifest, committed_of, entries_of, live_in, with_manifest}
-use Rattle.ferry_store.specs.State.{IsSound, Written}
+use Rattle.ferry_store.specs.State.{Written}
 use Rattle.ferry_store.specs.Store.{StoreFits}
 use Rattle.ferry_store.specs.declared.store.Store.{Store}
 use Rattle.ferry_carry.specs.Accepting.{AreNextOf}
 use Rattle.ferry_carry.specs.Carrying.{AreCut, IsCarried, Origin}
+use Rattle.ferry_piece.specs.Front.{HoldsFront, IsSoundWith}
 use Rattle.ferry_piece.specs.Gather.{BringsOpening, IsAmong}
 use Rattle.ferry_piece.specs.Puts.{Addition, AddsAll, AtBegin, GoesOn, border_behind}
 
@@ -69,10 +70,11 @@ pub record StandsOn (earlier : List Addition) (from : Origin) (chosen : List (Li
   pub cut : AreCut accepted from repo.keys manifest.archives done
   pub only : IsNamedBy accepted done manifest
 
--- At each moment each stop shows so, and no counter block serves two blobs.
+-- At each moment each stop shows so, no counter block serves two blobs, and all that the segments have is a front of what goes on so.
 abbrev pub EachGrowsBy : List Addition → ManifestText → Origin → List (List ℕ) → Store → List Addition → History → History → Type 0
 EachGrowsBy earlier accepted from chosen store within before now = (counts : Bool) (fits : StoreFits counts store before)
-    → Moments (IsSound (StandsOn earlier from chosen within accepted (repo_view store.repo) fits.written) counts) before now
+    → Moments (IsSoundWith (StandsOn earlier from chosen within accepted (repo_view store.repo) fits.written)
+    (HoldsFront (border_behind AtBegin earlier) (repo_view store.repo).keys from.most (entries_of fits.written) within) counts) before now
 
 -- The same where no line was told.
 abbrev pub KeepsGrowingBy : List Addition → ManifestText → Origin → List (List ℕ) → Store → List Addition → History → History → Type 0

@@ -8,7 +8,8 @@ use Rattle.ferry_manifest.specs.Manifest.Text.{ManifestText}
 use Rattle.ferry_repo.specs.Opening.{RepoState, repo_view}
 use Rattle.ferry_stops.specs.Tells.{lines_of}
 use Rattle.ferry_store.specs.Commit.{accepted_in}
-use Rattle.ferry_store.specs.State.{IsSound, Written}
+use Rattle.ferry_store.specs.Standing.{entries_of}
+use Rattle.ferry_store.specs.State.{Written}
 use Rattle.ferry_store.specs.Store.{StoreFits}
 use Rattle.ferry_store.specs.declared.store.Store.{Store}
 use Rattle.ferry_piece.specs.Adding.{BeginsSegments, HoldsRefused, StopsLast}
@@ -20,7 +21,8 @@ use Rattle.ferry_carry.specs.Grow.{Grows, KeepsGrowing, StandsOn}
 use Rattle.ferry_carry.specs.Listing.{BeginsNames, ListsNames}
 use Rattle.ferry_carry.specs.Naming.{DrawsSalts, TaggedRecord}
 use Rattle.ferry_carry.specs.States.{Drawn, TargetState}
-use Rattle.ferry_piece.specs.Puts.{Addition, AtBegin}
+use Rattle.ferry_piece.specs.Front.{HoldsFront, IsSoundWith}
+use Rattle.ferry_piece.specs.Puts.{Addition, AtBegin, border_behind}
 use Rattle.ferry_carry.specs.Lines.{name_line, told_of, total_line}
 use Rattle.ferry_piece.specs.Work.{Works}
 use Rattle.ferry_piece.specs.declared.fault.CarryFault.{CarryFault}
@@ -58,21 +60,27 @@ pub record IsReport (accepted : ManifestText) (lines done : List (List ℕ)) : T
 
 -- ---- at each moment
 
--- A moment at which each stop shows this, where these lines were told since another, and no counter block serves two blobs.
-pub record IsReported (Show : List (List ℕ) → Files → Type 0) (counts : Bool) (before moment : History) : Type 0 where
+-- A moment at which each stop shows this, where these lines were told since another, no counter block serves two blobs, and that is what is read.
+pub record IsReported (Show : List (List ℕ) → Files → Type 0) (Read : Files → Type 0) (counts : Bool) (before moment : History) : Type 0 where
   pub lines : List (List ℕ)
   pub told : lines_of moment.acts ≡ lines_of before.acts ++ lines
-  pub sound : IsSound (Show lines) counts moment
+  pub sound : IsSoundWith (Show lines) Read counts moment
 
 -- Of the chosen names those of a front were carried, and of these a front was told.
 abbrev pub ShowsReport : Origin → List (List ℕ) → List Addition → ManifestText → RepoState → Written → List (List ℕ) → Files → Type 0
 ShowsReport from chosen within accepted repo written lines image =
     (stands : StandsOn [] from chosen within accepted repo written image) × IsReport accepted lines stands.done
 
--- At each moment each stop shows so.
+-- At a moment each stop shows so, and all that the segments have is a front of what goes on so from what was written.
+abbrev pub IsReportedOf : Origin → List (List ℕ) → Store → List Addition → Written → Bool → History → History → Type 0
+IsReportedOf from chosen store within written counts before moment =
+    IsReported (ShowsReport from chosen within (accepted_in store) (repo_view store.repo) written)
+    (HoldsFront (border_behind AtBegin []) (repo_view store.repo).keys from.most (entries_of written) within) counts before moment
+
+-- So it is at each moment.
 abbrev pub KeepsReported : Origin → List (List ℕ) → Store → List Addition → History → History → Type 0
 KeepsReported from chosen store within before now = (counts : Bool) (fits : StoreFits counts store before)
-    → Moments (IsReported (ShowsReport from chosen within (accepted_in store) (repo_view store.repo) fits.written) counts before) before now
+    → Moments (IsReportedOf from chosen store within fits.written counts before) before now
 
 -- ---- at the end
 

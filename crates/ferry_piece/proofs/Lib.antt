@@ -1,6 +1,11 @@
 pub mod PutsLemmas
+pub mod GoesLemmas
+pub mod PendingLemmas
+pub mod FrontLemmas
 pub mod AmongLemmas
 pub mod GatherLemmas
+pub mod AddedLemmas
+pub mod CheckpointLemmas
 pub mod AddingLemmas
 pub mod FewLemmas
 pub mod FaultLemmas

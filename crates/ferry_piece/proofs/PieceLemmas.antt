@@ -1,6 +1,6 @@
 -- Lemmas on specs/Piece.antt: a writer of pieces from round to round, and what its last piece is.
 use Rattle.std.proofs.Common.{◌≡◌, ◌≤◌, ◌<◌, ◌+◌, ◌-◌, ◌^◌, ℕ, inl, inr, Bool, true, false, if◌then◌else◌, List, [], ◌∷◌, ◌++◌}
-use Rattle.std.proofs.Common.{Option, Some, None, IsSome, is_some, Result, Ok, Err, OnOk}
+use Rattle.std.proofs.Common.{Option, Some, None, IsSome, is_some, Result, Ok, Err, OnOk, IsErrAnd}
 use Rattle.std.proofs.Common.{length, min, take, drop, refl, sym, ◌∙◌, ap, subst, arith}
 use Rattle.std.proofs.lemmas.Bool.{cases_lt}
 use Rattle.std.proofs.lemmas.List.{append-nil, append_assoc, drop_all, length-append, length-take, map-append}
@@ -14,12 +14,14 @@ use Rattle.ferry_rechunk.specs.Cut.{cut}
 use Rattle.ferry_rechunk.specs.Cutting.{Cutting, IsFed}
 use Rattle.ferry_piece.proofs.AddingLemmas.{held_spent, spent_unbroken, stops_then, stops_unbroken, unspent_then}
 use Rattle.ferry_piece.proofs.FewLemmas.{begun_same, begun_then}
-use Rattle.ferry_piece.proofs.GatherLemmas.{each_room, room_makes, room_stands, room_then}
-use Rattle.ferry_piece.proofs.PutsLemmas.{adds_room, bytes_append, count_append, first_room}
+use Rattle.ferry_piece.proofs.CheckpointLemmas.{each_room, room_makes, room_stands, room_then}
+use Rattle.ferry_piece.proofs.GoesLemmas.{adds_room, first_room}
+use Rattle.ferry_piece.proofs.PutsLemmas.{bytes_append, count_append}
 use Rattle.ferry_piece.proofs.WorkLemmas.{gathered_then, works_as, works_front, works_then}
 use Rattle.ferry_piece.specs.Adding.{AddsOn, HoldsRefused, HoldsUntil, SparesStore, BeginsSegments}
+use Rattle.ferry_piece.specs.Front.{CommitsPieces}
 use Rattle.ferry_piece.specs.Gather.{Gathers, KeepsRest, KeepsStanding, MakesRoom, chunk_of, chunks_of}
-use Rattle.ferry_piece.specs.Piece.{BeginsOn, CountsOn, WritesOn}
+use Rattle.ferry_piece.specs.Piece.{BeginsOn, CountsOn, IsPutBy, WritesOn}
 use Rattle.ferry_piece.specs.Puts.{Addition, AddsAll, AddsFirst, Content, IsCheckpoint, Kind, Record, Stream, Within, addition, is_piece, put_bytes, put_count}
 use Rattle.ferry_piece.specs.Stops.{is_target}
 use Rattle.ferry_piece.specs.Work.{Works}
@@ -30,12 +32,11 @@ use Rattle.ferry_disk.specs.Act.{History}
 use Rattle.ferry_disk.specs.Device.{Told}
 use Rattle.ferry_disk.specs.Moments.{Between}
 use Rattle.ferry_repo.specs.Opening.{repo_view}
-use Rattle.ferry_stops.specs.Tells.{TellsNothing}
 use Rattle.ferry_store.specs.Adding.{Checkpoints, id_under}
 use Rattle.ferry_store.specs.Content.{IsNew}
 use Rattle.ferry_store.specs.Standing.{entries_of}
-use Rattle.ferry_store.specs.State.{CommitsSound}
 use Rattle.ferry_store.specs.Store.{IsUnspent}
+use Rattle.ferry_store.specs.declared.content.Added.{Added}
 use Rattle.ferry_store.specs.declared.store.Store.{Store}
 use Rattle.ferry_write.specs.Script.{AllDone}
 
@@ -215,23 +216,30 @@ counts_by kind writer other now last more put bytes put_now bytes_now p = record
       ∙ ap (λ (n : ℕ). min (n + put_bytes kind more) (2 ^ 128 - 1)) (sym bytes));
 }
 
+-- ---- whether a content was put
+
+-- one that was refused counts as put
+pub refused_put : (put : Bool) (result : Result Added CarryFault) (fault : CarryFault) → IsErrAnd result (λ y. y ≡ fault) → IsPutBy put result → put ≡ true
+refused_put put (Ok added) fault err is = absurd err
+refused_put put (Err other) fault err is = is
+
 -- ---- a checkpoint before a piece
 
 -- as many are pending as may be, and the piece is to be put: the checkpoint comes before it
 pub room_works : {T : Type 0} (most : ℕ) (store now : Store) (one : Addition) (a b : Option Told) (n m : ℕ) (result : Result T CarryFault)
     → IsCheckpoint most → is_piece one.kind ≡ true → store.pending ≡ most → IsNew (repo_view store.repo) (id_under store one.content)
     → OnOk result (now.repo ≡ store.repo)
-    → Works (λ h g. TellsNothing h g × CommitsSound store.session store.counter h g) (λ (_ : T). Checkpoints store now) a b n m result
+    → Works (CommitsPieces store) (λ (_ : T). Checkpoints store now) a b n m result
     → Works (KeepsStanding most store (one ∷ [])) (λ (_ : T). MakesRoom most store one now) a b n m result
 room_works {T} most store now one a b n m (Ok x) checkpoint piece full new repo p =
-    works_as (λ h g. TellsNothing h g × CommitsSound store.session store.counter h g) (λ (_ : T). Checkpoints store now)
+    works_as (CommitsPieces store) (λ (_ : T). Checkpoints store now)
     (KeepsStanding most store (one ∷ [])) (λ (_ : T). MakesRoom most store one now) a b n m x x
-    (λ h g e. room_stands most store one h g checkpoint piece full new e.0 e.1)
+    (λ h g e. room_stands most store one h g checkpoint piece full new e)
     (λ h g e. room_makes most store now one h g checkpoint repo piece full new e) p
 room_works {T} most store now one a b n m (Err fault) checkpoint piece full new repo p =
-    works_front (λ h g. TellsNothing h g × CommitsSound store.session store.counter h g) (λ (_ : T). Checkpoints store now)
+    works_front (CommitsPieces store) (λ (_ : T). Checkpoints store now)
     (KeepsStanding most store (one ∷ [])) (λ (_ : T). MakesRoom most store one now) a b n m fault
-    (λ h g e. room_stands most store one h g checkpoint piece full new e.0 e.1) p
+    (λ h g e. room_stands most store one h g checkpoint piece full new e) p
 
 -- how far a piece was added behind what came before it
 until_room : (target : Bool) (most : ℕ) (store middle now : Store) (one : Addition) (h g i : History) → IsCheckpoint most

@@ -53,6 +53,11 @@ works_err E1 Q1 E Q a b n m refusal step untold p = record {
   cause = subst (λ (d : Bool). RoseWhere d n m) (sym (failed_target refusal)) p.cause;
 }
 
+-- a call of the store of which more is known at each moment
+pub did_both : {T : Type 0} (E F : History → History → Type 0) (Q : T → History → History → Type 0) (a b : Option Told) (n m : ℕ)
+    (result : Result T StoreRefusal) → Between a b F → Did E Q a b n m result → Did (λ h g. E h g × F h g) Q a b n m result
+did_both E F Q a b n m result known p = record { each = between_both a b E F p.each known; end = p.end; ends = p.ends; cause = p.cause }
+
 -- one body behind another that was `Ok`
 pub works_then : {T U : Type 0} (E1 : History → History → Type 0) (Q1 : T → History → History → Type 0) (E2 : History → History → Type 0)
     (Q2 : U → History → History → Type 0) (E : History → History → Type 0) (Q : U → History → History → Type 0) (a b c : Option Told) (n m k : ℕ) (x : T)

@@ -15,9 +15,10 @@ use Rattle.ferry_stops.specs.Entries.{Shows}
 use Rattle.ferry_stops.specs.Tells.{TellsNothing}
 use Rattle.ferry_store.specs.Commit.{accepted_in}
 use Rattle.ferry_store.specs.Standing.{Keeps, committed_of, entries_of, live_in}
-use Rattle.ferry_store.specs.State.{IsSound, Written}
+use Rattle.ferry_store.specs.State.{Written}
 use Rattle.ferry_store.specs.Store.{StoreFits}
 use Rattle.ferry_store.specs.declared.store.Store.{Store}
+use Rattle.ferry_piece.specs.Front.{HoldsFront, IsSoundWith}
 use Rattle.ferry_piece.specs.Puts.{Addition, AddsAll, Border, ComesBefore, GoesOn, Within, contents_in}
 
 -- ---- contents
@@ -77,10 +78,11 @@ pub record StandsFrom (at : Border) (keys : Keys) (most : ℕ) (within : List Ad
   pub puts : GoesOn at keys most within written entries
   pub config : image.config ≡ written.config
 
--- At each moment each stop shows so, and no counter block serves two blobs.
+-- At each moment each stop shows so, no counter block serves two blobs, and all that the segments have is a front of what goes on so.
 abbrev pub EachStands : Border → ℕ → Store → List Addition → History → History → Type 0
 EachStands at most store within before now = (counts : Bool) (fits : StoreFits counts store before)
-    → Moments (IsSound (StandsFrom at (repo_view store.repo).keys most within fits.written) counts) before now
+    → Moments (IsSoundWith (StandsFrom at (repo_view store.repo).keys most within fits.written)
+    (HoldsFront at (repo_view store.repo).keys most (entries_of fits.written) within) counts) before now
 
 -- The same where no line was told.
 abbrev pub KeepsStandingAt : Border → ℕ → Store → List Addition → History → History → Type 0

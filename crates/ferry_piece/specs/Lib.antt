@@ -1,4 +1,5 @@
 pub mod Puts
+pub mod Front
 pub mod Gather
 pub mod Fault
 pub mod Work

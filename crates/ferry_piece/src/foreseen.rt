@@ -8,7 +8,7 @@ ghost use Rattle.ferry_piece.specs.Adding.{AddsOn, SparesStore, BeginsSegments};
 ghost use Rattle.ferry_piece.specs.Fault.{random_failed, shelf_failed};
 ghost use Rattle.ferry_piece.specs.Foreseen.{IsForeseen, pieces_in};
 ghost use Rattle.ferry_piece.specs.Gather.{KeepsRest, KeepsStanding, MakesRoom};
-ghost use Rattle.ferry_piece.specs.Piece.{HasRoom};
+ghost use Rattle.ferry_piece.specs.Piece.{HasRoom, IsPutBy};
 ghost use Rattle.ferry_piece.specs.Puts.{Addition, IsCheckpoint, Kind, addition, is_piece};
 ghost use Rattle.ferry_piece.specs.Stops.{StopsPieces, is_target};
 ghost use Rattle.ferry_piece.specs.Work.{Works};
@@ -192,7 +192,7 @@ pub(crate) fn add_foreseen<D: Depot>(
     requires pending { store.old.pending ≤ checkpoint }
     requires unspent { IsUnspent store.old }
     requires fits { IfSome (D.told depot.old) (λ t. StoreFits false store.old t.history) }
-    ensures works { (kind : Kind) (put : Bool) → is_piece kind ≡ true → IfOk result (λ added. put ≡ added.new)
+    ensures works { (kind : Kind) (put : Bool) → is_piece kind ≡ true → IsPutBy put result
         → AddsOn checkpoint store.old (addition kind piece.now put ∷ []) store.new
         (D.told depot.old) (D.told depot.new) (D.faults depot.old) (D.faults depot.new) result }
     ensures id { IfOk result (λ added. added.id ≡ content_id (repo_view store.old.repo).keys piece.now) }
@@ -245,7 +245,7 @@ fn add_buffer<D: Depot>(
     requires pending { store.old.pending ≤ checkpoint }
     requires unspent { IsUnspent store.old }
     requires fits { IfSome (D.told depot.old) (λ t. StoreFits false store.old t.history) }
-    ensures works { (kind : Kind) (put : Bool) → is_piece kind ≡ true → IfOk result (λ added. put ≡ added.new)
+    ensures works { (kind : Kind) (put : Bool) → is_piece kind ≡ true → IsPutBy put result
         → AddsOn checkpoint store.old (addition kind (content_in (repo_view store.old.repo).keys is_blob buffer.old) put ∷ []) store.new
         (D.told depot.old) (D.told depot.new) (D.faults depot.old) (D.faults depot.new) result }
     ensures id { IfOk result (λ added. added.id ≡ content_id (repo_view store.old.repo).keys (content_in (repo_view store.old.repo).keys is_blob buffer.old)) }
@@ -306,7 +306,7 @@ fn add_prepared<D: Depot>(
     requires prepared { IsPrepared (repo_view store.old.repo) id.now is_blob buffer.old }
     requires unspent { IsUnspent store.old }
     requires fits { IfSome (D.told depot.old) (λ t. StoreFits false store.old t.history) }
-    ensures works { (most : ℕ) (kind : Kind) (put : Bool) → IfOk result (λ added. put ≡ added.new)
+    ensures works { (most : ℕ) (kind : Kind) (put : Bool) → IsPutBy put result
         → HasRoom most kind (content_in (repo_view store.old.repo).keys is_blob buffer.old) store.old
         → AddsOn most store.old (addition kind (content_in (repo_view store.old.repo).keys is_blob buffer.old) put ∷ []) store.new
         (D.told depot.old) (D.told depot.new) (D.faults depot.old) (D.faults depot.new) result }

@@ -5,17 +5,16 @@ ghost use Rattle.ferry_base.specs.Limits.{content_limit};
 ghost use Rattle.ferry_blob.specs.Blob.{content_id};
 ghost use Rattle.ferry_piece.specs.Adding.{AddsOn, SparesStore, BeginsSegments};
 ghost use Rattle.ferry_piece.specs.Fault.{random_failed, shelf_failed};
+ghost use Rattle.ferry_piece.specs.Front.{CommitsPieces};
 ghost use Rattle.ferry_piece.specs.Gather.{KeepsRest, KeepsStanding, MakesRoom, chunk_of, chunks_of};
-ghost use Rattle.ferry_piece.specs.Piece.{BeginsOn, CountsOn, HasRoom, WritesOn};
+ghost use Rattle.ferry_piece.specs.Piece.{BeginsOn, CountsOn, HasRoom, IsPutBy, WritesOn};
 ghost use Rattle.ferry_piece.specs.Puts.{Addition, AreOf, ArePieces, IsCheckpoint, Kind, addition, contents_in, is_piece};
 ghost use Rattle.ferry_piece.specs.Stops.{StopsPieces, is_target};
 ghost use Rattle.ferry_piece.specs.Work.{Works};
 ghost use Rattle.ferry_rechunk.specs.Cut.{cut};
 ghost use Rattle.ferry_repo.specs.Opening.{repo_view};
-ghost use Rattle.ferry_stops.specs.Tells.{TellsNothing};
 ghost use Rattle.ferry_store.specs.Adding.{Checkpoints, id_under, pending_after};
 ghost use Rattle.ferry_store.specs.Content.{IsNew};
-ghost use Rattle.ferry_store.specs.State.{CommitsSound};
 ghost use Rattle.ferry_store.specs.Store.{IsUnspent, StoreFits};
 
 use crate::fault::CarryFault;
@@ -47,7 +46,7 @@ pub(crate) fn add_piece<D: Depot>(
     requires pending { store.old.pending ≤ checkpoint }
     requires unspent { IsUnspent store.old }
     requires fits { IfSome (D.told depot.old) (λ t. StoreFits false store.old t.history) }
-    ensures works { (kind : Kind) (put : Bool) → is_piece kind ≡ true → IfOk result (λ added. put ≡ added.new)
+    ensures works { (kind : Kind) (put : Bool) → is_piece kind ≡ true → IsPutBy put result
         → AddsOn checkpoint store.old (addition kind piece.now put ∷ []) store.new
         (D.told depot.old) (D.told depot.new) (D.faults depot.old) (D.faults depot.new) result }
     ensures id { IfOk result (λ added. added.id ≡ content_id (repo_view store.old.repo).keys piece.now) }
@@ -101,7 +100,7 @@ fn make_room<D: Depot>(
 pub fn commit_pieces<D: Depot>(store: &mut Store, depot: &mut D) -> Result<(), CarryFault>
     requires unspent { IsUnspent store.old }
     requires fits { IfSome (D.told depot.old) (λ t. StoreFits false store.old t.history) }
-    ensures works { Works (λ h g. TellsNothing h g × CommitsSound store.old.session store.old.counter h g) (λ _. Checkpoints store.old store.new)
+    ensures works { Works (CommitsPieces store.old) (λ _. Checkpoints store.old store.new)
         (D.told depot.old) (D.told depot.new) (D.faults depot.old) (D.faults depot.new) result }
     ensures spent { IfErr result (λ fault. SparesStore fault → ⊥) }
     ensures few { BeginsSegments 1 store.old store.new result }
@@ -125,7 +124,7 @@ pub fn add<D: Depot>(store: &mut Store, depot: &mut D, content: &[u8]) -> Result
     requires size { length content.now ≤ content_limit }
     requires unspent { IsUnspent store.old }
     requires fits { IfSome (D.told depot.old) (λ t. StoreFits false store.old t.history) }
-    ensures works { (most : ℕ) (kind : Kind) (put : Bool) → IfOk result (λ added. put ≡ added.new) → HasRoom most kind content.now store.old
+    ensures works { (most : ℕ) (kind : Kind) (put : Bool) → IsPutBy put result → HasRoom most kind content.now store.old
         → AddsOn most store.old (addition kind content.now put ∷ []) store.new
         (D.told depot.old) (D.told depot.new) (D.faults depot.old) (D.faults depot.new) result }
     ensures pending { IfOk result (λ added. store.new.pending ≡ pending_after store.old.pending added.new) }

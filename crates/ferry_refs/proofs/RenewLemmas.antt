@@ -11,7 +11,7 @@ use Rattle.ferry_log.specs.State.{LogState, place_in, with_learnt}
 use Rattle.ferry_log.specs.declared.place.Place.{Place}
 use Rattle.ferry_mac.specs.declared.keys.Keys.{Keys}
 use Rattle.ferry_piece.proofs.AmongLemmas.{among_behind, among_front}
-use Rattle.ferry_piece.proofs.GatherLemmas.{AddedSo, added_rest}
+use Rattle.ferry_piece.proofs.AddedLemmas.{AddedSo, added_rest}
 use Rattle.ferry_repo.specs.Opening.{RepoState, repo_view}
 use Rattle.ferry_segment.specs.Entry.{LogEntry}
 use Rattle.ferry_store.proofs.LiveLemmas.{keeps_put, keeps_same, keeps_then, live_other, live_put, same_or}

@@ -7,7 +7,7 @@ use Rattle.ferry_carry.specs.Carrying.{Origin, IsApart, IsCarried, IsWholeBy, Ca
 use Rattle.ferry_carry.specs.Grow.{Grown, job}
 use Rattle.ferry_carry.specs.Lines.{total_line}
 use Rattle.ferry_carry.specs.Naming.{record_ids}
-use Rattle.ferry_carry.specs.Telling.{CarriesNames, IsReported, KeepsReported, ReportsWhole, ShowsReport, TellsWhole}
+use Rattle.ferry_carry.specs.Telling.{CarriesNames, IsReportedOf, KeepsReported, ReportsWhole, TellsWhole}
 use Rattle.ferry_carry.specs.declared.options.Carried.{Carried}
 use Rattle.ferry_disk.proofs.MomentLemmas.{between_map}
 use Rattle.ferry_disk.specs.Device.{Told, told_files}
@@ -200,7 +200,7 @@ module _ (count : ℕ) (source : Files) (is : IsSource count source) (repo : Rep
 settles_on : (from : Origin) (names : List (List ℕ)) (store : Store) (added : List Addition) (h g i : History) → SettlesFirst h g → IsMadeNew store h g
     → KeepsReported from names store added g i → SettlesFirst h i
 settles_on from names store added h g i first made reported begun =
-    first_kept (IsReported (ShowsReport from names added (accepted_in store) (repo_view store.repo) made.fits.written) false g) g i
+    first_kept (IsReportedOf from names store added made.fits.written false g) g i
     made.fits.under_way.fits.own.safe.settled_is (first begun) (reported false made.fits)
 
 -- a store that is made

@@ -9,7 +9,7 @@ use Rattle.ferry_blob.specs.Blob.{OpensTo}
 use Rattle.ferry_blob.specs.declared.fault.BlobFault.{BlobFault}
 use Rattle.ferry_carry.specs.Carrying.{Origin}
 use Rattle.ferry_carry.specs.Grow.{StandsOn}
-use Rattle.ferry_carry.specs.Telling.{AreLines, IsReported, KeepsReported, ShowsReport, TellsNames}
+use Rattle.ferry_carry.specs.Telling.{AreLines, IsReportedOf, KeepsReported, TellsNames}
 use Rattle.ferry_disk.specs.Act.{Act, History, Step, applied, files_now, with_act}
 use Rattle.ferry_disk.specs.Moments.{EachMoment, Moments}
 use Rattle.ferry_gen.specs.Content.{archive_name}
@@ -135,18 +135,18 @@ none_named name archives is = ap (archive_named name) is
 
 module _ (from : Origin) (names : List (List ℕ)) (store : Store) (added : List Addition) (h g i : History) (begun : h.acts ≡ []) (first : SettlesFirst h g)
     (done : AllDone h g) (made : IsMadeNew store h g) (reported : KeepsReported from names store added g i) where
-  moments : Moments (IsReported (ShowsReport from names added (accepted_in store) (repo_view store.repo) made.fits.written) false g) g i
+  moments : Moments (IsReportedOf from names store added made.fits.written false g) g i
   moments = reported false made.fits
 
   since : Moments (λ _. Unit {0}) h i
   since =
       moments_then (λ _. Unit {0}) h g i (done_moments h g done) done
-      (moments_map (IsReported (ShowsReport from names added (accepted_in store) (repo_view store.repo) made.fits.written) false g) (λ _. Unit {0}) g i
+      (moments_map (IsReportedOf from names store added made.fits.written false g) (λ _. Unit {0}) g i
       (λ k p. tt) moments)
 
   starts : SettlesFirst h i
   starts e =
-      first_kept (IsReported (ShowsReport from names added (accepted_in store) (repo_view store.repo) made.fits.written) false g) g i
+      first_kept (IsReportedOf from names store added made.fits.written false g) g i
       made.fits.under_way.fits.own.safe.settled_is (first e) moments
 
   stands : StandsOn [] from names added (accepted_in store) (repo_view store.repo) made.fits.written (files_now i)

@@ -26,6 +26,7 @@ use Rattle.ferry_store.specs.Store.{RefusesOpen}
 use Rattle.ferry_store.specs.declared.fault.StoreRefusal.{StoreRefusal}
 use Rattle.ferry_store.specs.declared.fault.StoreRefusal.TheVariants as Store
 use Rattle.ferry_status.proofs.OpenedLemmas.{shut_here}
+use Rattle.ferry_run_transfer.proofs.PuttingLemmas.{untouched_puts}
 use Rattle.ferry_run_transfer.proofs.RerunLemmas.{chosen_again}
 use Rattle.ferry_run_transfer.specs.Rerun.{EachChosen, IsAbsentOrEqual}
 use Rattle.ferry_status.specs.Status.{carry_status, repo_status, store_status, target_status}
@@ -281,6 +282,7 @@ transfers_nothing request all =
       left = between_map told told (TransferEach request) (TransferLeaves request) (left_of request) (each_told request told);
       shut = shut_here request.secrets.target told;
       only_told = λ e. absurd (let no : ⊥ = cc in no);
+      puts = untouched_puts request told;
       put = λ e. absurd (let no : ⊥ = cc in no);
       each = each_told request told;
     }

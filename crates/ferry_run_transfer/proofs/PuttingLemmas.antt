@@ -1,25 +1,25 @@
--- Lemmas on `LeavesFirst` of specs/Putting.antt: what a refused transfer put is the first of what is added.
+-- Lemmas on specs/Putting.antt: what a transfer put is the first of what is added, at each moment and where it is refused.
 use Rattle.std.proofs.Common.{◌≡◌, inl, inr, ℕ, Bool, true, false, List, [], Option, Some, None, Ok, Err, refl, sym, ◌∙◌, ap, subst, IfSome}
 use Rattle.std.proofs.lemmas.List.{append-nil}
 use Rattle.ferry_carry.specs.Carrying.{Origin}
 use Rattle.ferry_carry.specs.Flight.{origin_of}
 use Rattle.ferry_carry.specs.Listing.{BeginsNames}
-use Rattle.ferry_carry.specs.Telling.{ReportsWhole}
+use Rattle.ferry_carry.specs.Telling.{BeginsAll, IsReportedOf, KeepsReported, ReportsWhole}
 use Rattle.ferry_carry.specs.declared.options.Options.{Options}
-use Rattle.ferry_disk.proofs.ImageLemmas.{fate_read}
-use Rattle.ferry_disk.proofs.MomentLemmas.{between_map, between_then}
+use Rattle.ferry_disk.proofs.MomentLemmas.{between_both, between_map, between_then}
 use Rattle.ferry_disk.specs.Act.{History, files_now}
 use Rattle.ferry_disk.specs.Device.{Told, told_files}
 use Rattle.ferry_disk.specs.Files.{Files}
-use Rattle.ferry_disk.specs.Image.{Fate}
 use Rattle.ferry_disk.specs.Moments.{Between}
 use Rattle.ferry_nonce.specs.declared.fault.NonceFault.TheVariants as Nonces
 use Rattle.ferry_piece.proofs.AddingLemmas.{holds_until}
-use Rattle.ferry_piece.proofs.PutsLemmas.{allows_settled, first_at, shown_none}
+use Rattle.ferry_piece.proofs.PutsLemmas.{allows_settled, first_at}
+use Rattle.ferry_piece.proofs.PendingLemmas.{shown_none}
 use Rattle.ferry_piece.proofs.WorkLemmas.{between_known}
 use Rattle.ferry_piece.specs.Adding.{HoldsUntil, SparesStore}
 use Rattle.ferry_piece.specs.Fault.{target_fault}
-use Rattle.ferry_piece.specs.Puts.{Addition, AddsFirst, AtBegin, Border, Within}
+use Rattle.ferry_piece.specs.Front.{HoldsFront}
+use Rattle.ferry_piece.specs.Puts.{Addition, AddsFirst, AtBegin, Border, Within, border_behind}
 use Rattle.ferry_piece.specs.Stops.{is_target}
 use Rattle.ferry_piece.specs.declared.fault.CarryFault.{CarryFault}
 use Rattle.ferry_piece.specs.declared.fault.CarryFault.TheVariants as Carry
@@ -30,21 +30,23 @@ use Rattle.ferry_repo.specs.declared.fault.RepoFault.TheVariants as Repos
 use Rattle.ferry_segment.specs.Entry.{LogEntry}
 use Rattle.ferry_stops.proofs.EntryLemmas.{one_shown}
 use Rattle.ferry_stops.specs.Counters.{IsNonce}
-use Rattle.ferry_store.proofs.StepLemmas.{here_each}
+use Rattle.ferry_stops.specs.Entries.{Shows}
+use Rattle.ferry_store.proofs.StepLemmas.{here_each, moments_here, moments_map, moments_then}
 use Rattle.ferry_store.specs.Commit.{accepted_in, IsSettled}
 use Rattle.ferry_store.specs.Standing.{entries_of}
-use Rattle.ferry_store.specs.State.{Did, IsUnderWay, Written}
+use Rattle.ferry_store.specs.State.{Did}
 use Rattle.ferry_store.specs.Store.{OpenEach, OpenFits, RefusesOpen}
 use Rattle.ferry_store.specs.declared.fault.StoreRefusal.{StoreRefusal}
 use Rattle.ferry_store.specs.declared.fault.StoreRefusal.TheVariants as Store
 use Rattle.ferry_store.specs.declared.store.Store.{Store as StoreOf}
 use Rattle.ferry_run_transfer.proofs.CarriedLemmas.{begun_of}
-use Rattle.ferry_run_transfer.specs.Putting.{HasEntries, LeavesFirst, is_spared}
+use Rattle.ferry_run_transfer.specs.Putting.{HasPart, LeavesFirst, PutsFirst, TransferPuts, is_spared}
 use Rattle.ferry_run_transfer.specs.Rerun.{HasNumber}
 use Rattle.ferry_run_transfer.specs.Transfer.{Request, asked, chosen_of}
 use Rattle.ferry_status.specs.Status.{carry_status}
 use Rattle.ferry_status.specs.declared.status.Secrets.{Secrets}
-use Rattle.ferry_write.specs.Room.{behind}
+use Rattle.ferry_write.proofs.FrontLemmas.{session_entries}
+use Rattle.ferry_write.specs.Front.{HasEntries, HasFront, LeavesSegments, OnlyRemoves}
 use Rattle.ferry_write.specs.Script.{AllDone}
 use Rattle.ferry_write.specs.declared.fault.WriteFault.TheVariants as Writes
 use Rattle.ferry_carry.specs.States.{target_state, drawn_from}
@@ -129,22 +131,22 @@ unopened_first request Q a b n m refusal opened refused e =
     (λ h g known begun repo opens number. absurd (open_spared (files_now h) request repo refusal opens number known.0 e))
     (between_known Refuses OpenEach a b refused opened.each)
 
+-- at each moment of an opening that is refused nothing is put
+pub unopened_puts : (request : Request) (a b : Option Told) → Between a b OnlyRemoves → Between a b (TransferPuts request)
+unopened_puts request a b removes =
+    between_map a b OnlyRemoves (TransferPuts request) (λ h g leaves begun repo opens.
+    moments_map (λ k. LeavesSegments (files_now h) (files_now k)) (λ k. HasPart request (files_now h) (files_now k)) h g (λ k same. inl same) leaves) removes
+
+pub untouched_puts : (request : Request) (a : Option Told) → Between a a (TransferPuts request)
+untouched_puts request a =
+    here_each (TransferPuts request) a
+    (λ h begun repo opens. moments_here (λ k. HasPart request (files_now h) (files_now k)) h (inl (λ n. inl refl)))
+
 -- where the target wasn't touched
 pub untouched_first : (request : Request) (a : Option Told) → Between a a (LeavesFirst request)
 untouched_first request a = here_each (LeavesFirst request) a (λ h begun repo opens number. inl refl)
 
 -- ---- where it was
-
--- what is written are all entries of the files
-under_way_entries : (counts : Bool) (store : StoreOf) (written : Written) (h : History) → IsUnderWay counts store.session store.counter written h
-    → HasEntries (files_now h) (entries_of written)
-under_way_entries counts store written h under =
-    let stands = under.fits in
-    record {
-      end = behind store.session.last;
-      none = λ n high. sym (fate_read h.start h.acts n) ∙ ap (λ (f : Fate). f.read) (stands.none n high);
-      have = stands.entries;
-    }
 
 -- however it was refused, the first of what was added is written
 until_first : (target : Bool) (at : Border) (most : ℕ) (store now : StoreOf) (added : List Addition) (h g : History)
@@ -161,6 +163,71 @@ module _ (secrets : Secrets) (options : Options) (names : List (List ℕ)) (sour
   abbrev from : Origin
   from = origin_of told source options
 
+  -- what goes on from what was committed, behind which nothing was pending, goes on within
+  puts_first : (store : StoreOf) (Has : List LogEntry → Type 0) (added : List Addition) (entries : List LogEntry) (h : History) → IsSettled store
+      → OpensFilesTo (files_now h) secrets.target (repo_view store.repo) → (committed : List LogEntry) → Shows (files_now h) (Some committed)
+      → BeginsNames from (repo_view store.repo).keys (accepted_in store) [] chosen added → Has entries
+      → AddsFirst AtBegin (repo_view store.repo).keys options.checkpoint committed added entries → PutsFirst request (files_now h) Has
+  puts_first store Has added entries h settled opens committed shown_so begins has first =
+      let state = repo_view store.repo in
+      record {
+        begun = added;
+        begins = begun_of secrets options names source told chosen (accepted_in store) (files_now h) state added source_opens chosen_is settled opens begins;
+        puts = λ before other others shown.
+            let both : Some committed ≡ Some others = one_shown (files_now h) (Some committed) (Some others) shown_so shown in
+            let same : committed ≡ others = cc in (
+              entries,
+              (
+                has,
+                subst (λ (front : List LogEntry). AddsFirst Within before.keys options.checkpoint front added entries) same
+                    (subst (λ (r : RepoState). AddsFirst Within r.keys options.checkpoint committed added entries)
+                    (one_repo (files_now h) secrets.target state before opens other)
+                    (first_at AtBegin Within state.keys options.checkpoint committed added entries
+                    (allows_settled Within committed (shown_none (files_now h) committed shown_so)) first)),
+              ),
+            );
+      }
+
+  -- a front of what goes on so
+  puts_part : (store : StoreOf) (added : List Addition) (h : History) (files : Files) → IsSettled store
+      → OpensFilesTo (files_now h) secrets.target (repo_view store.repo) → (committed : List LogEntry) → Shows (files_now h) (Some committed)
+      → BeginsNames from (repo_view store.repo).keys (accepted_in store) [] chosen added
+      → HoldsFront (border_behind AtBegin []) (repo_view store.repo).keys options.checkpoint committed added files → HasPart request (files_now h) files
+  unfolding HoldsFront border_behind
+  puts_part store added h files settled opens committed shown begins read =
+      inr (puts_first store (HasFront files) added read.0 h settled opens committed shown begins read.1.0 read.1.1)
+
+  -- the opening removes what stands behind the last commit, and then archives come
+  puts_then : (store : StoreOf) (added : List Addition) (h g i : History) → IsSettled store → OpensFilesTo (files_now h) secrets.target (repo_view store.repo)
+      → OnlyRemoves h g → AllDone h g → OpenFits store h g → BeginsNames from (repo_view store.repo).keys (accepted_in store) [] chosen added
+      → KeepsReported from chosen store added g i → TransferPuts request h i
+  puts_then store added h g i settled opens removes done fits begins reported begun repo opens_to =
+      let o = fits false begun (λ c. absurd (let no : ⊥ = cc in no)) in
+      let keys = (repo_view store.repo).keys in
+      let all : entries_of o.fits.written ≡ o.committed = ap entries_of o.found_is ∙ append-nil o.committed in
+      let Part : History → Type 0 = λ k. HasPart request (files_now h) (files_now k) in
+      let Reported : History → Type 0 = IsReportedOf from chosen store added o.fits.written false g in
+      moments_then Part h g i (moments_map (λ k. LeavesSegments (files_now h) (files_now k)) Part h g (λ k leaves. inl leaves) removes) done
+      (moments_map Reported Part g i
+      (λ k at.
+      puts_part store added h (files_now k) settled opens o.committed o.shown begins
+      (subst (λ (front : List LogEntry). HoldsFront (border_behind AtBegin []) keys options.checkpoint front added (files_now k)) all at.sound.read))
+      (reported false o.fits))
+
+  -- however the copying ended
+  pub carried_puts : (store : StoreOf) (a b d : Option Told) (n m : ℕ) → IsSettled store
+      → IfSome a (λ t. OpensFilesTo (files_now t.history) secrets.target (repo_view store.repo)) → Between a b OnlyRemoves
+      → Did OpenEach OpenFits a b n m (Ok store) → (added : List Addition) → BeginsAll b from store chosen added
+      → Between b d (KeepsReported from chosen store added) → Between a d (TransferPuts request)
+  carried_puts store a b d n m settled opens removes opened added begins each =
+      let Opens : History → Type 0 = λ h. OpensFilesTo (files_now h) secrets.target (repo_view store.repo) in
+      let Ended : History → History → Type 0 = λ h g. OnlyRemoves h g × (AllDone h g × OpenFits store h g) in
+      let Begun : History → Type 0 = λ _. BeginsNames from (repo_view store.repo).keys (accepted_in store) [] chosen added in
+      between_then a b d (λ h g. Opens h × Ended h g) (λ g i. Begun g × KeepsReported from chosen store added g i) (TransferPuts request)
+      (λ h g i p q. puts_then store added h g i settled p.0 p.1.0 p.1.1.0 p.1.1.1 q.0 q.1)
+      (between_known Opens Ended a b opens (between_both a b OnlyRemoves (λ h g. AllDone h g × OpenFits store h g) removes opened.end))
+      (between_known Begun (KeepsReported from chosen store added) b d begins each)
+
   stopped_at : (target : Bool) (store now : StoreOf) (added : List Addition) (h g i : History) → IsSettled store
       → OpensFilesTo (files_now h) secrets.target (repo_view store.repo) → OpenFits store h g
       → BeginsNames from (repo_view store.repo).keys (accepted_in store) [] chosen added
@@ -173,23 +240,8 @@ module _ (secrets : Secrets) (options : Options) (names : List (List ℕ)) (sour
       let all : entries_of o.fits.written ≡ o.committed = ap entries_of o.found_is ∙ append-nil o.committed in
       let first : AddsFirst AtBegin state.keys options.checkpoint o.committed added entries =
       subst (λ (front : List LogEntry). AddsFirst AtBegin state.keys options.checkpoint front added entries) all end.1.1 in
-      inr (record {
-        begun = added;
-        begins = begun_of secrets options names source told chosen (accepted_in store) (files_now h) state added source_opens chosen_is settled opens begins;
-        puts = λ before other others shown.
-            let both : Some o.committed ≡ Some others = one_shown (files_now h) (Some o.committed) (Some others) o.shown shown in
-            let same : o.committed ≡ others = cc in (
-              entries,
-              (
-                under_way_entries false now end.0 i end.1.0,
-                subst (λ (front : List LogEntry). AddsFirst Within before.keys options.checkpoint front added entries) same
-                    (subst (λ (r : RepoState). AddsFirst Within r.keys options.checkpoint o.committed added entries)
-                    (one_repo (files_now h) secrets.target state before opens other)
-                    (first_at AtBegin Within state.keys options.checkpoint o.committed added entries
-                    (allows_settled Within o.committed (shown_none (files_now h) o.committed o.shown)) first)),
-              ),
-            );
-      })
+      inr (puts_first store (HasEntries (files_now i)) added entries h settled opens o.committed o.shown begins
+      (session_entries now.session end.0.committed end.0.pending i end.1.0.fits) first)
 
   -- the copying was refused
   pub stopped_first : (store now : StoreOf) (a b d : Option Told) (n m k : ℕ) (x y : Option (List ℕ)) (fault : CarryFault) → IsSettled store

@@ -4,7 +4,8 @@ use Rattle.std.proofs.Common.{is_some, ◌-◌, ◌^◌, length, min, slice_get,
 use Rattle.std.proofs.lemmas.List.{append-nil}
 use Rattle.std.specs.List.{AllByRecursion}
 use Rattle.ferry_blob.specs.Blob.{OpensTo as OpensBlob}
-use Rattle.ferry_piece.proofs.PutsLemmas.{adds_at, allows_settled, first_at, first_none, shown_none as none_pending_shown}
+use Rattle.ferry_piece.proofs.PutsLemmas.{adds_at, allows_settled, first_at, first_none}
+use Rattle.ferry_piece.proofs.PendingLemmas.{shown_none as none_pending_shown}
 use Rattle.ferry_carry.proofs.LinesLemmas.{report_none}
 use Rattle.ferry_carry.proofs.WholeLemmas.{whole_kept}
 use Rattle.ferry_carry.specs.Listing.{BeginsName, BeginsNames, IsThere}

@@ -14,7 +14,7 @@ use Rattle.ferry_carry.specs.Flight.{origin_of}
 use Rattle.ferry_carry.specs.Naming.{TaggedRecord}
 use Rattle.ferry_carry.specs.Grow.{Grown, IsNamedBy, KeepsChunks, StandsOn, job}
 use Rattle.ferry_piece.specs.Puts.{Addition, AddsAll, AtBegin, Border, GoesOn, border_behind}
-use Rattle.ferry_carry.specs.Telling.{AcceptsNames, BeginsAll, CarriesNames, IsReport, IsReported, KeepsReported, ReportsWhole, ShowsReport, TellsWhole}
+use Rattle.ferry_carry.specs.Telling.{AcceptsNames, BeginsAll, CarriesNames, IsReport, IsReportedOf, KeepsReported, ReportsWhole, TellsWhole}
 use Rattle.ferry_carry.specs.Lines.{total_line}
 use Rattle.ferry_piece.specs.Work.{Works}
 use Rattle.ferry_piece.specs.declared.fault.CarryFault.{CarryFault}
@@ -75,9 +75,9 @@ shows_opened request h g committed shown untold each begun repo opens =
     (shown_keeps request (files_now h) image repo committed opens shown (stops.0 image left)))
     (untold_moments Stands h g untold (each.0 committed begun shown))
 
-sound_kept : (from : Origin) (chosen : List (List ℕ)) (within : List Addition) (accepted : ManifestText) (repo : RepoState) (h k : History)
-    (written : Written) → IsReported (ShowsReport from chosen within accepted repo written) true h k → IsKept k × AllTraced k
-sound_kept from chosen within accepted repo h k written reported =
+sound_kept : (from : Origin) (chosen : List (List ℕ)) (within : List Addition) (store : Store) (h k : History) (written : Written)
+    → IsReportedOf from chosen store within written true h k → IsKept k × AllTraced k
+sound_kept from chosen within store h k written reported =
     let sound = reported.sound in (
       record { fresh = sound.fresh refl; shows = λ image left. let stands = (sound.shows image left).0 in (Some stands.entries, stands.shown) },
       sound.traced,
@@ -158,7 +158,7 @@ module _ (secrets : Secrets) (options : Options) (names : List (List ℕ)) (sour
   -- the same at a moment, by all lines that were told
   kept_at : (store : Store) (within : List Addition) (h g k : History) → h.acts ≡ [] → TellsNothing h g → IsSettled store
       → OpensFilesTo (files_now h) secrets.target (repo_view store.repo) → IsBegin store within → (o : OpensFound false store h g)
-      → IsReported (ShowsReport from chosen within (accepted_in store) (repo_view store.repo) o.fits.written) false g k
+      → IsReportedOf from chosen store within o.fits.written false g k
       → KeepsAt request h (repo_view store.repo).manifest k
   kept_at store within h g k begun untold settled opens begins o reported image left =
       let is : lines_of k.acts ≡ reported.lines =
@@ -176,7 +176,7 @@ module _ (secrets : Secrets) (options : Options) (names : List (List ℕ)) (sour
         let same = one_repo (files_now h) secrets.target (repo_view store.repo) repo opens opens_to in
         moments_then (KeepsAt request h repo.manifest) h g i
         (shows_opened request h g o.committed o.shown untold each begun repo opens_to) done
-        (moments_map (IsReported (ShowsReport from chosen within (accepted_in store) (repo_view store.repo) o.fits.written) false g)
+        (moments_map (IsReportedOf from chosen store within o.fits.written false g)
         (KeepsAt request h repo.manifest) g i
         (λ k sound. subst (λ (r : RepoState). KeepsAt request h r.manifest k) same (kept_at store within h g k begun untold settled opens begins o sound))
         (reported false o.fits)),
@@ -184,18 +184,18 @@ module _ (secrets : Secrets) (options : Options) (names : List (List ℕ)) (sour
       λ begun kept.
           let o = fits true begun (λ c. kept) in
           moments_then (λ k. IsKept k × AllTraced k) h g i (each.1.0 begun kept) done
-          (moments_map (IsReported (ShowsReport from chosen within (accepted_in store) (repo_view store.repo) o.fits.written) true g)
+          (moments_map (IsReportedOf from chosen store within o.fits.written true g)
           (λ k. IsKept k × AllTraced k) g i
-          (λ k sound. sound_kept from chosen within (accepted_in store) (repo_view store.repo) g k o.fits.written sound) (reported true o.fits)),
+          (λ k sound. sound_kept from chosen within store g k o.fits.written sound) (reported true o.fits)),
       (
         λ begun.
             let o = fits false begun (λ c. absurd (let no : ⊥ = cc in no)) in
             moments_then KeepsNumbers h g i (each.1.1.0 begun) done
-            (moments_map (IsReported (ShowsReport from chosen within (accepted_in store) (repo_view store.repo) o.fits.written) false g) KeepsNumbers g i
+            (moments_map (IsReportedOf from chosen store within o.fits.written false g) KeepsNumbers g i
             (λ k at. at.sound.numbers) (reported false o.fits)),
         λ begun.
             let o = fits false begun (λ c. absurd (let no : ⊥ = cc in no)) in
-            first_kept (IsReported (ShowsReport from chosen within (accepted_in store) (repo_view store.repo) o.fits.written) false g) g i
+            first_kept (IsReportedOf from chosen store within o.fits.written false g) g i
             o.fits.under_way.fits.own.safe.settled_is (each.1.1.1 begun) (reported false o.fits),
       ),
     ),

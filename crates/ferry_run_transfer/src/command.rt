@@ -8,7 +8,7 @@ ghost use Rattle.ferry_disk.specs.Faults.{FailedWhere};
 ghost use Rattle.ferry_disk.specs.Moments.{Between};
 ghost use Rattle.ferry_repo.specs.Opening.{FitsRepo, OpensFilesTo, cached_in, repo_view};
 ghost use Rattle.ferry_status.specs.Devices.{drawn, store};
-ghost use Rattle.ferry_run_transfer.specs.Putting.{LeavesFirst, is_spared};
+ghost use Rattle.ferry_run_transfer.specs.Putting.{LeavesFirst, TransferPuts, is_spared};
 ghost use Rattle.ferry_status.specs.Status.{carry_status, entropy_failed, is_of_work, output_failed, source_failed, target_failed};
 ghost use Rattle.ferry_carry.specs.States.{drawn_from};
 ghost use Rattle.ferry_run_transfer.specs.Transfer.{LeavesTold, TransferEach, TransferEnds, TransferLeaves, asked};
@@ -64,7 +64,10 @@ pub fn transfer<S: Shelf, D: Depot, E: Entropy>(
     ensures shut { Between (D.told target.old) (D.told target.new) (OpenLeaves secrets.now.target) }
     ensures only_told { is_of_work result ≡ true → Between (D.told target.old) (D.told target.new)
         (LeavesTold (asked secrets.now options.now names.now (S.told source.old))) }
-    // All that it put, also behind the last commit, is the first of what is added for the chosen names, and nothing else.
+    // At each moment all that the segments have is what they had, and behind it the first of what is added for the chosen names.
+    ensures puts { Between (D.told target.old) (D.told target.new)
+        (TransferPuts (asked secrets.now options.now names.now (S.told source.old))) }
+    // Where it is refused, all that it put is there whole, also behind the last commit.
     ensures put { is_spared result ≡ true → Between (D.told target.old) (D.told target.new)
         (LeavesFirst (asked secrets.now options.now names.now (S.told source.old))) }
     ensures same { KeptWhere (source_failed result) (heard (S.told source.old)) (S.told source.new) }
@@ -106,6 +109,7 @@ fn copy<S: Shelf, D: Depot, E: Entropy>(
     ensures shut { Between (D.told target.old) (D.told target.new) (OpenLeaves secrets.now.target) }
     ensures only_told { IfErr result (λ fault. IsOfWork fault → Between (D.told target.old) (D.told target.new)
         (LeavesTold (asked secrets.now options.now names.now (S.told source.old)))) }
+    ensures puts { Between (D.told target.old) (D.told target.new) (TransferPuts (asked secrets.now options.now names.now (S.told source.old))) }
     ensures put { IfErr result (λ fault. is_spared (carry_status fault) ≡ true → Between (D.told target.old) (D.told target.new)
         (LeavesFirst (asked secrets.now options.now names.now (S.told source.old)))) }
     ensures same { KeepsTold shelf_failed (S.told source.old) (S.told source.new) result }
@@ -146,6 +150,7 @@ fn copy_into<S: Shelf, D: Depot, E: Entropy>(
     ensures shut { Between (D.told target.old) (D.told target.new) (OpenLeaves secrets.now.target) }
     ensures only_told { IfErr result (λ fault. IsOfWork fault → Between (D.told target.old) (D.told target.new)
         (LeavesTold (asked secrets.now options.now names.now (S.told source.old)))) }
+    ensures puts { Between (D.told target.old) (D.told target.new) (TransferPuts (asked secrets.now options.now names.now (S.told source.old))) }
     ensures put { IfErr result (λ fault. is_spared (carry_status fault) ≡ true → Between (D.told target.old) (D.told target.new)
         (LeavesFirst (asked secrets.now options.now names.now (S.told source.old)))) }
     ensures same { KeepsTold shelf_failed (S.told source.old) (S.told source.new) result }

@@ -13,3 +13,4 @@ pub mod Commit
 pub mod Causes
 pub mod Limits
 pub mod Dropping
+pub mod Writing

@@ -13,6 +13,7 @@ ghost use Rattle.ferry_store.specs.Fault.{depot_failed, source_failed};
 ghost use Rattle.ferry_store.specs.Limits.{BeginsFew, LeavesBoth, LimitsManifest};
 ghost use Rattle.ferry_store.specs.Standing.{with_manifest};
 ghost use Rattle.ferry_store.specs.State.{Did, KeepsSound};
+ghost use Rattle.ferry_store.specs.Writing.{WritesManifest};
 ghost use Rattle.ferry_store.specs.declared.fault.StoreRefusal.TheVariants as Refusal;
 ghost use Rattle.ferry_write.specs.declared.fault.WriteFault.TheVariants as Writes;
 
@@ -50,6 +51,7 @@ pub(crate) fn commit_manifest<D: Depot, E: Entropy>(
         × IfErr result (RefusesManifestOf counter.old (length (manifest_text (repo_view repo.now).keys salt (manifest_view manifest.now))))
         × LimitsManifest result session.old counter.old (length (manifest_text (repo_view repo.now).keys salt (manifest_view manifest.now)))) }
     ensures untold { Between (D.told depot.old) (D.told depot.new) TellsNothing }
+    ensures writes { (blob : List ℕ) × Between (D.told depot.old) (D.told depot.new) (WritesManifest blob session.old counter.old) }
     ensures few { BeginsFew 2 session.old.last session.new.last (IsErrOf result (Refusal.Write Writes.Numbers)) }
     ensures limit { session.new.limit ≡ session.old.limit }
     ensures leaves { IfErr result (LeavesBoth session.old counter.old session.new counter.new (D.told depot.old) (D.told depot.new)) }

@@ -1,5 +1,5 @@
 //! Contents that are added: put where they are new, and opened where they are live.
-ghost use Rattle.std.specs.Prelude.{◌≡◌, ◌≢◌, ◌+◌, length, true, false, IfErr, IfSome, IsErrOf, OnOk, OnErr};
+ghost use Rattle.std.specs.Prelude.{◌≡◌, ◌≢◌, ◌+◌, ◌∷◌, [], length, true, false, IfErr, IfSome, IsErrOf, OnOk, OnErr};
 ghost use Rattle.std.specs.BTreeSet.{IsUnchanged, Updates};
 ghost use Rattle.ferry_base.specs.Limits.{zero_id};
 ghost use Rattle.ferry_blob.specs.Blob.{OpensTo, blocks};
@@ -9,6 +9,7 @@ ghost use Rattle.ferry_disk.specs.Moments.{Between};
 ghost use Rattle.ferry_log.specs.Live.{key_cmp};
 ghost use Rattle.ferry_repo.specs.Objects.{IsMissing};
 ghost use Rattle.ferry_repo.specs.Opening.{FitsRepo, cached_in, repo_view};
+ghost use Rattle.ferry_segment.specs.Entry.{PutEntry};
 ghost use Rattle.ferry_stops.specs.Tells.{TellsNothing};
 ghost use Rattle.ferry_store.specs.Causes.{Stops};
 ghost use Rattle.ferry_store.specs.Content.{blob_for, HasPut, IsThere, Learns, RefusesNew, RefusesOld};
@@ -16,6 +17,7 @@ ghost use Rattle.ferry_store.specs.Fault.{depot_failed, source_failed, spends};
 ghost use Rattle.ferry_store.specs.Limits.{BeginsFew, LeavesBoth, LimitsPut};
 ghost use Rattle.ferry_store.specs.Piece.{IsPrepared, content_in};
 ghost use Rattle.ferry_store.specs.State.{Did, KeepsSound};
+ghost use Rattle.ferry_store.specs.Writing.{WritesMore};
 ghost use Rattle.ferry_store.specs.declared.fault.StoreRefusal.TheVariants as Refusal;
 ghost use Rattle.ferry_write.specs.declared.fault.WriteFault.TheVariants as Writes;
 
@@ -56,6 +58,10 @@ pub(crate) fn put_content<D: Depot>(
         (repo_view repo.new) session.new counter.new)
         (D.told depot.old) (D.told depot.new) (D.faults depot.old) (D.faults depot.new) result }
     ensures untold { Between (D.told depot.old) (D.told depot.new) TellsNothing }
+    ensures writes { Between (D.told depot.old) (D.told depot.new) (WritesMore
+        (OpensTo (repo_view repo.old).keys id.now (blob_for (repo_view repo.old) counter.old (content_in (repo_view repo.old).keys is_blob buffer.old))
+        (content_in (repo_view repo.old).keys is_blob buffer.old))
+        (PutEntry id.now (blob_for (repo_view repo.old) counter.old (content_in (repo_view repo.old).keys is_blob buffer.old)) ∷ []) session.old counter.old) }
     ensures cached { cached_in repo.new ≡ cached_in repo.old }
     ensures learns { OnOk result (Learns (repo_view repo.old) id.now true (repo_view repo.new)) }
     ensures opens { OnOk result (OpensTo (repo_view repo.old).keys id.now (blob_for (repo_view repo.old) counter.old

@@ -1,5 +1,5 @@
 //! Objects sealed and put.
-ghost use Rattle.std.specs.Prelude.{◌≡◌, ◌⊎◌, ◌<◌, ◌≤◌, ◌+◌, ◌-◌, ◌++◌, ◌↔◌, ℕ, List, true, false, drop, length, option_map};
+ghost use Rattle.std.specs.Prelude.{◌≡◌, ◌⊎◌, ◌<◌, ◌≤◌, ◌+◌, ◌-◌, ◌∷◌, ◌++◌, ◌↔◌, ℕ, List, [], true, false, drop, length, option_map};
 ghost use Rattle.std.specs.Prelude.{Ok, IfOk, IfErr, IfSome, OnOk, IsErrOf, IsTrue};
 ghost use Rattle.ferry_base.specs.Limits.{blob_limit, zero_id};
 ghost use Rattle.ferry_blob.specs.Blob.{OpensTo, blocks, content_id, sealed};
@@ -21,6 +21,7 @@ ghost use Rattle.ferry_store.specs.Limits.{BeginsFew, LeavesBoth, LimitsPut};
 ghost use Rattle.ferry_store.specs.New.{IsPacked, PutsManifest, first_manifest};
 ghost use Rattle.ferry_store.specs.Piece.{IsReady, content_in};
 ghost use Rattle.ferry_store.specs.State.{Did, IsPlaced, KeepsSound, RefusesManifest, RefusesPut, TakesEntry};
+ghost use Rattle.ferry_store.specs.Writing.{WritesMore};
 ghost use Rattle.ferry_store.specs.declared.fault.StoreRefusal.TheVariants as Refusal;
 ghost use Rattle.ferry_write.specs.Room.{AreUsedUp, after_entry, must_begin};
 ghost use Rattle.ferry_write.specs.Session.{OnlyAppends};
@@ -67,6 +68,10 @@ pub(crate) fn put_object<D: Depot>(
         session.new counter.new)
         (D.told depot.old) (D.told depot.new) (D.faults depot.old) (D.faults depot.new) result }
     ensures untold { Between (D.told depot.old) (D.told depot.new) TellsNothing }
+    ensures writes { Between (D.told depot.old) (D.told depot.new) (WritesMore
+        ((name : List ℕ) → (name ≡ zero_id) ⊎ (name ≡ content_id keys.now (content_in keys.now is_blob buffer.old))
+        → OpensTo keys.now name (sealed keys.now mode counter.old.free (content_in keys.now is_blob buffer.old)) (content_in keys.now is_blob buffer.old))
+        (PutEntry id.now (sealed keys.now mode counter.old.free (content_in keys.now is_blob buffer.old)) ∷ []) session.old counter.old) }
     ensures placed { IfOk result (λ place. Between (D.told depot.old) (D.told depot.new)
         (IsPlaced session.old counter.old (sealed keys.now mode counter.old.free (content_in keys.now is_blob buffer.old)) place)) }
     ensures opens { OnOk result ((name : List ℕ) → (name ≡ zero_id) ⊎ (name ≡ content_id keys.now (content_in keys.now is_blob buffer.old))

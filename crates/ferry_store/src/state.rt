@@ -16,8 +16,10 @@ ghost use Rattle.ferry_store.specs.Fault.{depot_failed, source_failed};
 ghost use Rattle.ferry_store.specs.Limits.{BeginsFew};
 ghost use Rattle.ferry_store.specs.State.{Begins, BeginsSound, CommitsSound, Did, IsFirst, IsStep, IsTarget};
 ghost use Rattle.ferry_store.specs.State.{RefusesBegin, RefusesCommit, RefusesLog, SettingsSound, TakesCommit, TakesSettings};
+ghost use Rattle.ferry_store.specs.Writing.{WritesCommit};
 ghost use Rattle.ferry_nonce.specs.declared.counter.Counter.{Counter};
 ghost use Rattle.ferry_store.specs.declared.fault.StoreRefusal.TheVariants as Refusal;
+ghost use Rattle.ferry_write.specs.Front.{OnlyRemoves};
 ghost use Rattle.ferry_write.specs.Room.{AreUsedUp, after_commit};
 ghost use Rattle.ferry_write.specs.Session.{ClearsAll, OnlyAppends, SettlesFirst};
 ghost use Rattle.ferry_write.specs.declared.fault.WriteFault.TheVariants as Writes;
@@ -68,6 +70,7 @@ pub(crate) fn begin_at<D: Depot>(
     ensures settled { OnOk result (IfSome (D.told depot.new) (λ t. settled t.history.acts ≡ true)) }
     ensures first { Between (D.told depot.old) (D.told depot.new) SettlesFirst }
     ensures untold { Between (D.told depot.old) (D.told depot.new) TellsNothing }
+    ensures removes { Between (D.told depot.old) (D.told depot.new) OnlyRemoves }
     ensures clears { OnOk result (Between (D.told depot.old) (D.told depot.new) (ClearsAll after)) }
     ensures refused { IfErr result (λ refusal. IfSome (D.told depot.old) (λ t. RefusesBegin committed (told_files t) refusal)) }
     ensures still { IfErr result (λ refusal. source_failed refusal ≡ false) }
@@ -115,6 +118,7 @@ pub(crate) fn commit<D: Depot>(depot: &mut D, session: &mut Session) -> Result<(
         (λ _ h g. TakesCommit session.old counter session.new h g × OnlyAppends session.old h g)
         (D.told depot.old) (D.told depot.new) (D.faults depot.old) (D.faults depot.new) result }
     ensures untold { Between (D.told depot.old) (D.told depot.new) TellsNothing }
+    ensures writes { (counter : Counter) → Between (D.told depot.old) (D.told depot.new) (WritesCommit session.old counter) }
     ensures session { OnOk result (session.new ≡ after_commit session.old) }
     ensures few { BeginsFew 1 session.old.last session.new.last (IsErrOf result (Refusal.Write Writes.Numbers)) }
     ensures limit { session.new.limit ≡ session.old.limit }

@@ -31,8 +31,10 @@ ghost use Rattle.ferry_store.specs.State.{CommitsSound, Did, KeepsSound, Refuses
 ghost use Rattle.ferry_store.specs.Store.{HasLimit, InitEach, InitFits, InitMakes, IsKnown, IsUnspent};
 ghost use Rattle.ferry_store.specs.Store.{OpenEach, OpenFits, OpenLeaves, RefusesInit, RefusesOpen, StoreFits};
 ghost use Rattle.ferry_store.specs.Store.{RefusesOpenBare};
+ghost use Rattle.ferry_store.specs.Writing.{WritesCommit, WritesContent, WritesManifest};
 ghost use Rattle.ferry_store.specs.contracts.store.Store.{the_row};
 ghost use Rattle.ferry_store.specs.declared.fault.StoreRefusal.TheVariants as Refusal;
+ghost use Rattle.ferry_write.specs.Front.{OnlyRemoves};
 ghost use Rattle.ferry_write.specs.Room.{AreUsedUp, behind, must_begin};
 ghost use Rattle.ferry_write.specs.declared.fault.WriteFault.TheVariants as Writes;
 
@@ -156,6 +158,8 @@ impl Store {
         ensures kept { Between (D.told depot.old) (D.told depot.new) (OpenLeaves secret.now) }
         // No line is told, also by a call that fails.
         ensures untold { Between (D.told depot.old) (D.told depot.new) TellsNothing }
+        // At each moment each segment is as it was, or is gone.
+        ensures removes { Between (D.told depot.old) (D.told depot.new) OnlyRemoves }
         // The repository doesn't open; or it does, and the file `nonce` is absent or has no number; or a device failed.
         ensures refused { IfErr result (λ refusal. IfSome (D.told depot.old) (λ t. RefusesOpen secret.now (told_files t) refusal)) }
         // No content is kept in memory, and no entry counts as put.
@@ -332,6 +336,8 @@ impl Store {
             (D.told depot.old) (D.told depot.new) (D.faults depot.old) (D.faults depot.new) result }
         // No line is told, also by a call that fails.
         ensures untold { Between (D.told depot.old) (D.told depot.new) TellsNothing }
+        // At each moment the segments have a front of what was written, and of the entry of a new content behind it.
+        ensures writes { Between (D.told depot.old) (D.told depot.new) (WritesContent self.old content.now) }
         // The id is that of the content under the keys of the repository.
         ensures id { IfOk result (λ added. added.id ≡ id_under self.old content.now) }
         // The content was put exactly where it was new.
@@ -401,6 +407,8 @@ impl Store {
             (D.told depot.old) (D.told depot.new) (D.faults depot.old) (D.faults depot.new) result }
         // No line is told, also by a call that fails.
         ensures untold { Between (D.told depot.old) (D.told depot.new) TellsNothing }
+        // At each moment the segments have a front of what was written, and of the entry of a new content behind it.
+        ensures writes { Between (D.told depot.old) (D.told depot.new) (WritesContent self.old (content_in (repo_view self.old.repo).keys is_blob buffer.old)) }
         // The id is that of the content under the keys of the repository.
         ensures id { IfOk result (λ added. added.id ≡ id_under self.old (content_in (repo_view self.old.repo).keys is_blob buffer.old)) }
         // The content was put exactly where it was new.
@@ -470,6 +478,7 @@ impl Store {
         ensures did { Did (KeepsSound self.old.session self.old.counter) (Adds self.old (content_in (repo_view self.old.repo).keys is_blob buffer.old) self.new)
             (D.told depot.old) (D.told depot.new) (D.faults depot.old) (D.faults depot.new) result }
         ensures untold { Between (D.told depot.old) (D.told depot.new) TellsNothing }
+        ensures writes { Between (D.told depot.old) (D.told depot.new) (WritesContent self.old (content_in (repo_view self.old.repo).keys is_blob buffer.old)) }
         ensures added { IfOk result (λ added. added ≡ record { id = id; new = true }) }
         ensures known { OnOk result (IsKnown self.new id) }
         ensures repo { OnOk result (Learns (repo_view self.old.repo) id true (repo_view self.new.repo)) }
@@ -518,6 +527,7 @@ impl Store {
         ensures did { (content : List ℕ) → Did (KeepsSound self.old.session self.old.counter) (Adds self.old content self.new)
             (D.told depot.old) (D.told depot.new) (D.faults depot.old) (D.faults depot.new) result }
         ensures untold { Between (D.told depot.old) (D.told depot.new) TellsNothing }
+        ensures writes { (content : List ℕ) → Between (D.told depot.old) (D.told depot.new) (WritesContent self.old content) }
         ensures added { IfOk result (λ added. added ≡ record { id = id; new = false }) }
         ensures known { OnOk result (IsKnown self.new id) }
         ensures repo { repo_view self.new.repo ≡ repo_view self.old.repo }
@@ -549,6 +559,8 @@ impl Store {
             (D.told depot.old) (D.told depot.new) (D.faults depot.old) (D.faults depot.new) result }
         // No line is told, also by a call that fails.
         ensures untold { Between (D.told depot.old) (D.told depot.new) TellsNothing }
+        // At each moment the segments have a front of what was written, and of a COMMIT behind it.
+        ensures writes { Between (D.told depot.old) (D.told depot.new) (WritesCommit self.old.session self.old.counter) }
         // The repository is as it was, its manifest too.
         ensures repo { self.new.repo ≡ self.old.repo }
         // What was accepted is the same.
@@ -614,6 +626,7 @@ impl Store {
             × LimitsManifest result self.old.session self.old.counter
             (length (manifest_text (repo_view self.old.repo).keys salt (written_at (accepted_in self.old) timestamp.now)))) }
         ensures untold { Between (D.told depot.old) (D.told depot.new) TellsNothing }
+        ensures writes { (blob : List ℕ) × Between (D.told depot.old) (D.told depot.new) (WritesManifest blob self.old.session self.old.counter) }
         ensures manifest { IfOk result (λ both. manifest_view both.0 ≡ written_at (accepted_in self.old) timestamp.now) }
         ensures written { IfOk result (λ both. both.1 ≡ timestamp.now) }
         ensures packable { IfOk result (λ both. IsPackable (manifest_view both.0)) }
@@ -786,6 +799,8 @@ impl Store {
         ensures without { OnOk result (Between (D.told depot.old) (D.told depot.new) (CommitsWithout self.old self.new)) }
         // No line is told, also by a call that fails.
         ensures untold { Between (D.told depot.old) (D.told depot.new) TellsNothing }
+        // At each moment the segments have a front of what was written, and of a manifest and its COMMIT behind it.
+        ensures writes { (blob : List ℕ) × Between (D.told depot.old) (D.told depot.new) (WritesManifest blob self.old.session self.old.counter) }
         // The repository has the manifest that was accepted, written at this time.
         ensures repo { OnOk result (repo_view self.new.repo
             ≡ with_manifest (repo_view self.old.repo) (written_at (accepted_in self.old) timestamp.now)) }

@@ -29,7 +29,7 @@ use Rattle.ferry_write.proofs.BeginLemmas.{begins_stands, begins_each}
 
 -- ---- the scripts of a PUT and of a DELETE
 
-put_goes : (s : Session) (head key blob : List ℕ) (c : Option (List LogEntry)) (p : List LogEntry) (h : History)
+pub put_goes : (s : Session) (head key blob : List ℕ) (c : Option (List LogEntry)) (p : List LogEntry) (h : History)
     → head ++ blob ≡ spelling (PutEntry key blob) → Fits (PutEntry key blob) → SessionFits s c p h
     → Goes s.after (Some (room_of s (length head + length blob)).segment)
     (Some ((room_of s (length head + length blob)).at + size_of (PutEntry key blob))) c (p ++ PutEntry key blob ∷ []) h (put_steps s head blob)

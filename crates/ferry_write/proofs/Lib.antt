@@ -13,3 +13,4 @@ pub mod PlainLemmas
 pub mod LawLemmas
 pub mod StayLemmas
 pub mod TellLemmas
+pub mod FrontLemmas

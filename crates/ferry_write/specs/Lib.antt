@@ -3,3 +3,4 @@ pub mod Script
 pub mod Room
 pub mod Session
 pub mod Rows
+pub mod Front

@@ -8,6 +8,7 @@ ghost use Rattle.ferry_segment.specs.Entry.{PutEntry, DeleteEntry, CommitEntry, 
 ghost use Rattle.ferry_segment.specs.Segment.{magic};
 ghost use Rattle.ferry_stops.specs.Tells.{TellsNothing};
 ghost use Rattle.ferry_write.specs.Fault.{write_failed};
+ghost use Rattle.ferry_write.specs.Front.{OnlyRemoves, Writes};
 ghost use Rattle.ferry_write.specs.Room.{behind, must_begin, room_of, room_steps, put_steps, delete_steps, commit_steps, AreUsedUp};
 ghost use Rattle.ferry_write.specs.Room.{after_entry, after_commit};
 ghost use Rattle.ferry_write.specs.Rows.{BeginBrings, BeginsRows, Brings, BringsNone, KeepsRows};
@@ -52,6 +53,7 @@ impl Session {
         ensures fresh { IfOk result (λ session. session ≡ record { limit = limit; after = after; last = after; size = None; spent = false }) }
         ensures acts { ClearsAbove after (D.told depot.old) (D.told depot.new) result }
         ensures first { Between (D.told depot.old) (D.told depot.new) SettlesFirst }
+        ensures removes { Between (D.told depot.old) (D.told depot.new) OnlyRemoves }
         ensures gains { Between (D.told depot.old) (D.told depot.new) BeginBrings }
         ensures rows { IfOk result (λ session. Between (D.told depot.old) (D.told depot.new) (BeginsRows session)) }
         ensures beside { Between (D.told depot.old) (D.told depot.new) KeepsPlain }
@@ -88,6 +90,7 @@ impl Session {
         requires small { length blob.now ≤ 20971479 }
         ensures moments { Between (D.told depot.old) (D.told depot.new) (Keeps self.old) }
         ensures put { OnOk result (Between (D.told depot.old) (D.told depot.new) (Puts self.old self.new (PutEntry key.now blob.now))) }
+        ensures writes { Between (D.told depot.old) (D.told depot.new) (Writes self.old (PutEntry key.now blob.now ∷ [])) }
         ensures place { IfOk result (λ place. Between (D.told depot.old) (D.told depot.new) (Lies self.old place blob.now)) }
         ensures gains { Between (D.told depot.old) (D.told depot.new) (Brings self.old (PutEntry key.now blob.now)) }
         ensures rows { OnOk result (Between (D.told depot.old) (D.told depot.new) (KeepsRows self.old self.new)) }
@@ -151,6 +154,7 @@ impl Session {
         requires not_spent { self.old.spent ≡ false }
         ensures moments { Between (D.told depot.old) (D.told depot.new) (KeepsOrCommits self.old) }
         ensures committed { OnOk result (Between (D.told depot.old) (D.told depot.new) (Commits self.old self.new)) }
+        ensures writes { Between (D.told depot.old) (D.told depot.new) (Writes self.old (CommitEntry ∷ [])) }
         ensures gains { Between (D.told depot.old) (D.told depot.new) (BringsNone self.old) }
         ensures rows { OnOk result (Between (D.told depot.old) (D.told depot.new) (KeepsRows self.old self.new)) }
         ensures stays { Between (D.told depot.old) (D.told depot.new) (OnlyAppends self.old) }

@@ -35,13 +35,14 @@ returns-in_err-commit-clause-works g c accepted named one =
     let store = c.args.store.now in
     let now = c.commit.new.self in
     let made = c.in_err-commit.ensures.committed in
+    let writes = c.commit.ensures.writes in
     let text = written_at (accepted_in store) c.args.timestamp.now in
     let blob = blob_for (repo_view store.repo) store.counter (manifest_text (repo_view store.repo).keys made.0 text) in
     let refusal = c.in_err-commit.field-0.0 in
     err_is c.from_residual.result (target_fault refusal) (λ (r : Result (Unit {0}) CarryFault). NamesArchive accepted named text (target_state a n store)
     (target_state b m now) r)
     c.from_residual.ensures.1 (commit_works_err accepted named store now text blob a b n m refusal c.requires.target.accepts refl one
-    c.commit.ensures.untold made.1.2)
+    c.commit.ensures.untold made.1.2 writes.0 writes.1)
 
 pub returns-clause-works : goal.returns-clause-works
 returns-clause-works g c accepted named one =
@@ -52,13 +53,14 @@ returns-clause-works g c accepted named one =
     let store = c.args.store.now in
     let now = c.commit.new.self in
     let made = c.in_ok-commit.ensures.committed in
+    let writes = c.commit.ensures.writes in
     let text = written_at (accepted_in store) c.args.timestamp.now in
     let blob = blob_for (repo_view store.repo) store.counter (manifest_text (repo_view store.repo).keys made.0 text) in
     let repo : repo_view now.repo ≡ with_manifest (repo_view store.repo) text = c.in_ok-commit.ensures.repo in
     let manifest : (repo_view now.repo).manifest ≡ text = ap (λ (r : RepoState). r.manifest) repo in
     commit_works accepted named store now text blob a b n m c.requires.target.accepts (commit_most store now text repo c.requires.target.accepts) refl
     manifest
-    (c.in_ok-commit.ensures.accepted ∙ sym manifest) one c.commit.ensures.untold made.1.2
+    (c.in_ok-commit.ensures.accepted ∙ sym manifest) one c.commit.ensures.untold made.1.2 writes.0 writes.1
 
 pub returns-clause-salt : goal.returns-clause-salt
 returns-clause-salt g c =
@@ -81,11 +83,12 @@ returns-in_err-commit-clause-refused g c =
     let now = c.commit.new.self in
     let keys = (repo_view store.repo).keys in
     let made = c.in_err-commit.ensures.committed in
+    let writes = c.commit.ensures.writes in
     let text = written_at (accepted_in store) c.args.timestamp.now in
     let refusal = c.in_err-commit.field-0.0 in
     err_is c.from_residual.result (target_fault refusal) (λ (r : Result (Unit {0}) CarryFault). LeavesUnnamed text store a b now r) c.from_residual.ensures.1
     (record {
-      stands = commit_stands store a b refusal c.commit.ensures.untold c.in_err-commit.ensures.keeps;
+      stands = commit_stands store a b refusal c.commit.ensures.untold c.in_err-commit.ensures.keeps writes.0 writes.1;
       held = λ at most. held_unspent (Unit {0}) at most store now [] a b refusal c.in_err-commit.ensures.kept;
       stops = target_stops b keys refusal c.in_err-commit.ensures.stops;
       limit = commit_limit store keys text made.0 refusal made.1.0 made.1.3;

@@ -13,6 +13,7 @@ use Rattle.ferry_carry.specs.Grow.{KeepsNames}
 use Rattle.ferry_carry.specs.Naming.{Draws}
 use Rattle.ferry_manifest.specs.Manifest.Writing.{manifest_text}
 use Rattle.ferry_piece.specs.Adding.{HoldsRefused, BeginsSegments}
+use Rattle.ferry_piece.specs.Puts.{AtEnd}
 use Rattle.ferry_piece.specs.declared.fault.CarryFault.{CarryFault}
 use Rattle.ferry_piece.specs.declared.fault.CarryFault.TheVariants.{Memory}
 use Rattle.ferry_manifest.specs.Manifest.Text.{ManifestText}
@@ -71,7 +72,7 @@ returns-clause-refused g c = record {
       let store = c.args.store.now in
       let middle = c.name_archive.new.self in
       IfErr-weaker c.commit.result (StandsAll middle a b) (StandsAll store a b)
-      (λ fault stands work most. accepted_stands most store middle [] a b c.in_ok-name_archive.ensures.rest (stands work most))
+      (λ fault stands work most. accepted_stands AtEnd most store middle [] a b c.in_ok-name_archive.ensures.rest (stands work most))
       c.commit.ensures.refused.stands;
   held = λ at most.
       held_accepted {T = Unit {0}} at most c.args.store.now c.name_archive.new.self c.commit.new.store [] (g.D.Shelf.told c.args.depot.now)

@@ -5,7 +5,7 @@ use Rattle.ferry_repo.specs.Opening.{repo_view}
 use Rattle.ferry_store.specs.Content.{IsNew}
 use Rattle.ferry_store.specs.Piece.{content_in}
 use Rattle.ferry_piece.proofs.PieceLemmas.{room_added, room_refused}
-use Rattle.ferry_piece.proofs.PutsLemmas.{room_any}
+use Rattle.ferry_piece.proofs.PendingLemmas.{room_any}
 use Rattle.ferry_piece.proofs.WorkLemmas.{err_is}
 use Rattle.ferry_piece.proofs.foreseen.add_buffer.Goals as goal
 use Rattle.ferry_piece.specs.Adding.{AddsOn}

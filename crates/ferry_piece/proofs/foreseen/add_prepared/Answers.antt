@@ -1,4 +1,5 @@
-use Rattle.std.proofs.Common.{◌≢◌, ◌∷◌, [], Result, IfErr, refl, arith}
+use Rattle.std.proofs.Common.{◌≢◌, ◌∷◌, [], Result, Ok, Err, IfErr, refl, ◌∙◌, arith}
+use Rattle.ferry_store.specs.Writing.{WritesContent}
 use Rattle.std.proofs.lemmas.Option.{IfSome_then}
 use Rattle.ferry_disk.specs.Device.{told_files}
 use Rattle.ferry_store.specs.Fault.{depot_failed}
@@ -6,8 +7,10 @@ use Rattle.ferry_store.specs.declared.fault.StoreRefusal.TheVariants.{TooLarge}
 use Rattle.ferry_piece.proofs.AddingLemmas.{adds_last, held_unspent}
 use Rattle.ferry_piece.proofs.FewLemmas.{begun_err, begun_ok}
 use Rattle.ferry_piece.proofs.FaultLemmas.{adds_small, pieces_stop, told_behind}
-use Rattle.ferry_piece.proofs.GatherLemmas.{AddedSo, add_gathers, add_stands, added_fits}
-use Rattle.ferry_piece.proofs.WorkLemmas.{err_is, works_err, works_ok}
+use Rattle.ferry_piece.proofs.AddedLemmas.{AddedSo, add_gathers, add_stands}
+use Rattle.ferry_piece.proofs.CheckpointLemmas.{added_fits}
+use Rattle.ferry_piece.proofs.PieceLemmas.{refused_put}
+use Rattle.ferry_piece.proofs.WorkLemmas.{did_both, err_is, works_err, works_ok}
 use Rattle.ferry_piece.proofs.foreseen.add_prepared.Goals as goal
 use Rattle.ferry_piece.specs.Adding.{AddsOn, BeginsSegments}
 use Rattle.ferry_piece.specs.Fault.{target_fault}
@@ -32,10 +35,16 @@ returns-in_err-added-clause-works g c most kind put is room =
     let content = content_in (repo_view store.repo).keys c.args.is_blob c.args.buffer.now in
     let one = addition kind content put in
     let refusal = c.in_err-added.field-0.0 in
+    let put_is = refused_put put c.from_residual.result (target_fault refusal) c.from_residual.ensures.1 is in
     err_is c.from_residual.result (target_fault refusal) (λ (r : Result Added CarryFault). AddsOn most store (one ∷ []) now a b n m r)
     c.from_residual.ensures.1 (record {
-      works = works_err {T = Added} (KeepsSound store.session store.counter) (Adds store content now) (KeepsStanding most store (one ∷ []))
-          (λ _. Gathers most store (one ∷ []) now) a b n m refusal (add_stands most store (one ∷ [])) c.add_piece.ensures.untold c.in_err-added.ensures.did;
+      works = works_err {T = Added} (λ h k. KeepsSound store.session store.counter h k × WritesContent store content h k) (Adds store content now)
+          (KeepsStanding most store (one ∷ [])) (λ _. Gathers most store (one ∷ []) now) a b n m refusal
+          (λ h k. add_stands most store one h k (λ _. put_is) room)
+          c.add_piece.ensures.untold
+          (did_both {T = Added} (KeepsSound store.session store.counter) (WritesContent store content) (Adds store content now) a b n m (Err refusal)
+          c.add_piece.ensures.writes
+          c.in_err-added.ensures.did);
       last = IfSome_then a c.in_err-added.ensures.refused (λ t r. adds_last store content one (told_files t) refusal refl r);
       unspent = tt;
       held = held_unspent Added Within most store now (one ∷ []) a b refusal c.in_err-added.ensures.kept;
@@ -62,10 +71,13 @@ returns-clause-works g c most kind put is room =
       accepted = c.add_piece.ensures.accepted;
     } in
     record {
-      works = works_ok (KeepsSound store.session store.counter) (Adds store content now) (KeepsStanding most store (one ∷ []))
-          (λ _. Gathers most store (one ∷ []) now) a b n m added added
-          (add_stands most store (one ∷ [])) (λ h k adds. add_gathers most store now kind content put added h k is room so adds) c.add_piece.ensures.untold
-          c.in_ok-added.ensures.did;
+      works = works_ok (λ h k. KeepsSound store.session store.counter h k × WritesContent store content h k) (Adds store content now)
+          (KeepsStanding most store (one ∷ [])) (λ _. Gathers most store (one ∷ []) now) a b n m added added
+          (λ h k. add_stands most store one h k (λ can. is ∙ so.new.1 can.0) room)
+          (λ h k adds. add_gathers most store now kind content put added h k is room so adds) c.add_piece.ensures.untold
+          (did_both {T = Added} (KeepsSound store.session store.counter) (WritesContent store content) (Adds store content now) a b n m (Ok added)
+          c.add_piece.ensures.writes
+          c.in_ok-added.ensures.did);
       unspent = λ was. c.in_ok-added.ensures.unspent;
       last = tt;
       held = tt;

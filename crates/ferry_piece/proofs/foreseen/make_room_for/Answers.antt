@@ -1,6 +1,7 @@
 use Rattle.std.proofs.Common.{◌≡◌, ◌∷◌, [], List, ℕ, arith, subst}
 use Rattle.ferry_piece.proofs.FewLemmas.{begun_none}
-use Rattle.ferry_piece.proofs.GatherLemmas.{room_here, stands_here}
+use Rattle.ferry_piece.proofs.CheckpointLemmas.{room_here}
+use Rattle.ferry_piece.proofs.GatherLemmas.{stands_here}
 use Rattle.ferry_piece.proofs.PieceLemmas.{room_works}
 use Rattle.ferry_piece.proofs.WorkLemmas.{works_none}
 use Rattle.ferry_piece.proofs.foreseen.make_room_for.Goals as goal

@@ -1,6 +1,6 @@
 use Rattle.std.proofs.Common.{◌∷◌, [], Result, refl}
 use Rattle.ferry_piece.proofs.PieceLemmas.{room_added, room_refused}
-use Rattle.ferry_piece.proofs.PutsLemmas.{room_any}
+use Rattle.ferry_piece.proofs.PendingLemmas.{room_any}
 use Rattle.ferry_piece.proofs.WorkLemmas.{err_is}
 use Rattle.ferry_piece.proofs.piece.add_piece.Goals as goal
 use Rattle.ferry_piece.specs.Adding.{AddsOn}

@@ -1,11 +1,13 @@
-use Rattle.std.proofs.Common.{◌≢◌, Result, IfErr, arith}
+use Rattle.std.proofs.Common.{◌≢◌, Result, Ok, Err, IfErr, arith}
+use Rattle.ferry_piece.specs.Front.{CommitsPieces}
+use Rattle.ferry_store.specs.Writing.{WritesCommit}
 use Rattle.ferry_disk.proofs.DeviceLemmas.{told_any}
 use Rattle.ferry_store.specs.declared.fault.StoreRefusal.TheVariants.{TooLarge}
 use Rattle.ferry_piece.proofs.AddingLemmas.{commits_spent}
 use Rattle.ferry_piece.proofs.FaultLemmas.{commits_small, pieces_stop}
 use Rattle.ferry_piece.proofs.FewLemmas.{begun_err, begun_ok}
-use Rattle.ferry_piece.proofs.GatherLemmas.{checkpoint_fits}
-use Rattle.ferry_piece.proofs.WorkLemmas.{err_is, works_err, works_ok}
+use Rattle.ferry_piece.proofs.CheckpointLemmas.{checkpoint_fits}
+use Rattle.ferry_piece.proofs.WorkLemmas.{did_both, err_is, works_err, works_ok}
 use Rattle.ferry_piece.proofs.piece.commit_pieces.Goals as goal
 use Rattle.ferry_piece.specs.Adding.{SparesStore, BeginsSegments}
 use Rattle.ferry_piece.specs.Fault.{target_fault}
@@ -17,11 +19,10 @@ use Rattle.ferry_repo.specs.Opening.{repo_view}
 use Rattle.ferry_store.specs.Adding.{Checkpoints}
 use Rattle.ferry_store.specs.State.{CommitsSound}
 use Rattle.ferry_store.specs.declared.store.Store.{Store}
-use Rattle.ferry_stops.specs.Tells.{TellsNothing}
 
--- what holds at each moment of a checkpoint
+-- what holds at each moment of a checkpoint, beside that no line is told
 abbrev commits : Store → History → History → Type 0
-commits store before now = TellsNothing before now × CommitsSound store.session store.counter before now
+commits store before now = CommitsSound store.session store.counter before now × WritesCommit store.session store.counter before now
 
 pub returns-in_err-checkpoint-clause-works : goal.returns-in_err-checkpoint-clause-works
 returns-in_err-checkpoint-clause-works g c =
@@ -32,19 +33,27 @@ returns-in_err-checkpoint-clause-works g c =
     let store = c.args.store.now in
     let now = c.checkpoint.new.self in
     let refusal = c.in_err-checkpoint.field-0.0 in
-    err_is c.from_residual.result (target_fault refusal) (λ (r : Result (Unit {0}) CarryFault). Works (commits store) (λ _. Checkpoints store now) a b n m r)
+    err_is c.from_residual.result (target_fault refusal)
+    (λ (r : Result (Unit {0}) CarryFault). Works (CommitsPieces store) (λ _. Checkpoints store now) a b n m r)
     c.from_residual.ensures.1
-    (works_err {T = Unit {0}} (CommitsSound store.session store.counter) (λ _. Checkpoints store now) (commits store) (λ _. Checkpoints store now) a b n m
-    refusal (λ h k untold e. (untold, e)) c.checkpoint.ensures.untold c.in_err-checkpoint.ensures.did)
+    (works_err {T = Unit {0}} (commits store) (λ _. Checkpoints store now) (CommitsPieces store) (λ _. Checkpoints store now) a b n m
+    refusal (λ h k untold e. (untold, e)) c.checkpoint.ensures.untold
+    (did_both {T = Unit {0}} (CommitsSound store.session store.counter) (WritesCommit store.session store.counter) (λ _. Checkpoints store now) a b n m
+    (Err refusal)
+    c.checkpoint.ensures.writes c.in_err-checkpoint.ensures.did))
 
 pub returns-clause-works : goal.returns-clause-works
 returns-clause-works g c =
     let store = c.args.store.now in
     let now = c.checkpoint.new.self in
-    works_ok {T = Unit {0}} {U = Unit {0}} (CommitsSound store.session store.counter) (λ _. Checkpoints store now) (commits store)
-    (λ _. Checkpoints store now) (g.D.Shelf.told c.args.depot.now) (g.D.Shelf.told c.checkpoint.new.depot) (g.D.Shelf.faults c.args.depot.now)
-    (g.D.Shelf.faults c.checkpoint.new.depot) tt tt (λ h k untold e. (untold, e)) (λ h k takes. takes) c.checkpoint.ensures.untold
-    c.in_ok-checkpoint.ensures.did
+    let a = g.D.Shelf.told c.args.depot.now in
+    let b = g.D.Shelf.told c.checkpoint.new.depot in
+    let n = g.D.Shelf.faults c.args.depot.now in
+    let m = g.D.Shelf.faults c.checkpoint.new.depot in
+    works_ok {T = Unit {0}} {U = Unit {0}} (commits store) (λ _. Checkpoints store now) (CommitsPieces store) (λ _. Checkpoints store now) a b n m tt tt
+    (λ h k untold e. (untold, e)) (λ h k takes. takes) c.checkpoint.ensures.untold
+    (did_both {T = Unit {0}} (CommitsSound store.session store.counter) (WritesCommit store.session store.counter) (λ _. Checkpoints store now) a b n m (Ok tt)
+    c.checkpoint.ensures.writes c.in_ok-checkpoint.ensures.did)
 
 pub returns-in_err-checkpoint-clause-spent : goal.returns-in_err-checkpoint-clause-spent
 returns-in_err-checkpoint-clause-spent g c =

@@ -1,6 +1,7 @@
 use Rattle.std.proofs.Common.{◌≡◌, ◌∷◌, [], List, ℕ, arith, subst, sym}
 use Rattle.ferry_piece.proofs.FewLemmas.{begun_none}
-use Rattle.ferry_piece.proofs.GatherLemmas.{room_here, stands_here}
+use Rattle.ferry_piece.proofs.CheckpointLemmas.{room_here}
+use Rattle.ferry_piece.proofs.GatherLemmas.{stands_here}
 use Rattle.ferry_piece.proofs.PieceLemmas.{room_works}
 use Rattle.ferry_piece.proofs.WorkLemmas.{works_none}
 use Rattle.ferry_piece.proofs.piece.make_room.Goals as goal

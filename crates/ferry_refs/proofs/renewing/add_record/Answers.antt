@@ -3,7 +3,7 @@ use Rattle.ferry_blob.specs.Blob.{content_id}
 use Rattle.ferry_disk.proofs.DeviceLemmas.{told_any}
 use Rattle.ferry_mac.specs.declared.keys.Keys.{Keys}
 use Rattle.ferry_manifest.specs.Record.Text.{archive_view}
-use Rattle.ferry_piece.proofs.GatherLemmas.{AddedSo}
+use Rattle.ferry_piece.proofs.AddedLemmas.{AddedSo}
 use Rattle.ferry_piece.proofs.WorkLemmas.{err_is, works_err, works_nothing, works_ok}
 use Rattle.ferry_piece.specs.Fault.{target_fault}
 use Rattle.ferry_piece.specs.Work.{Works}

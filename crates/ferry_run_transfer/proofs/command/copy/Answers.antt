@@ -9,9 +9,9 @@ use Rattle.ferry_repo.specs.Fault.{repo_failed}
 use Rattle.ferry_repo.specs.declared.fault.RepoFault.{RepoFault}
 use Rattle.ferry_repo.specs.declared.repo.Repo.{Repo}
 use Rattle.ferry_status.proofs.OpenedLemmas.{shut_here}
-use Rattle.ferry_run_transfer.proofs.PuttingLemmas.{untouched_first}
+use Rattle.ferry_run_transfer.proofs.PuttingLemmas.{untouched_first, untouched_puts}
 use Rattle.ferry_run_transfer.proofs.ToldLemmas.{untouched_told}
-use Rattle.ferry_run_transfer.specs.Putting.{LeavesFirst, is_spared}
+use Rattle.ferry_run_transfer.specs.Putting.{LeavesFirst, TransferPuts, is_spared}
 use Rattle.ferry_status.specs.Status.{carry_status}
 use Rattle.ferry_run_transfer.proofs.SourceLemmas.{asked_kept, source_fits, source_opens}
 use Rattle.ferry_run_transfer.proofs.UntouchedLemmas.{untouched}
@@ -119,3 +119,13 @@ returns-clause-untouched g c =
 
 pub returns-in_err-repo-clause-shut : goal.returns-in_err-repo-clause-shut
 returns-in_err-repo-clause-shut g c = shut_here c.args.secrets.now.target (g.D.Shelf.told c.args.target.now)
+
+pub returns-in_err-repo-clause-puts : goal.returns-in_err-repo-clause-puts
+returns-in_err-repo-clause-puts g c =
+    untouched_puts (asked c.args.secrets.now c.args.options.now c.args.names.now (g.S.Shelf.told c.args.source.now)) (g.D.Shelf.told c.args.target.now)
+
+pub returns-clause-puts : goal.returns-clause-puts
+returns-clause-puts g c =
+    subst (λ (request : Request). Between (g.D.Shelf.told c.args.target.now) (g.D.Shelf.told c.copy_into.new.target) (TransferPuts request))
+    (asked_kept {T = Repo} {F = RepoFault} c.args.secrets.now c.args.options.now c.args.names.now repo_failed (g.S.Shelf.told c.args.source.now)
+    (g.S.Shelf.told c.open.new.shelf) c.in_ok-repo.repo c.in_ok-repo.ensures.same) c.copy_into.ensures.puts

@@ -9,7 +9,7 @@ use Rattle.ferry_repo.specs.Opening.{repo_view}
 use Rattle.ferry_store.proofs.UseLemmas.{fits_opened}
 use Rattle.ferry_store.specs.Store.{OpenEach, OpenFits}
 use Rattle.ferry_status.proofs.OpenedLemmas.{opened_then, shut_here}
-use Rattle.ferry_run_transfer.proofs.PuttingLemmas.{stopped_first, unopened_first, untouched_first}
+use Rattle.ferry_run_transfer.proofs.PuttingLemmas.{carried_puts, stopped_first, unopened_first, unopened_puts, untouched_first, untouched_puts}
 use Rattle.ferry_run_transfer.proofs.ToldLemmas.{stopped_told, unopened_told, untouched_told}
 use Rattle.ferry_run_transfer.specs.Putting.{LeavesFirst, is_spared}
 use Rattle.ferry_status.specs.Status.{carry_status}
@@ -321,3 +321,32 @@ pub returns-clause-shut : goal.returns-clause-shut
 returns-clause-shut g c =
     opened_then c.args.secrets.now.target (repo_view c.in_ok-store.store.repo) (g.D.Shelf.told c.args.target.now) (g.D.Shelf.told c.open.new.depot)
     (g.D.Shelf.told c.carry.new.depot) _ _ c.in_ok-store.ensures.opened c.in_ok-store.ensures.did.each c.carry.ensures.works.works.each
+
+pub returns-in_err-chosen-clause-puts : goal.returns-in_err-chosen-clause-puts
+returns-in_err-chosen-clause-puts g c =
+    untouched_puts (asked c.args.secrets.now c.args.options.now c.args.names.now (g.S.Shelf.told c.args.source.now)) (g.D.Shelf.told c.args.target.now)
+
+pub returns-in_err-find_names-clause-puts : goal.returns-in_err-find_names-clause-puts
+returns-in_err-find_names-clause-puts g c =
+    untouched_puts (asked c.args.secrets.now c.args.options.now c.args.names.now (g.S.Shelf.told c.args.source.now)) (g.D.Shelf.told c.args.target.now)
+
+pub returns-in_err-store-clause-puts : goal.returns-in_err-store-clause-puts
+returns-in_err-store-clause-puts g c =
+    unopened_puts (asked c.args.secrets.now c.args.options.now c.args.names.now (g.S.Shelf.told c.args.source.now)) (g.D.Shelf.told c.args.target.now)
+    (g.D.Shelf.told c.open.new.depot) c.open.ensures.removes
+
+pub returns-in_err-carry-clause-puts : goal.returns-in_err-carry-clause-puts
+returns-in_err-carry-clause-puts g c =
+    let works = c.in_err-carry.ensures.works in
+    carried_puts c.args.secrets.now c.args.options.now c.args.names.now (repo_view c.args.repo.now) (g.S.Shelf.told c.args.source.now) c.deref-2.result.now
+    c.requires.source_opens (c.deref-2.ensures.value ∙ c.in_ok-chosen.ensures.chosen) c.in_ok-store.store (g.D.Shelf.told c.args.target.now)
+    (g.D.Shelf.told c.open.new.depot) (g.D.Shelf.told c.carry.new.depot) (g.D.Shelf.faults c.args.target.now) (g.D.Shelf.faults c.open.new.depot)
+    c.in_ok-store.ensures.accepted c.in_ok-store.ensures.opened c.open.ensures.removes c.in_ok-store.ensures.did works.added works.begins works.works.each
+
+pub returns-clause-puts : goal.returns-clause-puts
+returns-clause-puts g c =
+    let works = c.in_ok-carry.ensures.works in
+    carried_puts c.args.secrets.now c.args.options.now c.args.names.now (repo_view c.args.repo.now) (g.S.Shelf.told c.args.source.now) c.deref-2.result.now
+    c.requires.source_opens (c.deref-2.ensures.value ∙ c.in_ok-chosen.ensures.chosen) c.in_ok-store.store (g.D.Shelf.told c.args.target.now)
+    (g.D.Shelf.told c.open.new.depot) (g.D.Shelf.told c.carry.new.depot) (g.D.Shelf.faults c.args.target.now) (g.D.Shelf.faults c.open.new.depot)
+    c.in_ok-store.ensures.accepted c.in_ok-store.ensures.opened c.open.ensures.removes c.in_ok-store.ensures.did works.added works.begins works.works.each

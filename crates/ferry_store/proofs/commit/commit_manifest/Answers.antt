@@ -1,5 +1,5 @@
 use Rattle.std.proofs.Common.{rules, inl, refl, ◌≡◌, ◌≢◌, false, ◌+◌, ◌++◌, ℕ, List, Ok, Err, Result, drop, length, IfErr, OnOk, option_map, ap, ◌∙◌}
-use Rattle.std.proofs.Common.{arith, subst}
+use Rattle.std.proofs.Common.{arith, subst, [], ◌∷◌}
 use Rattle.ferry_base.specs.Limits.{zero_id}
 use Rattle.ferry_blob.specs.Blob.{OpensTo, sealed}
 use Rattle.ferry_blob.specs.declared.mode.Mode.{Mode}
@@ -10,7 +10,7 @@ use Rattle.ferry_mac.specs.declared.keys.Keys.{Keys}
 use Rattle.ferry_manifest.specs.Manifest.Text.{manifest_view}
 use Rattle.ferry_manifest.specs.Manifest.Writing.{manifest_text}
 use Rattle.ferry_repo.specs.Opening.{mode_of, repo_view}
-use Rattle.ferry_segment.specs.Entry.{PutEntry}
+use Rattle.ferry_segment.specs.Entry.{PutEntry, CommitEntry}
 use Rattle.ferry_stops.proofs.TellLemmas.{told_both, told_none}
 use Rattle.ferry_store.proofs.CauseLemmas.{packed_stops, put_stops}
 use Rattle.ferry_store.proofs.LimitLemmas.{manifest_uncommitted_at, manifest_unpacked, manifest_unput_at, nothing_done}
@@ -30,6 +30,7 @@ use Rattle.ferry_store.specs.State.{Did, KeepsSound, RefusesManifest, TakesEntry
 use Rattle.ferry_store.specs.declared.fault.StoreRefusal.{StoreRefusal}
 use Rattle.ferry_store.specs.declared.fault.StoreRefusal.TheVariants.{Memory}
 use Rattle.ferry_store.proofs.FewLemmas.{IsUsedUp, few_same, few_then, few_unpacked}
+use Rattle.ferry_store.proofs.WritingLemmas.{OpensNamed, manifest_writes, none_writes, uncommitted_writes}
 
 pub returns-in_err-buffer-clause-committed : goal.returns-in_err-buffer-clause-committed
 returns-in_err-buffer-clause-committed g c =
@@ -236,3 +237,32 @@ returns-in_err-put_object-clause-few g c =
 pub returns-clause-few : goal.returns-clause-few
 returns-clause-few g c =
     few_then 1 1 c.args.session.now.last c.put_object.new.session.last c.commit.new.session.last _ _ c.in_ok-put_object.ensures.few c.commit.ensures.few
+
+pub returns-in_err-buffer-clause-writes : goal.returns-in_err-buffer-clause-writes
+returns-in_err-buffer-clause-writes g c =
+    ([], none_writes (Unit {0}) (PutEntry zero_id [] ∷ (CommitEntry ∷ [])) c.args.session.now c.args.counter.now (g.D.Shelf.told c.args.depot.now))
+
+pub returns-in_err-put_object-clause-writes : goal.returns-in_err-put_object-clause-writes
+returns-in_err-put_object-clause-writes g c =
+    let counter = c.args.counter.now in
+    let keys = c.keys-2.result.now in
+    let content = drop 43 c.deref_mut.result.now in
+    let blob = sealed keys c.mode-mode.result counter.free content in (
+      blob,
+      uncommitted_writes (OpensNamed keys blob content) blob c.args.session.now counter (g.D.Shelf.told c.args.depot.now)
+          (g.D.Shelf.told c.put_object.new.depot) c.in_err-put_object.ensures.writes,
+    )
+
+pub returns-clause-writes : goal.returns-clause-writes
+returns-clause-writes g c =
+    let counter = c.args.counter.now in
+    let drawn = c.put_object.new.counter in
+    let keys = c.keys-2.result.now in
+    let content = drop 43 c.deref_mut.result.now in
+    let blob = sealed keys c.mode-mode.result counter.free content in (
+      blob,
+      manifest_writes {T = Place} (OpensNamed keys blob content) blob c.args.session.now c.put_object.new.session counter drawn
+          c.in_ok-put_object.field-0 (g.D.Shelf.told c.args.depot.now) (g.D.Shelf.told c.put_object.new.depot) (g.D.Shelf.told c.commit.new.depot)
+          (g.D.Shelf.faults c.args.depot.now) (g.D.Shelf.faults c.put_object.new.depot) c.in_ok-put_object.ensures.writes c.in_ok-put_object.ensures.did
+          (c.commit.ensures.writes drawn),
+    )

@@ -17,6 +17,7 @@ use Rattle.ferry_store.specs.declared.fault.StoreRefusal.TheVariants.{Memory}
 use Rattle.ferry_store.proofs.FewLemmas.{IsUsedUp, few_answered, few_later, few_same}
 use Rattle.ferry_store.specs.Limits.{BeginsFew}
 use Rattle.ferry_log.specs.declared.place.Place.{Place}
+use Rattle.ferry_store.proofs.WritingLemmas.{content_writes}
 
 pub returns-clause-did : goal.returns-clause-did
 returns-clause-did g c =
@@ -98,3 +99,21 @@ returns-in_err-learn-clause-few g c =
 pub returns-clause-few : goal.returns-clause-few
 returns-clause-few g c =
     few_answered {T = Place} {U = Unit {0}} 1 c.args.session.now.last c.put_object.new.session.last (Ok c.in_ok-place.place) tt c.in_ok-place.ensures.few
+
+pub returns-in_err-place-clause-writes : goal.returns-in_err-place-clause-writes
+returns-in_err-place-clause-writes g c =
+    content_writes (repo_view c.args.repo.now) c.args.session.now c.args.counter.now c.keys.result.now c.mode-mode.result c.args.id.now c.args.buffer.now
+    c.args.is_blob (g.D.Shelf.told c.args.depot.now) (g.D.Shelf.told c.put_object.new.depot) c.keys.ensures.keys c.mode-mode.ensures.mode
+    c.requires.prepared.named c.in_err-place.ensures.writes
+
+pub returns-in_err-learn-clause-writes : goal.returns-in_err-learn-clause-writes
+returns-in_err-learn-clause-writes g c =
+    content_writes (repo_view c.args.repo.now) c.args.session.now c.args.counter.now c.keys.result.now c.mode-mode.result c.args.id.now c.args.buffer.now
+    c.args.is_blob (g.D.Shelf.told c.args.depot.now) (g.D.Shelf.told c.put_object.new.depot) c.keys.ensures.keys c.mode-mode.ensures.mode
+    c.requires.prepared.named c.in_ok-place.ensures.writes
+
+pub returns-clause-writes : goal.returns-clause-writes
+returns-clause-writes g c =
+    content_writes (repo_view c.args.repo.now) c.args.session.now c.args.counter.now c.keys.result.now c.mode-mode.result c.args.id.now c.args.buffer.now
+    c.args.is_blob (g.D.Shelf.told c.args.depot.now) (g.D.Shelf.told c.put_object.new.depot) c.keys.ensures.keys c.mode-mode.ensures.mode
+    c.requires.prepared.named c.in_ok-place.ensures.writes

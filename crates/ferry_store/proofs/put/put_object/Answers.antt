@@ -1,4 +1,4 @@
-use Rattle.std.proofs.Common.{rules, List, ◌≡◌, ◌+◌, ◌-◌, ◌≤◌, ◌<◌, ◌^◌, ℕ, Ok, Err, Result, length, sym, ap, ◌∙◌, subst, arith, IfErr}
+use Rattle.std.proofs.Common.{rules, List, ◌≡◌, ◌+◌, ◌-◌, ◌≤◌, ◌<◌, ◌^◌, ℕ, Ok, Err, Result, length, sym, ap, ◌∙◌, subst, arith, IfErr, [], ◌∷◌}
 use Rattle.ferry_blob.proofs.CallerLemmas.{blocks_from, blocks_most}
 use Rattle.ferry_blob.specs.Blob.{OpensTo, sealed}
 use Rattle.ferry_disk.specs.Moments.{Between}
@@ -19,6 +19,9 @@ use Rattle.ferry_store.specs.declared.fault.StoreRefusal.{StoreRefusal}
 use Rattle.ferry_store.proofs.LimitLemmas.{undrawn_leaves}
 use Rattle.ferry_store.specs.Limits.{LeavesBoth, BeginsFew}
 use Rattle.ferry_store.proofs.FewLemmas.{IsUsedUp, few_entry, few_spent, few_undrawn}
+use Rattle.ferry_store.proofs.WritingLemmas.{OpensNamed, object_writes, undrawn_writes}
+use Rattle.ferry_store.specs.Writing.{WritesMore}
+use Rattle.ferry_nonce.specs.declared.counter.Counter.{Counter}
 
 pub draw-requires-clause-some : goal.draw-requires-clause-some
 draw-requires-clause-some g c =
@@ -244,3 +247,63 @@ returns-in_err-place-clause-few g c =
 
 pub returns-clause-few : goal.returns-clause-few
 returns-clause-few g c = few_entry {T = Place} c.args.session.now c.put.new.self _ c.in_ok-place.place c.in_ok-place.ensures.ok
+
+pub returns-in_err-first-clause-writes : goal.returns-in_err-first-clause-writes
+returns-in_err-first-clause-writes g c =
+    let keys = c.args.keys.now in
+    let counter = c.args.counter.now in
+    let content = content_in keys c.args.is_blob c.args.buffer.now in
+    let whole = sealed keys c.args.mode counter.free content in
+    undrawn_writes (OpensNamed keys whole content) (PutEntry c.args.id.now whole ∷ []) c.args.session.now counter c.blocks_of-blocks.result
+    c.in_err-first.field-0.0 (g.D.Shelf.told c.args.depot.now) (g.D.Shelf.told c.draw.new.depot)
+    (λ fit. ap g.D.Shelf.told (c.in_err-first.ensures.kept fit).1) c.in_err-first.ensures.replaced
+
+pub returns-in_err-place-clause-writes : goal.returns-in_err-place-clause-writes
+returns-in_err-place-clause-writes g c =
+    let a = g.D.Shelf.told c.args.depot.now in
+    let b = g.D.Shelf.told c.draw.new.depot in
+    let d = g.D.Shelf.told c.put.new.depot in
+    let n = g.D.Shelf.faults c.args.depot.now in
+    let m = g.D.Shelf.faults c.draw.new.depot in
+    let keys = c.args.keys.now in
+    let session = c.args.session.now in
+    let counter = c.args.counter.now in
+    let drawn = c.draw.new.self in
+    let first = c.in_ok-first.first in
+    let blocks = c.blocks_of-blocks.result in
+    let id = c.args.id.now in
+    let blob = c.seal_again.new.buffer in
+    let content = content_in keys c.args.is_blob c.args.buffer.now in
+    let same : blob ≡ sealed keys c.args.mode counter.free content =
+    c.seal_again.ensures.blob ∙ ap (λ (f : ℕ). sealed keys c.args.mode f content) c.in_ok-first.ensures.drawn.0 in
+    let order : counter.free ≤ drawn.free = omega (arith, ap (λ (k : Counter). k.free) c.in_ok-first.ensures.drawn.1) in
+    subst (λ (x : List ℕ). Between a d (WritesMore (OpensNamed keys x content) (PutEntry id x ∷ []) session counter)) same
+    (object_writes (OpensNamed keys blob content) (PutEntry id blob ∷ []) session counter drawn (reserved_for counter blocks) first a b d n m
+    c.seal_again.ensures.opens order
+    (draw_ok counter drawn blocks first a b n m (λ fit. ap g.D.Shelf.told (c.in_ok-first.ensures.kept fit).1) c.in_ok-first.ensures.replaced
+    c.in_ok-first.ensures.moments c.in_ok-first.ensures.fits c.in_ok-first.ensures.cause c.in_ok-first.ensures.ends) c.in_err-place.ensures.writes)
+
+pub returns-clause-writes : goal.returns-clause-writes
+returns-clause-writes g c =
+    let a = g.D.Shelf.told c.args.depot.now in
+    let b = g.D.Shelf.told c.draw.new.depot in
+    let d = g.D.Shelf.told c.put.new.depot in
+    let n = g.D.Shelf.faults c.args.depot.now in
+    let m = g.D.Shelf.faults c.draw.new.depot in
+    let keys = c.args.keys.now in
+    let session = c.args.session.now in
+    let counter = c.args.counter.now in
+    let drawn = c.draw.new.self in
+    let first = c.in_ok-first.first in
+    let blocks = c.blocks_of-blocks.result in
+    let id = c.args.id.now in
+    let blob = c.seal_again.new.buffer in
+    let content = content_in keys c.args.is_blob c.args.buffer.now in
+    let same : blob ≡ sealed keys c.args.mode counter.free content =
+    c.seal_again.ensures.blob ∙ ap (λ (f : ℕ). sealed keys c.args.mode f content) c.in_ok-first.ensures.drawn.0 in
+    let order : counter.free ≤ drawn.free = omega (arith, ap (λ (k : Counter). k.free) c.in_ok-first.ensures.drawn.1) in
+    subst (λ (x : List ℕ). Between a d (WritesMore (OpensNamed keys x content) (PutEntry id x ∷ []) session counter)) same
+    (object_writes (OpensNamed keys blob content) (PutEntry id blob ∷ []) session counter drawn (reserved_for counter blocks) first a b d n m
+    c.seal_again.ensures.opens order
+    (draw_ok counter drawn blocks first a b n m (λ fit. ap g.D.Shelf.told (c.in_ok-first.ensures.kept fit).1) c.in_ok-first.ensures.replaced
+    c.in_ok-first.ensures.moments c.in_ok-first.ensures.fits c.in_ok-first.ensures.cause c.in_ok-first.ensures.ends) c.in_ok-place.ensures.writes)

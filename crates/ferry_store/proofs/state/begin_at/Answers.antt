@@ -10,6 +10,8 @@ use Rattle.ferry_store.specs.State.{Begins, BeginsSound, Did}
 use Rattle.ferry_store.specs.declared.fault.StoreRefusal.{StoreRefusal}
 use Rattle.ferry_write.specs.Session.{ClearsAll, SettlesFirst}
 use Rattle.ferry_write.specs.declared.session.Session.{Session}
+use Rattle.ferry_store.proofs.WritingLemmas.{same_removes}
+use Rattle.ferry_write.specs.Front.{OnlyRemoves}
 
 pub returns-in_err-counter-clause-did : goal.returns-in_err-counter-clause-did
 returns-in_err-counter-clause-did g c =
@@ -93,3 +95,23 @@ returns-clause-untold g c =
 
 pub returns-clause-there : goal.returns-clause-there
 returns-clause-there g c = nonce_there c.args.committed c.in_ok-counter.counter (g.D.Shelf.told c.args.depot.now) c.in_ok-counter.ensures.missing
+
+pub returns-in_err-counter-clause-removes : goal.returns-in_err-counter-clause-removes
+returns-in_err-counter-clause-removes g c =
+    let a = g.D.Shelf.told c.args.depot.now in
+    let b = g.D.Shelf.told c.open.new.depot in
+    same_removes a b (same_told {T = Counter} nonce_failed a b (Err c.in_err-counter.field-0.0) c.in_err-counter.ensures.same)
+
+pub returns-in_err-session-clause-removes : goal.returns-in_err-session-clause-removes
+returns-in_err-session-clause-removes g c =
+    let a = g.D.Shelf.told c.args.depot.now in
+    let b = g.D.Shelf.told c.open.new.depot in
+    after_same OnlyRemoves a b (g.D.Shelf.told c.begin.new.depot)
+    (same_told nonce_failed a b (Ok c.in_ok-counter.counter) c.in_ok-counter.ensures.same) c.in_err-session.ensures.removes
+
+pub returns-clause-removes : goal.returns-clause-removes
+returns-clause-removes g c =
+    let a = g.D.Shelf.told c.args.depot.now in
+    let b = g.D.Shelf.told c.open.new.depot in
+    after_same OnlyRemoves a b (g.D.Shelf.told c.begin.new.depot)
+    (same_told nonce_failed a b (Ok c.in_ok-counter.counter) c.in_ok-counter.ensures.same) c.in_ok-session.ensures.removes

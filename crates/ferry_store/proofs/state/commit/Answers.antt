@@ -13,6 +13,7 @@ use Rattle.ferry_store.specs.declared.fault.StoreRefusal.{StoreRefusal}
 use Rattle.ferry_write.specs.Session.{OnlyAppends}
 use Rattle.ferry_store.proofs.FewLemmas.{IsUsedUp, few_commit, few_spent}
 use Rattle.ferry_store.specs.Limits.{BeginsFew}
+use Rattle.ferry_store.proofs.WritingLemmas.{commit_writes}
 
 pub returns-in_err-commit-clause-did : goal.returns-in_err-commit-clause-did
 returns-in_err-commit-clause-did g c counter =
@@ -64,3 +65,11 @@ returns-in_err-commit-clause-few g c =
 
 pub returns-clause-few : goal.returns-clause-few
 returns-clause-few g c = few_commit {T = Unit {0}} c.args.session.now c.commit.new.self tt c.in_ok-commit.ensures.ok
+
+pub returns-in_err-commit-clause-writes : goal.returns-in_err-commit-clause-writes
+returns-in_err-commit-clause-writes g c counter =
+    commit_writes c.args.session.now counter (g.D.Shelf.told c.args.depot.now) (g.D.Shelf.told c.commit.new.depot) c.in_err-commit.ensures.writes
+
+pub returns-clause-writes : goal.returns-clause-writes
+returns-clause-writes g c counter =
+    commit_writes c.args.session.now counter (g.D.Shelf.told c.args.depot.now) (g.D.Shelf.told c.commit.new.depot) c.in_ok-commit.ensures.writes

@@ -30,6 +30,7 @@ returns-in-Transfer-clause-does g c =
       left = e.left;
       shut = e.shut;
       only_told = e.only_told;
+      puts = e.puts;
       put = e.put;
       each = e.each;
     } in

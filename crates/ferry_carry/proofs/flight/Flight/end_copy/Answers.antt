@@ -7,7 +7,7 @@ use Rattle.ferry_carry.proofs.UnnamedLemmas.{added_all}
 use Rattle.ferry_carry.proofs.HeldLemmas.{held_then, held_within}
 use Rattle.ferry_carry.proofs.LeftLemmas.{left_then, target_leaves}
 use Rattle.ferry_piece.proofs.FaultLemmas.{stops_of_pieces}
-use Rattle.ferry_carry.proofs.NamingLemmas.{begins_done, behind_record, counts_done, lists_done, tagged_as, unnamed_rest}
+use Rattle.ferry_carry.proofs.NamingLemmas.{begins_done, behind_record, counts_done, lists_done, record_ends, tagged_as, unnamed_rest}
 use Rattle.ferry_carry.proofs.NamingManifestLemmas.{pieces_limit, record_limit}
 use Rattle.ferry_carry.proofs.NextLemmas.{behind_named}
 use Rattle.ferry_piece.proofs.PieceLemmas.{pieces_at}
@@ -20,13 +20,13 @@ use Rattle.ferry_carry.proofs.flight.Flight.end_copy.Goals as goal
 use Rattle.ferry_carry.specs.Flight.{Carries, EndsCopy, archive_adds}
 use Rattle.ferry_piece.specs.Adding.{HoldsRefused}
 use Rattle.ferry_carry.specs.Naming.{copied_in}
-use Rattle.ferry_piece.specs.Puts.{Addition, AtBegin, AtEnd, border_behind}
+use Rattle.ferry_piece.specs.Puts.{Addition, AtBegin, AtEnd, Border, Within, border_behind}
 use Rattle.ferry_piece.specs.declared.fault.CarryFault.{CarryFault}
 use Rattle.ferry_piece.specs.declared.piece.PieceWriter.{PieceWriter}
 use Rattle.ferry_carry.specs.declared.options.Carried.{Carried}
 use Rattle.ferry_piece.proofs.GatherLemmas.{rest_here}
 use Rattle.ferry_carry.proofs.CauseLemmas.{record_refused}
-use Rattle.ferry_piece.specs.Gather.{KeepsStanding, chunks_of}
+use Rattle.ferry_piece.specs.Gather.{KeepsStanding, KeepsStandingAt, chunks_of}
 use Rattle.ferry_carry.specs.Refusals.{IsLimited, Leaves, RefusesEnd}
 use Rattle.ferry_piece.specs.Stops.{StopsTarget}
 use Rattle.ferry_disk.specs.Moments.{Between}
@@ -34,7 +34,7 @@ use Rattle.ferry_mac.specs.declared.keys.Keys.{Keys}
 use Rattle.ferry_manifest.specs.Record.Text.{archive_view}
 use Rattle.ferry_rechunk.specs.Cut.{cut}
 use Rattle.ferry_repo.specs.Opening.{repo_view}
-use Rattle.ferry_carry.proofs.StandLemmas.{stands_behind}
+use Rattle.ferry_carry.proofs.StandLemmas.{stands_behind_at}
 use Rattle.ferry_piece.proofs.FewLemmas.{begun_as, begun_same, begun_then}
 use Rattle.ferry_carry.proofs.TurnLemmas.{stops_ending}
 use Rattle.ferry_carry.specs.States.{target_state}
@@ -131,8 +131,10 @@ returns-in_err-name_record-clause-works g c =
                 begins = begins_done from named a store copy added ended.0 ended.1.0 c.requires.ready ended.1.1.1.0 ended.1.1.1.1.0 all;
                 stands = λ work.
                     subst (λ (l : List Addition). Between a z (KeepsStanding from.most store l)) (append-nil more)
-                    (stands_behind {T = List ℕ} from.most store middle more [] a b z n m id rest.keys works.works
-                    (c.in_err-name_record.ensures.refused.stands work from.most));
+                    (stands_behind_at {T = List ℕ} from.most store middle more [] a b z n m id rest.keys works.works
+                    (subst (λ (w : Border). Between b z (KeepsStandingAt w from.most middle []))
+                    (sym (record_ends Within (repo_view store.repo).keys archive ended.0 ended.1.0 under.adds))
+                    (c.in_err-name_record.ensures.refused.stands work from.most)));
                 last = stops_unbroken a (repo_view store.repo).keys more fault c.in_err-name_record.ensures.refusal.unbroken;
                 held = subst (λ (l : List Addition). HoldsRefused {T = Carried} at from.most store l now a z (Err fault)) (append-nil more)
                     (held_then {T = Carried} at from.most store middle now more [] a b z (Err fault) rest.keys works.unspent

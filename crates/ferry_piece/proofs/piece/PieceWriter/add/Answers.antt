@@ -1,4 +1,4 @@
-use Rattle.std.proofs.Common.{ℕ, List, [], ◌∷◌, false, Result, Ok, Err, OnOk, length, refl, sym, ap, subst}
+use Rattle.std.proofs.Common.{ℕ, List, [], ◌∷◌, true, Result, Ok, Err, OnOk, length, refl, sym, ap, subst}
 use Rattle.ferry_piece.proofs.FewLemmas.{memory_unused}
 use Rattle.ferry_piece.proofs.PieceLemmas.{counts_by}
 use Rattle.ferry_piece.proofs.WorkLemmas.{err_is, gathered_as, gathered_err, gathered_fault}
@@ -21,16 +21,16 @@ returns-in_err-added-clause-works g c =
     let m = g.D.Shelf.faults c.add_foreseen.new.depot in
     let fault = c.in_err-added.field-0.0 in
     let writer = c.args.self.now in (
-      false,
+      true,
       λ kind piece_is.
-          let one = addition kind writer.cutter.piece false in
+          let one = addition kind writer.cutter.piece true in
           err_is c.from_residual.result fault
           (λ (r : Result (Unit {0}) CarryFault). AddsOn most store (one ∷ []) now a b n m r
           × OnOk r (CountsOn kind writer (one ∷ []) writer)) c.from_residual.ensures.1 (
             gathered_err {T = Added} {U = Unit {0}} most store now (one ∷ []) a b n m fault
-                (subst (λ (piece : List ℕ). AddsOn {T = Added} most store (addition kind piece false ∷ []) now a b n m (Err fault))
+                (subst (λ (piece : List ℕ). AddsOn {T = Added} most store (addition kind piece true ∷ []) now a b n m (Err fault))
                 c.in-Some.ensures.piece
-                (c.in_err-added.ensures.works kind false piece_is tt)),
+                (c.in_err-added.ensures.works kind true piece_is refl)),
             tt,
           ),
     )

@@ -1,15 +1,18 @@
-use Rattle.std.proofs.Common.{false, ℕ, List, drop, ap, ◌∙◌, subst, arith}
+use Rattle.std.proofs.Common.{false, ℕ, List, drop, ap, ◌∙◌, subst, arith, [], ◌∷◌}
 use Rattle.ferry_stops.proofs.TellLemmas.{told_none}
 use Rattle.ferry_store.proofs.AddLemmas.{same_added}
 use Rattle.ferry_store.proofs.PutLemmas.{keeps_here}
 use Rattle.ferry_store.proofs.StepLemmas.{did_none, did_nothing}
 use Rattle.ferry_store.proofs.store.Store.add.Goals as goal
-use Rattle.ferry_store.specs.Adding.{Adds}
+use Rattle.ferry_store.specs.Adding.{Adds, entry_of}
 use Rattle.ferry_store.specs.Fault.{depot_failed}
 use Rattle.ferry_store.specs.State.{Did, KeepsSound}
 use Rattle.ferry_store.specs.declared.content.Added.{Added}
 use Rattle.ferry_store.proofs.FewLemmas.{few_memory, few_more, few_none}
 use Rattle.ferry_store.specs.declared.store.Store.{Store}
+use Rattle.ferry_store.proofs.WritingLemmas.{none_writes}
+use Rattle.ferry_store.specs.Writing.{CanPut, WritesContent}
+use Rattle.ferry_disk.specs.Moments.{Between}
 
 pub returns-then-is_known-clause-did : goal.returns-then-is_known-clause-did
 returns-then-is_known-clause-did g c =
@@ -56,3 +59,23 @@ returns-then-is_known-clause-few g c = few_none 1 c.args.self.now.session.last _
 
 pub returns-clause-few : goal.returns-clause-few
 returns-clause-few g c = few_more 0 1 c.args.self.now.session.last c.add_old.new.self.session.last _ _ (omega arith) (λ e. e) c.add_old.ensures.few
+
+pub returns-in-Err-clause-writes : goal.returns-in-Err-clause-writes
+returns-in-Err-clause-writes g c =
+    let store = c.args.self.now in
+    let content = c.args.content.now in
+    none_writes (CanPut store content) (entry_of store content ∷ []) store.session store.counter (g.D.Shelf.told c.args.depot.now)
+
+pub returns-then-is_known-clause-writes : goal.returns-then-is_known-clause-writes
+returns-then-is_known-clause-writes g c =
+    let store = c.args.self.now in
+    let content = c.args.content.now in
+    none_writes (CanPut store content) (entry_of store content ∷ []) store.session store.counter (g.D.Shelf.told c.args.depot.now)
+
+pub returns-in-Ok-clause-writes : goal.returns-in-Ok-clause-writes
+returns-in-Ok-clause-writes g c =
+    subst (λ (content : List ℕ). Between (g.D.Shelf.told c.args.depot.now) (g.D.Shelf.told c.add_new.new.depot) (WritesContent c.args.self.now content))
+    (ap (drop 43) c.deref_mut.ensures.value ∙ c.in-Ok.ensures.buffer.0) c.add_new.ensures.writes
+
+pub returns-clause-writes : goal.returns-clause-writes
+returns-clause-writes g c = c.add_old.ensures.writes c.args.content.now

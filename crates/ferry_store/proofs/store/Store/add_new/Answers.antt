@@ -13,6 +13,7 @@ use Rattle.ferry_store.specs.declared.fault.StoreRefusal.{StoreRefusal}
 use Rattle.ferry_store.proofs.FewLemmas.{few_answered, few_refused}
 use Rattle.ferry_store.specs.declared.content.Added.{Added}
 use Rattle.ferry_store.specs.declared.store.Store.{Store}
+use Rattle.ferry_store.proofs.WritingLemmas.{new_writes}
 
 pub returns-in-Ok-clause-did : goal.returns-in-Ok-clause-did
 returns-in-Ok-clause-did g c =
@@ -71,3 +72,15 @@ returns-in-Err-clause-few g c =
     few_refused {T = Unit {0}} {U = Added} 1 c.args.self.now.session.last c.put_content-put.new.session.last c.spend.new.self.session.last
     c.put_content-put.result c.in-Err.refusal c.spend.result c.in-Err.is c.spend.ensures.same (ap (λ (s : Store). s.session.last) c.spend.ensures.spent)
     c.put_content-put.ensures.few
+
+pub returns-in-Ok-clause-writes : goal.returns-in-Ok-clause-writes
+returns-in-Ok-clause-writes g c =
+    let store = c.args.self.now in
+    new_writes store c.args.id (content_in (repo_view store.repo).keys c.args.is_blob c.args.buffer.now) (g.D.Shelf.told c.args.depot.now)
+    (g.D.Shelf.told c.put_content-put.new.depot) c.requires.prepared.named c.requires.new c.put_content-put.ensures.writes
+
+pub returns-in-Err-clause-writes : goal.returns-in-Err-clause-writes
+returns-in-Err-clause-writes g c =
+    let store = c.args.self.now in
+    new_writes store c.args.id (content_in (repo_view store.repo).keys c.args.is_blob c.args.buffer.now) (g.D.Shelf.told c.args.depot.now)
+    (g.D.Shelf.told c.put_content-put.new.depot) c.requires.prepared.named c.requires.new c.put_content-put.ensures.writes

@@ -1,5 +1,5 @@
 use Rattle.std.proofs.Common.{IfSome, OnOk, Result, Err, refl, sym, subst, IfErr, ap}
-use Rattle.std.proofs.Common.{◌≡◌, true, false}
+use Rattle.std.proofs.Common.{◌≡◌, true, false, [], ◌∷◌}
 use Rattle.std.specs.BTreeSet.{Updates}
 use Rattle.ferry_disk.proofs.FaultLemmas.{keeps_end}
 use Rattle.ferry_disk.specs.Device.{HasCause, KeepsTold, told_files}
@@ -13,7 +13,7 @@ use Rattle.ferry_store.proofs.LimitLemmas.{unopened_kept}
 use Rattle.ferry_store.proofs.PutLemmas.{keeps_here}
 use Rattle.ferry_store.proofs.StepLemmas.{same_told}
 use Rattle.ferry_store.proofs.store.Store.add_old.Goals as goal
-use Rattle.ferry_store.specs.Adding.{Adds}
+use Rattle.ferry_store.specs.Adding.{Adds, entry_of}
 use Rattle.ferry_store.specs.Causes.{StopsAt}
 use Rattle.ferry_store.specs.Commit.{IsUnspentBy}
 use Rattle.ferry_store.specs.Content.{IsThere, RefusesOld}
@@ -23,6 +23,8 @@ use Rattle.ferry_store.specs.declared.content.Added.{Added}
 use Rattle.ferry_store.specs.declared.fault.StoreRefusal.{StoreRefusal}
 use Rattle.ferry_store.proofs.FewLemmas.{few_none, few_unwritten}
 use Rattle.ferry_store.specs.declared.store.Store.{Store}
+use Rattle.ferry_store.proofs.WritingLemmas.{same_writes}
+use Rattle.ferry_store.specs.Writing.{CanPut}
 
 pub returns-in-Ok-clause-did : goal.returns-in-Ok-clause-did
 returns-in-Ok-clause-did g c = λ content.
@@ -100,3 +102,19 @@ pub returns-in-Err-clause-few : goal.returns-in-Err-clause-few
 returns-in-Err-clause-few g c =
     few_unwritten {T = Unit {0}} {U = Added} 0 c.args.self.now.session.last c.spend.new.self.session.last c.open_content.result c.in-Err.refusal
     c.spend.result c.in-Err.is c.spend.ensures.same (ap (λ (s : Store). s.session.last) c.spend.ensures.spent) c.open_content.ensures.unwritten
+
+pub returns-in-Ok-clause-writes : goal.returns-in-Ok-clause-writes
+returns-in-Ok-clause-writes g c content =
+    let a = g.D.Shelf.told c.args.depot.now in
+    let b = g.D.Shelf.told c.open_content.new.depot in
+    let store = c.args.self.now in
+    same_writes (CanPut store content) (entry_of store content ∷ []) store.session store.counter a b
+    (same_told depot_failed a b c.open_content.result c.open_content.ensures.same)
+
+pub returns-in-Err-clause-writes : goal.returns-in-Err-clause-writes
+returns-in-Err-clause-writes g c content =
+    let a = g.D.Shelf.told c.args.depot.now in
+    let b = g.D.Shelf.told c.open_content.new.depot in
+    let store = c.args.self.now in
+    same_writes (CanPut store content) (entry_of store content ∷ []) store.session store.counter a b
+    (same_told depot_failed a b c.open_content.result c.open_content.ensures.same)

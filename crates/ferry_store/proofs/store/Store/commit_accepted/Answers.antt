@@ -1,4 +1,4 @@
-use Rattle.std.proofs.Common.{◌≡◌, ◌++◌, ℕ, List, Ok, Err, Result, replicate, length, IfErr, OnOk, option_map, refl, sym, ap, subst, arith}
+use Rattle.std.proofs.Common.{◌≡◌, ◌++◌, ℕ, List, Ok, Err, Result, replicate, length, IfErr, OnOk, option_map, refl, sym, ap, subst, arith, [], ◌∷◌}
 use Rattle.ferry_disk.specs.Act.{History}
 use Rattle.ferry_disk.specs.Moments.{Between}
 use Rattle.ferry_manifest.specs.Manifest.Text.{ManifestText}
@@ -22,6 +22,9 @@ use Rattle.ferry_store.specs.State.{Did}
 use Rattle.ferry_store.specs.declared.fault.StoreRefusal.{StoreRefusal}
 use Rattle.ferry_store.specs.declared.fault.StoreRefusal.TheVariants.{Memory}
 use Rattle.ferry_store.proofs.FewLemmas.{IsUsedUp, few_answered, few_memory, few_same}
+use Rattle.ferry_store.proofs.WritingLemmas.{none_writes}
+use Rattle.ferry_base.specs.Limits.{zero_id}
+use Rattle.ferry_segment.specs.Entry.{PutEntry, CommitEntry}
 
 pub returns-in_err-manifest-clause-committed : goal.returns-in_err-manifest-clause-committed
 returns-in_err-manifest-clause-committed g c =
@@ -209,3 +212,13 @@ pub returns-clause-few : goal.returns-clause-few
 returns-clause-few g c =
     few_answered {T = Unit {0}} {U = Manifest × List ℕ} 2 c.args.self.now.session.last c.commit_manifest.new.session.last
     (Ok c.in_ok-commit_manifest.field-0) _ c.in_ok-commit_manifest.ensures.few
+
+pub returns-in_err-manifest-clause-writes : goal.returns-in_err-manifest-clause-writes
+returns-in_err-manifest-clause-writes g c =
+    let store = c.args.self.now in
+    ([], none_writes (Unit {0}) (PutEntry zero_id [] ∷ (CommitEntry ∷ [])) store.session store.counter (g.D.Shelf.told c.args.depot.now))
+
+pub returns-in_err-from_slice-clause-writes : goal.returns-in_err-from_slice-clause-writes
+returns-in_err-from_slice-clause-writes g c =
+    let store = c.args.self.now in
+    ([], none_writes (Unit {0}) (PutEntry zero_id [] ∷ (CommitEntry ∷ [])) store.session store.counter (g.D.Shelf.told c.args.depot.now))

@@ -18,6 +18,8 @@ use Rattle.ferry_store.specs.declared.fault.StoreRefusal.TheVariants.{Memory}
 use Rattle.ferry_store.specs.declared.store.Store.{Store}
 use Rattle.ferry_write.specs.Session.{ClearsAll}
 use Rattle.ferry_write.specs.declared.session.Session.{Session}
+use Rattle.ferry_store.proofs.WritingLemmas.{same_removes}
+use Rattle.ferry_write.specs.Front.{OnlyRemoves}
 
 pub returns-in_err-repo-clause-did : goal.returns-in_err-repo-clause-did
 returns-in_err-repo-clause-did g c =
@@ -152,3 +154,29 @@ returns-clause-kept g c =
     let d = g.D.Shelf.told c.begin_at.new.depot in
     opened_leaves c.args.secret.now (repo_view c.in_ok-repo.repo) a d _ c.in_ok-repo.ensures.repository
     (after_same _ a b d (same_told repo_failed a b (Ok c.in_ok-repo.repo) c.in_ok-repo.ensures.same) c.in_ok-counter.ensures.did.each)
+
+pub returns-in_err-repo-clause-removes : goal.returns-in_err-repo-clause-removes
+returns-in_err-repo-clause-removes g c =
+    let a = g.D.Shelf.told c.args.depot.now in
+    let b = g.D.Shelf.told c.open.new.shelf in
+    same_removes a b (same_told repo_failed a b c.open.result c.open.ensures.same)
+
+pub returns-in_err-accepted-clause-removes : goal.returns-in_err-accepted-clause-removes
+returns-in_err-accepted-clause-removes g c =
+    let a = g.D.Shelf.told c.args.depot.now in
+    let b = g.D.Shelf.told c.open.new.shelf in
+    same_removes a b (same_told repo_failed a b c.open.result c.open.ensures.same)
+
+pub returns-in_err-counter-clause-removes : goal.returns-in_err-counter-clause-removes
+returns-in_err-counter-clause-removes g c =
+    let a = g.D.Shelf.told c.args.depot.now in
+    let b = g.D.Shelf.told c.open.new.shelf in
+    after_same OnlyRemoves a b (g.D.Shelf.told c.begin_at.new.depot) (same_told repo_failed a b c.open.result c.open.ensures.same)
+    c.in_err-counter.ensures.removes
+
+pub returns-clause-removes : goal.returns-clause-removes
+returns-clause-removes g c =
+    let a = g.D.Shelf.told c.args.depot.now in
+    let b = g.D.Shelf.told c.open.new.shelf in
+    after_same OnlyRemoves a b (g.D.Shelf.told c.begin_at.new.depot) (same_told repo_failed a b c.open.result c.open.ensures.same)
+    c.in_ok-counter.ensures.removes

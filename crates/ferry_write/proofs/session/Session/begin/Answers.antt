@@ -6,6 +6,7 @@ use Rattle.ferry_write.specs.declared.fault.WriteFault.{WriteFault}
 use Rattle.ferry_write.specs.declared.session.Session.{Session}
 use Rattle.ferry_write.proofs.CallLemmas.{begin_keeps, begin_fits}
 use Rattle.ferry_write.proofs.BeginGainLemmas.{begin_acts, begin_first, begin_brings, begin_rows}
+use Rattle.ferry_write.proofs.FrontLemmas.{begin_removes}
 use Rattle.ferry_write.proofs.PlainLemmas.{begin_plain}
 use Rattle.ferry_write.proofs.ScriptLemmas.{err_is}
 use Rattle.ferry_write.proofs.session.Session.begin.Goals as goal
@@ -94,5 +95,17 @@ returns-in_err-clear-clause-untold g c =
 pub returns-clause-untold : goal.returns-clause-untold
 returns-clause-untold g c =
     begin_untold (behind c.args.after) (g.D.Shelf.told c.args.depot.now) (g.D.Shelf.told c.clear.new.depot) (g.D.Shelf.faults c.args.depot.now)
+    (g.D.Shelf.faults c.clear.new.depot)
+    c.clear.result c.clear.ensures.clears
+
+pub returns-in_err-clear-clause-removes : goal.returns-in_err-clear-clause-removes
+returns-in_err-clear-clause-removes g c =
+    begin_removes (behind c.args.after) (g.D.Shelf.told c.args.depot.now) (g.D.Shelf.told c.clear.new.depot) (g.D.Shelf.faults c.args.depot.now)
+    (g.D.Shelf.faults c.clear.new.depot)
+    c.clear.result c.clear.ensures.clears
+
+pub returns-clause-removes : goal.returns-clause-removes
+returns-clause-removes g c =
+    begin_removes (behind c.args.after) (g.D.Shelf.told c.args.depot.now) (g.D.Shelf.told c.clear.new.depot) (g.D.Shelf.faults c.args.depot.now)
     (g.D.Shelf.faults c.clear.new.depot)
     c.clear.result c.clear.ensures.clears

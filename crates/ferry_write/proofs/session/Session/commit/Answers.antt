@@ -1,6 +1,7 @@
 use Rattle.std.proofs.Common.{Some, None, Ok, Err, refl, ap}
 use Rattle.ferry_write.proofs.CallLemmas.{commit_keeps, commit_fits}
 use Rattle.ferry_write.proofs.CommitGainLemmas.{commit_brings, commit_rows}
+use Rattle.ferry_write.proofs.FrontLemmas.{commit_writes}
 use Rattle.ferry_write.proofs.PlainLemmas.{commit_plain}
 use Rattle.ferry_write.proofs.ScriptLemmas.{ran_done}
 use Rattle.ferry_write.proofs.StayLemmas.{commit_stays}
@@ -75,4 +76,14 @@ returns-in-Ok-clause-untold g c =
 pub returns-in-Err-clause-untold : goal.returns-in-Err-clause-untold
 returns-in-Err-clause-untold g c =
     commit_untold c.args.self.now (g.D.Shelf.told c.args.depot.now) (g.D.Shelf.told c.write_commit.new.depot) (g.D.Shelf.faults c.args.depot.now)
+    (g.D.Shelf.faults c.write_commit.new.depot) (Err c.in-Err.fault) c.in-Err.ensures.ran
+
+pub returns-in-Ok-clause-writes : goal.returns-in-Ok-clause-writes
+returns-in-Ok-clause-writes g c =
+    commit_writes c.args.self.now (g.D.Shelf.told c.args.depot.now) (g.D.Shelf.told c.write_commit.new.depot) (g.D.Shelf.faults c.args.depot.now)
+    (g.D.Shelf.faults c.write_commit.new.depot) (Ok c.in-Ok.number) c.in-Ok.ensures.ran
+
+pub returns-in-Err-clause-writes : goal.returns-in-Err-clause-writes
+returns-in-Err-clause-writes g c =
+    commit_writes c.args.self.now (g.D.Shelf.told c.args.depot.now) (g.D.Shelf.told c.write_commit.new.depot) (g.D.Shelf.faults c.args.depot.now)
     (g.D.Shelf.faults c.write_commit.new.depot) (Err c.in-Err.fault) c.in-Err.ensures.ran

@@ -1,6 +1,7 @@
 use Rattle.std.proofs.Common.{Ok, Err, arith}
 use Rattle.ferry_write.proofs.CallLemmas.{put_fit, put_keeps, put_takes, put_lies}
 use Rattle.ferry_write.proofs.CallLemmas.{put_size}
+use Rattle.ferry_write.proofs.FrontLemmas.{put_writes}
 use Rattle.ferry_write.proofs.GainLemmas.{put_brings, put_takes_rows}
 use Rattle.ferry_write.proofs.PlainLemmas.{put_plain}
 use Rattle.ferry_write.proofs.RoomLemmas.{takes_entry}
@@ -103,3 +104,17 @@ returns-in-Err-clause-untold g c =
     put_untold c.args.self.now c.put_head-head.result c.args.blob.now (g.D.Shelf.told c.args.depot.now) (g.D.Shelf.told c.write_put.new.depot)
     (g.D.Shelf.faults c.args.depot.now) (g.D.Shelf.faults c.write_put.new.depot)
     (Err c.in-Err.fault) c.in-Err.ensures.ran
+
+pub returns-in-Ok-clause-writes : goal.returns-in-Ok-clause-writes
+returns-in-Ok-clause-writes g c =
+    let head = c.put_head-head.result in
+    put_writes c.args.self.now head c.args.key.now c.args.blob.now (g.D.Shelf.told c.args.depot.now) (g.D.Shelf.told c.write_put.new.depot)
+    (g.D.Shelf.faults c.args.depot.now) (g.D.Shelf.faults c.write_put.new.depot) (Ok c.in-Ok.room) c.put_head-head.ensures
+    (put_fit c.args.key.now c.args.blob.now head c.put_head-head.ensures (omega arith) c.requires.small) c.in-Ok.ensures.ran
+
+pub returns-in-Err-clause-writes : goal.returns-in-Err-clause-writes
+returns-in-Err-clause-writes g c =
+    let head = c.put_head-head.result in
+    put_writes c.args.self.now head c.args.key.now c.args.blob.now (g.D.Shelf.told c.args.depot.now) (g.D.Shelf.told c.write_put.new.depot)
+    (g.D.Shelf.faults c.args.depot.now) (g.D.Shelf.faults c.write_put.new.depot) (Err c.in-Err.fault) c.put_head-head.ensures
+    (put_fit c.args.key.now c.args.blob.now head c.put_head-head.ensures (omega arith) c.requires.small) c.in-Err.ensures.ran
