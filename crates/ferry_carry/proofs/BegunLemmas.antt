@@ -3,6 +3,7 @@ use Rattle.std.proofs.Common.{◌≡◌, inl, inr, Bool, true, false, ℕ, List,
 use Rattle.std.proofs.Common.{Option, Some, None, Result, Ok, Err, IfErr, IfOk, IfSome, IsSome, MatchResult}
 use Rattle.std.proofs.Common.{refl, sym, ◌∙◌, subst}
 use Rattle.std.proofs.lemmas.List.{append-nil}
+use Rattle.ferry_compare.specs.Compare.{Seen, seen}
 use Rattle.ferry_disk.specs.Act.{History}
 use Rattle.ferry_disk.specs.Device.{Told, heard, told_files}
 use Rattle.ferry_disk.specs.Moments.{Between}
@@ -106,33 +107,38 @@ done_before from other keys others name records added given true E a b between i
 done_before from other keys others name records added given false E a b between is same all done = (done.0, sym all ∙ done.1)
 
 -- the same of a turn
-turn_before : (told : Option Told) (source : RepoState) (target : Option Told) (store : Store) (flight : Flight) (from other : Origin) (keys others : Keys)
-    (added more : List Addition) (records : List TaggedRecord) (turn : Turn) (E : History → History → Type 0) (a b : Option Told) → Between a b E
-    → other ≡ from → others ≡ keys → TurnLists told source target store flight (ListsDone b other others flight.named.name) (archive_adds flight.named.name
+turn_before : (told : Option Told) (source : RepoState) (target : Option Told) (store : Store) (met : Seen) (flight : Flight) (from other : Origin)
+    (keys others : Keys) (added more : List Addition) (records : List TaggedRecord) (turn : Turn) (E : History → History → Type 0) (a b : Option Told)
+    → Between a b E → other ≡ from → others ≡ keys → TurnLists (seen told source) target store met flight (ListsDone b other others flight.named.name)
+    (archive_adds flight.named.name
     added more records) turn
-    → TurnLists told source target store flight (ListsDone a from keys flight.named.name) (archive_adds flight.named.name added more records) turn
-turn_before told source target store flight from other keys others added more records More E a b between is same lists = lists
-turn_before told source target store flight from other keys others added more records Named E a b between is same lists =
+    → TurnLists (seen told source) target store met flight (ListsDone a from keys flight.named.name) (archive_adds flight.named.name added more records) turn
+turn_before told source target store met flight from other keys others added more records More E a b between is same lists = lists
+turn_before told source target store met flight from other keys others added more records Named E a b between is same lists =
     (done_before from other keys others flight.named.name records (added ++ more) (added ++ more) true E a b between is same refl lists.0, lists.1)
-turn_before told source target store flight from other keys others added more records Present E a b between is same lists = lists
+turn_before told source target store met flight from other keys others added more records Present E a b between is same lists = lists
 
-pub turns_before : (told : Option Told) (source : RepoState) (target : Option Told) (store : Store) (flight : Flight) (from other : Origin)
+pub turns_before : (told : Option Told) (source : RepoState) (target : Option Told) (store : Store) (met : Seen) (flight : Flight) (from other : Origin)
     (keys others : Keys) (added more : List Addition) (records : List TaggedRecord) (result : Result Turn CarryFault) (E : History → History → Type 0)
     (a b : Option Told) → Between a b E → other ≡ from → others ≡ keys
-    → IfOk result (TurnLists told source target store flight (ListsDone b other others flight.named.name) (archive_adds flight.named.name added more records))
-    → IfOk result (TurnLists told source target store flight (ListsDone a from keys flight.named.name) (archive_adds flight.named.name added more records))
-turns_before told source target store flight from other keys others added more records (Ok turn) E a b between is same lists =
-    turn_before told source target store flight from other keys others added more records turn E a b between is same lists
-turns_before told source target store flight from other keys others added more records (Err fault) E a b between is same lists = tt
+    → IfOk result (TurnLists (seen told source) target store met flight (ListsDone b other others flight.named.name)
+    (archive_adds flight.named.name added more records))
+    → IfOk result (TurnLists (seen told source) target store met flight (ListsDone a from keys flight.named.name)
+    (archive_adds flight.named.name added more records))
+turns_before told source target store met flight from other keys others added more records (Ok turn) E a b between is same lists =
+    turn_before told source target store met flight from other keys others added more records turn E a b between is same lists
+turns_before told source target store met flight from other keys others added more records (Err fault) E a b between is same lists = tt
 
 -- where an archive is there nothing was added
-pub turn_present : (told : Option Told) (source : RepoState) (target : Option Told) (store : Store) (flight : Flight) (before : Option Told)
+pub turn_present : (told : Option Told) (source : RepoState) (target : Option Told) (store : Store) (met : Seen) (flight : Flight) (before : Option Told)
     (from : Origin) (keys : Keys) (result : Result Turn CarryFault) → flight.put ≡ nothing_carried → IfOk result (λ turn. turn ≡ Present)
-    → IfOk result (TurnLists told source target store flight (ListsDone before from keys flight.named.name) (archive_adds flight.named.name [] [] []))
-turn_present told source target store flight before from keys (Ok turn) uncounted is =
-    subst (TurnLists told source target store flight (ListsDone before from keys flight.named.name) (archive_adds flight.named.name [] [] [])) (sym is)
+    → IfOk result (TurnLists (seen told source) target store met flight (ListsDone before from keys flight.named.name)
+    (archive_adds flight.named.name [] [] []))
+turn_present told source target store met flight before from keys (Ok turn) uncounted is =
+    subst (TurnLists (seen told source) target store met flight (ListsDone before from keys flight.named.name) (archive_adds flight.named.name [] [] []))
+    (sym is)
     ((refl, refl), subst (CountsOf []) (sym uncounted) counts_nothing)
-turn_present told source target store flight before from keys (Err fault) uncounted is = tt
+turn_present told source target store met flight before from keys (Err fault) uncounted is = tt
 
 -- ---- how far it came
 
@@ -245,10 +251,10 @@ filled_apart {T} before from keys accepted name begun (Err fault) apart =
     heard_apart before fault (λ refusal. FillsName from keys accepted [] name refusal begun) apart
 
 -- what a flight has added
-pub fits_begins : (told : Option Told) (source : RepoState) (cached : Contents) (heard : Option Told) (store : Store) (flight : Flight)
-    (fits : FlightFits told source heard store flight) → IfSome told (λ t. FitsRepo (told_files t) source cached) → AcceptsMore store
+pub fits_begins : (told : Option Told) (source : RepoState) (cached : Contents) (heard : Option Told) (store : Store) (met : Seen) (flight : Flight)
+    (fits : FlightFits told source heard store met flight) → IfSome told (λ t. FitsRepo (told_files t) source cached) → AcceptsMore store
     → BeginsDone heard (flown_from told source flight) (repo_view store.repo).keys (accepted_in store) flight.named.name fits.added
-fits_begins told source cached heard store flight fits log_fits accepts = by flight.work fits.work where
+fits_begins told source cached heard store met flight fits log_fits accepts = by flight.work fits.work where
   from : Origin
   from = flown_from told source flight
 
@@ -256,7 +262,7 @@ fits_begins told source cached heard store flight fits log_fits accepts = by fli
   none is = subst (BeginsDone heard from (repo_view store.repo).keys (accepted_in store) flight.named.name) (sym is)
       (begins_none heard from (repo_view store.repo).keys (accepted_in store) flight.named.name)
 
-  by : (work : Work) → WorkFits told source heard store flight.named flight.options fits.added work
+  by : (work : Work) → WorkFits (seen told source) heard store met flight.named flight.options fits.added work
       → BeginsDone heard from (repo_view store.repo).keys (accepted_in store) flight.named.name fits.added
   by Waiting is = none is
   by (Copying copy) p =

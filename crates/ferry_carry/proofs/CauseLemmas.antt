@@ -5,7 +5,7 @@ use Rattle.std.proofs.lemmas.List.{take-append-drop, take_more}
 use Rattle.std.proofs.lemmas.Option.{IfSome_then}
 use Rattle.ferry_base.specs.Limits.{content_limit}
 use Rattle.ferry_blob.specs.Blob.{content_id}
-use Rattle.ferry_compare.specs.Compare.{Differ, Says}
+use Rattle.ferry_compare.specs.Compare.{Differ, Says, Seen, met_behind, seen}
 use Rattle.ferry_compare.specs.Fault.{target_failed as other_failed}
 use Rattle.ferry_compare.specs.declared.fault.CompareFault.{CompareFault}
 use Rattle.ferry_disk.proofs.MomentLemmas.{between_then}
@@ -22,6 +22,7 @@ use Rattle.ferry_manifest.specs.declared.manifest.ArchiveRef.{ArchiveRef}
 use Rattle.ferry_rechunk.specs.Cut.{cut}
 use Rattle.ferry_repo.specs.Archives.{archive_named}
 use Rattle.ferry_repo.specs.Opening.{RepoState, repo_view}
+use Rattle.ferry_repo.specs.Walk.{WalkState}
 use Rattle.ferry_repo.specs.Whole.{RefusesWhole}
 use Rattle.ferry_stops.specs.Tells.{TellsNothing}
 use Rattle.ferry_store.specs.Commit.{accepted_in}
@@ -39,8 +40,8 @@ use Rattle.ferry_carry.specs.Grow.{KeepsMost, KeepsNames}
 use Rattle.ferry_carry.specs.Naming.{copied_archive}
 use Rattle.ferry_carry.specs.Progress.{IsAllCopied}
 use Rattle.ferry_piece.specs.Puts.{Addition}
-use Rattle.ferry_carry.specs.Refusals.{DiffersThere, HasLargeRecord, LacksName, RefusesBegin, RefusesComparing, RefusesEnd, RefusesName, RefusesRecordText}
-use Rattle.ferry_carry.specs.Refusals.{RefusesNames, RefusesOne, RefusesStep, TakenAt, UsableAt, WhereTold, is_of_telling}
+use Rattle.ferry_carry.specs.Refusals.{DiffersThere, HasLargeRecord, LacksName, RefusesBegin, RefusesComparing, RefusesEnd, RefusesMet}
+use Rattle.ferry_carry.specs.Refusals.{RefusesName, RefusesRecordText, RefusesNames, RefusesOne, RefusesStep, TakenAt, UsableAt, WhereTold, is_of_telling}
 use Rattle.ferry_piece.specs.Stops.{StopsPieces, StopsTarget, is_target}
 use Rattle.ferry_carry.specs.Telling.{TellsNames}
 use Rattle.ferry_carry.specs.declared.copy.Copy.{Copy}
@@ -132,41 +133,47 @@ end_refused from a b now E store middle store_now name Record between same lacks
 
 -- it isn't compared
 pub comparing_refused : (told heard now : Option Told) (source : RepoState) (block most : ℕ) (time : Option (List ℕ)) (name : List ℕ) (store store_now : Store)
-    (fault : CarryFault)
+    (met : Seen) (fault : CarryFault)
     → StopsPieces now (repo_view store.repo).keys fault → UsableAt most store now store_now → RefusesComparing told source name fault
-    → RefusesName (origin told source block most time) heard store now store_now name fault
-comparing_refused told heard now source block most time name store store_now (Source fault) stops usable refuses = (
+    → RefusesMet (origin told source block most time) heard store now store_now met name fault
+comparing_refused told heard now source block most time name store store_now met (Source fault) stops usable refuses = (
   λ of_files.
       where_first told heard source block most time (λ there. RefusesWhole there source.log source.keys source.manifest.archives name fault)
       (refuses of_files),
   usable,
 )
-comparing_refused told heard now source block most time name store store_now (Target refusal) stops usable refuses = IfSome_then now stops (λ t s. s.1)
-comparing_refused told heard now source block most time name store store_now (Taken taken) stops usable refuses = absurd refuses
-comparing_refused told heard now source block most time name store store_now (NotFound missing) stops usable refuses = absurd refuses
-comparing_refused told heard now source block most time name store store_now Pieces stops usable refuses = absurd refuses
-comparing_refused told heard now source block most time name store store_now Memory stops usable refuses = tt
-comparing_refused told heard now source block most time name store store_now Record stops usable refuses = absurd refuses
+comparing_refused told heard now source block most time name store store_now met (Target refusal) stops usable refuses = IfSome_then now stops (λ t s. s.1)
+comparing_refused told heard now source block most time name store store_now met (Taken taken) stops usable refuses = absurd refuses
+comparing_refused told heard now source block most time name store store_now met (NotFound missing) stops usable refuses = absurd refuses
+comparing_refused told heard now source block most time name store store_now met Pieces stops usable refuses = absurd refuses
+comparing_refused told heard now source block most time name store store_now met Memory stops usable refuses = tt
+comparing_refused told heard now source block most time name store store_now met Record stops usable refuses = absurd refuses
 
 -- what pends isn't committed
-pub pending_refused : {T : Type 0} (from : Origin) (heard now : Option Told) (store store_now : Store) (keys : Keys) (name : List ℕ)
+pub pending_refused : {T : Type 0} (from : Origin) (heard now : Option Told) (store store_now : Store) (met : Seen) (keys : Keys) (name : List ℕ)
     (result : Result T CarryFault) → keys ≡ (repo_view store.repo).keys → IfErr result (λ fault. is_target fault ≡ true) → IfErr result (StopsPieces now keys)
-    → IfErr result (RefusesName from heard store now store_now name)
-pending_refused {T} from heard now store store_now keys name (Ok x) same target stops = tt
-pending_refused {T} from heard now store store_now keys name (Err (Source fault)) same target stops = absurd (let no : ⊥ = cc in no)
-pending_refused {T} from heard now store store_now keys name (Err (Target refusal)) same target stops =
+    → IfErr result (RefusesMet from heard store now store_now met name)
+pending_refused {T} from heard now store store_now met keys name (Ok x) same target stops = tt
+pending_refused {T} from heard now store store_now met keys name (Err (Source fault)) same target stops = absurd (let no : ⊥ = cc in no)
+pending_refused {T} from heard now store store_now met keys name (Err (Target refusal)) same target stops =
     subst (λ (k : Keys). StopsTarget now k (Target refusal)) same (IfSome_then now stops (λ t s. s.1))
-pending_refused {T} from heard now store store_now keys name (Err (Taken taken)) same target stops = absurd (let no : ⊥ = cc in no)
-pending_refused {T} from heard now store store_now keys name (Err (NotFound missing)) same target stops = absurd (let no : ⊥ = cc in no)
-pending_refused {T} from heard now store store_now keys name (Err Pieces) same target stops = absurd (let no : ⊥ = cc in no)
-pending_refused {T} from heard now store store_now keys name (Err Memory) same target stops = tt
-pending_refused {T} from heard now store store_now keys name (Err Record) same target stops = absurd (let no : ⊥ = cc in no)
+pending_refused {T} from heard now store store_now met keys name (Err (Taken taken)) same target stops = absurd (let no : ⊥ = cc in no)
+pending_refused {T} from heard now store store_now met keys name (Err (NotFound missing)) same target stops = absurd (let no : ⊥ = cc in no)
+pending_refused {T} from heard now store store_now met keys name (Err Pieces) same target stops = absurd (let no : ⊥ = cc in no)
+pending_refused {T} from heard now store store_now met keys name (Err Memory) same target stops = tt
+pending_refused {T} from heard now store store_now met keys name (Err Record) same target stops = absurd (let no : ⊥ = cc in no)
 
 -- archives that differ, where the target was only read
-pub differs_there : {T : Type 0} (told a b : Option Told) (source : RepoState) (block most : ℕ) (time : Option (List ℕ)) (target now : RepoState) (name : List
-    ℕ) (x : T) → now ≡ target
-    → KeepsTold {F = CompareFault} other_failed a b (Ok x) → Differ told source a target name → DiffersThere (origin told source block most time) b now name
-differs_there {T} told a b source block most time target now name x same kept differ =
+pub differs_there : {T : Type 0} (told a b : Option Told) (source : RepoState) (block most : ℕ) (time : Option (List ℕ)) (target now : RepoState) (met : Seen)
+    (walk : Option WalkState) (name : List ℕ) (x : T) → now ≡ target → KeepsTold {F = CompareFault} other_failed a b (Ok x)
+    → Differ told source (met_behind walk met (seen a target)).told (met_behind walk met (seen a target)).repo name
+    → DiffersThere (origin told source block most time) (met_behind walk met (seen b now)).told (met_behind walk met (seen b now)).repo name
+differs_there {T} told a b source block most time target now met None name x same kept differ = record {
+  whole = differ.whole;
+  source = at_origin told source block most time (λ there. SaysIn there source name differ.whole) differ.first;
+  target_is = differ.second;
+}
+differs_there {T} told a b source block most time target now met (Some walk) name x same kept differ =
     subst (λ (r : RepoState). DiffersThere (origin told source block most time) b r name) (sym same) (record {
       whole = differ.whole;
       source = at_origin told source block most time (λ there. SaysIn there source name differ.whole) differ.first;
@@ -174,14 +181,14 @@ differs_there {T} told a b source block most time target now name x same kept di
     })
 
 -- it isn't the target's archive of its name
-pub taken_refused : (from : Origin) (heard now : Option Told) (store store_now : Store) (name given : List ℕ) (fault : CarryFault)
-    → (fault ≡ Taken given) ⊎ (fault ≡ Memory) → given ≡ name → DiffersThere from now (repo_view store_now.repo) name
+pub taken_refused : (from : Origin) (heard now : Option Told) (store store_now : Store) (met : Seen) (name given : List ℕ) (fault : CarryFault)
+    → (fault ≡ Taken given) ⊎ (fault ≡ Memory) → given ≡ name → DiffersThere from met.told met.repo name
     → TakenAt from.most store now store_now name
-    → RefusesName from heard store now store_now name fault
-taken_refused from heard now store store_now name given fault (inl is) same differs at =
-    subst (RefusesName from heard store now store_now name) (sym is) (same, (differs, at))
-taken_refused from heard now store store_now name given fault (inr is) same differs at =
-    subst (RefusesName from heard store now store_now name) (sym is) tt
+    → RefusesMet from heard store now store_now met name fault
+taken_refused from heard now store store_now met name given fault (inl is) same differs at =
+    subst (RefusesMet from heard store now store_now met name) (sym is) (same, (differs, at))
+taken_refused from heard now store store_now met name given fault (inr is) same differs at =
+    subst (RefusesMet from heard store now store_now met name) (sym is) tt
 
 -- ---- from turn to turn
 

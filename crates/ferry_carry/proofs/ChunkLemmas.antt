@@ -1,6 +1,7 @@
 -- Lemmas on `EndsAt` and `StopsAtChunk` of specs/Refusals.antt: which content it was whose id a live chunk has that breaks a rule.
 use Rattle.std.proofs.Common.{◌≡◌, ◌⊎◌, inl, inr, ℕ, List, [], ◌∷◌, ◌++◌, Option, Some, None, IfSome, subst}
 use Rattle.std.proofs.lemmas.Option.{IfSome_then}
+use Rattle.ferry_compare.specs.Compare.{seen}
 use Rattle.ferry_disk.specs.Device.{Told}
 use Rattle.ferry_disk.specs.Moments.{Between}
 use Rattle.ferry_mac.specs.declared.keys.Keys.{Keys}
@@ -37,7 +38,7 @@ flown_tags later after from name start more store middle flight a b n m x y z fa
     let added = before.fits.added in
     let at_end : IfSome b (λ _. IfSome from.files (λ _. records_in added ≡ [])) =
     subst (λ (f : Origin). IfSome b (λ _. IfSome f.files (λ _. records_in added ≡ []))) same
-    (work_apart later after b middle flight.named flight.options added flight.work before.fits.work) in
+    (work_apart later after b middle (seen b (repo_view middle.repo)) flight.named flight.options added flight.work before.fits.work) in
     let none = told_before (IfSome from.files (λ _. records_in added ≡ [])) a b before.works.ends at_end in
     let own : TagsDrawn (repo_view store.repo).keys more x z =
     subst (λ (k : Keys). TagsDrawn k more x z) keys (subst (λ (o : Option (List ℕ)). TagsDrawn (repo_view middle.repo).keys more o z) undrawn tags) in

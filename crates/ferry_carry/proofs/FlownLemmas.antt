@@ -3,6 +3,7 @@ use Rattle.std.proofs.Common.{◌≡◌, Bool, true, false, ℕ, List, [], ◌�
 use Rattle.std.proofs.Common.{Option, Result, Ok, Err, IfSome, IsErrAnd}
 use Rattle.std.proofs.Common.{refl, sym, ◌∙◌, ap, subst, ◌+◌, ◌*◌, length, length-append, arith}
 use Rattle.std.proofs.lemmas.List.{append-nil, append_assoc}
+use Rattle.ferry_compare.specs.Compare.{Seen, seen}
 use Rattle.ferry_disk.proofs.MomentLemmas.{between_map}
 use Rattle.ferry_disk.specs.Device.{Told, told_files}
 use Rattle.ferry_disk.specs.Moments.{Between}
@@ -47,7 +48,7 @@ use Rattle.ferry_carry.proofs.BegunLemmas.{done_before, begins_before, fills_bef
 pub record TakesOn (told : Option Told) (source : RepoState) (from : Origin) (name : List ℕ) (start : List Addition) (store now : Store) (flight : Flight)
     (a b : Option Told) (n m : ℕ) : Type 0 where
   pub more : List Addition
-  pub fits : FlightFits told source b now flight
+  pub fits : FlightFits told source b now (seen b (repo_view now.repo)) flight
   pub added : fits.added ≡ start ++ more
   pub stands : Between a b (KeepsGrowing start from [] store more)
   pub works : Works {T = Unit {0}} (KeepsGrowing start from (name ∷ []) store more) (λ _. Grows start from [] more store now) a b n m (Ok tt)
@@ -55,7 +56,8 @@ pub record TakesOn (told : Option Told) (source : RepoState) (from : Origin) (na
 
 -- none was taken
 pub takes_none : (told : Option Told) (source : RepoState) (from : Origin) (name : List ℕ) (store : Store) (flight : Flight) (a : Option Told) (n : ℕ)
-    (fits : FlightFits told source a store flight) → AcceptsMore store → TakesOn told source from name fits.added store store flight a a n n
+    (fits : FlightFits told source a store (seen a (repo_view store.repo)) flight) → AcceptsMore store
+    → TakesOn told source from name fits.added store store flight a a n n
 takes_none told source from name store flight a n fits accepts = record {
   more = [];
   fits = fits;
@@ -77,7 +79,8 @@ pub takes_more : (told later : Option Told) (source after : RepoState) (from oth
     (records : List TaggedRecord)
     (store middle now : Store) (flight flight_now : Flight) (a b c : Option Told) (n m k : ℕ) → other ≡ from → called ≡ name → AcceptsMore middle
     → (before : TakesOn told source from name start store middle flight a b n m)
-    → TakesTurn later after other (archive_adds called before.fits.added more records) (target_state b m middle) (target_state c k now) flight_now (Ok More)
+    → TakesTurn (seen later after) other (archive_adds called before.fits.added more records) (target_state b m middle) (target_state c k now)
+    (seen c (repo_view now.repo)) flight_now (Ok More)
     → TakesOn later after from name start store now flight_now a c n k
 takes_more told later source after from other name called start more records store middle now flight flight_now a b c n m k is names accepts before turn =
     record {
@@ -102,7 +105,8 @@ takes_begun : (told later : Option Told) (source after : RepoState) (from other 
     (store middle now : Store) (flight flight_now : Flight) (a b c : Option Told) (n m k : ℕ) (result : Result Turn CarryFault) → other ≡ from
     → called ≡ name → accepted_in middle ≡ accepted_in store → (repo_view middle.repo).keys ≡ (repo_view store.repo).keys
     → (before : TakesOn told source from name start store middle flight a b n m)
-    → TakesTurn later after other (archive_adds called before.fits.added more records) (target_state b m middle) (target_state c k now) flight_now result
+    → TakesTurn (seen later after) other (archive_adds called before.fits.added more records) (target_state b m middle) (target_state c k now)
+    (seen c (repo_view now.repo)) flight_now result
     → BeginsDone a from (repo_view store.repo).keys (accepted_in store) name (start ++ (before.more ++ more))
 takes_begun told later source after from other name called start more records store middle now flight flight_now a b c n m k result is names accepted keys
     before turn =
@@ -124,13 +128,13 @@ carried_last : (copied : Bool) (name : List ℕ) → carried_by (last_turn copie
 carried_last true name = refl
 carried_last false name = refl
 
-lists_last : (told : Option Told) (source : RepoState) (target : Option Told) (store : Store) (flight : Flight) (before : Option Told) (from : Origin)
-    (keys : Keys) (added more : List Addition) (records : List TaggedRecord) (copied : Bool)
-    → TurnLists told source target store flight (ListsDone before from keys flight.named.name) (archive_adds flight.named.name added more records)
+lists_last : (told : Option Told) (source : RepoState) (target : Option Told) (store : Store) (met : Seen) (flight : Flight) (before : Option Told)
+    (from : Origin) (keys : Keys) (added more : List Addition) (records : List TaggedRecord) (copied : Bool)
+    → TurnLists (seen told source) target store met flight (ListsDone before from keys flight.named.name) (archive_adds flight.named.name added more records)
     (last_turn copied)
     → ListsDone before from keys flight.named.name records (added ++ more) copied × CountsOf (added ++ more) flight.put
-lists_last told source target store flight before from keys added more records true lists = lists
-lists_last told source target store flight before from keys added more records false lists = lists
+lists_last told source target store met flight before from keys added more records true lists = lists
+lists_last told source target store met flight before from keys added more records false lists = lists
 
 -- the last was taken
 pub takes_last : (told later : Option Told) (source after : RepoState) (from other : Origin) (name called : List ℕ) (start more : List Addition)
@@ -138,7 +142,8 @@ pub takes_last : (told later : Option Told) (source after : RepoState) (from oth
     (store middle now : Store) (flight flight_now : Flight) (a b c : Option Told) (n m k : ℕ) (copied : Bool) → other ≡ from → called ≡ name
     → accepted_in middle ≡ accepted_in store → (repo_view middle.repo).keys ≡ (repo_view store.repo).keys → flight_now.named.name ≡ name
     → (before : TakesOn told source from name start store middle flight a b n m)
-    → TakesTurn later after other (archive_adds called before.fits.added more records) (target_state b m middle) (target_state c k now) flight_now (Ok
+    → TakesTurn (seen later after) other (archive_adds called before.fits.added more records) (target_state b m middle) (target_state c k now)
+    (seen c (repo_view now.repo)) flight_now (Ok
     (last_turn copied))
     → TakesAll from (archive_adds name start (before.more ++ more) records) (target_state a n store) (target_state c k now) flight_now (Ok copied)
 takes_last told later source after from other name called start more records store middle now flight flight_now a b c n m k copied is names accepted keys
@@ -146,7 +151,7 @@ takes_last told later source after from other name called start more records sto
     before turn =
     let all = takes_added told source from name start more store middle flight a b n m before in
     let others = (repo_view middle.repo).keys in
-    let lists = lists_last later after c now flight_now b other others before.fits.added more records copied turn.lists in
+    let lists = lists_last later after c now (seen c (repo_view now.repo)) flight_now b other others before.fits.added more records copied turn.lists in
     record {
       carries = flown_as {U = Bool} start from name (name ∷ []) (before.more ++ more) store now a c n k (last_turn copied) copied (carried_last copied name)
           (flown_then start from other name called before.more more store middle now a b c n m k (Ok (last_turn copied)) is names before.works
@@ -186,7 +191,8 @@ pub takes_refused : (told later : Option Told) (source after : RepoState) (from 
     (store middle now : Store) (flight flight_now : Flight) (a b c : Option Told) (n m k : ℕ) (fault : CarryFault) → other ≡ from → called ≡ name
     → accepted_in middle ≡ accepted_in store → (repo_view middle.repo).keys ≡ (repo_view store.repo).keys → AcceptsMore middle → IsUnspent middle
     → (before : TakesOn told source from name start store middle flight a b n m)
-    → TakesTurn later after other (archive_adds called before.fits.added more records) (target_state b m middle) (target_state c k now) flight_now (Err fault)
+    → TakesTurn (seen later after) other (archive_adds called before.fits.added more records) (target_state b m middle) (target_state c k now)
+    (seen c (repo_view now.repo)) flight_now (Err fault)
     → TakesAll from (archive_adds name start (before.more ++ more) records) (target_state a n store) (target_state c k now) flight_now (Err fault)
 takes_refused told later source after from other name called start more records store middle now flight flight_now a b c n m k fault is names accepted keys
     accepts unspent
@@ -249,7 +255,7 @@ takes_end told source cached from name start store now flight a b n m is named a
   begins = begins_before from (flown_from told source flight) (repo_view store.repo).keys (repo_view now.repo).keys (accepted_in store) (accepted_in now) name
       flight.named.name (start ++ before.more) before.fits.added (KeepsGrowing start from [] store before.more) a b before.stands is
       keys accepted named before.added
-      (fits_begins told source cached b now flight before.fits log_fits accepts);
+      (fits_begins told source cached b now (seen b (repo_view now.repo)) flight before.fits log_fits accepts);
   stands = λ _. before.stands;
   last = stops_unbroken a (repo_view store.repo).keys before.more Memory tt;
   held = λ spares. absurd spares;

@@ -33,6 +33,7 @@ pub mod LeftLemmas
 pub mod SmallLemmas
 pub mod OverLemmas
 pub mod TurnLemmas
+pub mod MetLemmas
 pub mod BegunLemmas
 pub mod UnnamedLemmas
 pub mod FlownLemmas

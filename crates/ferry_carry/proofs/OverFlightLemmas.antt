@@ -1,11 +1,11 @@
 -- Lemmas on flights over what others do to their source and their target.
-use Rattle.std.proofs.Common.{◌≡◌, ◌⊎◌, inl, inr, ℕ, zero, Bool, true, false, cond, List, [], ◌∷◌, Option, Some, None, IfSome, IsSome}
+use Rattle.std.proofs.Common.{◌≡◌, ◌⊎◌, inl, inr, ℕ, zero, Bool, true, false, cond, List, [], ◌∷◌, Option, Some, None, IfSome}
 use Rattle.std.proofs.Common.{Result, Ok, Err, refl, sym, ◌∙◌, ap, subst}
 use Rattle.std.proofs.lemmas.Option.{IfSome_then}
 use Rattle.std.proofs.lemmas.Slice.Eq.{bytes_eq-Decides}
 use Rattle.std.specs.Str.{bytes_eq}
 use Rattle.ferry_blob.specs.Blob.{content_id}
-use Rattle.ferry_compare.specs.Compare.{ComparisonState, FitsTold, ReadsSoFar, comparison_view}
+use Rattle.ferry_compare.specs.Compare.{ComparisonState, FitsTold, ReadsSoFar, Seen, StandsBeside, comparison_view, seen}
 use Rattle.ferry_disk.proofs.DeviceLemmas.{told_same}
 use Rattle.ferry_disk.proofs.MomentLemmas.{between_map}
 use Rattle.ferry_disk.specs.Device.{Told, heard, told_files}
@@ -24,6 +24,7 @@ use Rattle.ferry_piece.specs.declared.fault.CarryFault.TheVariants.{Source, Targ
 use Rattle.ferry_repo.specs.Archives.{archive_named}
 use Rattle.ferry_repo.specs.Opening.{RepoState, repo_view}
 use Rattle.ferry_repo.specs.Walk.{FitsWalk, WalkState, walk_view}
+use Rattle.ferry_repo.specs.Whole.{WholeArchive}
 use Rattle.ferry_store.specs.Commit.{accepted_in}
 use Rattle.ferry_store.specs.Store.{StoreFits}
 use Rattle.ferry_store.specs.declared.store.Store.{Store}
@@ -31,13 +32,12 @@ use Rattle.ferry_write.specs.Script.{AllDone}
 use Rattle.ferry_carry.proofs.BegunLemmas.{so_far_later}
 use Rattle.ferry_carry.proofs.GrowLemmas.{has_kept}
 use Rattle.ferry_carry.proofs.GrowsLemmas.{most_from}
-use Rattle.ferry_carry.proofs.WholeLemmas.{KeepsChunks as KeepsHeld}
 use Rattle.ferry_carry.specs.Accepting.{NamesNew}
 use Rattle.ferry_carry.specs.Carrying.{Origin, origin}
 use Rattle.ferry_carry.specs.Flight.{FlightFits, FlightStands, Flies, IsCommitted, WorkFits, carried_by}
 use Rattle.ferry_carry.specs.Grow.{Grows, IsNamedBy, KeepsMost}
 use Rattle.ferry_carry.specs.Naming.{TaggedRecord, entry_for}
-use Rattle.ferry_carry.specs.Over.{AddsBetween, AddsOver, ArePresent, GoesOver, OthersDid}
+use Rattle.ferry_carry.specs.Over.{AddsBetween, AddsOver, OthersDid}
 use Rattle.ferry_carry.specs.Progress.{IsCopiedSoFar}
 use Rattle.ferry_carry.specs.Refusals.{IsLeft}
 use Rattle.ferry_carry.specs.declared.copy.Copy.{Copy}
@@ -47,7 +47,7 @@ use Rattle.ferry_carry.specs.declared.flight.Work.{Work}
 use Rattle.ferry_carry.specs.declared.flight.Work.TheVariants.{Waiting, Copying, Comparing}
 use Rattle.ferry_carry.specs.declared.options.Options.{Options}
 use Rattle.ferry_carry.specs.States.{target_state}
-use Rattle.ferry_carry.proofs.OverLemmas.{over_held, over_back, copies_over, beside_over}
+use Rattle.ferry_carry.proofs.OverLemmas.{over_held, copies_over, beside_over}
 
 -- ---- a flight
 
@@ -74,22 +74,21 @@ copied_told from named a b store now copy others added fits keys over so = (
       (over_held others store now a.history b.history fits over) c),
 )
 
-held_or : (a b : Told) (store now : Store) (others : List Addition) (fits : StoreFits false store a.history) (M : Type 0)
-    → AddsOver others store now a.history b.history fits → M ⊎ ArePresent others
-    → M ⊎ KeepsHeld (told_files b) (repo_view now.repo).log (repo_view store.repo).keys (told_files a) (repo_view store.repo).log
-held_or a b store now others fits M over (inl met) = inl met
-held_or a b store now others fits M over (inr none) = inr (over_back others store now a.history b.history fits over none)
-
-compared_told : (told : Option Told) (source : RepoState) (state : ComparisonState) (a b : Told) (store now : Store) (others : List Addition)
-    (fits : StoreFits false store a.history) → KeepsMost store now → IsSome (archive_named state.name (repo_view store.repo).manifest.archives)
-    → AddsOver others store now a.history b.history fits → IsSome state.other ⊎ ArePresent others
-    → FitsTold told source (Some a) (repo_view store.repo) state → FitsTold told source (Some b) (repo_view now.repo) state
-compared_told told source state a b store now others fits kept there over goes p = record {
+compared_told : (told : Option Told) (source : RepoState) (met : Seen) (state : ComparisonState) (a b : Told) (store now : Store) (others : List Addition)
+    (fits : StoreFits false store a.history) → KeepsMost store now → AddsOver others store now a.history b.history fits
+    → FitsTold told source (Some a) (repo_view store.repo) met state → FitsTold told source (Some b) (repo_view now.repo) met state
+compared_told told source met state a b store now others fits kept over p = record {
   front = p.front;
   read = p.read;
-  beside = beside_over (told_files a) (told_files b) (repo_view store.repo) (repo_view now.repo) state.name state.other p.front kept.keys
-      (over_held others store now a.history b.history fits over) (held_or a b store now others fits (IsSome state.other) over goes) kept.names there p.beside;
+  beside = beside_over a b (repo_view store.repo) (repo_view now.repo) met state.name state.other p.front kept.keys
+      (over_held others store now a.history b.history fits over) kept.names p.beside;
 }
+
+-- of a target that tells nothing nothing was read
+compared_untold : (target now : RepoState) (met : Seen) (name : List ℕ) (walk : Option WalkState) (front : WholeArchive)
+    → StandsBeside None target met name walk front → StandsBeside None now met name walk front
+compared_untold target now met name None front stands = stands
+compared_untold target now met name (Some walk) front stands = tt
 
 -- whether it tells or not
 copied_by : (from : Origin) (named : ArchiveRef) (a b : Option Told) (store now : Store) (copy : Copy) (others added : List Addition)
@@ -102,54 +101,51 @@ copied_by from named (Some a) b store now copy others added keys fits over so =
     subst (λ (o : Option Told). IsCopiedSoFar from named o now copy added) (sym to.1)
     (copied_told from named a to.0 store now copy others added fits keys (to.2 fits) so)
 
-compared_by : (told : Option Told) (source : RepoState) (state : ComparisonState) (a b : Option Told) (store now : Store) (others : List Addition)
-    → KeepsMost store now → IsSome (archive_named state.name (repo_view store.repo).manifest.archives) → IfSome a (λ t. StoreFits false store t.history)
-    → AddsBetween others store now a b → IsSome state.other ⊎ ArePresent others → FitsTold told source a (repo_view store.repo) state
-    → FitsTold told source b (repo_view now.repo) state
-compared_by told source state None b store now others kept there fits over goes p =
-    subst (λ (o : Option Told). FitsTold told source o (repo_view now.repo) state) (sym (over.none refl)) (record {
+compared_by : (told : Option Told) (source : RepoState) (met : Seen) (state : ComparisonState) (a b : Option Told) (store now : Store)
+    (others : List Addition) → KeepsMost store now → IfSome a (λ t. StoreFits false store t.history) → AddsBetween others store now a b
+    → FitsTold told source a (repo_view store.repo) met state → FitsTold told source b (repo_view now.repo) met state
+compared_by told source met state None b store now others kept fits over p =
+    subst (λ (o : Option Told). FitsTold told source o (repo_view now.repo) met state) (sym (over.none refl)) (record {
       front = p.front;
       read = p.read;
-      beside = tt;
+      beside = compared_untold (repo_view store.repo) (repo_view now.repo) met state.name state.other p.front p.beside;
     })
-compared_by told source state (Some a) b store now others kept there fits over goes p =
+compared_by told source met state (Some a) b store now others kept fits over p =
     let to = over.adds in
-    subst (λ (o : Option Told). FitsTold told source o (repo_view now.repo) state) (sym to.1)
-    (compared_told told source state a to.0 store now others fits kept there (to.2 fits) goes p)
+    subst (λ (o : Option Told). FitsTold told source o (repo_view now.repo) met state) (sym to.1)
+    (compared_told told source met state a to.0 store now others fits kept (to.2 fits) p)
 
-work_over : (told : Option Told) (source : RepoState) (a b : Option Told) (store now : Store) (names : List (List ℕ)) (others : List Addition)
+work_over : (told : Option Told) (source : RepoState) (a b : Option Told) (store now : Store) (met : Seen) (names : List (List ℕ)) (others : List Addition)
     (named : ArchiveRef) (options : Options) (added : List Addition) (work : Work) → IfSome a (λ t. StoreFits false store t.history)
-    → OthersDid names others store now a b → (IsAmong names named.name → ⊥) → GoesOver work others
-    → WorkFits told source a store named options added work → WorkFits told source b now named options added work
-work_over told source a b store now names others named options added Waiting fits did other goes is = is
-work_over told source a b store now names others named options added (Copying copy) fits did other goes is = record {
+    → OthersDid names others store now a b → (IsAmong names named.name → ⊥)
+    → WorkFits (seen told source) a store met named options added work → WorkFits (seen told source) b now met named options added work
+work_over told source a b store now met names others named options added Waiting fits did other is = is
+work_over told source a b store now met names others named options added (Copying copy) fits did other is = record {
   fits = is.fits;
   unnamed = lacked_over store now names named.name did.only other is.unnamed;
   copied = copied_by (origin told source options.block options.checkpoint options.timestamp) named a b store now copy others added did.kept.keys fits did.adds
       is.copied;
 }
-work_over told source a b store now names others named options added (Comparing comparison) fits did other goes is =
-    let repo = repo_view store.repo in
-    let was = is.0 in
-    let there = subst (λ (name : List ℕ). IsSome (archive_named name repo.manifest.archives)) (sym was.same_name) was.there in (
+work_over told source a b store now met names others named options added (Comparing comparison) fits did other is =
+    let was = is.0 in (
       record {
         fits = record {
-          comparison = compared_by told source (comparison_view comparison) a b store now others did.kept there fits did.adds goes was.comparison;
+          comparison = compared_by told source met (comparison_view comparison) a b store now others did.kept fits did.adds was.comparison;
           same_name = was.same_name;
         };
-        there = has_kept repo.manifest (repo_view now.repo).manifest named.name did.kept.names was.there;
+        there = has_kept (repo_view store.repo).manifest (repo_view now.repo).manifest named.name did.kept.names was.there;
       },
       is.1,
     )
 
 -- what fits a flight fits it over what others did
-pub flight_over : (told : Option Told) (source : RepoState) (a b : Option Told) (store now : Store) (flight : Flight) (names : List (List ℕ))
-    (others : List Addition) → FlightFits told source a store flight → IfSome a (λ t. StoreFits false store t.history) → OthersDid names others store now a b
-    → (IsAmong names flight.named.name → ⊥) → GoesOver flight.work others → FlightFits told source b now flight
-flight_over told source a b store now flight names others p fits did other goes = record {
+pub flight_over : (told : Option Told) (source : RepoState) (a b : Option Told) (store now : Store) (met : Seen) (flight : Flight) (names : List (List ℕ))
+    (others : List Addition) → FlightFits told source a store met flight → IfSome a (λ t. StoreFits false store t.history)
+    → OthersDid names others store now a b → (IsAmong names flight.named.name → ⊥) → FlightFits told source b now met flight
+flight_over told source a b store now met flight names others p fits did other = record {
   stands = p.stands;
   added = p.added;
-  work = work_over told source a b store now names others flight.named flight.options p.added flight.work fits did other goes p.work;
+  work = work_over told source a b store now met names others flight.named flight.options p.added flight.work fits did other p.work;
 }
 
 -- what was accepted of its name is committed still
@@ -241,16 +237,16 @@ walk_later told later source after walk alike same fits =
     subst (λ (r : RepoState). IfSome later (λ t. FitsWalk (told_files t) r.log r.keys walk)) (sym same)
     (told_same told later (λ f. FitsWalk f source.log source.keys walk) alike fits)
 
-work_later : (told later : Option Told) (source after : RepoState) (a : Option Told) (store : Store) (named : ArchiveRef) (options : Options)
-    (added : List Addition) (work : Work) → heard later ≡ heard told → after ≡ source → WorkFits told source a store named options added work
-    → WorkFits later after a store named options added work
-work_later told later source after a store named options added Waiting alike same is = is
-work_later told later source after a store named options added (Copying copy) alike same is = record {
+work_later : (told later : Option Told) (source after : RepoState) (a : Option Told) (store : Store) (met : Seen) (named : ArchiveRef) (options : Options)
+    (added : List Addition) (work : Work) → heard later ≡ heard told → after ≡ source → WorkFits (seen told source) a store met named options added work
+    → WorkFits (seen later after) a store met named options added work
+work_later told later source after a store met named options added Waiting alike same is = is
+work_later told later source after a store met named options added (Copying copy) alike same is = record {
   fits = record { ready = is.ready; walk_fits = walk_later told later source after (walk_view copy.walk) alike same is.walk_fits };
   unnamed = is.unnamed;
   copied = so_far_later told later source after options.block options.checkpoint options.timestamp named a store copy added alike same is.copied;
 }
-work_later told later source after a store named options added (Comparing comparison) alike same is =
+work_later told later source after a store met named options added (Comparing comparison) alike same is =
     let state = comparison_view comparison in
     let was = is.0 in
     let so = was.comparison in (
@@ -270,10 +266,10 @@ work_later told later source after a store named options added (Comparing compar
     )
 
 -- where the source's files were only read
-pub flight_later : (told later : Option Told) (source after : RepoState) (a : Option Told) (store : Store) (flight : Flight) → heard later ≡ heard told
-    → after ≡ source → FlightFits told source a store flight → FlightFits later after a store flight
-flight_later told later source after a store flight alike same p = record {
+pub flight_later : (told later : Option Told) (source after : RepoState) (a : Option Told) (store : Store) (met : Seen) (flight : Flight)
+    → heard later ≡ heard told → after ≡ source → FlightFits told source a store met flight → FlightFits later after a store met flight
+flight_later told later source after a store met flight alike same p = record {
   stands = subst (λ (r : RepoState). FlightStands r flight) (sym same) p.stands;
   added = p.added;
-  work = work_later told later source after a store flight.named flight.options p.added flight.work alike same p.work;
+  work = work_later told later source after a store met flight.named flight.options p.added flight.work alike same p.work;
 }

@@ -1,37 +1,36 @@
 -- Lemmas on specs/Over.antt: what fits a flight stays so over what others add.
-use Rattle.std.proofs.Common.{◌≡◌, ◌≢◌, ◌⊎◌, inl, inr, ℕ, true, false, List, [], ◌∷◌, ◌++◌, take, Option, Some, None, IsSome}
+use Rattle.std.proofs.Common.{◌≡◌, ◌≢◌, ◌⊎◌, inl, inr, ℕ, false, List, [], ◌∷◌, ◌++◌, take, Option, Some, None, IsSome}
 use Rattle.std.proofs.Common.{refl, sym, ◌∙◌, ap, append_assoc, subst}
 use Rattle.std.proofs.lemmas.List.{append-nil}
 use Rattle.std.specs.List.{AllByRecursion}
 use Rattle.ferry_base.specs.Limits.{zero_id}
 use Rattle.ferry_blob.specs.Blob.{content_id}
-use Rattle.ferry_compare.specs.Compare.{ReadsSoFar, StandsBeside}
+use Rattle.ferry_compare.specs.Compare.{ReadsSoFar, Seen, StandsBeside}
 use Rattle.ferry_disk.specs.Act.{History, files_now}
+use Rattle.ferry_disk.specs.Device.{Told, told_files}
 use Rattle.ferry_disk.specs.Files.{Files}
 use Rattle.ferry_mac.specs.declared.keys.Keys.{Keys}
-use Rattle.ferry_manifest.specs.Manifest.Text.{ManifestText}
 use Rattle.ferry_manifest.specs.declared.manifest.ArchiveRef.{ArchiveRef}
 use Rattle.ferry_piece.proofs.AmongLemmas.{each_to}
 use Rattle.ferry_piece.specs.Gather.{NoCollision, chunks_of}
 use Rattle.ferry_piece.specs.Puts.{Addition, AddsAll, AtBegin, AtEnd, Border, ComesBefore, IsAddedBehind, MayCome, Within, border_of}
 use Rattle.ferry_piece.specs.Puts.{manifests_committed}
 use Rattle.ferry_rechunk.specs.Cutting.{IsFed}
-use Rattle.ferry_repo.specs.Archives.{archive_named}
 use Rattle.ferry_repo.specs.Objects.{HoldsChunk}
 use Rattle.ferry_repo.specs.Opening.{RepoState, repo_view}
 use Rattle.ferry_repo.specs.Walk.{FitsWalk, WalkState}
-use Rattle.ferry_repo.specs.Whole.{IsWhole, WholeArchive, WholeItem}
+use Rattle.ferry_repo.specs.Whole.{WholeArchive, WholeItem}
 use Rattle.ferry_segment.specs.Entry.{LogEntry, PutEntry, CommitEntry}
 use Rattle.ferry_store.proofs.LiveLemmas.{live_commit, live_other, same_or}
 use Rattle.ferry_store.specs.Standing.{entries_of, live_in}
 use Rattle.ferry_store.specs.Store.{StoreFits}
 use Rattle.ferry_store.specs.declared.store.Store.{Store}
-use Rattle.ferry_carry.proofs.WholeLemmas.{KeepsChunks as KeepsHeld, chunks_kept, whole_kept, wholes_kept}
+use Rattle.ferry_carry.proofs.WholeLemmas.{KeepsChunks as KeepsHeld, chunks_kept, wholes_kept}
 use Rattle.ferry_carry.specs.Carrying.{HoldsApart}
 use Rattle.ferry_carry.specs.Copied.{IsRead, contents_of, copied_item, copied_stream, stream_block}
 use Rattle.ferry_carry.specs.Grow.{KeepsChunks, KeepsNames}
 use Rattle.ferry_carry.specs.Listing.{ListsItems}
-use Rattle.ferry_carry.specs.Over.{AddsOver, ArePresent}
+use Rattle.ferry_carry.specs.Over.{AddsOver}
 use Rattle.ferry_carry.specs.Progress.{CopiesSoFar, WritesItems}
 use Rattle.ferry_carry.specs.declared.copy.Copy.{Copy}
 
@@ -86,23 +85,6 @@ live_added at keys most a (one ∷ rest) b p id blob apart live =
     (live_one keys most front one middle p.1.1.1.1.1.0 id blob apart
     (live_comes keys most before one front p.1.1.1.0 id apart ∙ (live_may at a p.0 p.1.0 id apart ∙ live)))
 
--- and nothing else where nothing was put
-live_unput : (keys : Keys) (most : ℕ) (front : List LogEntry) (one : Addition) (after : List LogEntry) → one.put ≡ false
-    → IsAddedBehind keys most front one after → SameLive front after
-live_unput keys most front one after none (inl there) id apart = ap (live_in id) there.1.1
-live_unput keys most front one after none (inr new) id apart = absurd (let both : false ≡ true = sym none ∙ new.0 in let no : ⊥ = cc in no)
-
-pub live_present : (at : Border) (keys : Keys) (most : ℕ) (a : List LogEntry) (added : List Addition) (b : List LogEntry) → AddsAll at keys most a added b
-    → ArePresent added → SameLive a b
-live_present at keys most a [] b p none id apart = ap (live_in id) p.1.1 ∙ live_may at a p.0 p.1.0 id apart
-live_present at keys most a (one ∷ rest) b p none id apart =
-    let before = a ++ p.0 in
-    let front = p.1.1.0 in
-    let middle = p.1.1.1.1.0 in
-    live_present (border_of one.kind) keys most middle rest b p.1.1.1.1.1.1 none.1 id apart
-    ∙ (live_unput keys most front one middle none.0 p.1.1.1.1.1.0 id apart
-    ∙ (live_comes keys most before one front p.1.1.1.0 id apart ∙ live_may at a p.0 p.1.0 id apart))
-
 -- ---- chunks
 
 -- a chunk that was there is there
@@ -118,22 +100,6 @@ over_held added store now h g fits over id content chunk =
     record {
       chunk = chunk.chunk;
       object = record { blob = object.blob; has = (over.fits_now.holds id object.blob chunk.chunk).1 live; opens = object.opens };
-    }
-
--- and nothing else where nothing was put
-pub over_back : (added : List Addition) (store now : Store) (h g : History) (fits : StoreFits false store h) (over : AddsOver added store now h g fits)
-    → ArePresent added
-    → KeepsHeld (files_now g) (repo_view now.repo).log (repo_view store.repo).keys (files_now h) (repo_view store.repo).log
-over_back added store now h g fits over none id content chunk =
-    let object = chunk.object in
-    let keys = (repo_view store.repo).keys in
-    let before = entries_of fits.written in
-    let after = entries_of over.fits_now.written in
-    let live = sym (live_present over.at keys over.most before added after over.adds none id chunk.chunk)
-    ∙ (over.fits_now.holds id object.blob chunk.chunk).0 object.has in
-    record {
-      chunk = chunk.chunk;
-      object = record { blob = object.blob; has = (fits.holds id object.blob chunk.chunk).1 live; opens = object.opens };
     }
 
 -- ---- an archive that is copied
@@ -211,20 +177,9 @@ reads_over f g repo now name walk front keys keeps names r =
     }) in
     under now.keys keys
 
--- the archive that a name had it has
-same_named : (before after : ManifestText) (name : List ℕ) → KeepsNames before after → IsSome (archive_named name before.archives)
-    → archive_named name after.archives ≡ archive_named name before.archives
-same_named before after name keeps has = by (archive_named name before.archives) refl has where
-  by : (o : Option ArchiveRef) → archive_named name before.archives ≡ o → IsSome o → archive_named name after.archives ≡ archive_named name before.archives
-  by None e is = absurd (let no : ⊥ = cc in no)
-  by (Some entry) e is = keeps name entry e ∙ sym e
-
-pub beside_over : (f g : Files) (repo now : RepoState) (name : List ℕ) (walk : Option WalkState) (front : WholeArchive) → now.keys ≡ repo.keys
-    → KeepsHeld f repo.log repo.keys g now.log → IsSome walk ⊎ KeepsHeld g now.log repo.keys f repo.log → KeepsNames repo.manifest now.manifest
-    → IsSome (archive_named name repo.manifest.archives) → StandsBeside f repo name walk front → StandsBeside g now name walk front
-beside_over f g repo now name None front keys keeps (inl met) names there stands = absurd (let no : ⊥ = cc in no)
-beside_over f g repo now name None front keys keeps (inr back) names there stands = λ whole says more.
-    stands whole (whole_kept g now.log repo.keys f repo.log now.manifest.archives repo.manifest.archives name whole
-    (subst (λ (k : Keys). IsWhole g now.log k now.manifest.archives name whole) keys says) back
-    (sym (same_named repo.manifest now.manifest name names there))) more
-beside_over f g repo now name (Some walk) front keys keeps met names there stands = reads_over f g repo now name walk front keys keeps names stands
+pub beside_over : (a b : Told) (repo now : RepoState) (met : Seen) (name : List ℕ) (walk : Option WalkState) (front : WholeArchive) → now.keys ≡ repo.keys
+    → KeepsHeld (told_files a) repo.log repo.keys (told_files b) now.log → KeepsNames repo.manifest now.manifest
+    → StandsBeside (Some a) repo met name walk front → StandsBeside (Some b) now met name walk front
+beside_over a b repo now met name None front keys keeps names stands = stands
+beside_over a b repo now met name (Some walk) front keys keeps names stands =
+    reads_over (told_files a) (told_files b) repo now name walk front keys keeps names stands

@@ -7,6 +7,7 @@ use Rattle.std.proofs.lemmas.List.Elements.{filter-append}
 use Rattle.std.proofs.lemmas.List.Prefix.{front_rest}
 use Rattle.std.proofs.lemmas.Option.{IfSome_then}
 use Rattle.std.specs.List.{AllByRecursion}
+use Rattle.ferry_compare.specs.Compare.{Seen, seen}
 use Rattle.ferry_disk.specs.Device.{Told}
 use Rattle.ferry_disk.specs.Files.{Files}
 use Rattle.ferry_mac.specs.declared.keys.Keys.{Keys}
@@ -220,15 +221,15 @@ anyway {A} {B} (Some a) None X x = tt
 anyway {A} {B} (Some a) (Some b) X x = x
 
 -- nor did those that came before
-pub work_apart : (told : Option Told) (source : RepoState) (heard : Option Told) (store : Store) (named : ArchiveRef) (options : Options)
-    (added : List Addition) (work : Work) → WorkFits told source heard store named options added work
+pub work_apart : (told : Option Told) (source : RepoState) (heard : Option Told) (store : Store) (met : Seen) (named : ArchiveRef) (options : Options)
+    (added : List Addition) (work : Work) → WorkFits (seen told source) heard store met named options added work
     → IfSome heard (λ _. IfSome (origin_of told source options).files (λ _. records_in added ≡ []))
-work_apart told source heard store named options added Waiting none =
+work_apart told source heard store met named options added Waiting none =
     anyway heard (origin_of told source options).files (records_in added ≡ []) (ap records_in none)
-work_apart told source heard store named options added (Copying copy) fits =
+work_apart told source heard store met named options added (Copying copy) fits =
     IfSome_then heard fits.copied.1 (λ d known. IfSome_then (origin_of told source options).files known
     (λ there so. items_apart (repo_view store.repo).keys copy.block [] so.wholes added copy.stream.cutter.piece so.writes.lists))
-work_apart told source heard store named options added (Comparing comparison) fits =
+work_apart told source heard store met named options added (Comparing comparison) fits =
     anyway heard (origin_of told source options).files (records_in added ≡ []) (ap records_in fits.1)
 
 -- ---- by what came of it

@@ -1,13 +1,14 @@
 -- Lemmas on specs/Turns.antt: what is said of a turn, from its parts and back.
 use Rattle.std.proofs.Common.{◌≡◌, ◌≤◌, ◌∙◌, ℕ, false, List, [], Option, Result, Ok, Err, IfErr, IfSome, OnOk, ap, arith, subst, sym}
 use Rattle.std.proofs.lemmas.Result.{IfErr-weaker, on_ok_weaker}
+use Rattle.ferry_compare.specs.Compare.{Seen}
 use Rattle.ferry_carry.proofs.FlightLemmas.{rest_accepts, rest_packable}
 use Rattle.ferry_carry.proofs.GrowsLemmas.{most_from, most_then}
 use Rattle.ferry_carry.specs.Calls.{FitsDepot}
 use Rattle.ferry_carry.specs.Carrying.{Origin}
 use Rattle.ferry_carry.specs.Flight.{IsCommitted}
 use Rattle.ferry_carry.specs.Grow.{AcceptsMore}
-use Rattle.ferry_carry.specs.Refusals.{EndsAt, IsChunk, IsLimited, Leaves, RefusesName, StopsAtChunk, WhereTold, is_of_telling}
+use Rattle.ferry_carry.specs.Refusals.{EndsAt, IsChunk, IsLimited, Leaves, RefusesMet, RefusesName, StopsAtChunk, WhereTold, is_of_telling}
 use Rattle.ferry_carry.specs.Accepting.{HasLargeNext, LimitsNames}
 use Rattle.ferry_carry.specs.Telling.{StopsBehind, StopsUnnamed, TellsNames}
 use Rattle.ferry_piece.specs.Fault.{IsOfWork}
@@ -30,29 +31,29 @@ use Rattle.ferry_store.specs.Store.{IsUnspent}
 use Rattle.ferry_store.specs.declared.store.Store.{Store}
 
 -- a refusal of a turn, from what it says
-pub stops_turn : {T : Type 0} (from : Origin) (before : Option Told) (store : Store) (now : Option Told) (store_now : Store) (named : ArchiveRef)
-    (result : Result T CarryFault) → IfErr result (RefusesName from before store now store_now named.name)
+pub stops_turn : {T : Type 0} (from : Origin) (before : Option Told) (store : Store) (now : Option Told) (store_now : Store) (met : Seen) (named : ArchiveRef)
+    (result : Result T CarryFault) → IfErr result (RefusesMet from before store now store_now met named.name)
     → IfErr result (IsLimited now from.time from.repo store named) → IfErr result (Leaves from.most store now store_now)
-    → IfErr result (StopsTurn from before store now store_now named)
-stops_turn {T} from before store now store_now named (Ok x) refused limit left = tt
-stops_turn {T} from before store now store_now named (Err fault) refused limit left = record { refused = refused; limit = limit; left = left }
+    → IfErr result (StopsTurn from before store now store_now met named)
+stops_turn {T} from before store now store_now met named (Ok x) refused limit left = tt
+stops_turn {T} from before store now store_now met named (Err fault) refused limit left = record { refused = refused; limit = limit; left = left }
 
 -- and back
-pub turn_refused : {T : Type 0} (from : Origin) (before : Option Told) (store : Store) (now : Option Told) (store_now : Store) (named : ArchiveRef)
-    (result : Result T CarryFault) → IfErr result (StopsTurn from before store now store_now named)
-    → IfErr result (RefusesName from before store now store_now named.name)
-turn_refused {T} from before store now store_now named result stops = IfErr-weaker result (StopsTurn from before store now store_now named)
-    (RefusesName from before store now store_now named.name) (λ fault s. s.refused) stops
+pub turn_refused : {T : Type 0} (from : Origin) (before : Option Told) (store : Store) (now : Option Told) (store_now : Store) (met : Seen) (named : ArchiveRef)
+    (result : Result T CarryFault) → IfErr result (StopsTurn from before store now store_now met named)
+    → IfErr result (RefusesMet from before store now store_now met named.name)
+turn_refused {T} from before store now store_now met named result stops = IfErr-weaker result (StopsTurn from before store now store_now met named)
+    (RefusesMet from before store now store_now met named.name) (λ fault s. s.refused) stops
 
-pub turn_limit : {T : Type 0} (from : Origin) (before : Option Told) (store : Store) (now : Option Told) (store_now : Store) (named : ArchiveRef)
-    (result : Result T CarryFault) → IfErr result (StopsTurn from before store now store_now named)
+pub turn_limit : {T : Type 0} (from : Origin) (before : Option Told) (store : Store) (now : Option Told) (store_now : Store) (met : Seen) (named : ArchiveRef)
+    (result : Result T CarryFault) → IfErr result (StopsTurn from before store now store_now met named)
     → IfErr result (IsLimited now from.time from.repo store named)
-turn_limit {T} from before store now store_now named result stops = IfErr-weaker result (StopsTurn from before store now store_now named)
+turn_limit {T} from before store now store_now met named result stops = IfErr-weaker result (StopsTurn from before store now store_now met named)
     (IsLimited now from.time from.repo store named) (λ fault s. s.limit) stops
 
-pub turn_left : {T : Type 0} (from : Origin) (before : Option Told) (store : Store) (now : Option Told) (store_now : Store) (named : ArchiveRef)
-    (result : Result T CarryFault) → IfErr result (StopsTurn from before store now store_now named) → IfErr result (Leaves from.most store now store_now)
-turn_left {T} from before store now store_now named result stops = IfErr-weaker result (StopsTurn from before store now store_now named)
+pub turn_left : {T : Type 0} (from : Origin) (before : Option Told) (store : Store) (now : Option Told) (store_now : Store) (met : Seen) (named : ArchiveRef)
+    (result : Result T CarryFault) → IfErr result (StopsTurn from before store now store_now met named) → IfErr result (Leaves from.most store now store_now)
+turn_left {T} from before store now store_now met named result stops = IfErr-weaker result (StopsTurn from before store now store_now met named)
     (Leaves from.most store now store_now) (λ fault s. s.left) stops
 
 -- and the refusal of an archive's end

@@ -3,6 +3,7 @@ use Rattle.std.proofs.Common.{◌≡◌, ◌≢◌, ℕ, List, [], ◌∷◌, �
 use Rattle.std.proofs.Common.{Option, None, Result, Ok, Err, IfErr, IfOk, IfSome, IsErrAnd}
 use Rattle.std.proofs.Common.{refl, sym, subst, ◌+◌, ◌*◌, length, arith}
 use Rattle.std.proofs.lemmas.List.{append-nil}
+use Rattle.ferry_compare.specs.Compare.{Seen, seen}
 use Rattle.ferry_disk.proofs.MomentLemmas.{between_both, between_map, between_then}
 use Rattle.ferry_disk.specs.Act.{History}
 use Rattle.ferry_disk.specs.Device.{Told, heard}
@@ -177,25 +178,28 @@ present_few store now (Err fault) present few = few
 -- a refusal that was handed on, of a turn
 pub turned_err : (told : Option Told) (source : RepoState) (from : Origin) (name : List ℕ) (added more : List Addition) (records : List TaggedRecord) (store
     now : Store)
-    (flight : Flight) (a b : Option Told) (n m : ℕ) (result : Result Turn CarryFault) (fault : CarryFault) → IsErrAnd result (λ y. y ≡ fault)
-    → TakesTurn told source from (archive_adds name added more records) (target_state a n store) (target_state b m now) flight (Err fault)
-    → TakesTurn told source from (archive_adds name added more records) (target_state a n store) (target_state b m now) flight result
-turned_err told source from name added more records store now flight a b n m result fault e p =
-    err_is result fault (TakesTurn told source from (archive_adds name added more records) (target_state a n store) (target_state b m now) flight) e p
+    (met : Seen) (flight : Flight) (a b : Option Told) (n m : ℕ) (result : Result Turn CarryFault) (fault : CarryFault) → IsErrAnd result (λ y. y ≡ fault)
+    → TakesTurn (seen told source) from (archive_adds name added more records) (target_state a n store) (target_state b m now) met flight (Err fault)
+    → TakesTurn (seen told source) from (archive_adds name added more records) (target_state a n store) (target_state b m now) met flight result
+turned_err told source from name added more records store now met flight a b n m result fault e p =
+    err_is result fault (TakesTurn (seen told source) from (archive_adds name added more records) (target_state a n store)
+    (target_state b m now) met flight) e p
 
 -- ---- a turn behind a body that added nothing
 
-pub turned_behind : {T : Type 0} (told later seen : Option Told) (source after given : RepoState) (block most : ℕ) (time : Option (List ℕ)) (name : List ℕ)
-    (store middle now : Store) (flight : Flight) (more : List Addition) (records : List TaggedRecord) (a b c : Option Told) (n m k : ℕ) (x : T)
+pub turned_behind : {T : Type 0} (told later known : Option Told) (source after given : RepoState) (block most : ℕ) (time : Option (List ℕ)) (name : List ℕ)
+    (store middle now : Store) (met : Seen) (flight : Flight) (more : List Addition) (records : List TaggedRecord) (a b c : Option Told) (n m k : ℕ) (x : T)
     (result : Result Turn CarryFault)
     → heard later ≡ heard told → after ≡ source → AcceptsMore store → KeepsRest store middle
     → AddsOn {T = T} most store [] middle a b n m (Ok x)
-    → TakesTurn seen given (origin later after block most time) (archive_adds name [] more records) (target_state b m middle) (target_state c k now) flight
+    → TakesTurn (seen known given) (origin later after block most time) (archive_adds name [] more records) (target_state b m middle)
+    (target_state c k now) met flight
     result
-    → TakesTurn seen given (origin told source block most time) (archive_adds name [] more records) (target_state a n store) (target_state c k now) flight
+    → TakesTurn (seen known given) (origin told source block most time) (archive_adds name [] more records) (target_state a n store)
+    (target_state c k now) met flight
     result
 unfolding border_behind
-turned_behind {T} told later seen source after given block most time name store middle now flight more records a b c n m k x result alike kept accepts rest
+turned_behind {T} told later known source after given block most time name store middle now met flight more records a b c n m k x result alike kept accepts rest
     p q
     =
     let from = origin told source block most time in
@@ -215,8 +219,8 @@ turned_behind {T} told later seen source after given block most time name store 
           (added_all {T = T} AtBegin most store middle [] a b n m x p) q.held;
       fills = filled_before {T = Turn} from other keys others (accepted_in store) (accepted_in middle) name name more more result
           (KeepsStanding most store []) a b p.works.each same rest.keys rest.accepted refl refl q.fills;
-      lists = turns_before seen given c now flight from other keys others [] more records result (KeepsStanding most store []) a b p.works.each same rest.keys
-          q.lists;
+      lists = turns_before known given c now met flight from other keys others [] more records result (KeepsStanding most store []) a b p.works.each
+          same rest.keys q.lists;
       few = begun_then {T = T} {U = Turn} 0 (2 * length more + end_segments result) (2 * length more + end_segments result) store middle now (Ok x) result
           (omega arith) p.few q.few;
     }
@@ -224,7 +228,7 @@ turned_behind {T} told later seen source after given block most time name store 
 -- the end of an archive behind a step that added nothing
 pub turn_ended : {T : Type 0} (from : Origin) (name : List ℕ) (added more : List Addition) (records : List TaggedRecord) (store middle now : Store) (told :
     Option Told)
-    (source : RepoState) (flight : Flight) (a b c : Option Told) (n m k : ℕ) (x : T) (result : Result Turn CarryFault) → AcceptsMore store
+    (source : RepoState) (met : Seen) (flight : Flight) (a b c : Option Told) (n m k : ℕ) (x : T) (result : Result Turn CarryFault) → AcceptsMore store
     → KeepsRest store middle → archive_named name (accepted_in store).archives ≡ None
     → AddsOn {T = T} from.most store [] middle a b n m (Ok x)
     → Flies added from name more (target_state b m middle) (target_state c k now) result
@@ -232,13 +236,13 @@ pub turn_ended : {T : Type 0} (from : Origin) (name : List ℕ) (added more : Li
     → IfErr result (λ fault. IsOfWork fault → Between b c (KeepsStanding from.most middle more))
     → StopsLast b (repo_view middle.repo).keys more result → HoldsRefused (border_behind AtBegin added) from.most middle more now b c result
     → IfErr result (λ fault. IsOfSource fault → ⊥)
-    → IfOk result (λ turn. (turn ≡ Named) × TurnLists told source c now flight (ListsDone a from (repo_view store.repo).keys flight.named.name)
+    → IfOk result (λ turn. (turn ≡ Named) × TurnLists (seen told source) c now met flight (ListsDone a from (repo_view store.repo).keys flight.named.name)
     (archive_adds flight.named.name added more records) Named)
     → BeginsSegments (2 * length more + 2) middle now result
-    → TakesTurn told source from (archive_adds name added more records) (target_state a n store) (target_state c k now) flight result
+    → TakesTurn (seen told source) from (archive_adds name added more records) (target_state a n store) (target_state c k now) met flight result
 unfolding border_behind
-turn_ended {T} from name added more records store middle now told source flight a b c n m k x result accepts rest unnamed p flies begun stands last held apart
-    lists few = record {
+turn_ended {T} from name added more records store middle now told source met flight a b c n m k x result accepts rest unnamed p flies begun stands last held
+    apart lists few = record {
       flies = carried_by_then {T = T} {U = Turn} added from [] (name ∷ []) (λ turn. carried_by turn name) [] more store middle now a b c n m k x result
           (carried_from {T = T} {U = T} added from (name ∷ []) store middle [] a b n m x x accepts rest p)
           (subst (λ (earlier : List Addition). Flies earlier from name more (target_state b m middle) (target_state c k now) result) (sym (append-nil
@@ -258,7 +262,7 @@ turn_ended {T} from name added more records store middle now told source flight 
       at = border_behind AtBegin added
 
       standing : (r : Result Turn CarryFault) → IfErr r (λ fault. IsOfWork fault → Between b c (KeepsStanding from.most middle more))
-          → IfOk r (λ turn. (turn ≡ Named) × TurnLists told source c now flight (ListsDone a from (repo_view store.repo).keys flight.named.name)
+          → IfOk r (λ turn. (turn ≡ Named) × TurnLists (seen told source) c now met flight (ListsDone a from (repo_view store.repo).keys flight.named.name)
           (archive_adds flight.named.name added more records) Named)
           → TurnStands at from.most store more a c r
       standing (Ok turn) none named = subst (λ (t : Turn). TurnStands at from.most store more a c (Ok t)) (sym named.0) tt
@@ -266,16 +270,18 @@ turn_ended {T} from name added more records store middle now told source flight 
           stands_within at from.most store more a c (stands_behind {T = T} from.most store middle [] more a b c n m x rest.keys p.works (after work))
 
       listed : (r : Result Turn CarryFault)
-          → IfOk r (λ turn. (turn ≡ Named) × TurnLists told source c now flight (ListsDone a from (repo_view store.repo).keys flight.named.name)
+          → IfOk r (λ turn. (turn ≡ Named) × TurnLists (seen told source) c now met flight (ListsDone a from (repo_view store.repo).keys flight.named.name)
           (archive_adds flight.named.name added more records) Named)
-          → IfOk r (TurnLists told source c now flight (ListsDone a from (repo_view store.repo).keys flight.named.name) (archive_adds flight.named.name
+          → IfOk r (TurnLists (seen told source) c now met flight (ListsDone a from (repo_view store.repo).keys flight.named.name)
+          (archive_adds flight.named.name
           added more records))
-      listed (Ok turn) named = subst (TurnLists told source c now flight (ListsDone a from (repo_view store.repo).keys flight.named.name) (archive_adds
+      listed (Ok turn) named = subst (TurnLists (seen told source) c now met flight (ListsDone a from (repo_view store.repo).keys flight.named.name)
+          (archive_adds
           flight.named.name added more records)) (sym named.0) named.1
       listed (Err fault) named = tt
 
       begins : (r : Result Turn CarryFault)
-          → IfOk r (λ turn. (turn ≡ Named) × TurnLists told source c now flight (ListsDone a from (repo_view store.repo).keys flight.named.name)
+          → IfOk r (λ turn. (turn ≡ Named) × TurnLists (seen told source) c now met flight (ListsDone a from (repo_view store.repo).keys flight.named.name)
           (archive_adds flight.named.name added more records) Named)
           → BeginsSegments (2 * length more + 2) middle now r → BeginsSegments (2 * length more + end_segments r) store now r
       begins (Ok turn) named after =

@@ -1,7 +1,7 @@
 -- An archive on its way, by what was begun of it.
 use Rattle.std.specs.Prelude.{◌≡◌, ◌≤◌, ◌+◌, ◌*◌, ℕ, Bool, true, false, List, [], ◌∷◌, ◌++◌, length, Option, Some, None, Result, Ok, Err, IfErr, IfOk, IfSome}
 use Rattle.std.specs.Prelude.{IsSome}
-use Rattle.ferry_compare.specs.Compare.{FitsTold, comparison_view}
+use Rattle.ferry_compare.specs.Compare.{FitsTold, Seen, comparison_view, met_behind, seen}
 use Rattle.ferry_compare.specs.declared.comparison.Comparison.{Comparison}
 use Rattle.ferry_disk.specs.Device.{Told, told_files}
 use Rattle.ferry_disk.specs.Moments.{Between}
@@ -61,30 +61,36 @@ pub record FitsCopying (told : Option Told) (source : RepoState) (heard : Option
   pub unnamed : archive_named named.name (accepted_in store).archives ≡ None
   pub copied : IsCopiedSoFar (origin_of told source options) named heard store copy added
 
--- The archives of a name are compared so far.
-pub record FitsNamed (told : Option Told) (source : RepoState) (heard : Option Told) (target : RepoState) (name : List ℕ) (compared : Comparison)
-    : Type 0 where
-  pub comparison : FitsTold told source heard target (comparison_view compared)
+-- The archives of a name are compared so far; a difference is one of this target, where one was met.
+pub record FitsNamed (told : Option Told) (source : RepoState) (heard : Option Told) (target : RepoState) (met : Seen) (name : List ℕ)
+    (compared : Comparison) : Type 0 where
+  pub comparison : FitsTold told source heard target met (comparison_view compared)
   pub same_name : (comparison_view compared).name ≡ name
 
 -- The same of a name that is there.
-pub record FitsComparing (told : Option Told) (source : RepoState) (heard : Option Told) (target : RepoState) (name : List ℕ) (compared : Comparison)
-    : Type 0 where
-  pub fits : FitsNamed told source heard target name compared
+pub record FitsComparing (told : Option Told) (source : RepoState) (heard : Option Told) (target : RepoState) (met : Seen) (name : List ℕ)
+    (compared : Comparison) : Type 0 where
+  pub fits : FitsNamed told source heard target met name compared
   pub open fits use *
   pub there : IsSome (archive_named name target.manifest.archives)
 
--- What is under way fits the source and the store, with these added of it.
-abbrev pub WorkFits : Option Told → RepoState → Option Told → Store → ArchiveRef → Options → List Addition → Work → Type 0
-WorkFits told source heard store named options added Waiting = added ≡ []
-WorkFits told source heard store named options added (Copying copy) = FitsCopying told source heard store named options added copy
-WorkFits told source heard store named options added (Comparing comparison) =
-    FitsComparing told source heard (repo_view store.repo) named.name comparison × (added ≡ [])
+-- What is under way fits the source and the store, with these added of it; a difference is one of this target, where one was met.
+abbrev pub WorkFits : Seen → Option Told → Store → Seen → ArchiveRef → Options → List Addition → Work → Type 0
+WorkFits source heard store met named options added Waiting = added ≡ []
+WorkFits source heard store met named options added (Copying copy) = FitsCopying source.told source.repo heard store named options added copy
+WorkFits source heard store met named options added (Comparing comparison) =
+    FitsComparing source.told source.repo heard (repo_view store.repo) met named.name comparison × (added ≡ [])
 
-pub record FlightFits (told : Option Told) (source : RepoState) (heard : Option Told) (store : Store) (flight : Flight) : Type 0 where
+pub record FlightFits (told : Option Told) (source : RepoState) (heard : Option Told) (store : Store) (met : Seen) (flight : Flight) : Type 0 where
   pub stands : FlightStands source flight
   pub added : List Addition
-  pub work : WorkFits told source heard store flight.named flight.options added flight.work
+  pub work : WorkFits (seen told source) heard store met flight.named flight.options added flight.work
+
+-- the target in which a difference was met, by what was under way before a turn: this one, where it was met before, or else the one that is read by the turn
+abbrev pub met_by : Work → Seen → Seen → Seen
+met_by Waiting met now = now
+met_by (Copying copy) met now = now
+met_by (Comparing comparison) met now = met_behind (comparison_view comparison).other met now
 
 -- the source of a flight
 abbrev pub flown_from : Option Told → RepoState → Flight → Origin
@@ -134,11 +140,11 @@ BeginsDone before from keys accepted name begun = IfSome before (λ _. BeginsNam
 
 -- What a turn added behind what was added before: pieces of the archive under way, the last of them and its record, or nothing. At the end the flight has
 -- counted them.
-abbrev pub TurnLists : Option Told → RepoState → Option Told → Store → Flight → (List TaggedRecord → List Addition → Bool → Type 0) → ArchiveAdds → Turn
-    → Type 0
-TurnLists told source heard store flight Lists adds More = (fits : FlightFits told source heard store flight) × (fits.added ≡ all_added adds)
-TurnLists told source heard store flight Lists adds Named = Lists adds.records (all_added adds) true × CountsOf (all_added adds) flight.put
-TurnLists told source heard store flight Lists adds Present = Lists adds.records (all_added adds) false × CountsOf (all_added adds) flight.put
+abbrev pub TurnLists : Seen → Option Told → Store → Seen → Flight → (List TaggedRecord → List Addition → Bool → Type 0) → ArchiveAdds → Turn → Type 0
+TurnLists source heard store met flight Lists adds More =
+    (fits : FlightFits source.told source.repo heard store met flight) × (fits.added ≡ all_added adds)
+TurnLists source heard store met flight Lists adds Named = Lists adds.records (all_added adds) true × CountsOf (all_added adds) flight.put
+TurnLists source heard store met flight Lists adds Present = Lists adds.records (all_added adds) false × CountsOf (all_added adds) flight.put
 
 -- Where a turn takes a further item, or is refused but for a device that failed and want of memory, nothing is named.
 abbrev pub TurnStands : Border → ℕ → Store → List Addition → Option Told → Option Told → Result Turn CarryFault → Type 0
@@ -151,8 +157,9 @@ abbrev pub end_segments : Result Turn CarryFault → ℕ
 end_segments (Ok More) = 0
 end_segments result = 2
 
--- What a turn did of the archive of a name and added behind what was added before; the source and the flight are those behind it.
-pub record TakesTurn (told : Option Told) (source : RepoState) (from : Origin) (adds : ArchiveAdds) (to to_now : TargetState) (flight : Flight)
+-- What a turn did of the archive of a name and added behind what was added before; the source, the flight, and the target in which it met a difference, are
+-- those behind it.
+pub record TakesTurn (source : Seen) (from : Origin) (adds : ArchiveAdds) (to to_now : TargetState) (met : Seen) (flight : Flight)
     (result : Result Turn CarryFault) : Type 0 where
   pub flies : Flies adds.before from adds.name adds.more to to_now result
   pub begins : BeginsDone to.told from (repo_view to.store.repo).keys (accepted_in to.store) adds.name (all_added adds)
@@ -160,7 +167,7 @@ pub record TakesTurn (told : Option Told) (source : RepoState) (from : Origin) (
   pub last : StopsLast to.told (repo_view to.store.repo).keys adds.more result
   pub held : HoldsRefused (border_behind AtBegin adds.before) from.most to.store adds.more to_now.store to.told to_now.told result
   pub fills : IfErr result (λ fault. FillsFlight to.told from (repo_view to.store.repo).keys (accepted_in to.store) adds.name fault (all_added adds))
-  pub lists : IfOk result (TurnLists told source to_now.told to_now.store flight
+  pub lists : IfOk result (TurnLists source to_now.told to_now.store met flight
       (ListsDone to.told from (repo_view to.store.repo).keys flight.named.name)
       (archive_adds flight.named.name adds.before adds.more adds.records))
   pub few : BeginsSegments (2 * length adds.more + end_segments result) to.store to_now.store result

@@ -1,7 +1,5 @@
 -- What goes on of a flight over what others do to its source and its target meanwhile.
-use Rattle.std.specs.Prelude.{◌≡◌, ◌⊎◌, ℕ, false, List, Option, None, IsSome}
-use Rattle.std.specs.List.{AllByRecursion}
-use Rattle.ferry_compare.specs.Compare.{comparison_view}
+use Rattle.std.specs.Prelude.{◌≡◌, ℕ, false, List, Option, None}
 use Rattle.ferry_disk.specs.Act.{History}
 use Rattle.ferry_disk.specs.Device.{Told}
 use Rattle.ferry_disk.specs.Moments.{Between}
@@ -12,22 +10,6 @@ use Rattle.ferry_store.specs.Store.{StoreFits}
 use Rattle.ferry_store.specs.declared.store.Store.{Store}
 use Rattle.ferry_piece.specs.Puts.{Addition, AddsAll, Border}
 use Rattle.ferry_carry.specs.Grow.{IsNamedBy, KeepsMost}
-use Rattle.ferry_carry.specs.declared.flight.Work.{Work}
-use Rattle.ferry_carry.specs.declared.flight.Work.TheVariants.{Waiting, Copying, Comparing}
-
--- No difference was met by what a flight does.
-abbrev pub HasMetNone : Work → Type 0
-HasMetNone Waiting = Unit {0}
-HasMetNone (Copying copy) = Unit {0}
-HasMetNone (Comparing comparison) = IsSome (comparison_view comparison).other
-
--- None of these was put.
-abbrev pub ArePresent : List Addition → Type 0
-ArePresent added = AllByRecursion (λ (one : Addition). one.put ≡ false) added
-
--- What a flight does goes on where others add these: it met no difference, or none of these is put, so that no chunk that was missing is there then.
-abbrev pub GoesOver : Work → List Addition → Type 0
-GoesOver work added = HasMetNone work ⊎ ArePresent added
 
 -- A store fits in which these were added behind what another had written.
 pub record AddsOver (added : List Addition) (store store_now : Store) (before now : History) (fits : StoreFits false store before) : Type 0 where

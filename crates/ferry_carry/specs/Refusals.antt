@@ -4,6 +4,7 @@ use Rattle.std.specs.Prelude.{IfSome, IsSome}
 use Rattle.ferry_base.specs.Limits.{content_limit}
 use Rattle.ferry_blob.specs.Blob.{content_id}
 use Rattle.ferry_blob.specs.declared.fault.BlobFault.{BlobFault}
+use Rattle.ferry_compare.specs.Compare.{Seen, seen}
 use Rattle.ferry_disk.specs.Device.{Told, told_files}
 use Rattle.ferry_disk.specs.Files.{Files}
 use Rattle.ferry_item.specs.Item.{ItemText}
@@ -254,22 +255,26 @@ LacksName store name = archive_named name (repo_view store.repo).manifest.archiv
 
 -- ---- archives of names
 
--- Why the archive of a name isn't carried. The source's archive isn't whole, or has an item that is too long. The target, as it is at the end, has
+-- Why the archive of a name isn't carried. The source's archive isn't whole, or has an item that is too long. The target in which a difference was met has
 -- another archive of this name. The source has none. Or the record that the target would have is too large. An item that is too long and a record that
 -- is too large are causes only where the target has no archive of this name. What a refusal of the target says, it says of its files at the end.
 -- Behind each of these but one of the target the store can be used on.
-abbrev pub RefusesName : Origin → Option Told → Store → Option Told → Store → List ℕ → CarryFault → Type 0
-RefusesName from heard store now store_now name (Source fault) =
+abbrev pub RefusesMet : Origin → Option Told → Store → Option Told → Store → Seen → List ℕ → CarryFault → Type 0
+RefusesMet from heard store now store_now met name (Source fault) =
     RefusesStep from heard name (Source fault) × UsableAt from.most store now store_now
-RefusesName from heard store now store_now name (Target refusal) = StopsTarget now (repo_view store.repo).keys (Target refusal)
-RefusesName from heard store now store_now name (Taken taken) =
-    (taken ≡ name) × (DiffersThere from now (repo_view store_now.repo) name × TakenAt from.most store now store_now name)
-RefusesName from heard store now store_now name (NotFound missing) = (missing ≡ name) × (archive_named name from.repo.manifest.archives ≡ None)
-RefusesName from heard store now store_now name Pieces =
+RefusesMet from heard store now store_now met name (Target refusal) = StopsTarget now (repo_view store.repo).keys (Target refusal)
+RefusesMet from heard store now store_now met name (Taken taken) =
+    (taken ≡ name) × (DiffersThere from met.told met.repo name × TakenAt from.most store now store_now name)
+RefusesMet from heard store now store_now met name (NotFound missing) = (missing ≡ name) × (archive_named name from.repo.manifest.archives ≡ None)
+RefusesMet from heard store now store_now met name Pieces =
     LacksName store name × (RefusesStep from heard name Pieces × UsableAt from.most store now store_now)
-RefusesName from heard store now store_now name Memory = Unit {0}
-RefusesName from heard store now store_now name Record =
+RefusesMet from heard store now store_now met name Memory = Unit {0}
+RefusesMet from heard store now store_now met name Record =
     LacksName store name × (RefusesEnd from heard (repo_view store.repo).keys name Record × UsableAt from.most store now store_now)
+
+-- The same where a difference is one of the target as it is at the end.
+abbrev pub RefusesName : Origin → Option Told → Store → Option Told → Store → List ℕ → CarryFault → Type 0
+RefusesName from heard store now store_now name fault = RefusesMet from heard store now store_now (seen now (repo_view store_now.repo)) name fault
 
 -- Behind a front of these names, which were told, and nothing else, the archive of the next isn't carried, so.
 pub record RefusesBehind (from : Origin) (heard : Option Told) (store : Store) (now : Option Told) (store_now : Store) (names : List (List ℕ))

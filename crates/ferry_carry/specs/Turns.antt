@@ -1,15 +1,16 @@
 -- What the turns of a flight ask of a store, and what they leave of it: one turn, all of one archive, and those of several archives.
-use Rattle.std.specs.Prelude.{◌≡◌, ◌≢◌, ◌≤◌, ℕ, false, List, [], Option, None, Result, Ok, IfErr, IfOk, IfSome, IsSome, OnOk}
+use Rattle.std.specs.Prelude.{◌≡◌, ◌≢◌, ◌≤◌, ℕ, false, List, [], Option, None, Result, Ok, Err, IfErr, IfOk, IfSome, IsSome, OnOk}
 use Rattle.ferry_compare.specs.declared.comparison.Compared.{Compared}
 use Rattle.ferry_compare.specs.declared.comparison.Compared.TheVariants.{Differs, Equal}
-use Rattle.ferry_disk.specs.Device.{HasCause, Told}
+use Rattle.ferry_compare.specs.Compare.{Seen}
+use Rattle.ferry_disk.specs.Device.{HasCause, Told, heard}
 use Rattle.ferry_disk.specs.Moments.{Between}
 use Rattle.ferry_manifest.specs.Manifest.Writing.{IsPackable}
 use Rattle.ferry_manifest.specs.declared.manifest.ArchiveRef.{ArchiveRef}
 use Rattle.ferry_piece.specs.Fault.{IsOfWork, random_failed, shelf_failed}
 use Rattle.ferry_piece.specs.Stops.{StopsTarget}
 use Rattle.ferry_piece.specs.declared.fault.CarryFault.{CarryFault}
-use Rattle.ferry_piece.specs.declared.fault.CarryFault.TheVariants.{Target}
+use Rattle.ferry_piece.specs.declared.fault.CarryFault.TheVariants.{Taken, Target}
 use Rattle.ferry_repo.specs.Archives.{archive_named}
 use Rattle.ferry_repo.specs.Opening.{RepoState, repo_view}
 use Rattle.ferry_stops.specs.Tells.{TellsNothing}
@@ -21,14 +22,16 @@ use Rattle.ferry_carry.specs.Accepting.{HasLargeNext, LimitsNames}
 use Rattle.ferry_carry.specs.Calls.{FitsDepot, FitsShelf, ReadsSource}
 use Rattle.ferry_carry.specs.States.{SourceState, TargetState}
 use Rattle.ferry_carry.specs.Carrying.{Origin, origin}
-use Rattle.ferry_carry.specs.Flight.{IsCommitted, IsSame, flown_from}
+use Rattle.ferry_carry.specs.Flight.{IsCommitted, IsSame}
 use Rattle.ferry_carry.specs.Grow.{AcceptsMore, KeepsMost}
-use Rattle.ferry_carry.specs.Refusals.{DiffersThere, EndsAt, IsChunk, IsLimited, Leaves, RefusesComparing, RefusesName, StopsAtChunk, WhereTold}
+use Rattle.ferry_carry.specs.Refusals.{DiffersThere, EndsAt, IsChunk, IsLimited, Leaves, RefusesComparing, RefusesMet, RefusesName, StopsAtChunk, WhereTold}
 use Rattle.ferry_carry.specs.Refusals.{is_of_telling}
 use Rattle.ferry_carry.specs.Telling.{StopsBehind, StopsUnnamed, TellsNames}
 use Rattle.ferry_carry.specs.declared.flight.Flight.{Flight}
 use Rattle.ferry_carry.specs.declared.flight.Turn.{Turn}
 use Rattle.ferry_carry.specs.declared.flight.Turn.TheVariants.{More, Named, Present}
+use Rattle.ferry_carry.specs.declared.flight.Work.{Work}
+use Rattle.ferry_carry.specs.declared.flight.Work.TheVariants.{Comparing}
 
 -- ---- one turn
 
@@ -75,18 +78,34 @@ pub record OnlyCompares (result : Result Turn CarryFault) : Type 0 where
   pub drawn : IfErr result (λ fault. random_failed fault ≡ false)
 
 -- Why a turn of the flight of an archive is refused, which limit is met, and what is left of the store: behind a refusal that isn't the target's it can be used
--- on, by other flights too.
-pub record StopsTurn (from : Origin) (before : Option Told) (store : Store) (now : Option Told) (store_now : Store) (named : ArchiveRef) (fault : CarryFault)
-    : Type 0 where
-  pub refused : RefusesName from before store now store_now named.name fault
+-- on, by other flights too. A difference is one of this target, in which it was met.
+pub record StopsTurn (from : Origin) (before : Option Told) (store : Store) (now : Option Told) (store_now : Store) (met : Seen) (named : ArchiveRef)
+    (fault : CarryFault) : Type 0 where
+  pub refused : RefusesMet from before store now store_now met named.name fault
   pub limit : IsLimited now from.time from.repo store named fault
   pub left : Leaves from.most store now store_now fault
 
--- What both archives of a name are found to be: the same, or not.
-pub record Finds (told : Option Told) (source : RepoState) (now : Option Told) (target : RepoState) (name : List ℕ) (result : Result Compared CarryFault)
-    : Type 0 where
+-- A target tells what it told, and its repository says the same.
+pub record IsUntouched (to to_now : TargetState) : Type 0 where
+  pub told : heard to_now.told ≡ heard to.told
+  pub repo : repo_view to_now.store.repo ≡ repo_view to.store.repo
+
+-- A turn that compares leaves the target so where it goes on, and where it ends at a difference.
+abbrev pub OnlyReads : TargetState → TargetState → Result Turn CarryFault → Type 0
+OnlyReads to to_now (Ok More) = IsUntouched to to_now
+OnlyReads to to_now (Err (Taken name)) = IsUntouched to to_now
+OnlyReads to to_now result = Unit {0}
+
+-- So does each turn behind the first, where archives are compared.
+abbrev pub ReadsWhere : Work → TargetState → TargetState → Result Turn CarryFault → Type 0
+ReadsWhere (Comparing comparison) to to_now result = OnlyReads to to_now result
+ReadsWhere work to to_now result = Unit {0}
+
+-- What both archives of a name are found to be: the same, or not, in the target in which a difference was met.
+pub record Finds (told : Option Told) (source : RepoState) (now : Option Told) (target : RepoState) (met : Seen) (name : List ℕ)
+    (result : Result Compared CarryFault) : Type 0 where
   pub equal : result ≡ Ok Equal → (block most : ℕ) (time : Option (List ℕ)) → IsSame (origin told source block most time) now target name
-  pub differs_now : result ≡ Ok Differs → (block most : ℕ) (time : Option (List ℕ)) → DiffersThere (origin told source block most time) now target name
+  pub differs : result ≡ Ok Differs → (block most : ℕ) (time : Option (List ℕ)) → DiffersThere (origin told source block most time) met.told met.repo name
 
 -- Why archives of a name aren't compared; no refusal is of a source of random bytes.
 pub record StopsComparing {T : Type 0} (told : Option Told) (source : RepoState) (name : List ℕ) (result : Result T CarryFault) : Type 0 where
@@ -105,11 +124,10 @@ pub record CanTurn (most : ℕ) (name : List ℕ) (from : SourceState) (to : Tar
   pub source : FitsShelf from.told from.repo
   pub target : CanFly most name to.told to.store
 
--- It leaves both so, or says why it is refused; and its answer says what was done.
+-- It leaves both so, and its answer says what was done.
 pub record Turns (flight flight_now : Flight) (from from_now : SourceState) (to to_now : TargetState) (result : Result Turn CarryFault) : Type 0 where
   pub source : ReadsSource shelf_failed from from_now result
   pub target : OnOk result (FliesOn flight.options.checkpoint flight_now.named.name to.store to_now.told to_now.store)
-  pub refused : IfErr result (StopsTurn (flown_from from.told (repo_view from.repo) flight) to.told to.store to_now.told to_now.store flight.named)
   pub turn : EndsTurn flight flight_now to.store to_now.store result
 
 -- ---- many turns

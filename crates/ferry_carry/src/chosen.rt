@@ -11,6 +11,7 @@ ghost use Rattle.ferry_piece.specs.Puts.{Addition};
 ghost use Rattle.ferry_carry.specs.Refusals.{RefusesName, RefusesNames, RefusesOne, WhereTold};
 ghost use Rattle.ferry_carry.specs.Telling.{AcceptsNames, Reports, ReportsWhole};
 ghost use Rattle.ferry_piece.specs.Work.{Works};
+ghost use Rattle.ferry_compare.specs.Compare.{seen};
 ghost use Rattle.ferry_disk.specs.Act.{TellOf};
 ghost use Rattle.ferry_repo.specs.Archives.{archive_named};
 ghost use Rattle.ferry_repo.specs.Opening.{repo_view};
@@ -196,7 +197,8 @@ impl Flight {
     ) -> Result<(), CarryFault>
         requires both { CanCarryFrom self.old.options.checkpoint (source_state (S.told shelf.old) (S.faults shelf.old) source.old)
             (target_state (D.told depot.old) (D.faults depot.old) store.old) }
-        requires flight { (fits : FlightFits (S.told shelf.old) (repo_view source.old) (D.told depot.old) store.old self.old) × (fits.added ≡ []) }
+        requires flight { (fits : FlightFits (S.told shelf.old) (repo_view source.old) (D.told depot.old) store.old
+            (seen (D.told depot.old) (repo_view store.old.repo)) self.old) × (fits.added ≡ []) }
         ensures works { Reports (flown_from (S.told shelf.old) (repo_view source.old) self.old) (self.old.named.name ∷ [])
             (target_state (D.told depot.old) (D.faults depot.old) store.old) (target_state (D.told depot.new) (D.faults depot.new) store.new) carried.old
             carried.new (drawn_from (E.drawn entropy.old) (E.drawn entropy.new)) result }
@@ -226,9 +228,11 @@ fn fly<S: Shelf, D: Depot, E: Entropy>(
 ) -> Result<bool, CarryFault>
     requires both { CanCarryFrom flight.old.options.checkpoint (source_state (S.told shelf.old) (S.faults shelf.old) source.old)
         (target_state (D.told depot.old) (D.faults depot.old) store.old) }
-    requires flight { FlightFits (S.told shelf.old) (repo_view source.old) (D.told depot.old) store.old flight.old }
-    ensures works { (fits : FlightFits (S.told shelf.old) (repo_view source.old) (D.told depot.old) store.old flight.old) → (more : List Addition) ×
-        ((records : List TaggedRecord) × (TakesAll (flown_from (S.told shelf.old) (repo_view source.old) flight.old)
+    requires flight { FlightFits (S.told shelf.old) (repo_view source.old) (D.told depot.old) store.old (seen (D.told depot.old) (repo_view store.old.repo))
+        flight.old }
+    ensures works { (fits : FlightFits (S.told shelf.old) (repo_view source.old) (D.told depot.old) store.old
+        (seen (D.told depot.old) (repo_view store.old.repo)) flight.old) → (more : List Addition) × ((records : List TaggedRecord) ×
+        (TakesAll (flown_from (S.told shelf.old) (repo_view source.old) flight.old)
         (archive_adds flight.old.named.name fits.added more records) (target_state (D.told depot.old) (D.faults depot.old) store.old)
         (target_state (D.told depot.new) (D.faults depot.new) store.new) flight.new result × MatchResult result (λ _. AcceptsNames
         (flown_from (S.told shelf.old) (repo_view source.old) flight.old) (flight.old.named.name ∷ []) records store.old store.new

@@ -2,19 +2,20 @@
 ghost use Rattle.std.specs.Prelude.{◌≡◌, ◌⊎◌, ℕ, List, Option, None, Ok, [], true, false, IfErr, IfOk, IsSome, MatchResult, OnOk};
 ghost use Rattle.ferry_piece.specs.Adding.{AddsOn, BeginsSegments, IsNoChunk, SparesStore};
 ghost use Rattle.ferry_carry.specs.Accepting.{NamesNew};
-ghost use Rattle.ferry_carry.specs.Flight.{AreRight, FlightFits, FlightStands, TakesTurn, flown_from, FitsComparing, FitsNamed, FitsCopying, archive_adds};
+ghost use Rattle.ferry_carry.specs.Flight.{AreRight, FlightFits, FlightStands, TakesTurn, flown_from, FitsComparing, FitsNamed, FitsCopying};
+ghost use Rattle.ferry_carry.specs.Flight.{archive_adds, met_by};
 ghost use Rattle.ferry_piece.specs.Gather.{GathersAt, KeepsStandingAt};
 ghost use Rattle.ferry_carry.specs.Naming.{TaggedRecord, TagsDrawn};
 ghost use Rattle.ferry_carry.specs.Progress.{IsCopiedSoFar};
 ghost use Rattle.ferry_piece.specs.Puts.{Addition, AtBegin};
 ghost use Rattle.ferry_piece.specs.Work.{Works};
-ghost use Rattle.ferry_compare.specs.Compare.{FitsTold, comparison_view};
-ghost use Rattle.ferry_disk.specs.Device.{Told};
+ghost use Rattle.ferry_compare.specs.Compare.{FitsTold, Seen, comparison_view, met_behind, seen};
+ghost use Rattle.ferry_disk.specs.Device.{Told, heard};
 ghost use Rattle.ferry_repo.specs.Archives.{archive_named};
 ghost use Rattle.ferry_repo.specs.Opening.{repo_view};
 ghost use Rattle.ferry_carry.specs.Calls.{CanWrite, Compares, OnlyAdds, CanCompare};
 ghost use Rattle.ferry_carry.specs.States.{source_state, target_state};
-ghost use Rattle.ferry_carry.specs.Turns.{OnlyCompares, DrawsInTurn, StopsComparing, Finds, Turns, CanTurn};
+ghost use Rattle.ferry_carry.specs.Turns.{OnlyCompares, OnlyReads, DrawsInTurn, ReadsWhere, StopsComparing, StopsTurn, Finds, Turns, CanTurn};
 
 use crate::copy::Copy;
 use crate::options::{Carried, Options};
@@ -82,8 +83,8 @@ impl Flight {
         options: &Options,
     ) -> Result<Flight, CarryFault>
         requires options { AreRight options.now }
-        ensures flight { IfOk result (λ flight. (told heard : Option Told) (store : Store)
-            → (fits : FlightFits told (repo_view source.now) heard store flight) × (fits.added ≡ [])) }
+        ensures flight { IfOk result (λ flight. (told heard : Option Told) (store : Store) (met : Seen)
+            → (fits : FlightFits told (repo_view source.now) heard store met flight) × (fits.added ≡ [])) }
         ensures name { IfOk result (λ flight. flight.named.name ≡ name.now) }
         ensures options { IfOk result (λ flight. flight.options ≡ options.now) }
         ensures refused { IfErr result (λ fault. (fault ≡ CarryFault.Memory) ⊎ ((fault ≡ CarryFault.NotFound name.now)
@@ -136,17 +137,23 @@ impl Flight {
     ) -> Result<Turn, CarryFault>
         requires both { CanTurn self.old.options.checkpoint self.old.named.name (source_state (S.told shelf.old) (S.faults shelf.old) source.old)
             (target_state (D.told depot.old) (D.faults depot.old) store.old) }
-        requires flight { FlightFits (S.told shelf.old) (repo_view source.old) (D.told depot.old) store.old self.old }
-        ensures works { (fits : FlightFits (S.told shelf.old) (repo_view source.old) (D.told depot.old) store.old self.old) → (more : List Addition) ×
-            ((records : List TaggedRecord) × (TakesTurn (S.told shelf.new) (repo_view source.new)
+        requires flight { (met : Seen) × FlightFits (S.told shelf.old) (repo_view source.old) (D.told depot.old) store.old met self.old }
+        ensures works { (met : Seen) (fits : FlightFits (S.told shelf.old) (repo_view source.old) (D.told depot.old) store.old met self.old)
+            → (more : List Addition) × ((records : List TaggedRecord) × (TakesTurn (seen (S.told shelf.new) (repo_view source.new))
             (flown_from (S.told shelf.old) (repo_view source.old) self.old) (archive_adds self.old.named.name fits.added more records)
-            (target_state (D.told depot.old) (D.faults depot.old) store.old) (target_state (D.told depot.new) (D.faults depot.new) store.new) self.new
-            result × MatchResult result (λ turn. turn ≡ Turn.Named → NamesNew self.old.options.timestamp (repo_view source.old) store.old
-            self.old.named records store.new (E.drawn entropy.old) (E.drawn entropy.new)) (λ fault. IsNoChunk fault ⊎ TagsDrawn
-            (repo_view store.old.repo).keys more (E.drawn entropy.old) (E.drawn entropy.new)))) }
+            (target_state (D.told depot.old) (D.faults depot.old) store.old) (target_state (D.told depot.new) (D.faults depot.new) store.new)
+            (met_by self.old.work met (seen (D.told depot.new) (repo_view store.new.repo))) self.new result × MatchResult result (λ turn. turn ≡ Turn.Named →
+            NamesNew self.old.options.timestamp (repo_view source.old) store.old self.old.named records store.new (E.drawn entropy.old)
+            (E.drawn entropy.new)) (λ fault. IsNoChunk fault ⊎ TagsDrawn (repo_view store.old.repo).keys more (E.drawn entropy.old)
+            (E.drawn entropy.new)))) }
         ensures draws { DrawsInTurn (E.drawn entropy.old) (E.drawn entropy.new) (E.faults entropy.old) (E.faults entropy.new) result }
         ensures turn { Turns self.old self.new (source_state (S.told shelf.old) (S.faults shelf.old) source.old)
             (source_state (S.told shelf.new) (S.faults shelf.new) source.new) (target_state (D.told depot.old) (D.faults depot.old) store.old)
+            (target_state (D.told depot.new) (D.faults depot.new) store.new) result }
+        ensures refused { (met : Seen) → FlightFits (S.told shelf.old) (repo_view source.old) (D.told depot.old) store.old met self.old
+            → IfErr result (StopsTurn (flown_from (S.told shelf.old) (repo_view source.old) self.old) (D.told depot.old) store.old (D.told depot.new)
+            store.new (met_by self.old.work met (seen (D.told depot.new) (repo_view store.new.repo))) self.old.named) }
+        ensures reads { ReadsWhere self.old.work (target_state (D.told depot.old) (D.faults depot.old) store.old)
             (target_state (D.told depot.new) (D.faults depot.new) store.new) result }
     {
         match mem::replace(&mut self.work, Work::Waiting) {
@@ -168,16 +175,19 @@ impl Flight {
         requires both { CanTurn self.old.options.checkpoint self.old.named.name (source_state (S.told shelf.old) (S.faults shelf.old) source.old)
             (target_state (D.told depot.old) (D.faults depot.old) store.old) }
         requires flight { FlightStands (repo_view source.old) self.old }
-        ensures works { (more : List Addition) × ((records : List TaggedRecord) × (TakesTurn (S.told shelf.new) (repo_view source.new)
+        ensures works { (more : List Addition) × ((records : List TaggedRecord) × (TakesTurn (seen (S.told shelf.new) (repo_view source.new))
             (flown_from (S.told shelf.old) (repo_view source.old) self.old) (archive_adds self.old.named.name [] more records)
-            (target_state (D.told depot.old) (D.faults depot.old) store.old) (target_state (D.told depot.new) (D.faults depot.new) store.new) self.new
-            result × MatchResult result (λ turn. turn ≡ Turn.Named → NamesNew self.old.options.timestamp (repo_view source.old) store.old
-            self.old.named records store.new (E.drawn entropy.old) (E.drawn entropy.new)) (λ fault. IsNoChunk fault ⊎ TagsDrawn
-            (repo_view store.old.repo).keys more (E.drawn entropy.old) (E.drawn entropy.new)))) }
+            (target_state (D.told depot.old) (D.faults depot.old) store.old) (target_state (D.told depot.new) (D.faults depot.new) store.new)
+            (seen (D.told depot.new) (repo_view store.new.repo)) self.new result × MatchResult result (λ turn. turn ≡ Turn.Named →
+            NamesNew self.old.options.timestamp (repo_view source.old) store.old self.old.named records store.new (E.drawn entropy.old)
+            (E.drawn entropy.new)) (λ fault. IsNoChunk fault ⊎ TagsDrawn (repo_view store.old.repo).keys more (E.drawn entropy.old)
+            (E.drawn entropy.new)))) }
         ensures draws { DrawsInTurn (E.drawn entropy.old) (E.drawn entropy.new) (E.faults entropy.old) (E.faults entropy.new) result }
         ensures turn { Turns self.old self.new (source_state (S.told shelf.old) (S.faults shelf.old) source.old)
             (source_state (S.told shelf.new) (S.faults shelf.new) source.new) (target_state (D.told depot.old) (D.faults depot.old) store.old)
             (target_state (D.told depot.new) (D.faults depot.new) store.new) result }
+        ensures refused { IfErr result (StopsTurn (flown_from (S.told shelf.old) (repo_view source.old) self.old) (D.told depot.old) store.old
+            (D.told depot.new) store.new (seen (D.told depot.new) (repo_view store.new.repo)) self.old.named) }
     {
         if store.has(self.named.name.as_slice()) {
             let comparison = self.begin_comparing(source, shelf, store, depot)?;
@@ -204,17 +214,19 @@ impl Flight {
             self.old.options added copy }
         requires flight { FlightStands (repo_view source.old) self.old }
         ensures works { (added : List Addition) → IsCopiedSoFar (flown_from (S.told shelf.old) (repo_view source.old) self.old) self.old.named
-            (D.told depot.old) store.old copy added → (more : List Addition) × ((records : List TaggedRecord) × (TakesTurn (S.told shelf.new)
-            (repo_view source.new) (flown_from (S.told shelf.old) (repo_view source.old) self.old)
+            (D.told depot.old) store.old copy added → (more : List Addition) × ((records : List TaggedRecord) × (TakesTurn (seen (S.told shelf.new)
+            (repo_view source.new)) (flown_from (S.told shelf.old) (repo_view source.old) self.old)
             (archive_adds self.old.named.name added more records) (target_state (D.told depot.old) (D.faults depot.old) store.old)
-            (target_state (D.told depot.new) (D.faults depot.new) store.new) self.new result × MatchResult result (λ turn. turn ≡ Turn.Named →
-            NamesNew self.old.options.timestamp (repo_view source.old) store.old self.old.named records store.new (E.drawn entropy.old)
-            (E.drawn entropy.new)) (λ fault. IsNoChunk fault ⊎ TagsDrawn (repo_view store.old.repo).keys more (E.drawn entropy.old)
-            (E.drawn entropy.new)))) }
+            (target_state (D.told depot.new) (D.faults depot.new) store.new) (seen (D.told depot.new) (repo_view store.new.repo)) self.new result
+            × MatchResult result (λ turn. turn ≡ Turn.Named → NamesNew self.old.options.timestamp (repo_view source.old) store.old
+            self.old.named records store.new (E.drawn entropy.old) (E.drawn entropy.new)) (λ fault. IsNoChunk fault ⊎ TagsDrawn
+            (repo_view store.old.repo).keys more (E.drawn entropy.old) (E.drawn entropy.new)))) }
         ensures draws { DrawsInTurn (E.drawn entropy.old) (E.drawn entropy.new) (E.faults entropy.old) (E.faults entropy.new) result }
         ensures turn { Turns self.old self.new (source_state (S.told shelf.old) (S.faults shelf.old) source.old)
             (source_state (S.told shelf.new) (S.faults shelf.new) source.new) (target_state (D.told depot.old) (D.faults depot.old) store.old)
             (target_state (D.told depot.new) (D.faults depot.new) store.new) result }
+        ensures refused { IfErr result (StopsTurn (flown_from (S.told shelf.old) (repo_view source.old) self.old) (D.told depot.old) store.old
+            (D.told depot.new) store.new (seen (D.told depot.new) (repo_view store.new.repo)) self.old.named) }
     {
         let mut copy = copy;
         match copy.step(source, shelf, store, depot) {
@@ -246,15 +258,23 @@ impl Flight {
     ) -> Result<Turn, CarryFault>
         requires both { CanTurn self.old.options.checkpoint self.old.named.name (source_state (S.told shelf.old) (S.faults shelf.old) source.old)
             (target_state (D.told depot.old) (D.faults depot.old) store.old) }
-        requires comparison { FitsComparing (S.told shelf.old) (repo_view source.old) (D.told depot.old) (repo_view store.old.repo)
-            self.old.named.name comparison }
+        requires comparison { (met : Seen) × FitsComparing (S.told shelf.old) (repo_view source.old) (D.told depot.old) (repo_view store.old.repo)
+            met self.old.named.name comparison }
         requires flight { FlightStands (repo_view source.old) self.old }
-        ensures works { TakesTurn (S.told shelf.new) (repo_view source.new) (flown_from (S.told shelf.old) (repo_view source.old) self.old)
-            (archive_adds self.old.named.name [] [] []) (target_state (D.told depot.old) (D.faults depot.old) store.old)
-            (target_state (D.told depot.new) (D.faults depot.new) store.new) self.new result }
+        ensures works { (met : Seen) → FitsComparing (S.told shelf.old) (repo_view source.old) (D.told depot.old) (repo_view store.old.repo)
+            met self.old.named.name comparison → TakesTurn (seen (S.told shelf.new) (repo_view source.new))
+            (flown_from (S.told shelf.old) (repo_view source.old) self.old) (archive_adds self.old.named.name [] [] [])
+            (target_state (D.told depot.old) (D.faults depot.old) store.old) (target_state (D.told depot.new) (D.faults depot.new) store.new)
+            (met_behind (comparison_view comparison).other met (seen (D.told depot.new) (repo_view store.new.repo))) self.new result }
         ensures only { OnlyCompares result }
         ensures turn { Turns self.old self.new (source_state (S.told shelf.old) (S.faults shelf.old) source.old)
             (source_state (S.told shelf.new) (S.faults shelf.new) source.new) (target_state (D.told depot.old) (D.faults depot.old) store.old)
+            (target_state (D.told depot.new) (D.faults depot.new) store.new) result }
+        ensures refused { (met : Seen) → FitsComparing (S.told shelf.old) (repo_view source.old) (D.told depot.old) (repo_view store.old.repo)
+            met self.old.named.name comparison → IfErr result (StopsTurn (flown_from (S.told shelf.old) (repo_view source.old) self.old)
+            (D.told depot.old) store.old (D.told depot.new) store.new
+            (met_behind (comparison_view comparison).other met (seen (D.told depot.new) (repo_view store.new.repo))) self.old.named) }
+        ensures reads { OnlyReads (target_state (D.told depot.old) (D.faults depot.old) store.old)
             (target_state (D.told depot.new) (D.faults depot.new) store.new) result }
     {
         let mut comparison = comparison;
@@ -283,7 +303,7 @@ impl Flight {
         ensures works { (most : ℕ) → AddsOn most store.old [] store.new
             (D.told depot.old) (D.told depot.new) (D.faults depot.old) (D.faults depot.new) result }
         ensures comparison { IfOk result (FitsNamed (S.told shelf.new) (repo_view source.new) (D.told depot.new) (repo_view store.new.repo)
-            self.now.named.name) }
+            (seen (D.told depot.new) (repo_view store.new.repo)) self.now.named.name) }
         ensures refused { StopsComparing (S.told shelf.old) (repo_view source.old) self.now.named.name result }
         ensures both { Compares (source_state (S.told shelf.old) (S.faults shelf.old) source.old)
             (source_state (S.told shelf.new) (S.faults shelf.new) source.new) (target_state (D.told depot.old) (D.faults depot.old) store.old)
@@ -306,14 +326,20 @@ fn compare_item<S: Shelf, D: Depot>(
 ) -> Result<Compared, CarryFault>
     requires both { CanCompare (source_state (S.told shelf.old) (S.faults shelf.old) source.old)
         (target_state (D.told depot.old) (D.faults depot.old) store.old) }
-    requires comparison { FitsTold (S.told shelf.old) (repo_view source.old) (D.told depot.old) (repo_view store.old.repo) (comparison_view comparison.old) }
+    requires comparison { (met : Seen) × FitsTold (S.told shelf.old) (repo_view source.old) (D.told depot.old) (repo_view store.old.repo) met
+        (comparison_view comparison.old) }
     ensures works { (most : ℕ) → AddsOn most store.old [] store.new
         (D.told depot.old) (D.told depot.new) (D.faults depot.old) (D.faults depot.new) result }
-    ensures comparison { result ≡ Ok Compared.More → FitsTold (S.told shelf.new) (repo_view source.new) (D.told depot.new) (repo_view store.new.repo)
-        (comparison_view comparison.new) }
+    ensures comparison { (met : Seen) → FitsTold (S.told shelf.old) (repo_view source.old) (D.told depot.old) (repo_view store.old.repo) met
+        (comparison_view comparison.old) → result ≡ Ok Compared.More
+        → FitsTold (S.told shelf.new) (repo_view source.new) (D.told depot.new) (repo_view store.new.repo)
+        (met_behind (comparison_view comparison.old).other met (seen (D.told depot.new) (repo_view store.new.repo))) (comparison_view comparison.new) }
     ensures name { (comparison_view comparison.new).name ≡ (comparison_view comparison.old).name }
-    ensures found { Finds (S.told shelf.old) (repo_view source.old) (D.told depot.new) (repo_view store.new.repo) (comparison_view
-        comparison.old).name result }
+    ensures found { (met : Seen) → FitsTold (S.told shelf.old) (repo_view source.old) (D.told depot.old) (repo_view store.old.repo) met
+        (comparison_view comparison.old) → Finds (S.told shelf.old) (repo_view source.old) (D.told depot.new) (repo_view store.new.repo)
+        (met_behind (comparison_view comparison.old).other met (seen (D.told depot.new) (repo_view store.new.repo)))
+        (comparison_view comparison.old).name result }
+    ensures same { OnOk result (heard (D.told depot.new) ≡ heard (D.told depot.old)) }
     ensures refused { StopsComparing (S.told shelf.old) (repo_view source.old) (comparison_view comparison.old).name result }
     ensures both { Compares (source_state (S.told shelf.old) (S.faults shelf.old) source.old)
         (source_state (S.told shelf.new) (S.faults shelf.new) source.new) (target_state (D.told depot.old) (D.faults depot.old) store.old)

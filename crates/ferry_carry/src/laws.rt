@@ -5,11 +5,12 @@ ghost use Rattle.ferry_carry.specs.Carrying.{Origin};
 ghost use Rattle.ferry_carry.specs.Flight.{FlightFits, Flies, IsCommitted};
 ghost use Rattle.ferry_carry.specs.Grow.{IsNamedBy, KeepsMost};
 ghost use Rattle.ferry_carry.specs.Naming.{TaggedRecord};
-ghost use Rattle.ferry_carry.specs.Over.{GoesOver, OthersDid};
+ghost use Rattle.ferry_carry.specs.Over.{OthersDid};
 ghost use Rattle.ferry_carry.specs.Refusals.{IsLeft};
 ghost use Rattle.ferry_carry.specs.declared.flight.Flight.{Flight};
 ghost use Rattle.ferry_carry.specs.States.{target_state};
 ghost use Rattle.ferry_carry.specs.declared.flight.Turn.{Turn};
+ghost use Rattle.ferry_compare.specs.Compare.{Seen};
 ghost use Rattle.ferry_disk.specs.Device.{Told, heard};
 ghost use Rattle.ferry_manifest.specs.declared.manifest.ArchiveRef.{ArchiveRef};
 ghost use Rattle.ferry_piece.specs.Adding.{HoldsRefused};
@@ -23,14 +24,12 @@ ghost use Rattle.ferry_store.specs.Store.{StoreFits};
 ghost use Rattle.ferry_store.specs.declared.store.Store.{Store};
 
 /// What fits a flight fits it still over what others do to the source and the target between two of its turns, where they name other archives.
-///
-/// Once a difference was met, nothing may be put by that: a chunk that was missing could make the target's archive whole.
+/// A difference that it met is one of the target in which it was met, whatever others put.
 pub fn flight_laws()
     // Over what others added to the target.
-    ensures over { (told : Option Told) (source : RepoState) (a b : Option Told) (store store_now : Store) (flight : Flight) (names : List (List ℕ))
-        (added : List Addition) → FlightFits told source a store flight → IfSome a (λ t. StoreFits false store t.history)
-        → OthersDid names added store store_now a b → (IsAmong names flight.named.name → ⊥) → GoesOver flight.work added
-        → FlightFits told source b store_now flight }
+    ensures over { (told : Option Told) (source : RepoState) (a b : Option Told) (store store_now : Store) (met : Seen) (flight : Flight)
+        (names : List (List ℕ)) (added : List Addition) → FlightFits told source a store met flight → IfSome a (λ t. StoreFits false store t.history)
+        → OthersDid names added store store_now a b → (IsAmong names flight.named.name → ⊥) → FlightFits told source b store_now met flight }
     // What was accepted of its name is committed still, where it was.
     ensures committed { (store store_now : Store) (names : List (List ℕ)) (added : List Addition) (a b : Option Told) (name : List ℕ)
         → OthersDid names added store store_now a b → (IsAmong names name → ⊥) → IsCommitted store name → IsCommitted store_now name }
@@ -50,6 +49,6 @@ pub fn flight_laws()
         → HoldsRefused {T = Turn} at limit store added store_now a b (Err fault) → is_target fault ≡ false → IsLeft most store b store_now
         → OthersDid [] added store store_now a b }
     // Over a source that others read.
-    ensures source { (told later : Option Told) (source after : RepoState) (a : Option Told) (store : Store) (flight : Flight)
-        → heard later ≡ heard told → after ≡ source → FlightFits told source a store flight → FlightFits later after a store flight }
+    ensures source { (told later : Option Told) (source after : RepoState) (a : Option Told) (store : Store) (met : Seen) (flight : Flight)
+        → heard later ≡ heard told → after ≡ source → FlightFits told source a store met flight → FlightFits later after a store met flight }
 {}

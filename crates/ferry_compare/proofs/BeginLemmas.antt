@@ -16,8 +16,9 @@ use Rattle.ferry_repo.specs.Walk.{WalkState, begin_walk, FitsWalk}
 use Rattle.ferry_repo.specs.Whole.{WholeArchive}
 use Rattle.ferry_repo.specs.declared.fault.RepoFault.{RepoFault}
 use Rattle.ferry_repo.proofs.ContentLemmas.{one_record, record_apart}
-use Rattle.ferry_compare.specs.Compare.{Says, Apart, ReadsSoFar, StandsBeside, FitsTold}
-use Rattle.ferry_compare.proofs.StepLemmas.{at_last}
+use Rattle.ferry_compare.specs.Compare.{Says, Apart, ReadsSoFar, FitsTold, seen}
+use Rattle.ferry_compare.proofs.ReadLemmas.{StandsIn}
+use Rattle.ferry_compare.proofs.StepLemmas.{at_last, stands_now}
 use Rattle.ferry_compare.specs.Steps.{SideState, Opens, RefusesSide, OpensBeside, time_named, SameHead, KeepsSide}
 
 -- an archive of which the head was read
@@ -95,7 +96,7 @@ module _ (files : Files) (repo : RepoState) (name : List ℕ) where
   -- the target, beside it
   pub begins_beside : (source : RepoState) (found : Option SideState) (walk : Option WalkState) (time : List ℕ) (fields : Tree)
       → OpensBeside files repo name found → time_named name source.manifest.archives ≡ Some time → KeepsSide source repo name fields found walk
-      → StandsBeside files repo name walk (head_of time fields)
+      → StandsIn files repo name walk (head_of time fields)
   begins_beside source None None time fields opens is keeps = λ whole says more. opens whole says
   begins_beside source None (Some walk) time fields opens is keeps = absurd keeps
   begins_beside source (Some side) None time fields opens is keeps = head_apart source side time fields opens is keeps
@@ -117,7 +118,7 @@ pub begins_both : (told later : Option Told) (source after : RepoState) (other l
     → heard later ≡ heard told → after ≡ source → heard last ≡ heard other → renewed ≡ target
     → IfSome told (λ t. Opens (told_files t) source name side) → IfSome other (λ t. OpensBeside (told_files t) target name found)
     → KeepsSide after renewed name side.archive.fields found walk
-    → FitsTold later after last renewed (record { name = name; walk = side.walk; other = walk })
+    → FitsTold later after last renewed (seen last renewed) (record { name = name; walk = side.walk; other = walk })
 begins_both told later source after other last target renewed name side found walk there alike kept other_alike other_kept opens beside keeps =
     let named = named_of (archive_named name source.manifest.archives) there in
     let time = named.0.time in
@@ -129,9 +130,9 @@ begins_both told later source after other last target renewed name side found wa
       front = front;
       read = at_last told later source after (λ r f. ReadsSoFar f r name side.walk front) alike kept
           (told_then told (λ f. Opens f source name side) (λ f. ReadsSoFar f source name side.walk front) (λ f o. begins f source name side time o is) opens);
-      beside = at_last other last target renewed (λ r f. StandsBeside f r name walk front) other_alike other_kept
-          (told_then other (λ f. OpensBeside f target name found) (λ f. StandsBeside f target name walk front)
-          (λ f o. begins_beside f target name source found walk time side.archive.fields o is both) beside);
+      beside = stands_now last renewed name walk front (at_last other last target renewed (λ r f. StandsIn f r name walk front) other_alike other_kept
+          (told_then other (λ f. OpensBeside f target name found) (λ f. StandsIn f target name walk front)
+          (λ f o. begins_beside f target name source found walk time side.archive.fields o is both) beside));
     }
 
 -- ---- names

@@ -16,9 +16,14 @@ use Rattle.ferry_repo.proofs.ComesLemmas.{whole_comes}
 use Rattle.ferry_repo.proofs.ContentLemmas.{one_record, one_joined}
 use Rattle.ferry_repo.proofs.WalkLawLemmas.{some_to_come, one_comes}
 use Rattle.ferry_repo.proofs.WholeLemmas.{wholes_then}
-use Rattle.ferry_compare.specs.Compare.{Says, Extends, Apart, ReadsSoFar, StandsBeside}
+use Rattle.ferry_compare.specs.Compare.{Says, Extends, Apart, ReadsSoFar}
 use Rattle.ferry_compare.specs.Steps.{Goes, Lacks, MovesBeside, EndsBeside}
 use Rattle.ferry_compare.proofs.WalkLemmas.{fits_comes, goes_items}
+
+-- How far the target's archive was read in these files, by its walk; without one it never says what was read of the source.
+abbrev pub StandsIn : Files → RepoState → List ℕ → Option WalkState → WholeArchive → Type 0
+StandsIn files repo name None front = Apart files repo name front
+StandsIn files repo name (Some walk) front = ReadsSoFar files repo name walk front
 
 -- an archive with one item more
 abbrev pub with_item : WholeArchive → WholeItem → WholeArchive
@@ -142,13 +147,15 @@ module _ (files : Files) (repo : RepoState) (name : List ℕ) where
       (sym rest.wholes_are ∙ (more.items ∙ append_assoc front.items (item ∷ []) more.behind)) in
       next_is walk item rest.items rest.behind more.behind same lacks rest.come rest.contents
 
+  -- a difference that is certain stays so
+  pub apart_on : (front : WholeArchive) (item : WholeItem) → Apart files repo name front → Apart files repo name (with_item front item)
+  apart_on front item apart whole says more = apart whole says (extends_front front whole item more)
+
   -- the target was moved along an item of the source
-  pub moves_beside : (from now : Option WalkState) (front : WholeArchive) (item : WholeItem) → FitsFiles files repo.log
-      → StandsBeside files repo name from front → MovesBeside files repo from item now → StandsBeside files repo name now (with_item front item)
-  moves_beside None None front item fits stands moves = λ whole says more. stands whole says (extends_front front whole item more)
-  moves_beside None (Some now) front item fits stands moves = absurd moves
-  moves_beside (Some from) None front item fits stands moves = lacks_apart from front item fits stands moves
-  moves_beside (Some from) (Some now) front item fits stands moves = goes_on from now front moves.0 item fits stands moves.1 moves.2
+  pub moves_beside : (from : WalkState) (now : Option WalkState) (front : WholeArchive) (item : WholeItem) → FitsFiles files repo.log
+      → ReadsSoFar files repo name from front → MovesBeside files repo (Some from) item now → StandsIn files repo name now (with_item front item)
+  moves_beside from None front item fits reads moves = lacks_apart from front item fits reads moves
+  moves_beside from (Some now) front item fits reads moves = goes_on from now front moves.0 item fits reads moves.1 moves.2
 
   -- ---- the end
 
@@ -169,11 +176,6 @@ module _ (files : Files) (repo : RepoState) (name : List ℕ) where
     fields = reads.fields;
   }
 
-  pub ends_beside : (walk : Option WalkState) (front : WholeArchive) → StandsBeside files repo name walk front → EndsBeside files repo walk
-      → Says files repo name front
-  ends_beside None front stands ends = absurd ends
-  ends_beside (Some walk) front stands ends = ends_whole walk front stands ends
-
   -- nothing is behind
   rest_none : (walk : WalkState) (items : List ItemText) (behind : List WholeItem) → behind ≡ [] → IsToCome files repo.log repo.keys walk items None
       → WholesCome files repo.log repo.keys items None behind None → IsToCome files repo.log repo.keys walk [] None
@@ -181,12 +183,14 @@ module _ (files : Files) (repo : RepoState) (name : List ℕ) where
   rest_none walk (i ∷ is) [] e come contents = absurd contents
   rest_none walk (i ∷ is) (b ∷ bs) e come contents = absurd (let no : ⊥ = cc in no)
 
-  pub goes_beyond : (walk : Option WalkState) (front : WholeArchive) → FitsFiles files repo.log → StandsBeside files repo name walk front
-      → (EndsBeside files repo walk → ⊥) → Says files repo name front → ⊥
-  goes_beyond None front fits stands on says =
-      stands front says (record { time = refl; fields = refl; behind = []; items = sym (append-nil front.items) })
-  goes_beyond (Some walk) front fits stands on says =
-      let rest = rest_of walk front front fits stands says in
+  pub apart_says : (front : WholeArchive) → Apart files repo name front → Says files repo name front → ⊥
+  apart_says front apart says =
+      apart front says (record { time = refl; fields = refl; behind = []; items = sym (append-nil front.items) })
+
+  pub goes_beyond : (walk : WalkState) (front : WholeArchive) → FitsFiles files repo.log → ReadsSoFar files repo name walk front
+      → (EndsBeside files repo (Some walk) → ⊥) → Says files repo name front → ⊥
+  goes_beyond walk front fits reads on says =
+      let rest = rest_of walk front front fits reads says in
       let none = append_cancel_left front.items rest.behind [] (sym rest.wholes_are ∙ sym (append-nil front.items)) in
       on (rest_none walk rest.items rest.behind none rest.come rest.contents)
 

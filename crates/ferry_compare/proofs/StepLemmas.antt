@@ -13,7 +13,7 @@ use Rattle.ferry_repo.specs.Opening.{RepoState, FitsRepo}
 use Rattle.ferry_repo.specs.Walk.{WalkState, IsToCome, LeadsOn, FitsWalk}
 use Rattle.ferry_repo.specs.Whole.{HoldsJoined, RefusesJoined, WholeItem, HoldsItem, WholeArchive, RefusesWhole}
 use Rattle.ferry_repo.specs.declared.fault.RepoFault.{RepoFault}
-use Rattle.ferry_compare.specs.Compare.{Says, ReadsSoFar, StandsBeside, ComparisonState, FitsTold, AreEqual, Differ}
+use Rattle.ferry_compare.specs.Compare.{Says, Apart, ReadsSoFar, Seen, seen, StandsBeside, met_behind, ComparisonState, FitsTold, AreEqual, Differ}
 use Rattle.ferry_compare.specs.Fault.{source_fault}
 use Rattle.ferry_compare.specs.Steps.{Goes, GoesOn, FindsAt, FindsBeside, WalksBeside, MovesBeside, EndsBeside, TakesItem, ComparesItems, HoldsSome, HoldsWhere}
 use Rattle.ferry_compare.specs.Steps.{RefusesSource, RefusesItem, kept_where}
@@ -21,7 +21,8 @@ use Rattle.ferry_compare.specs.declared.fault.CompareFault.{CompareFault}
 use Rattle.ferry_compare.specs.declared.fault.CompareFault.TheVariants.{Source, Target, Memory}
 use Rattle.ferry_compare.proofs.FaultLemmas.{refuses_source}
 use Rattle.ferry_compare.proofs.WalkLemmas.{one_next, next_or_end, end_or_next, end_or_refused}
-use Rattle.ferry_compare.proofs.ReadLemmas.{with_item, goes_on, moves_beside, ends_whole, ends_beside, goes_beyond, stream_refused, content_refused}
+use Rattle.ferry_compare.proofs.ReadLemmas.{StandsIn, with_item, goes_on, apart_on, moves_beside, ends_whole, apart_says, goes_beyond}
+use Rattle.ferry_compare.proofs.ReadLemmas.{stream_refused, content_refused}
 
 -- ---- answers
 
@@ -116,36 +117,58 @@ item_at_first told later repo after chunks Memory same kept refuses = tt
 
 -- ---- the target
 
-pub target_moves : (told : Option Told) (repo : RepoState) (name : List ℕ) (from now : Option WalkState) (front : WholeArchive) (item : WholeItem)
-    → IfSome told (λ t. FitsFiles (told_files t) repo.log) → IfSome told (λ t. StandsBeside (told_files t) repo name from front)
-    → IfSome told (λ t. MovesBeside (told_files t) repo from item now) → IfSome told (λ t. StandsBeside (told_files t) repo name now (with_item front item))
-target_moves told repo name from now front item fits stands moves =
-    told_with told told (λ f. FitsFiles f repo.log × StandsBeside f repo name from front) (λ f. MovesBeside f repo from item now)
-    (λ f. StandsBeside f repo name now (with_item front item)) refl (λ f x y. moves_beside f repo name from now front item x.0 x.1 y)
-    (told_both told (λ f. FitsFiles f repo.log) (λ f. StandsBeside f repo name from front) fits stands) moves
+-- a difference that is met in the target as it is
+pub stands_now : (told : Option Told) (repo : RepoState) (name : List ℕ) (walk : Option WalkState) (front : WholeArchive)
+    → IfSome told (λ t. StandsIn (told_files t) repo name walk front) → StandsBeside told repo (seen told repo) name walk front
+stands_now told repo name None front stands = stands
+stands_now told repo name (Some walk) front stands = stands
+
+pub target_moves : (told : Option Told) (repo : RepoState) (met : Seen) (name : List ℕ) (from now : Option WalkState) (front : WholeArchive)
+    (item : WholeItem) → IfSome told (λ t. FitsFiles (told_files t) repo.log) → (from ≡ None → now ≡ None)
+    → StandsBeside told repo met name from front → IfSome told (λ t. MovesBeside (told_files t) repo from item now)
+    → StandsBeside told repo (met_behind from met (seen told repo)) name now (with_item front item)
+target_moves told repo met name None now front item fits none stands moves =
+    subst (λ (w : Option WalkState). StandsBeside told repo met name w (with_item front item)) (sym (none refl))
+    (told_then met.told (λ f. Apart f met.repo name front) (λ f. Apart f met.repo name (with_item front item))
+    (λ f a. apart_on f met.repo name front item a) stands)
+target_moves told repo met name (Some from) now front item fits none stands moves =
+    stands_now told repo name now (with_item front item)
+    (told_with told told (λ f. FitsFiles f repo.log × ReadsSoFar f repo name from front) (λ f. MovesBeside f repo (Some from) item now)
+    (λ f. StandsIn f repo name now (with_item front item)) refl (λ f x y. moves_beside f repo name from now front item x.0 x.1 y)
+    (told_both told (λ f. FitsFiles f repo.log) (λ f. ReadsSoFar f repo name from front) fits stands) moves)
 
 -- ---- one item more of both
 
-module _ (told : Option Told) (source : RepoState) (heard_of : Option Told) (target : RepoState) (name : List ℕ) (from now : WalkState)
+module _ (told : Option Told) (source : RepoState) (heard_of : Option Told) (target : RepoState) (met : Seen) (name : List ℕ) (from now : WalkState)
     (walk after : Option WalkState) (front : WholeArchive) (item : ItemText) where
   pub both_go : IfSome told (λ t. FitsFiles (told_files t) source.log) → IfSome heard_of (λ t. FitsFiles (told_files t) target.log)
       → IfSome told (λ t. ReadsSoFar (told_files t) source name from front)
-      → IfSome heard_of (λ t. StandsBeside (told_files t) target name walk front)
+      → StandsBeside heard_of target met name walk front → (walk ≡ None → after ≡ None)
       → IfSome told (λ t. Goes (told_files t) source from item now) → TakesItem told source heard_of target item walk after
-      → FitsTold told source heard_of target (record { name = name; walk = now; other = after })
-  both_go fits other_fits reads stands goes takes = record {
+      → FitsTold told source heard_of target (met_behind walk met (seen heard_of target)) (record { name = name; walk = now; other = after })
+  both_go fits other_fits reads stands none goes takes = record {
     front = with_item front takes.whole;
     read = source_goes told source name from now front item takes.whole fits reads goes takes.holds;
-    beside = target_moves heard_of target name walk after front takes.whole other_fits stands takes.moves;
+    beside = target_moves heard_of target met name walk after front takes.whole other_fits none stands takes.moves;
   }
 
-pub fits_later : (told later : Option Told) (source after : RepoState) (other last : Option Told) (target renewed : RepoState) (state : ComparisonState)
-    → heard later ≡ heard told → after ≡ source → heard last ≡ heard other → renewed ≡ target
-    → FitsTold told source other target state → FitsTold later after last renewed state
-fits_later told later source after other last target renewed state same kept same_other kept_other fits = record {
+stands_later : (told later : Option Told) (repo after : RepoState) (met : Seen) (name : List ℕ) (from walk : Option WalkState) (front : WholeArchive)
+    → heard later ≡ heard told → after ≡ repo → StandsBeside told repo (met_behind from met (seen told repo)) name walk front
+    → StandsBeside later after (met_behind from met (seen later after)) name walk front
+stands_later told later repo after met name None None front same kept stands = stands
+stands_later told later repo after met name (Some from) None front same kept stands =
+    at_last told later repo after (λ r f. Apart f r name front) same kept stands
+stands_later told later repo after met name from (Some walk) front same kept stands =
+    at_last told later repo after (λ r f. ReadsSoFar f r name walk front) same kept stands
+
+pub fits_later : (told later : Option Told) (source after : RepoState) (other last : Option Told) (target renewed : RepoState) (met : Seen)
+    (from : Option WalkState) (state : ComparisonState) → heard later ≡ heard told → after ≡ source → heard last ≡ heard other → renewed ≡ target
+    → FitsTold told source other target (met_behind from met (seen other target)) state
+    → FitsTold later after last renewed (met_behind from met (seen last renewed)) state
+fits_later told later source after other last target renewed met from state same kept same_other kept_other fits = record {
   front = fits.front;
   read = at_last told later source after (λ r f. ReadsSoFar f r state.name state.walk fits.front) same kept fits.read;
-  beside = at_last other last target renewed (λ r f. StandsBeside f r state.name state.other fits.front) same_other kept_other fits.beside;
+  beside = stands_later other last target renewed met state.name from state.other fits.front same_other kept_other fits.beside;
 }
 
 pub takes_first : (told later : Option Told) (source after : RepoState) (other : Option Told) (target : RepoState) (item : ItemText)
@@ -159,6 +182,26 @@ takes_first told later source after other target item walk now same kept takes =
 
 -- ---- the end
 
+target_whole : (told : Option Told) (repo : RepoState) (met : Seen) (name : List ℕ) (walk : Option WalkState) (front : WholeArchive)
+    → StandsBeside told repo met name walk front → IfSome told (λ t. EndsBeside (told_files t) repo walk)
+    → IfSome told (λ t. Says (told_files t) repo name front)
+target_whole told repo met name None front stands ends =
+    told_then told (λ f. EndsBeside f repo None) (λ f. Says f repo name front) (λ f e. absurd e) ends
+target_whole told repo met name (Some walk) front stands ends =
+    told_with told told (λ f. ReadsSoFar f repo name walk front) (λ f. EndsBeside f repo (Some walk)) (λ f. Says f repo name front) refl
+    (λ f r e. ends_whole f repo name walk front r e) stands ends
+
+target_apart : (told : Option Told) (repo : RepoState) (met : Seen) (name : List ℕ) (walk : Option WalkState) (front : WholeArchive)
+    → IfSome told (λ t. FitsFiles (told_files t) repo.log) → StandsBeside told repo met name walk front
+    → IfSome told (λ t. EndsBeside (told_files t) repo walk → ⊥)
+    → IfSome (met_behind walk met (seen told repo)).told (λ t. Says (told_files t) (met_behind walk met (seen told repo)).repo name front → ⊥)
+target_apart told repo met name None front fits stands on =
+    told_then met.told (λ f. Apart f met.repo name front) (λ f. Says f met.repo name front → ⊥) (λ f a. apart_says f met.repo name front a) stands
+target_apart told repo met name (Some walk) front fits stands on =
+    told_with told told (λ f. FitsFiles f repo.log × ReadsSoFar f repo name walk front) (λ f. EndsBeside f repo (Some walk) → ⊥)
+    (λ f. Says f repo name front → ⊥) refl (λ f x e. goes_beyond f repo name walk front x.0 x.1 e)
+    (told_both told (λ f. FitsFiles f repo.log) (λ f. ReadsSoFar f repo name walk front) fits stands) on
+
 module _ (told : Option Told) (source : RepoState) (other : Option Told) (target : RepoState) (name : List ℕ) (walk : WalkState)
     (beside : Option WalkState) (front : WholeArchive) where
   source_whole : IfSome told (λ t. ReadsSoFar (told_files t) source name walk front)
@@ -167,28 +210,25 @@ module _ (told : Option Told) (source : RepoState) (other : Option Told) (target
       told_with told told (λ f. ReadsSoFar f source name walk front) (λ f. IsToCome f source.log source.keys walk [] None) (λ f. Says f source name front)
       refl (λ f r c. ends_whole f source name walk front r c) reads come
 
-  pub both_end : IfSome told (λ t. ReadsSoFar (told_files t) source name walk front)
+  pub both_end : (met : Seen) → IfSome told (λ t. ReadsSoFar (told_files t) source name walk front)
       → IfSome told (λ t. IsToCome (told_files t) source.log source.keys walk [] None)
-      → IfSome other (λ t. StandsBeside (told_files t) target name beside front) → IfSome other (λ t. EndsBeside (told_files t) target beside)
+      → StandsBeside other target met name beside front → IfSome other (λ t. EndsBeside (told_files t) target beside)
       → AreEqual told source other target name
-  both_end reads come stands ends = record {
+  both_end met reads come stands ends = record {
     whole = front;
     first = source_whole reads come;
-    second = told_with other other (λ f. StandsBeside f target name beside front) (λ f. EndsBeside f target beside) (λ f. Says f target name front) refl
-        (λ f s e. ends_beside f target name beside front s e) stands ends;
+    second = target_whole other target met name beside front stands ends;
   }
 
-  pub one_ends : IfSome told (λ t. ReadsSoFar (told_files t) source name walk front)
+  pub one_ends : (met : Seen) → IfSome told (λ t. ReadsSoFar (told_files t) source name walk front)
       → IfSome told (λ t. IsToCome (told_files t) source.log source.keys walk [] None)
       → IfSome other (λ t. FitsFiles (told_files t) target.log)
-      → IfSome other (λ t. StandsBeside (told_files t) target name beside front) → IfSome other (λ t. EndsBeside (told_files t) target beside → ⊥)
-      → Differ told source other target name
-  one_ends reads come fits stands on = record {
+      → StandsBeside other target met name beside front → IfSome other (λ t. EndsBeside (told_files t) target beside → ⊥)
+      → Differ told source (met_behind beside met (seen other target)).told (met_behind beside met (seen other target)).repo name
+  one_ends met reads come fits stands on = record {
     whole = front;
     first = source_whole reads come;
-    second = told_with other other (λ f. FitsFiles f target.log × StandsBeside f target name beside front) (λ f. EndsBeside f target beside → ⊥)
-        (λ f. Says f target name front → ⊥) refl (λ f x e. goes_beyond f target name beside front x.0 x.1 e)
-        (told_both other (λ f. FitsFiles f target.log) (λ f. StandsBeside f target name beside front) fits stands) on;
+    second = target_apart other target met name beside front fits stands on;
   }
 
 -- ---- an item beside

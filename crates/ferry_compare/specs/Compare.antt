@@ -43,10 +43,23 @@ pub record ReadsSoFar (files : Files) (repo : RepoState) (name : List ℕ) (walk
   pub fits : FitsWalk files repo.log repo.keys walk
   pub contents : WholesCome files repo.log repo.keys fits.items None front.items None
 
--- The target's archive was read as far, by its walk; where it has none any more, a difference is certain.
-abbrev pub StandsBeside : Files → RepoState → List ℕ → Option WalkState → WholeArchive → Type 0
-StandsBeside files repo name None front = Apart files repo name front
-StandsBeside files repo name (Some walk) front = ReadsSoFar files repo name walk front
+-- a repository as it was read: what its shelf told, and what it said
+pub record Seen : Type 0 where
+  pub told : Option Told
+  pub repo : RepoState
+
+abbrev pub seen : Option Told → RepoState → Seen
+seen told repo = record { told = told; repo = repo }
+
+-- The target's archive was read as far, by its walk; where it has none any more, a difference is certain in the target in which it was met.
+abbrev pub StandsBeside : Option Told → RepoState → Seen → List ℕ → Option WalkState → WholeArchive → Type 0
+StandsBeside heard target met name None front = IfSome met.told (λ t. Apart (told_files t) met.repo name front)
+StandsBeside heard target met name (Some walk) front = IfSome heard (λ t. ReadsSoFar (told_files t) target name walk front)
+
+-- the target in which a difference was met: this one, where it was met before, or else the one that is read now
+abbrev pub met_behind : Option WalkState → Seen → Seen → Seen
+met_behind None met now = met
+met_behind (Some walk) met now = now
 
 -- ---- comparisons
 
@@ -60,17 +73,12 @@ pub record ComparisonState : Type 0 where
 abbrev pub comparison_view : Comparison → ComparisonState
 comparison_view c = record { name = c.name.items; walk = walk_view c.walk; other = option_map walk_view c.other }
 
--- A comparison fits the files of both repositories: the same was read of both archives so far, or a difference is certain.
-pub record FitsComparison (files : Files) (source : RepoState) (others : Files) (target : RepoState) (state : ComparisonState) : Type 0 where
-  pub front : WholeArchive
-  pub read : ReadsSoFar files source state.name state.walk front
-  pub beside : StandsBeside others target state.name state.other front
-
--- The same of the files that two shelves tell. Of a shelf that tells nothing it says nothing.
-pub record FitsTold (told : Option Told) (source : RepoState) (heard : Option Told) (target : RepoState) (state : ComparisonState) : Type 0 where
+-- A comparison fits what the shelves of both repositories tell: the same was read of both archives so far, or a difference is certain in the target in which
+-- it was met. Of a shelf that tells nothing it says nothing.
+pub record FitsTold (told : Option Told) (source : RepoState) (heard : Option Told) (target : RepoState) (met : Seen) (state : ComparisonState) : Type 0 where
   pub front : WholeArchive
   pub read : IfSome told (λ t. ReadsSoFar (told_files t) source state.name state.walk front)
-  pub beside : IfSome heard (λ t. StandsBeside (told_files t) target state.name state.other front)
+  pub beside : StandsBeside heard target met state.name state.other front
 
 -- ---- what is answered
 

@@ -5,7 +5,7 @@ ghost use Rattle.ferry_item.specs.Item.{item_view};
 ghost use Rattle.ferry_repo.specs.Archives.{archive_named};
 ghost use Rattle.ferry_repo.specs.Opening.{repo_view, cached_in, FitsRepo};
 ghost use Rattle.ferry_repo.specs.Walk.{walk_view};
-ghost use Rattle.ferry_compare.specs.Compare.{comparison_view, FitsTold, AreEqual, Differ};
+ghost use Rattle.ferry_compare.specs.Compare.{comparison_view, Seen, seen, met_behind, FitsTold, AreEqual, Differ};
 ghost use Rattle.ferry_compare.specs.Fault.{source_failed, target_failed, IsTargetFault, RefusesTarget};
 ghost use Rattle.ferry_compare.specs.Steps.{EndsBeside, GoesOn, RefusesSource, RefusesItem, TakesItem, WalksBeside, kept_where};
 
@@ -60,7 +60,7 @@ impl Comparison {
         requires named { IsSome (archive_named name.now (repo_view source.old).manifest.archives) }
         requires target_named { IsSome (archive_named name.now (repo_view target.old).manifest.archives) }
         ensures fits { IfOk result (λ comparison. FitsTold (S.told shelf.new) (repo_view source.new) (T.told other.new) (repo_view target.new)
-            (comparison_view comparison)) }
+            (seen (T.told other.new) (repo_view target.new)) (comparison_view comparison)) }
         ensures name { IfOk result (λ comparison. (comparison_view comparison).name ≡ name.now) }
         ensures refused_source { IfErr result (RefusesSource (S.told shelf.old) (repo_view source.old) name.now) }
         ensures refused_target { IfErr result RefusesTarget }
@@ -109,9 +109,12 @@ impl Comparison {
     ) -> Result<Compared, CompareFault>
         requires source_fits { IfSome (S.told shelf.old) (λ t. FitsRepo (told_files t) (repo_view source.old) (cached_in source.old)) }
         requires target_fits { IfSome (T.told other.old) (λ t. FitsRepo (told_files t) (repo_view target.old) (cached_in target.old)) }
-        requires fits { FitsTold (S.told shelf.old) (repo_view source.old) (T.told other.old) (repo_view target.old) (comparison_view self.old) }
-        ensures fits { result ≡ Ok Compared.More → FitsTold (S.told shelf.new) (repo_view source.new) (T.told other.new) (repo_view target.new)
-            (comparison_view self.new) }
+        requires fits { (met : Seen) × FitsTold (S.told shelf.old) (repo_view source.old) (T.told other.old) (repo_view target.old) met
+            (comparison_view self.old) }
+        ensures fits { (met : Seen) → FitsTold (S.told shelf.old) (repo_view source.old) (T.told other.old) (repo_view target.old) met
+            (comparison_view self.old) → result ≡ Ok Compared.More
+            → FitsTold (S.told shelf.new) (repo_view source.new) (T.told other.new) (repo_view target.new)
+            (met_behind (comparison_view self.old).other met (seen (T.told other.new) (repo_view target.new))) (comparison_view self.new) }
         ensures more { result ≡ Ok Compared.More → IfSome (S.told shelf.old) (λ t.
             GoesOn (told_files t) (repo_view source.old) (comparison_view self.old).walk (comparison_view self.new).walk) }
         ensures name { (comparison_view self.new).name ≡ (comparison_view self.old).name }
@@ -119,8 +122,10 @@ impl Comparison {
         ensures unread { (comparison_view self.old).other ≡ None → (other.new ≡ other.old) × ((comparison_view self.new).other ≡ None) }
         ensures equal { result ≡ Ok Compared.Equal → AreEqual (S.told shelf.old) (repo_view source.old) (T.told other.old) (repo_view target.old)
             (comparison_view self.old).name }
-        ensures differs { result ≡ Ok Compared.Differs → Differ (S.told shelf.old) (repo_view source.old) (T.told other.old) (repo_view target.old)
-            (comparison_view self.old).name }
+        ensures differs { (met : Seen) → FitsTold (S.told shelf.old) (repo_view source.old) (T.told other.old) (repo_view target.old) met
+            (comparison_view self.old) → result ≡ Ok Compared.Differs
+            → (let then = met_behind (comparison_view self.old).other met (seen (T.told other.old) (repo_view target.old)) in
+            Differ (S.told shelf.old) (repo_view source.old) then.told then.repo (comparison_view self.old).name) }
         ensures refused_source { IfErr result (RefusesSource (S.told shelf.old) (repo_view source.old) (comparison_view self.old).name) }
         ensures refused_target { IfErr result RefusesTarget }
         ensures source_fits { IfSome (S.told shelf.new) (λ t. FitsRepo (told_files t) (repo_view source.new) (cached_in source.new)) }

@@ -26,7 +26,7 @@ use Rattle.ferry_piece.proofs.PutsLemmas.{adds_one}
 use Rattle.ferry_piece.proofs.PendingLemmas.{room_of}
 use Rattle.ferry_piece.proofs.PutsLemmas.{first_all}
 use Rattle.ferry_piece.proofs.FrontLemmas.{each_way}
-use Rattle.ferry_piece.specs.Front.{EachFront}
+use Rattle.ferry_piece.proofs.FrontLemmas.{EachFront}
 use Rattle.ferry_store.specs.Writing.{CanPut, WritesContent}
 use Rattle.ferry_piece.specs.Gather.{Brings, BringsOpening, Gathers, HoldsWithin, IsAmong, KeepsRest, KeepsStanding}
 use Rattle.ferry_piece.specs.Gather.{KeepsStandingAt, Moved}

@@ -15,7 +15,7 @@ use Rattle.ferry_store.specs.Store.{StoreFits}
 use Rattle.ferry_store.specs.declared.store.Store.{Store}
 use Rattle.ferry_piece.proofs.PutsLemmas.{Allows, adds_manifest, first_all, first_at, first_none, first_then, first_wider}
 use Rattle.ferry_piece.proofs.GoesLemmas.{first_room}
-use Rattle.ferry_piece.specs.Front.{EachFront, HoldsFront, IsSoundWith}
+use Rattle.ferry_piece.specs.Front.{HoldsFront, IsSoundWith}
 use Rattle.ferry_write.specs.Front.{HasFront}
 use Rattle.ferry_store.specs.Writing.{IsOnTheWay, WritesManifest, WritesMore}
 use Rattle.ferry_piece.specs.Puts.{Addition, AddsAll, AddsFirst, AtEnd, Border, ComesBefore, IsCheckpoint, IsFront, Within, border_behind}
@@ -72,6 +72,11 @@ front_still at most counts store h fits within =
     front_is at keys most before before within (files_now h) (fits_front counts store h fits) (first_none at keys most before within)
 
 -- ---- at each moment
+
+-- So it is at each moment of a body that adds to a store that fits.
+abbrev pub EachFront : Border → ℕ → Store → List Addition → History → History → Type 0
+EachFront at most store within before now = (counts : Bool) (fits : StoreFits counts store before)
+    → Moments (λ h. HoldsFront at (repo_view store.repo).keys most (entries_of fits.written) within (files_now h)) before now
 
 -- each moment of a body that writes more on the way of which all goes on so
 pub each_way : (Holds : Type 0) (more : List LogEntry) (at : Border) (most : ℕ) (store : Store) (within : List Addition) (h g : History)

@@ -2,14 +2,10 @@
 use Rattle.std.specs.Prelude.{ℕ, Bool, List}
 use Rattle.ferry_disk.specs.Act.{History, files_now}
 use Rattle.ferry_disk.specs.Files.{Files}
-use Rattle.ferry_disk.specs.Moments.{Moments}
 use Rattle.ferry_mac.specs.declared.keys.Keys.{Keys}
-use Rattle.ferry_repo.specs.Opening.{repo_view}
 use Rattle.ferry_segment.specs.Entry.{LogEntry}
 use Rattle.ferry_stops.specs.Tells.{TellsNothing}
-use Rattle.ferry_store.specs.Standing.{entries_of}
 use Rattle.ferry_store.specs.State.{CommitsSound, IsSound}
-use Rattle.ferry_store.specs.Store.{StoreFits}
 use Rattle.ferry_store.specs.Writing.{WritesCommit}
 use Rattle.ferry_store.specs.declared.store.Store.{Store}
 use Rattle.ferry_write.specs.Front.{HasFront}
@@ -19,11 +15,6 @@ use Rattle.ferry_piece.specs.Puts.{Addition, AddsFirst, Border}
 -- part.
 unfoldable pub HoldsFront : Border → Keys → ℕ → List LogEntry → List Addition → Files → Type 0
 HoldsFront at keys most before within files = (after : List LogEntry) × (HasFront files after × AddsFirst at keys most before within after)
-
--- So it is at each moment of a body that adds to a store that fits.
-abbrev pub EachFront : Border → ℕ → Store → List Addition → History → History → Type 0
-EachFront at most store within before now = (counts : Bool) (fits : StoreFits counts store before)
-    → Moments (λ h. HoldsFront at (repo_view store.repo).keys most (entries_of fits.written) within (files_now h)) before now
 
 -- A moment is sound, each stop shows this, and that is what is read.
 pub record IsSoundWith (Show Read : Files → Type 0) (counts : Bool) (history : History) : Type 0 where

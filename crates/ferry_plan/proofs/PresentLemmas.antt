@@ -6,7 +6,7 @@ use Rattle.std.proofs.lemmas.Option.{IfSome_then}
 use Rattle.ferry_carry.proofs.CutLemmas.{among_either, among_one}
 use Rattle.ferry_carry.specs.Carrying.{SaysIn}
 use Rattle.ferry_compare.proofs.StepLemmas.{at_first}
-use Rattle.ferry_compare.specs.Compare.{AreEqual, Differ}
+use Rattle.ferry_compare.specs.Compare.{AreEqual, Differ, met_behind, seen}
 use Rattle.ferry_compare.specs.Fault.{RefusesTarget}
 use Rattle.ferry_compare.specs.Steps.{RefusesSource}
 use Rattle.ferry_compare.specs.declared.fault.CompareFault.{CompareFault}
@@ -21,6 +21,7 @@ use Rattle.ferry_plan.specs.declared.fault.PlanFault.TheVariants.{Taken, Memory}
 use Rattle.ferry_repo.specs.Archives.{archive_named}
 use Rattle.ferry_repo.specs.Fault.{IsOfFiles, repo_failed}
 use Rattle.ferry_repo.specs.Opening.{RepoState}
+use Rattle.ferry_repo.specs.Walk.{WalkState}
 use Rattle.ferry_repo.specs.Whole.{RefusesWhole}
 use Rattle.ferry_repo.specs.declared.fault.RepoFault.{RepoFault}
 use Rattle.ferry_repo.specs.declared.fault.RepoFault.TheVariants as Repos
@@ -106,6 +107,13 @@ differ_first told later repo after told_of later_of target target_after name nam
       first = at_first told later repo after (λ r f. SaysIn f r name d.whole) alike kept d.first;
       second = at_first told_of later_of target target_after (λ r f. SaysIn f r name d.whole → ⊥) alike_of kept_of d.second;
     }
+
+-- a difference that was met in the target as it is
+pub differ_now : (told : Option Told) (repo : RepoState) (other : Option Told) (target : RepoState) (name : List ℕ) (walk : Option WalkState)
+    → Differ told repo (met_behind walk (seen other target) (seen other target)).told (met_behind walk (seen other target) (seen other target)).repo name
+    → Differ told repo other target name
+differ_now told repo other target name None differ = differ
+differ_now told repo other target name (Some walk) differ = differ
 
 pub equal_told : (told : Option Told) (source : RepoState) (other : Option Told) (target : RepoState) (name : List ℕ)
     → AreEqual told source other target name → WhereBoth told other (λ f g. IsEqual f source g target name)

@@ -1,7 +1,7 @@
 //! An archive that the target has.
 ghost use Rattle.std.specs.Prelude.{◌≡◌, ◌⊎◌, ◌↔◌, ℕ, Ok, true, false, IfErr, IfOk, IfSome, IsSome, IsTrue, OnOk};
 ghost use Rattle.ferry_piece.specs.Gather.{IsAmong};
-ghost use Rattle.ferry_compare.specs.Compare.{AreEqual, Differ, FitsTold, comparison_view};
+ghost use Rattle.ferry_compare.specs.Compare.{AreEqual, Differ, FitsTold, comparison_view, seen};
 ghost use Rattle.ferry_compare.specs.Fault.{RefusesTarget, source_failed, target_failed as other_failed};
 ghost use Rattle.ferry_compare.specs.Steps.{RefusesSource};
 ghost use Rattle.ferry_disk.specs.Device.{HasCause, KeepsTold, told_files};
@@ -75,7 +75,8 @@ fn is_equal<S: Shelf, T: Shelf>(
 ) -> Result<bool, CompareFault>
     requires source_fits { IfSome (S.told shelf.old) (λ t. FitsRepo (told_files t) (repo_view source.old) (cached_in source.old)) }
     requires target_fits { IfSome (T.told other.old) (λ t. FitsRepo (told_files t) (repo_view target.old) (cached_in target.old)) }
-    requires fits { FitsTold (S.told shelf.old) (repo_view source.old) (T.told other.old) (repo_view target.old) (comparison_view comparison.old) }
+    requires fits { FitsTold (S.told shelf.old) (repo_view source.old) (T.told other.old) (repo_view target.old)
+        (seen (T.told other.old) (repo_view target.old)) (comparison_view comparison.old) }
     ensures equal { result ≡ Ok true → AreEqual (S.told shelf.old) (repo_view source.old) (T.told other.old) (repo_view target.old)
         (comparison_view comparison.old).name }
     ensures differs { result ≡ Ok false → Differ (S.told shelf.old) (repo_view source.old) (T.told other.old) (repo_view target.old)

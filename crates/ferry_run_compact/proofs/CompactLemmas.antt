@@ -1,16 +1,16 @@
 -- Lemmas on the command that compacts a repository: what its target keeps at each moment.
-use Rattle.std.proofs.Common.{◌≡◌, inl, inr, ℕ, List, [], map, Option, Some, None}
+use Rattle.std.proofs.Common.{◌≡◌, inl, inr, ℕ, List, [], map, Option, Some, None, IfSome}
 use Rattle.std.proofs.Common.{refl, sym, ap, subst}
 use Rattle.ferry_compact.specs.Choice.{chosen_in}
 use Rattle.ferry_compact.specs.Compact.{KeepsBlocks, KeepsLive, NumbersStay, RemovesFront, ShowsLive}
 use Rattle.ferry_disk.proofs.MomentLemmas.{between_map}
 use Rattle.ferry_disk.specs.Act.{History, RemoveOf, TellOf, files_now}
-use Rattle.ferry_disk.specs.Device.{Told}
+use Rattle.ferry_disk.specs.Device.{Told, told_files}
 use Rattle.ferry_disk.specs.Image.{plain_in}
 use Rattle.ferry_disk.specs.Moments.{Between, Moments}
 use Rattle.ferry_disk.specs.declared.name.Name.TheVariants.{Config as ConfigFile}
 use Rattle.ferry_log.proofs.LawLemmas.{one_log, one_state}
-use Rattle.ferry_log.specs.Log.{IsLog}
+use Rattle.ferry_log.specs.Log.{IsLog, Located}
 use Rattle.ferry_log.specs.State.{IsStateOf, LogState}
 use Rattle.ferry_nonce.proofs.MomentLemmas.{numbers_begun}
 use Rattle.ferry_nonce.specs.Counter.{KeepsNumbers, begin_of}
@@ -23,14 +23,15 @@ use Rattle.ferry_status.specs.declared.status.Status.TheVariants as Statuses
 use Rattle.ferry_store.proofs.StepLemmas.{moments_begin, moments_both, moments_here, moments_map}
 use Rattle.ferry_store.specs.State.{IsStep}
 use Rattle.ferry_status.proofs.LeftLemmas.{now_left}
-use Rattle.ferry_run_compact.specs.Compact.{CompactRemoves, CompactsTarget, IsCompactingRefused, RemovesThenTells}
-use Rattle.ferry_run_compact.specs.Compact.{CompactEach, CompactLeaves, CompactShows, CompactShut, KeepsObjects}
+use Rattle.ferry_run_compact.specs.Compact.{CompactRemoves, CompactsTarget, ReadsTarget, RefusesCompacting, RemovesThenTells}
+use Rattle.ferry_run_compact.specs.Compact.{CompactEach, CompactLeaves, KeepsObjects}
 use Rattle.ferry_write.specs.Session.{BeginBySettle, KeepsPlain, SettlesFirst, rests_at}
 use Rattle.ferry_run_compact.proofs.PlainLemmas.{config_left, plain_begun}
 
 -- ---- where nothing was done
 
-here_shows : (h : History) → CompactShows h h
+here_shows : (h : History) → (h.acts ≡ [] → (transaction : ℕ) (log : List Located) → IsLog (files_now h) transaction log
+    → Moments (EachStop (KeepsObjects log (files_now h))) h h)
 here_shows h e transaction log is =
     moments_here (EachStop (KeepsObjects log (files_now h))) h
     (λ image left. subst (KeepsObjects log (files_now h)) (sym (image_begun h image e left.image_is)) (record {
@@ -72,7 +73,9 @@ pub record Went (state : LogState) (chosen : List ℕ) (before now : History) : 
   pub removes : RemovesFront state.transaction chosen before now
   pub plain : KeepsPlain before now
 
-went_shows : (state : LogState) (chosen : List ℕ) (h g : History) → Went state chosen h g → CompactShows h g
+went_shows : (state : LogState) (chosen : List ℕ) (h g : History) → Went state chosen h g
+    → (h.acts ≡ [] → (transaction : ℕ) (log : List Located) → IsLog (files_now h) transaction log
+    → Moments (EachStop (KeepsObjects log (files_now h))) h g)
 went_shows state chosen h g went e transaction log is =
     let same = one_log (files_now h) transaction state.transaction log went.is.log is went.is.is in
     let Rests : History → Type 0 = λ k. plain_in k ConfigFile ≡ rests_at h.start.config in
@@ -117,13 +120,13 @@ compacts_nothing threshold before =
       ended = λ e. absurd (let no : ⊥ = cc in no);
       left = between_map told told CompactEach CompactLeaves each_leaves each;
       removed = here_told (CompactRemoves threshold) told (here_removes threshold);
-      shut = here_told CompactShut told (λ h shut. refl);
+      shut = here_told (λ h g. (ReadsTarget (files_now h) → ⊥) → g ≡ h) told (λ h shut. refl);
       each = each;
     } where
       here_told : (E : History → History → Type 0) (told : Option Told) → ((h : History) → E h h) → Between told told E
       here_told E None here = tt
       here_told E (Some told) here = (told, refl, here told.history)
 
-      refused_told : (told : Option Told) → IsCompactingRefused told told Statuses.Memory
+      refused_told : (told : Option Told) → IfSome told (λ b. IfSome told (λ t. RefusesCompacting (told_files b) (told_files t) Statuses.Memory))
       refused_told None = tt
       refused_told (Some told) = tt

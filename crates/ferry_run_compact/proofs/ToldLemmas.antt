@@ -21,8 +21,8 @@ use Rattle.ferry_store.specs.Fault.{depot_failed}
 use Rattle.ferry_store.specs.State.{Did, IsStep}
 use Rattle.ferry_store.specs.declared.fault.StoreRefusal.{StoreRefusal}
 use Rattle.ferry_status.proofs.TellLemmas.{AreSome, fail_as, first_then, keeps_then, numbers_then, rose_as, stops_then}
-use Rattle.ferry_run_compact.specs.Compact.{CompactRemoves}
-use Rattle.ferry_run_compact.specs.Compact.{CompactEach, CompactEnds, CompactShut, KeepsObjects}
+use Rattle.ferry_run_compact.specs.Compact.{CompactRemoves, HasCompacted, ReadsTarget}
+use Rattle.ferry_run_compact.specs.Compact.{CompactEach, KeepsObjects}
 use Rattle.ferry_run_compact.specs.Compact.{compact_refusal, compacted_line}
 use Rattle.ferry_write.specs.Script.{AllDone}
 use Rattle.ferry_write.specs.Session.{KeepsPlain, SettlesFirst}
@@ -41,7 +41,7 @@ each_then line h g i each done some is = (
 )
 
 ends_then : (state : LogState) (threshold count : ℕ) (h g i : History) → Knows state threshold count h g
-    → i ≡ with_act (TellOf (compacted_line count)) true g → CompactEnds threshold h i
+    → i ≡ with_act (TellOf (compacted_line count)) true g → (h.acts ≡ [] → HasCompacted threshold h i)
 ends_then state threshold count h g i knows tells e = record {
   state = state;
   reads = knows.is;
@@ -118,11 +118,11 @@ pub did_compact : (state : LogState) (threshold count : ℕ) (a b c d : Option T
     → Between a c (Went state (chosen_in threshold state.extents)) → Between b c (Compacts state threshold count)
     → failed_told b ≡ failed_told a → failed_told c ≡ failed_told b → m ≡ n → k ≡ m
     → Did (IsStep (TellOf (compacted_line count))) (λ _ h g. g ≡ with_act (TellOf (compacted_line count)) true h) c d k l result
-    → Did CompactEach (λ _. CompactEnds threshold) a d n l result
+    → Did CompactEach (λ _ h g. h.acts ≡ [] → HasCompacted threshold h g) a d n l result
 did_compact state threshold count a b c d n m k l result same is config went compacts ended ends read caused tells =
     let line = compacted_line count in
     did_then CompactEach (Knows state threshold) (IsStep (TellOf line)) (λ _ h g. g ≡ with_act (TellOf line) true h) CompactEach
-    (λ _. CompactEnds threshold) a c d n k l count result (λ h g i each done knows is. each_then line h g i each done knows.some is)
+    (λ _ h g. h.acts ≡ [] → HasCompacted threshold h g) a c d n k l count result (λ h g i each done knows is. each_then line h g i each done knows.some is)
     (λ y h g i knows is. ends_then state threshold count h g i knows is)
     (did_all_of state threshold count a b c n m k same is config went compacts ended ends read caused) tells
 
@@ -173,12 +173,12 @@ line_removes state threshold line a c d went tells =
 
 -- ---- where the log or the settings don't read
 
-pub shut_same : (a b : Option Told) → Between a b (λ h g. g ≡ h) → Between a b CompactShut
-shut_same a b same = between_map a b (λ h g. g ≡ h) CompactShut (λ h g e shut. e) same
+pub shut_same : (a b : Option Told) → Between a b (λ h g. g ≡ h) → Between a b (λ h g. (ReadsTarget (files_now h) → ⊥) → g ≡ h)
+shut_same a b same = between_map a b (λ h g. g ≡ h) (λ h g. (ReadsTarget (files_now h) → ⊥) → g ≡ h) (λ h g e shut. e) same
 
 pub shut_read : (state : LogState) (a b d : Option Told) (E F : History → History → Type 0) → IfSome a (λ t. IsStateOf (told_files t) state)
     → IfSome a (λ t. (config : Config) × (config_of (contents_at (told_files t) ConfigFile) ≡ Ok config)) → Between a b E → Between b d F
-    → Between a d CompactShut
+    → Between a d (λ h g. (ReadsTarget (files_now h) → ⊥) → g ≡ h)
 shut_read state None b d E F reads settings p q = tt
 shut_read state (Some s) b d E F reads settings p q =
     let each = between_then (Some s) b d E F (λ h g. Unit {0}) (λ h g i e f. tt) p q in

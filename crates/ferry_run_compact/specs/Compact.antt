@@ -1,5 +1,5 @@
 -- What the command that compacts a repository leaves in its target, whatever a stop of the machine does, and what it says where it doesn't.
-use Rattle.std.specs.Prelude.{◌≡◌, ◌⊎◌, ◌++◌, ℕ, true, List, [], ◌∷◌, codes, decimal, Option, Ok, Err, IfSome}
+use Rattle.std.specs.Prelude.{◌≡◌, ◌⊎◌, ◌++◌, ℕ, true, List, [], ◌∷◌, codes, decimal, Ok, Err, IfSome}
 use Rattle.ferry_compact.specs.Choice.{chosen_in}
 use Rattle.ferry_compact.specs.Compact.{Compacts, KeepsBlocks, NumbersStay, RemovesFront, ShowsLive}
 use Rattle.ferry_config.specs.Config.{config_of}
@@ -7,7 +7,7 @@ use Rattle.ferry_config.specs.declared.config.Config.{Config}
 use Rattle.ferry_compact.specs.declared.fault.CompactFault.{CompactFault}
 use Rattle.ferry_compact.specs.declared.fault.CompactFault.TheVariants as Faults
 use Rattle.ferry_disk.specs.Act.{History, TellOf, files_now, with_act}
-use Rattle.ferry_disk.specs.Device.{Told, told_files}
+use Rattle.ferry_disk.specs.Device.{told_files}
 use Rattle.ferry_disk.specs.Files.{Files, contents_at}
 use Rattle.ferry_disk.specs.Moments.{Between, Moments}
 use Rattle.ferry_disk.specs.declared.name.Name.TheVariants.{Config as ConfigFile}
@@ -40,14 +40,11 @@ pub record KeepsObjects (log : List Located) (start image : Files) : Type 0 wher
 
 -- ---- each stop
 
--- In a run that had made no act, over files that have a log, each stop at each moment leaves its objects, and no others.
-abbrev pub CompactShows : History → History → Type 0
-CompactShows before now = before.acts ≡ [] → (transaction : ℕ) (log : List Located) → IsLog (files_now before) transaction log
-    → Moments (EachStop (KeepsObjects log (files_now before))) before now
-
--- At each moment of the command: its stops, the counter blocks of all runs, those of its own and the number in the file `nonce`, and its first act.
+-- At each moment of the command: where a run had made no act, over files that have a log, each stop leaves its objects, and no others; and the counter blocks
+-- of all runs, those of its own and the number in the file `nonce`, and its first act.
 abbrev pub CompactEach : History → History → Type 0
-CompactEach before now = CompactShows before now × (KeepsBlocks before now × (NumbersStay before now × SettlesFirst before now))
+CompactEach before now = (before.acts ≡ [] → (transaction : ℕ) (log : List Located) → IsLog (files_now before) transaction log
+    → Moments (EachStop (KeepsObjects log (files_now before))) before now) × (KeepsBlocks before now × (NumbersStay before now × SettlesFirst before now))
 
 -- ---- the end
 
@@ -61,10 +58,6 @@ pub record HasCompacted (threshold : ℕ) (before now : History) : Type 0 where
   pub compacted : History
   pub compacts : Compacts state threshold count before compacted
   pub tells : now ≡ with_act (TellOf (compacted_line count)) true compacted
-
--- The same of a run that had made no act.
-abbrev pub CompactEnds : ℕ → History → History → Type 0
-CompactEnds threshold before now = before.acts ≡ [] → HasCompacted threshold before now
 
 -- Over files that have a log, behind a run that had made no act, what is read of them has its objects, and no others.
 abbrev pub CompactLeaves : History → History → Type 0
@@ -89,10 +82,6 @@ CompactRemoves threshold before now = before.acts ≡ [] → (state : LogState) 
 abbrev pub ReadsTarget : Files → Type 0
 ReadsTarget files =
     ((state : LogState) × IsStateOf files state) × ((config : Config) × (config_of (contents_at files ConfigFile) ≡ Ok config))
-
--- Where they don't, nothing is done.
-abbrev pub CompactShut : History → History → Type 0
-CompactShut before now = (ReadsTarget (files_now before) → ⊥) → now ≡ before
 
 -- ---- refusals
 
@@ -122,10 +111,6 @@ RefusesCompacting start image (Statuses.TargetRefused (Refusals.Repo fault)) = I
 RefusesCompacting start image (Statuses.Limit Limits.Segment) = HasLastSegment image
 RefusesCompacting start image status = ⊥
 
--- A status says why nothing is compacted, where the target tells its files.
-abbrev pub IsCompactingRefused : Option Told → Option Told → Status → Type 0
-IsCompactingRefused before now status = IfSome before (λ b. IfSome now (λ t. RefusesCompacting (told_files b) (told_files t) status))
-
 -- ---- the whole of what is claimed
 
 -- The segments of the target are compacted of which so many hundredths or more are unused. Where its log and its settings read that is done, unless memory
@@ -137,11 +122,12 @@ pub record CompactsTarget (threshold : ℕ) (before : Devices) (status : Status)
   pub source : after.source ≡ before.source
   pub output : after.output ≡ before.output
   pub entropy : after.entropy ≡ before.entropy
-  pub refused : (status ≡ Statuses.Done) ⊎ IsCompactingRefused before.target.told after.target.told status
-  pub ended : status ≡ Statuses.Done → Between before.target.told after.target.told (CompactEnds threshold)
+  pub refused : (status ≡ Statuses.Done)
+      ⊎ IfSome before.target.told (λ b. IfSome after.target.told (λ t. RefusesCompacting (told_files b) (told_files t) status))
+  pub ended : status ≡ Statuses.Done → Between before.target.told after.target.told (λ h g. h.acts ≡ [] → HasCompacted threshold h g)
   pub left : Between before.target.told after.target.told CompactLeaves
   pub removed : Between before.target.told after.target.told (CompactRemoves threshold)
-  pub shut : Between before.target.told after.target.told CompactShut
+  pub shut : Between before.target.told after.target.told (λ h g. (ReadsTarget (files_now h) → ⊥) → g ≡ h)
   pub each : Between before.target.told after.target.told CompactEach
 
 -- ---- where nothing refuses

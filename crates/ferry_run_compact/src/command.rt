@@ -1,9 +1,9 @@
 //! The command that compacts a repository.
-ghost use Rattle.std.specs.Prelude.{◌≡◌, ◌⊎◌, ℕ, false, true, Ok, IfOk, IfErr, IfSome};
+ghost use Rattle.std.specs.Prelude.{◌≡◌, ◌⊎◌, ℕ, false, true, Ok, IfOk, IfErr, IfSome, []};
 ghost use Rattle.std.specs.FinMap.{empty};
 ghost use Rattle.ferry_config.specs.Config.{config_of};
 ghost use Rattle.ferry_config.specs.declared.config.Config.{Config};
-ghost use Rattle.ferry_disk.specs.Act.{TellOf, with_act};
+ghost use Rattle.ferry_disk.specs.Act.{TellOf, files_now, with_act};
 ghost use Rattle.ferry_disk.specs.Device.{HasCause, KeepsTold, RoseWhere, told_files};
 ghost use Rattle.ferry_disk.specs.Faults.{FailedWhere};
 ghost use Rattle.ferry_disk.specs.Files.{contents_at};
@@ -13,7 +13,7 @@ ghost use Rattle.ferry_log.specs.State.{IsStateOf};
 ghost use Rattle.ferry_repo.specs.Fault.{repo_failed};
 ghost use Rattle.ferry_store.specs.Fault.{source_failed};
 ghost use Rattle.ferry_store.specs.State.{Did, IsStep};
-ghost use Rattle.ferry_run_compact.specs.Compact.{CompactEach, CompactEnds, CompactLeaves, CompactRemoves, CompactShut, IsCompactingRefused};
+ghost use Rattle.ferry_run_compact.specs.Compact.{CompactEach, CompactLeaves, CompactRemoves, HasCompacted, ReadsTarget, RefusesCompacting};
 ghost use Rattle.ferry_run_compact.specs.Compact.{RefusesSettings, compact_refusal, compacted_line};
 ghost use Rattle.ferry_status.specs.Telling.{RefusesTelling};
 ghost use Rattle.ferry_status.specs.Status.{entropy_failed, output_failed, source_failed as of_source, store_status, target_failed};
@@ -40,11 +40,12 @@ use std::alloc::{AllocError, Global};
 /// and no other.
 pub fn compact<D: Depot>(alloc: Global, threshold: u8, target: &mut D) -> Status
     ensures each { Between (D.told target.old) (D.told target.new) CompactEach }
-    ensures ended { result ≡ TheStatus.Done → Between (D.told target.old) (D.told target.new) (CompactEnds threshold) }
+    ensures ended { result ≡ TheStatus.Done → Between (D.told target.old) (D.told target.new) (λ h g. h.acts ≡ [] → HasCompacted threshold h g) }
     ensures left { Between (D.told target.old) (D.told target.new) CompactLeaves }
     ensures removed { Between (D.told target.old) (D.told target.new) (CompactRemoves threshold) }
-    ensures shut { Between (D.told target.old) (D.told target.new) CompactShut }
-    ensures refused { (result ≡ TheStatus.Done) ⊎ IsCompactingRefused (D.told target.old) (D.told target.new) result }
+    ensures shut { Between (D.told target.old) (D.told target.new) (λ h g. (ReadsTarget (files_now h) → ⊥) → g ≡ h) }
+    ensures refused { (result ≡ TheStatus.Done)
+        ⊎ IfSome (D.told target.old) (λ b. IfSome (D.told target.new) (λ t. RefusesCompacting (told_files b) (told_files t) result)) }
     ensures ends { FailedWhere (target_failed result) (D.told target.old) (D.told target.new) }
     ensures cause { RoseWhere (target_failed result) (D.faults target.old) (D.faults target.new) }
     ensures source { of_source result ≡ false }
@@ -64,11 +65,12 @@ fn compact_target<D: Depot>(
     threshold: u8,
     target: &mut D,
 ) -> Result<(), StoreRefusal>
-    ensures did { Did CompactEach (λ _. CompactEnds threshold) (D.told target.old) (D.told target.new) (D.faults target.old) (D.faults target.new)
-        result }
+    ensures did { Did CompactEach (λ _ h g. h.acts ≡ [] → HasCompacted threshold h g) (D.told target.old) (D.told target.new)
+        (D.faults target.old) (D.faults target.new) result }
     ensures removed { Between (D.told target.old) (D.told target.new) (CompactRemoves threshold) }
-    ensures shut { Between (D.told target.old) (D.told target.new) CompactShut }
-    ensures refused { IfErr result (λ refusal. IsCompactingRefused (D.told target.old) (D.told target.new) (store_status refusal)) }
+    ensures shut { Between (D.told target.old) (D.told target.new) (λ h g. (ReadsTarget (files_now h) → ⊥) → g ≡ h) }
+    ensures refused { IfErr result (λ refusal. IfSome (D.told target.old) (λ b. IfSome (D.told target.new) (λ t.
+        RefusesCompacting (told_files b) (told_files t) (store_status refusal)))) }
     ensures drawn { IfErr result (λ refusal. source_failed refusal ≡ false) }
 {
     let (log, limit) = read_target(alloc, target)?;

@@ -1,6 +1,7 @@
 -- Lemmas on specs/Delete.antt: why an archive isn't deleted, and that it is where nothing refuses.
 use Rattle.std.proofs.Common.{◌≡◌, ◌⊎◌, inl, inr, ℕ, true, false, List, [], Option, Some, None, IfSome, IsSome, refl, sym, ◌∙◌, subst}
 use Rattle.ferry_check.specs.Verify.{IsNamed}
+use Rattle.ferry_check.specs.Report.{ArchiveRead, AreRead}
 use Rattle.ferry_disk.specs.Act.{files_now}
 use Rattle.ferry_disk.specs.Device.{Told, told_files}
 use Rattle.ferry_disk.specs.Files.{Files}
@@ -19,14 +20,15 @@ use Rattle.ferry_repo.specs.Fault.{IsOfFiles}
 use Rattle.ferry_repo.specs.Opening.{OpensFilesTo, RefusesRepo, RepoState, repo_view}
 use Rattle.ferry_repo.specs.declared.fault.RepoFault.{RepoFault}
 use Rattle.ferry_repo.specs.declared.fault.RepoFault.TheVariants as Repos
-use Rattle.ferry_run_delete.proofs.ShowLemmas.{lie_before}
-use Rattle.ferry_run_delete.specs.Delete.{DeletesDone, Deletion, IsDeletedUnless, IsDeletionRefused, IsReadyToDelete, RefusesDeletion, RefusesOpened}
-use Rattle.ferry_run_delete.specs.Delete.{RefusesStore}
+use Rattle.ferry_run_delete.proofs.ShowLemmas.{Deletion, lie_before}
+use Rattle.ferry_run_delete.specs.Delete.{DeletesDone, LimitsDeletion, RefusesDeletion}
 use Rattle.ferry_run_delete.specs.Steps.{GoesAway}
 use Rattle.ferry_status.specs.Status.{carry_status, target_status}
 use Rattle.ferry_status.specs.Telling.{RefusesTelling}
 use Rattle.ferry_status.specs.declared.status.Status.{Status}
 use Rattle.ferry_status.specs.declared.status.Status.TheVariants as Statuses
+use Rattle.ferry_status.specs.Opened.{IsDoneUnless, OpensNumbered, OpensWith, RefusesChange}
+use Rattle.ferry_status.specs.Devices.{IsRefusedBy}
 use Rattle.ferry_stops.specs.Counters.{IsNonce}
 use Rattle.ferry_store.specs.Causes.{StopsAt}
 use Rattle.ferry_store.specs.Store.{OpenFits, OpensFound, RefusesOpen}
@@ -39,7 +41,8 @@ use Rattle.ferry_write.specs.declared.fault.WriteFault.TheVariants as Writes
 -- ---- why an archive isn't deleted
 
 pub unopened_refused : (asked : Deletion) (before now : Option Told) (refusal : StoreRefusal)
-    → IfSome before (λ t. RefusesOpen asked.secret (told_files t) refusal) → RefusesDeletion asked before now (target_fault refusal)
+    → IfSome before (λ t. RefusesOpen asked.secret (told_files t) refusal)
+    → RefusesChange asked.secret (RefusesDeletion asked.name asked.timestamp now) before (target_fault refusal)
 unopened_refused asked None now refusal refused = tt
 unopened_refused asked (Some t) now refusal refused = λ begun. inl (refusal, (refl, refused))
 
@@ -47,7 +50,7 @@ unopened_refused asked (Some t) now refusal refused = λ begun. inl (refusal, (r
 pub undeleted_refused : (asked : Deletion) (store : Store) (a b c : Option Told) (fault : CarryFault)
     → IfSome a (λ t. OpensFilesTo (told_files t) asked.secret (repo_view store.repo)) → Between a b (λ h g. AllDone h g × OpenFits store h g)
     → IfSome b (λ t. RefusesDelete (told_files t) (repo_view store.repo) asked.name (time_of asked.timestamp (repo_view store.repo).manifest) c fault)
-    → RefusesDeletion asked a c fault
+    → RefusesChange asked.secret (RefusesDeletion asked.name asked.timestamp c) a fault
 undeleted_refused asked store None b c fault opens opened refused = tt
 undeleted_refused asked store (Some t) b c fault opens opened refused = λ begun.
     let repo = repo_view store.repo in
@@ -58,7 +61,7 @@ undeleted_refused asked store (Some t) b c fault opens opened refused = λ begun
     inr (record {
       repo = repo;
       opens = opens;
-      refuses = delete_refused_same (files_now opened.0.history) (told_files t) repo asked.name time c fault
+      holds = delete_refused_same (files_now opened.0.history) (told_files t) repo asked.name time c fault
           (lie_before asked store t.history opened.0.history opens false o) refused_there;
     })
 
@@ -80,14 +83,15 @@ telling_refuses asked start now repo Stores.TooLarge there refused = absurd refu
 telling_refuses asked start now repo Stores.Entropy there refused = absurd refused
 
 pub untold_refused : (asked : Deletion) (count : ℕ) (a b c : Option Told) (refusal : StoreRefusal)
-    → Between a b (λ h g. AllDone h g × GoesAway asked count h g) → RefusesTelling refusal → RefusesDeletion asked a c (target_fault refusal)
+    → Between a b (λ h g. AllDone h g × GoesAway asked.secret asked.name asked.timestamp count h g) → RefusesTelling refusal
+    → RefusesChange asked.secret (RefusesDeletion asked.name asked.timestamp c) a (target_fault refusal)
 untold_refused asked count None b c refusal deleted refused = tt
 untold_refused asked count (Some t) b c refusal deleted refused = λ begun.
     let gone = deleted.2.1 begun in
     inr (record {
       repo = gone.repo;
       opens = gone.opens;
-      refuses = telling_refuses asked (told_files t) c gone.repo refusal gone.there refused;
+      holds = telling_refuses asked (told_files t) c gone.repo refusal gone.there refused;
     })
 
 -- a line that isn't told is no refusal of what was asked for
@@ -105,9 +109,10 @@ untold_kept Stores.Entropy refused work = refused
 -- ---- where nothing refuses
 
 -- what is asked is there
-module _ (asked : Deletion) (start : Files) (now : Told) (ready : IsReadyToDelete asked start) where
+module _ (asked : Deletion) (start : Files) (now : Told) (ready : OpensNumbered asked.secret start)
+    (there : IsNamed ready.repo asked.name) (reads : List ArchiveRead) (are_read : AreRead start ready.repo ready.repo.manifest.archives reads) where
   opened_ends : (fault : RepoFault) → RefusesRepo start asked.secret fault
-      → IsDeletedUnless asked ready.repo now.history.start (told_files now) (target_status fault)
+      → IsDoneUnless (LimitsDeletion asked.name asked.timestamp ready.repo now.history.start (told_files now)) (λ _. ⊥) (target_status fault)
   opened_ends Repos.NoCommit refused = absurd (repo_apart start asked.secret ready.repo Repos.NoCommit ready.opens tt refused)
   opened_ends (Repos.Damaged segment at) refused = absurd (repo_apart start asked.secret ready.repo (Repos.Damaged segment at) ready.opens tt refused)
   opened_ends (Repos.Config cause) refused = absurd (repo_apart start asked.secret ready.repo (Repos.Config cause) ready.opens tt refused)
@@ -125,7 +130,7 @@ module _ (asked : Deletion) (start : Files) (now : Told) (ready : IsReadyToDelet
   opened_ends Repos.Memory refused = tt
 
   begun_ends : (refusal : StoreRefusal) → RefusesOpen asked.secret start refusal
-      → IsDeletedUnless asked ready.repo now.history.start (told_files now) (carry_status (target_fault refusal))
+      → IsDoneUnless (LimitsDeletion asked.name asked.timestamp ready.repo now.history.start (told_files now)) (λ _. ⊥) (carry_status (target_fault refusal))
   begun_ends (Stores.Repo fault) refused = opened_ends fault refused
   begun_ends (Stores.Write Writes.Device) refused = tt
   begun_ends (Stores.Write Writes.Memory) refused = tt
@@ -144,7 +149,7 @@ module _ (asked : Deletion) (start : Files) (now : Told) (ready : IsReadyToDelet
   -- the record and the stream of each archive read
   all_read : (fault : RepoFault) → IsOfFiles fault → RefusesRefs start ready.repo fault → ⊥
   all_read fault of refused =
-      refs_apart start ready.repo [] _ fault (record { reads = ready.reads; are_read = ready.are_read; count_is = refl }) of refused
+      refs_apart start ready.repo [] _ fault (record { reads = reads; are_read = are_read; count_is = refl }) of refused
 
   abbrev Refuses : CarryFault → Type 0
   Refuses fault = RefusesDelete start ready.repo asked.name (time_of asked.timestamp ready.repo.manifest) (Some now) fault
@@ -152,9 +157,10 @@ module _ (asked : Deletion) (start : Files) (now : Told) (ready : IsReadyToDelet
   deleting_read : (fault : RepoFault) → IsNamed ready.repo asked.name × (IsOfFiles fault × RefusesRefs start ready.repo fault) → ⊥
   deleting_read fault refused = all_read fault refused.1.0 refused.1.1
 
-  deleting_ends : (fault : CarryFault) → Refuses fault → IsDeletedUnless asked ready.repo now.history.start (told_files now) (carry_status fault)
+  deleting_ends : (fault : CarryFault) → Refuses fault
+      → IsDoneUnless (LimitsDeletion asked.name asked.timestamp ready.repo now.history.start (told_files now)) (λ _. ⊥) (carry_status fault)
   deleting_ends (Carry.NotFound missing) refused =
-      absurd (let e : false ≡ true = subst (λ (o : Option ArchiveRef). IsSome o) refused.1 ready.there in let no : ⊥ = cc in no)
+      absurd (let e : false ≡ true = subst (λ (o : Option ArchiveRef). IsSome o) refused.1 there in let no : ⊥ = cc in no)
   deleting_ends (Carry.Target (Stores.Repo Repos.NoCommit)) refused = absurd (deleting_read Repos.NoCommit refused)
   deleting_ends (Carry.Target (Stores.Repo (Repos.Damaged segment at))) refused = absurd (deleting_read (Repos.Damaged segment at) refused)
   deleting_ends (Carry.Target (Stores.Repo (Repos.Config cause))) refused = absurd (deleting_read (Repos.Config cause) refused)
@@ -188,22 +194,26 @@ module _ (asked : Deletion) (start : Files) (now : Told) (ready : IsReadyToDelet
   deleting_ends Carry.Pieces refused = absurd refused
   deleting_ends Carry.Record refused = absurd refused
 
-  refused_ends : (fault : CarryFault) → RefusesStore asked start fault ⊎ RefusesOpened asked start (Some now) fault
-      → IsDeletedUnless asked ready.repo now.history.start (told_files now) (carry_status fault)
+  refused_ends : (fault : CarryFault)
+      → ((refusal : StoreRefusal) × ((fault ≡ target_fault refusal) × RefusesOpen asked.secret start refusal)) ⊎ OpensWith asked.secret
+      (λ files repo. RefusesDeletion asked.name asked.timestamp (Some now) files repo fault) start
+      → IsDoneUnless (LimitsDeletion asked.name asked.timestamp ready.repo now.history.start (told_files now)) (λ _. ⊥) (carry_status fault)
   refused_ends fault (inl refused) =
-      subst (λ (f : CarryFault). IsDeletedUnless asked ready.repo now.history.start (told_files now) (carry_status f)) (sym refused.1.0)
+      subst (λ (f : CarryFault). IsDoneUnless (LimitsDeletion asked.name asked.timestamp ready.repo now.history.start (told_files now)) (λ _. ⊥)
+      (carry_status f)) (sym refused.1.0)
       (begun_ends refused.0 refused.1.1)
   refused_ends fault (inr refused) =
       deleting_ends fault
       (subst (λ (r : RepoState). RefusesDelete start r asked.name (time_of asked.timestamp r.manifest) (Some now) fault)
-      (one_repo start asked.secret refused.repo ready.repo refused.opens ready.opens) refused.refuses)
+      (one_repo start asked.secret refused.repo ready.repo refused.opens ready.opens) refused.holds)
 
 pub deletes_done : (asked : Deletion) (before now : Option Told) (status : Status)
-    → (status ≡ Statuses.Done) ⊎ IsDeletionRefused asked before now status → DeletesDone asked before now status
+    → (status ≡ Statuses.Done) ⊎ IsRefusedBy carry_status (RefusesChange asked.secret (RefusesDeletion asked.name asked.timestamp now) before) status
+    → DeletesDone asked.secret asked.name asked.timestamp before now status
 deletes_done asked None now status end = tt
 deletes_done asked (Some b) None status end = tt
-deletes_done asked (Some b) (Some t) status (inl done) = λ begun ready.
-    subst (IsDeletedUnless asked ready.repo t.history.start (told_files t)) (sym done) tt
-deletes_done asked (Some b) (Some t) status (inr refused) = λ begun ready.
-    subst (IsDeletedUnless asked ready.repo t.history.start (told_files t)) (sym refused.status_is)
-    (refused_ends asked (told_files b) t ready refused.fault (refused.refuses begun))
+deletes_done asked (Some b) (Some t) status (inl done) = λ begun ready there reads are_read.
+    subst (IsDoneUnless (LimitsDeletion asked.name asked.timestamp ready.repo t.history.start (told_files t)) (λ _. ⊥)) (sym done) tt
+deletes_done asked (Some b) (Some t) status (inr refused) = λ begun ready there reads are_read.
+    subst (IsDoneUnless (LimitsDeletion asked.name asked.timestamp ready.repo t.history.start (told_files t)) (λ _. ⊥)) (sym refused.status_is)
+    (refused_ends asked (told_files b) t ready there reads are_read refused.fault (refused.refuses begun))

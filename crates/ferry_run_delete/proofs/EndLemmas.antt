@@ -20,11 +20,12 @@ use Rattle.ferry_refs.specs.Deleting.{Deletes, DeletesSound, LeavesCommitted, Sh
 use Rattle.ferry_manifest.specs.declared.manifest.ArchiveRef.{ArchiveRef}
 use Rattle.ferry_repo.specs.Archives.{archive_named}
 use Rattle.ferry_repo.specs.Opening.{OpensFilesTo, RepoState, repo_view}
-use Rattle.ferry_run_delete.proofs.ShowLemmas.{LeavesEach, all_left, each_deleted, each_opened, each_told, leaves_each, lie_before, lie_behind}
-use Rattle.ferry_run_delete.proofs.ShowLemmas.{standing_now}
-use Rattle.ferry_run_delete.specs.Delete.{DeleteEach, DeleteEnds, Deletion, LeavesAll, LeavesOthers, deleted_line}
+use Rattle.ferry_run_delete.proofs.ShowLemmas.{DeleteEach, LeavesEach, all_left, each_deleted, each_opened, each_told, leaves_each, lie_before, lie_behind}
+use Rattle.ferry_run_delete.proofs.ShowLemmas.{Deletion, standing_now}
+use Rattle.ferry_run_delete.specs.Delete.{HasDeleted, LeavesOthers, deleted_line}
 use Rattle.ferry_run_delete.specs.Steps.{GoesAway}
 use Rattle.ferry_status.proofs.TellLemmas.{settled_some, tells_same}
+use Rattle.ferry_status.specs.Opened.{LeavesAll}
 use Rattle.ferry_stops.proofs.TellLemmas.{line_told}
 use Rattle.ferry_stops.specs.Tells.{TellsNothing, lines_of}
 use Rattle.ferry_store.proofs.StepLemmas.{did_known}
@@ -39,7 +40,8 @@ use Rattle.ferry_write.specs.Script.{AllDone}
 
 goes_then : (asked : Deletion) (store now : Store) (count : ℕ) (h g i : History) → OpensFilesTo (files_now h) asked.secret (repo_view store.repo)
     → IsNamed (repo_view store.repo) asked.name → TellsNothing h g → OpenFits store h g → TellsNothing g i
-    → Deletes asked.name (time_of asked.timestamp (repo_view store.repo).manifest) store now count g i → GoesAway asked count h i
+    → Deletes asked.name (time_of asked.timestamp (repo_view store.repo).manifest) store now count g i
+    → GoesAway asked.secret asked.name asked.timestamp count h i
 goes_then asked store now count h g i opens there untold fits untold_then deletes begun =
     let repo = repo_view store.repo in
     let time = time_of asked.timestamp repo.manifest in
@@ -70,8 +72,9 @@ goes_then asked store now count h g i opens there untold fits untold_then delete
     }
 
 -- that is told
-ends_then : (asked : Deletion) (count : ℕ) (h g i : History) → GoesAway asked count h g → i ≡ with_act (TellOf (deleted_line asked.name count)) true g
-    → DeleteEnds asked h i
+ends_then : (asked : Deletion) (count : ℕ) (h g i : History) → GoesAway asked.secret asked.name asked.timestamp count h g
+    → i ≡ with_act (TellOf (deleted_line asked.name count)) true g
+    → (h.acts ≡ [] → HasDeleted asked.secret asked.name asked.timestamp h i)
 ends_then asked count h g i goes is begun =
     let gone = goes begun in
     let line = deleted_line asked.name count in
@@ -80,7 +83,7 @@ ends_then asked count h g i goes is begun =
       repo = gone.repo;
       opens = gone.opens;
       there = gone.there;
-      left = subst (λ (f : Files). LeavesOthers asked (files_now h) gone.repo true f) (sym files) gone.left;
+      left = subst (λ (f : Files). LeavesOthers asked.secret asked.name asked.timestamp (files_now h) gone.repo true f) (sym files) gone.left;
       ids = gone.ids;
       going = gone.going;
       told = ap (λ (k : History). lines_of k.acts) is
@@ -127,11 +130,12 @@ deleted_works : (asked : Deletion) (store now : Store) (a b c : Option Told) (n 
     → IsNamed (repo_view store.repo) asked.name → Between b c TellsNothing
     → Works (DeletesSound asked.name (time_of asked.timestamp (repo_view store.repo).manifest) store)
     (Deletes asked.name (time_of asked.timestamp (repo_view store.repo).manifest) store now) b c m k result
-    → Works (DeleteEach asked) (GoesAway asked) a c n k result
+    → Works (DeleteEach asked) (GoesAway asked.secret asked.name asked.timestamp) a c n k result
 deleted_works asked store now a b c n m k result opens untold opened there untold_then deleted =
     let time = time_of asked.timestamp (repo_view store.repo).manifest in
     works_then OpensUntold (OpensStore asked) (DeletesSound asked.name time store)
-    (λ (count : ℕ) h g. TellsNothing h g × Deletes asked.name time store now count h g) (DeleteEach asked) (GoesAway asked) a b c n m k store result
+    (λ (count : ℕ) h g. TellsNothing h g × Deletes asked.name time store now count h g) (DeleteEach asked) (GoesAway asked.secret asked.name asked.timestamp) a
+    b c n m k store result
     (λ h g i each done q sound. each_deleted asked store h g i q.1.0 each.1 done q.1.1 sound)
     (λ count h g i q e. goes_then asked store now count h g i q.1.0 there q.0.0 q.1.1 e.0 e.1)
     (opened_works asked store a b n m opens untold opened)
@@ -142,7 +146,7 @@ undeleted_works : (asked : Deletion) (store now : Store) (a b c : Option Told) (
     → IfSome a (λ t. OpensFilesTo (told_files t) asked.secret (repo_view store.repo)) → Between a b TellsNothing → Did OpenEach OpenFits a b n m (Ok store)
     → Works (DeletesSound asked.name (time_of asked.timestamp (repo_view store.repo).manifest) store)
     (Deletes asked.name (time_of asked.timestamp (repo_view store.repo).manifest) store now) b c m k (Err fault)
-    → Works (DeleteEach asked) (GoesAway asked) a c n k (Err fault)
+    → Works (DeleteEach asked) (GoesAway asked.secret asked.name asked.timestamp) a c n k (Err fault)
 undeleted_works asked store now a b c n m k fault opens untold opened deleted =
     let time = time_of asked.timestamp (repo_view store.repo).manifest in
     let all = works_then OpensUntold (OpensStore asked) (DeletesSound asked.name time store) (λ (_ : ℕ) (h : History) (g : History). Unit {0})
@@ -154,13 +158,14 @@ undeleted_works asked store now a b c n m k fault opens untold opened deleted =
 
 -- the line is told, or it isn't
 told_works : (asked : Deletion) (count : ℕ) (a b c : Option Told) (n m k : ℕ) (result : Result (Unit {0}) CarryFault)
-    → Works (DeleteEach asked) (GoesAway asked) a b n m (Ok count)
+    → Works (DeleteEach asked) (GoesAway asked.secret asked.name asked.timestamp) a b n m (Ok count)
     → Works (IsStep (TellOf (deleted_line asked.name count))) (λ _ h g. g ≡ with_act (TellOf (deleted_line asked.name count)) true h) b c m k result
-    → Works (DeleteEach asked) (λ _. DeleteEnds asked) a c n k result
+    → Works (DeleteEach asked) (λ _ h g. h.acts ≡ [] → HasDeleted asked.secret asked.name asked.timestamp h g) a c n k result
 told_works asked count a b c n m k result deleted told =
     let line = deleted_line asked.name count in
-    works_then (DeleteEach asked) (GoesAway asked) (IsStep (TellOf line)) (λ _ h g. g ≡ with_act (TellOf line) true h) (DeleteEach asked)
-    (λ (_ : Unit {0}). DeleteEnds asked) a b c n m k count result
+    works_then (DeleteEach asked) (GoesAway asked.secret asked.name asked.timestamp) (IsStep (TellOf line)) (λ _ h g. g ≡ with_act (TellOf line) true h)
+    (DeleteEach asked)
+    (λ (_ : Unit {0}) h g. h.acts ≡ [] → HasDeleted asked.secret asked.name asked.timestamp h g) a b c n m k count result
     (λ h g i each done goes is. each_told asked line h g i each done (λ begun. settled_some g.acts (goes begun).settled_is) is)
     (λ _ h g i goes is. ends_then asked count h g i goes is) deleted told
 
@@ -171,10 +176,10 @@ did_works E Q a b n m x p = record { each = p.each; end = p.end; ends = p.ends; 
 
 -- it isn't told
 pub untold_works : (asked : Deletion) (count : ℕ) (a b c : Option Told) (n m k : ℕ) (refusal : StoreRefusal)
-    → Works (DeleteEach asked) (GoesAway asked) a b n m (Ok count)
+    → Works (DeleteEach asked) (GoesAway asked.secret asked.name asked.timestamp) a b n m (Ok count)
     → Did {T = Unit {0}} (IsStep (TellOf (deleted_line asked.name count))) (λ _ h g. g ≡ with_act (TellOf (deleted_line asked.name count)) true h) b c m k
     (Err refusal)
-    → Works (DeleteEach asked) (λ (_ : Unit {0}). DeleteEnds asked) a c n k (Err (target_fault refusal))
+    → Works (DeleteEach asked) (λ (_ : Unit {0}) h g. h.acts ≡ [] → HasDeleted asked.secret asked.name asked.timestamp h g) a c n k (Err (target_fault refusal))
 untold_works asked count a b c n m k refusal deleted told =
     told_works asked count a b c n m k (Err (target_fault refusal)) deleted
     (record {
@@ -186,10 +191,10 @@ untold_works asked count a b c n m k refusal deleted told =
 
 -- it is told
 pub all_works : (asked : Deletion) (count : ℕ) (a b c : Option Told) (n m k : ℕ)
-    → Works (DeleteEach asked) (GoesAway asked) a b n m (Ok count)
+    → Works (DeleteEach asked) (GoesAway asked.secret asked.name asked.timestamp) a b n m (Ok count)
     → Did {T = Unit {0}} (IsStep (TellOf (deleted_line asked.name count))) (λ _ h g. g ≡ with_act (TellOf (deleted_line asked.name count)) true h) b c m k
     (Ok tt)
-    → Works (DeleteEach asked) (λ (_ : Unit {0}). DeleteEnds asked) a c n k (Ok tt)
+    → Works (DeleteEach asked) (λ (_ : Unit {0}) h g. h.acts ≡ [] → HasDeleted asked.secret asked.name asked.timestamp h g) a c n k (Ok tt)
 all_works asked count a b c n m k deleted told =
     told_works asked count a b c n m k (Ok tt) deleted
     (did_works {T = Unit {0}} (IsStep (TellOf (deleted_line asked.name count))) (λ _ h g. g ≡ with_act (TellOf (deleted_line asked.name count)) true h) b c m k
@@ -215,7 +220,7 @@ pub archived_works : (asked : Deletion) (store now : Store) (a b c : Option Told
     → Between b c TellsNothing
     → Works (DeletesSound asked.name (time_of asked.timestamp (repo_view store.repo).manifest) store)
     (Deletes asked.name (time_of asked.timestamp (repo_view store.repo).manifest) store now) b c m k result
-    → Works (DeleteEach asked) (GoesAway asked) a c n k result
+    → Works (DeleteEach asked) (GoesAway asked.secret asked.name asked.timestamp) a c n k result
 archived_works asked store now a b c n m k (Ok count) named opens untold opened untold_then deleted =
     deleted_works asked store now a b c n m k (Ok count) opens untold opened named untold_then deleted
 archived_works asked store now a b c n m k (Err fault) named opens untold opened untold_then deleted =
@@ -226,22 +231,26 @@ archived_works asked store now a b c n m k (Err fault) named opens untold opened
 -- the target wasn't opened
 pub unopened_works : (asked : Deletion) (Q : Store → History → History → Type 0) (a b : Option Told) (n m : ℕ) (refusal : StoreRefusal)
     → Between a b TellsNothing → Did OpenEach Q a b n m (Err refusal)
-    → Works (DeleteEach asked) (GoesAway asked) a b n m (Err (target_fault refusal))
+    → Works (DeleteEach asked) (GoesAway asked.secret asked.name asked.timestamp) a b n m (Err (target_fault refusal))
 unopened_works asked Q a b n m refusal untold opened =
-    works_err OpenEach Q (DeleteEach asked) (GoesAway asked) a b n m refusal (λ h g none each. (each_opened asked h g each).0) untold opened
+    works_err OpenEach Q (DeleteEach asked) (GoesAway asked.secret asked.name asked.timestamp) a b n m refusal
+    (λ h g none each. (each_opened asked h g each).0) untold opened
 
-pub unopened_left : (asked : Deletion) (a b : Option Told) → Between a b TellsNothing → Between a b OpenEach → Between a b (LeavesAll asked)
+pub unopened_left : (asked : Deletion) (a b : Option Told) → Between a b TellsNothing → Between a b OpenEach
+    → Between a b (LeavesAll asked.secret (LeavesOthers asked.secret asked.name asked.timestamp))
 unopened_left asked a b untold each =
-    between_map a b (λ h g. TellsNothing h g × OpenEach h g) (LeavesAll asked)
+    between_map a b (λ h g. TellsNothing h g × OpenEach h g) (LeavesAll asked.secret (LeavesOthers asked.secret asked.name asked.timestamp))
     (λ h g e. let both = each_opened asked h g e.1 in all_left asked h g both.0 both.1 e.0) (between_both a b TellsNothing OpenEach untold each)
 
 -- nothing was committed behind the opening
 pub undeleted_left : (asked : Deletion) (store : Store) (a b c : Option Told) (n m : ℕ)
     → IfSome a (λ t. OpensFilesTo (told_files t) asked.secret (repo_view store.repo)) → Between a b TellsNothing → Did OpenEach OpenFits a b n m (Ok store)
-    → Between b c TellsNothing → Between b c (LeavesCommitted store) → Between a c (DeleteEach asked) → Between a c (LeavesAll asked)
+    → Between b c TellsNothing → Between b c (LeavesCommitted store) → Between a c (DeleteEach asked)
+    → Between a c (LeavesAll asked.secret (LeavesOthers asked.secret asked.name asked.timestamp))
 undeleted_left asked store a b c n m opens untold opened untold_then leaves each =
     let first = (opened_works asked store a b n m opens untold opened) in
-    between_map a c (λ h i. DeleteEach asked h i × (LeavesEach asked h i × TellsNothing h i)) (LeavesAll asked)
+    between_map a c (λ h i. DeleteEach asked h i × (LeavesEach asked h i × TellsNothing h i))
+    (LeavesAll asked.secret (LeavesOthers asked.secret asked.name asked.timestamp))
     (λ h i e. all_left asked h i e.0 e.1.0 e.1.1)
     (between_both a c (DeleteEach asked) (λ h i. LeavesEach asked h i × TellsNothing h i) each
     (between_then a b c (λ h g. OpensUntold h g × (AllDone h g × OpensStore asked store h g)) (λ h g. TellsNothing h g × LeavesCommitted store h g)
@@ -251,6 +260,9 @@ undeleted_left asked store a b c n m opens untold opened untold_then leaves each
     (between_both b c TellsNothing (LeavesCommitted store) untold_then leaves)))
 
 -- what is known at the end
-pub deleted_ended : (asked : Deletion) (a b : Option Told) (n m : ℕ) → Works (DeleteEach asked) (λ (_ : Unit {0}). DeleteEnds asked) a b n m (Ok tt)
-    → Between a b (DeleteEnds asked)
-deleted_ended asked a b n m works = between_map a b (λ h g. AllDone h g × DeleteEnds asked h g) (DeleteEnds asked) (λ h g e. e.1) works.end
+pub deleted_ended : (asked : Deletion) (a b : Option Told) (n m : ℕ)
+    → Works (DeleteEach asked) (λ (_ : Unit {0}) h g. h.acts ≡ [] → HasDeleted asked.secret asked.name asked.timestamp h g) a b n m (Ok tt)
+    → Between a b (λ h g. h.acts ≡ [] → HasDeleted asked.secret asked.name asked.timestamp h g)
+deleted_ended asked a b n m works =
+    between_map a b (λ h g. AllDone h g × (h.acts ≡ [] → HasDeleted asked.secret asked.name asked.timestamp h g))
+    (λ h g. h.acts ≡ [] → HasDeleted asked.secret asked.name asked.timestamp h g) (λ h g e. e.1) works.end

@@ -1,5 +1,5 @@
 -- Lemmas on specs/Delete.antt: what each stop leaves while an archive is deleted, and while that is told.
-use Rattle.std.proofs.Common.{◌≡◌, inl, inr, ℕ, suc, Bool, true, false, List, [], Some, map, refl, sym, ◌∙◌, ap, subst}
+use Rattle.std.proofs.Common.{◌≡◌, inl, inr, ℕ, suc, Bool, true, false, List, [], Some, map, refl, sym, ◌∙◌, ap, subst, Option}
 use Rattle.std.proofs.lemmas.List.{append-nil}
 use Rattle.ferry_disk.proofs.ImageLemmas.{plain_read}
 use Rattle.ferry_disk.specs.Act.{TellOf, History, files_now}
@@ -14,10 +14,12 @@ use Rattle.ferry_refs.proofs.SameLemmas.{LieIn, going_same}
 use Rattle.ferry_refs.specs.Deleting.{DeletesSound, LeavesCommitted, ShowsDeleted, ShowsEither, time_of}
 use Rattle.ferry_repo.proofs.LawLemmas.{one_repo}
 use Rattle.ferry_repo.specs.Opening.{OpensFilesTo, RepoState, repo_view}
-use Rattle.ferry_run_delete.specs.Delete.{DeleteEach, DeleteLeaves, Deletion, LeavesAll, LeavesOthers}
+use Rattle.ferry_repo.specs.declared.secret.Secret.{Secret}
+use Rattle.ferry_run_delete.specs.Delete.{LeavesOthers}
 use Rattle.ferry_segment.specs.Entry.{LogEntry}
 use Rattle.ferry_status.proofs.LeftLemmas.{now_left}
 use Rattle.ferry_status.proofs.TellLemmas.{AreSome, first_then, keeps_then, numbers_then, stops_then}
+use Rattle.ferry_status.specs.Opened.{ChangesEach, ChangesLeave, LeavesAll}
 use Rattle.ferry_stops.proofs.EntryLemmas.{log_shown}
 use Rattle.ferry_stops.specs.Blobs.{AllTraced}
 use Rattle.ferry_stops.specs.Chance.{EachStop}
@@ -34,9 +36,22 @@ use Rattle.ferry_write.proofs.LawLemmas.{fits_now}
 use Rattle.ferry_write.specs.Room.{behind}
 use Rattle.ferry_write.specs.Script.{AllDone}
 
+-- what a deletion is asked for: the target's secret, the archive's name, and the time of the manifest, where it is given
+pub record Deletion : Type 0 where
+  pub secret : Secret
+  pub name : List ℕ
+  pub timestamp : Option (List ℕ)
+
+abbrev pub deletion : Secret → List ℕ → Option (List ℕ) → Deletion
+deletion secret name timestamp = record { secret = secret; name = name; timestamp = timestamp }
+
 -- Files have each archive that a repository had which opened from these, or each but the one that is deleted.
 abbrev pub LeavesSome : Deletion → Files → RepoState → Files → Type 0
-LeavesSome asked start before image = (gone : Bool) × LeavesOthers asked start before gone image
+LeavesSome asked start before image = (gone : Bool) × LeavesOthers asked.secret asked.name asked.timestamp start before gone image
+
+-- At each moment of the command.
+abbrev pub DeleteEach : Deletion → History → History → Type 0
+DeleteEach asked = ChangesEach asked.secret (LeavesOthers asked.secret asked.name asked.timestamp)
 
 -- what is shown of a store that is written, where its files are read
 pub standing_now : (counts : Bool) (store : Store) (written : Written) (h : History) → IsUnderWay counts store.session store.counter written h
@@ -163,16 +178,18 @@ each_told asked line h g i each done some is = (
 -- At each moment of a run that had made no act each stop leaves all archives.
 abbrev pub LeavesEach : Deletion → History → History → Type 0
 LeavesEach asked h i = h.acts ≡ [] → (repo : RepoState) → OpensFilesTo (files_now h) asked.secret repo
-    → Moments (EachStop (LeavesOthers asked (files_now h) repo false)) h i
+    → Moments (EachStop (LeavesOthers asked.secret asked.name asked.timestamp (files_now h) repo false)) h i
 
 leaves_by : (asked : Deletion) (store : Store) (h g i : History) (opens : OpensFilesTo (files_now h) asked.secret (repo_view store.repo))
     → (o : OpensFound false store h g) → OpenEach h g → h.acts ≡ [] → AllDone h g
-    → Moments (IsSound (ShowsStanding o.fits.written) false) g i → Moments (EachStop (LeavesOthers asked (files_now h) (repo_view store.repo) false)) h i
+    → Moments (IsSound (ShowsStanding o.fits.written) false) g i
+    → Moments (EachStop (LeavesOthers asked.secret asked.name asked.timestamp (files_now h) (repo_view store.repo) false)) h i
 leaves_by asked store h g i opens o each begun done sound =
     let repo = repo_view store.repo in
     let time = time_of asked.timestamp repo.manifest in
-    let Leaves : History → Type 0 = EachStop (LeavesOthers asked (files_now h) repo false) in
-    let keeps : (image : Files) → ShowsStanding (found (Some o.committed) (files_now h)) image → LeavesOthers asked (files_now h) repo false image =
+    let Leaves : History → Type 0 = EachStop (LeavesOthers asked.secret asked.name asked.timestamp (files_now h) repo false) in
+    let keeps : (image : Files) → ShowsStanding (found (Some o.committed) (files_now h)) image → LeavesOthers asked.secret asked.name asked.timestamp
+    (files_now h) repo false image =
     λ image shows. standing_keeps asked.secret (files_now h) image repo asked.name time o.committed opens o.shown shows in
     moments_then Leaves h g i
     (moments_map (EachStop (ShowsStanding (found (Some o.committed) (files_now h)))) Leaves h g (λ k stops image left. keeps image (stops image left))
@@ -184,7 +201,7 @@ pub leaves_each : (asked : Deletion) (store : Store) (h g i : History) → Opens
     → AllDone h g → OpenFits store h g → LeavesCommitted store g i → LeavesEach asked h i
 leaves_each asked store h g i opens each done fits leaves begun other other_opens =
     let o = fits false begun (λ c. absurd (let no : ⊥ = cc in no)) in
-    subst (λ (r : RepoState). Moments (EachStop (LeavesOthers asked (files_now h) r false)) h i)
+    subst (λ (r : RepoState). Moments (EachStop (LeavesOthers asked.secret asked.name asked.timestamp (files_now h) r false)) h i)
     (one_repo (files_now h) asked.secret (repo_view store.repo) other opens other_opens)
     (leaves_by asked store h g i opens o each begun done (leaves false o.fits))
 
@@ -195,13 +212,15 @@ each_opened asked h g each =
     let reads = opens.opens.unlocks.reads in
     let entries = map (λ (e : Located). e.entry) reads.log in
     let shown : Shows (files_now h) (Some entries) = (suc repo.log.transaction, log_shown (files_now h) repo.log.transaction reads.log reads.is) in
-    moments_map (EachStop (ShowsStanding (found (Some entries) (files_now h)))) (EachStop (LeavesOthers asked (files_now h) repo false)) h g
+    moments_map (EachStop (ShowsStanding (found (Some entries) (files_now h))))
+    (EachStop (LeavesOthers asked.secret asked.name asked.timestamp (files_now h) repo false)) h g
     (λ k stops image left.
     standing_keeps asked.secret (files_now h) image repo asked.name (time_of asked.timestamp repo.manifest) entries opens shown (stops image left))
     (each.0 entries begun shown) in (
       (
         λ begun repo opens.
-            moments_map (EachStop (LeavesOthers asked (files_now h) repo false)) (EachStop (LeavesSome asked (files_now h) repo)) h g
+            moments_map (EachStop (LeavesOthers asked.secret asked.name asked.timestamp (files_now h) repo false))
+            (EachStop (LeavesSome asked (files_now h) repo)) h g
             (λ k stops image left. (false, stops image left)) (leaves begun repo opens),
         each.1,
       ),
@@ -210,14 +229,16 @@ each_opened asked h g each =
 
 -- ---- what is read then
 
-pub some_left : (asked : Deletion) (h g : History) → DeleteEach asked h g → DeleteLeaves asked h g
+pub some_left : (asked : Deletion) (h g : History) → DeleteEach asked h g → ChangesLeave asked.secret (LeavesOthers asked.secret asked.name asked.timestamp) h g
 some_left asked h g each begun repo opens =
     let moments = each.0 begun repo opens in
     moments.last (files_now g) (now_left (EachStop (LeavesSome asked (files_now h) repo)) h g begun each.1.1.1 moments)
 
-pub all_left : (asked : Deletion) (h g : History) → DeleteEach asked h g → LeavesEach asked h g → TellsNothing h g → LeavesAll asked h g
+pub all_left : (asked : Deletion) (h g : History) → DeleteEach asked h g → LeavesEach asked h g → TellsNothing h g
+    → LeavesAll asked.secret (LeavesOthers asked.secret asked.name asked.timestamp) h g
 all_left asked h g each leaves untold begun repo opens =
     let moments = leaves begun repo opens in (
-      moments.last (files_now g) (now_left (EachStop (LeavesOthers asked (files_now h) repo false)) h g begun each.1.1.1 moments),
+      moments.last (files_now g) (now_left (EachStop (LeavesOthers asked.secret asked.name asked.timestamp (files_now h) repo false)) h g begun each.1.1.1
+          moments),
       untold,
     )

@@ -10,12 +10,14 @@ ghost use Rattle.ferry_disk.specs.Moments.{Between};
 ghost use Rattle.ferry_store.specs.Fault.{source_failed};
 ghost use Rattle.ferry_store.specs.State.{Did, IsStep};
 ghost use Rattle.ferry_store.specs.Store.{OpenLeaves};
-ghost use Rattle.ferry_run_delete.specs.Delete.{DeleteEach, DeleteEnds, DeleteLeaves, DeletesDone, IsDeletionRefused, LeavesAll, RefusesDeletion};
-ghost use Rattle.ferry_run_delete.specs.Delete.{deleted_line, deletion};
+ghost use Rattle.ferry_run_delete.specs.Delete.{DeletesDone, HasDeleted, LeavesOthers, RefusesDeletion};
+ghost use Rattle.ferry_run_delete.specs.Delete.{deleted_line};
 ghost use Rattle.ferry_run_delete.specs.Steps.{GoesAway};
-ghost use Rattle.ferry_status.specs.Status.{entropy_failed, is_of_work, output_failed, source_failed as of_source, target_failed};
+ghost use Rattle.ferry_status.specs.Status.{carry_status, entropy_failed, is_of_work, output_failed, source_failed as of_source, target_failed};
 ghost use Rattle.ferry_status.specs.Telling.{RefusesTelling};
 ghost use Rattle.ferry_status.specs.declared.status.Status.TheVariants as TheStatus;
+ghost use Rattle.ferry_status.specs.Opened.{ChangesEach, ChangesLeave, LeavesAll, RefusesChange};
+ghost use Rattle.ferry_status.specs.Devices.{IsRefusedBy};
 
 use ferry_base::Bytes;
 use ferry_disk::{Depot, Entropy};
@@ -43,14 +45,17 @@ pub fn delete<D: Depot, E: Entropy>(
     entropy: &mut E,
 ) -> Status
     requires begun { IfSome (D.told target.old) (λ t. t.history.acts ≡ []) }
-    ensures each { Between (D.told target.old) (D.told target.new) (DeleteEach (deletion secret.now name timestamp)) }
-    ensures ended { result ≡ TheStatus.Done → Between (D.told target.old) (D.told target.new) (DeleteEnds (deletion secret.now name timestamp)) }
-    ensures left { Between (D.told target.old) (D.told target.new) (DeleteLeaves (deletion secret.now name timestamp)) }
+    ensures each { Between (D.told target.old) (D.told target.new) (ChangesEach secret.now (LeavesOthers secret.now name timestamp)) }
+    ensures ended { result ≡ TheStatus.Done → Between (D.told target.old) (D.told target.new) (λ h g.
+        h.acts ≡ [] → HasDeleted secret.now name timestamp h g) }
+    ensures left { Between (D.told target.old) (D.told target.new) (ChangesLeave secret.now (LeavesOthers secret.now name timestamp)) }
     // Where the target doesn't open, nothing is done.
     ensures shut { Between (D.told target.old) (D.told target.new) (OpenLeaves secret.now) }
-    ensures kept { is_of_work result ≡ true → Between (D.told target.old) (D.told target.new) (LeavesAll (deletion secret.now name timestamp)) }
-    ensures refused { (result ≡ TheStatus.Done) ⊎ IsDeletionRefused (deletion secret.now name timestamp) (D.told target.old) (D.told target.new) result }
-    ensures completes { DeletesDone (deletion secret.now name timestamp) (D.told target.old) (D.told target.new) result }
+    ensures kept { is_of_work result ≡ true
+        → Between (D.told target.old) (D.told target.new) (LeavesAll secret.now (LeavesOthers secret.now name timestamp)) }
+    ensures refused { (result ≡ TheStatus.Done) ⊎ IsRefusedBy carry_status
+        (RefusesChange secret.now (RefusesDeletion name timestamp (D.told target.new)) (D.told target.old)) result }
+    ensures completes { DeletesDone secret.now name timestamp (D.told target.old) (D.told target.new) result }
     ensures ends { FailedWhere (target_failed result) (D.told target.old) (D.told target.new) }
     ensures cause { RoseWhere (target_failed result) (D.faults target.old) (D.faults target.new) }
     ensures entropy { RoseWhere (entropy_failed result) (E.faults entropy.old) (E.faults entropy.new) }
@@ -75,11 +80,13 @@ fn delete_and_tell<D: Depot, E: Entropy>(
     entropy: &mut E,
 ) -> Result<(), CarryFault>
     requires begun { IfSome (D.told target.old) (λ t. t.history.acts ≡ []) }
-    ensures works { Works (DeleteEach (deletion secret.now name.now timestamp.now)) (λ _. DeleteEnds (deletion secret.now name.now timestamp.now))
+    ensures works { Works (ChangesEach secret.now (LeavesOthers secret.now name.now timestamp.now))
+        (λ _ h g. h.acts ≡ [] → HasDeleted secret.now name.now timestamp.now h g)
         (D.told target.old) (D.told target.new) (D.faults target.old) (D.faults target.new) result }
-    ensures refused { IfErr result (RefusesDeletion (deletion secret.now name.now timestamp.now) (D.told target.old) (D.told target.new)) }
+    ensures refused { IfErr result
+        (RefusesChange secret.now (RefusesDeletion name.now timestamp.now (D.told target.new)) (D.told target.old)) }
     ensures kept { IfErr result (λ fault. IsOfWork fault
-        → Between (D.told target.old) (D.told target.new) (LeavesAll (deletion secret.now name.now timestamp.now))) }
+        → Between (D.told target.old) (D.told target.new) (LeavesAll secret.now (LeavesOthers secret.now name.now timestamp.now))) }
     ensures shut { Between (D.told target.old) (D.told target.new) (OpenLeaves secret.now) }
     ensures shelf { IfErr result (λ fault. shelf_failed fault ≡ false) }
     ensures entropy { HasCause random_failed (E.faults entropy.old) (E.faults entropy.new) result }
@@ -100,11 +107,13 @@ fn delete_archive<D: Depot, E: Entropy>(
     entropy: &mut E,
 ) -> Result<u64, CarryFault>
     requires begun { IfSome (D.told target.old) (λ t. t.history.acts ≡ []) }
-    ensures works { Works (DeleteEach (deletion secret.now name.now timestamp.now)) (GoesAway (deletion secret.now name.now timestamp.now))
+    ensures works { Works (ChangesEach secret.now (LeavesOthers secret.now name.now timestamp.now))
+        (GoesAway secret.now name.now timestamp.now)
         (D.told target.old) (D.told target.new) (D.faults target.old) (D.faults target.new) result }
-    ensures refused { IfErr result (RefusesDeletion (deletion secret.now name.now timestamp.now) (D.told target.old) (D.told target.new)) }
+    ensures refused { IfErr result
+        (RefusesChange secret.now (RefusesDeletion name.now timestamp.now (D.told target.new)) (D.told target.old)) }
     ensures kept { IfErr result (λ fault. IsOfWork fault
-        → Between (D.told target.old) (D.told target.new) (LeavesAll (deletion secret.now name.now timestamp.now))) }
+        → Between (D.told target.old) (D.told target.new) (LeavesAll secret.now (LeavesOthers secret.now name.now timestamp.now))) }
     ensures shut { Between (D.told target.old) (D.told target.new) (OpenLeaves secret.now) }
     ensures shelf { IfErr result (λ fault. shelf_failed fault ≡ false) }
     ensures entropy { HasCause random_failed (E.faults entropy.old) (E.faults entropy.new) result }

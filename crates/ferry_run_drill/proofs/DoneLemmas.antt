@@ -1,5 +1,5 @@
 -- Lemmas on specs/Complete.antt: how a copy of the drill's source ends that is refused.
-use Rattle.std.proofs.Common.{◌≡◌, ◌≤◌, ◌<◌, ◌+◌, inl, inr, ℕ, false, List, [], ◌∷◌, ◌++◌, Option, Some, None, Result, Ok, Err, IfErr}
+use Rattle.std.proofs.Common.{◌≡◌, ◌≤◌, ◌<◌, ◌+◌, inl, inr, ℕ, false, List, [], ◌∷◌, ◌++◌, Option, Some, None, Result, Ok, Err, IfErr, true}
 use Rattle.std.proofs.Common.{IfSome, slice_get, refl, sym, ◌∙◌, ap, subst, arith, ◌*◌, length}
 use Rattle.std.specs.List.{AllByRecursion}
 use Rattle.ferry_carry.specs.Accepting.{LimitsNames}
@@ -34,7 +34,8 @@ use Rattle.ferry_repo.specs.declared.fault.RepoFault.{RepoFault}
 use Rattle.ferry_repo.specs.declared.fault.RepoFault.TheVariants as Repos
 use Rattle.ferry_repo.specs.declared.secret.Secret.{Secret}
 use Rattle.ferry_run_transfer.specs.Transfer.{chosen_of}
-use Rattle.ferry_status.specs.Status.{carry_status}
+use Rattle.ferry_status.specs.Status.{carry_status, output_failed}
+use Rattle.ferry_status.specs.Opened.{IsDoneUnless}
 use Rattle.ferry_store.specs.Causes.{StopsAt}
 use Rattle.ferry_store.specs.Commit.{accepted_in}
 use Rattle.ferry_store.specs.declared.fault.StoreRefusal.{StoreRefusal}
@@ -49,7 +50,7 @@ use Rattle.ferry_run_drill.proofs.ManifestLemmas.{IsShort, entries_short, never_
 use Rattle.ferry_run_drill.proofs.OpenLemmas.{accepts_first}
 use Rattle.ferry_run_drill.proofs.RefusedLemmas.{among_named, apart_front, named_among, none_breaks, one_front, same_start, told_once}
 use Rattle.ferry_run_drill.proofs.SmallLemmas.{no_long, none_large}
-use Rattle.ferry_run_drill.specs.Complete.{EndsFrom, IsDoneUnless}
+use Rattle.ferry_run_drill.specs.Complete.{EndsFrom, MeetsLimit}
 use Rattle.ferry_run_drill.specs.Drill.{NoneCollide}
 use Rattle.ferry_run_drill.specs.Steps.{IsMadeNew, drill_origin}
 use Rattle.ferry_run_drill.proofs.FewLemmas.{never_used}
@@ -68,7 +69,7 @@ module _ (count : ℕ) (source : Files) (is : IsSource count source) (repo : Rep
   Names = names_from 0 count
 
   abbrev Ends : CarryFault → Type 0
-  Ends fault = IsDoneUnless (told_files s) (told_files t) (carry_status fault)
+  Ends fault = IsDoneUnless (MeetsLimit (told_files s) (told_files t)) (λ other. output_failed other ≡ true) (carry_status fault)
 
   abbrev Refused : CarryFault → Type 0
   Refused fault = RefusesBehind From (Some u) store (Some t) now Names fault

@@ -10,13 +10,13 @@ use Rattle.ferry_repo.specs.declared.fault.RepoFault.{RepoFault}
 use Rattle.ferry_repo.specs.declared.fault.RepoFault.TheVariants as Repos
 use Rattle.ferry_status.specs.Devices.{Written}
 use Rattle.ferry_status.specs.Output.{HasBegun}
-use Rattle.ferry_status.specs.Status.{carry_status, repo_status, store_status, target_status}
+use Rattle.ferry_status.specs.Status.{bad_line, carry_status, repo_status, store_status, target_status}
 use Rattle.ferry_status.specs.declared.status.Status.{Status}
 use Rattle.ferry_status.specs.declared.status.Status.TheVariants as Statuses
 use Rattle.ferry_store.specs.declared.fault.StoreRefusal.{StoreRefusal}
 use Rattle.ferry_store.specs.declared.fault.StoreRefusal.TheVariants as Stores
 use Rattle.ferry_write.specs.declared.fault.WriteFault.TheVariants as Writes
-use Rattle.ferry_run_drill.specs.Drill.{HasBad, HasCopied, PrintsDrill, SaysBad, SaysDone, bad_line, done_line, target_secret}
+use Rattle.ferry_run_drill.specs.Drill.{HasBad, HasCopied, PrintsDrill, SaysBad, SaysDone, done_line, target_secret}
 use Rattle.ferry_run_drill.specs.Steps.{PrintsLine, SendsLine}
 
 -- ---- where nothing is printed

@@ -1,5 +1,5 @@
 -- Lemmas on specs/Complete.antt: a repository is made where nothing is in the way.
-use Rattle.std.proofs.Common.{◌≡◌, inl, ℕ, false, List, Option, Some, None, IfSome, subst}
+use Rattle.std.proofs.Common.{◌≡◌, inl, ℕ, false, List, Option, Some, None, IfSome, subst, true}
 use Rattle.ferry_disk.specs.Device.{Told, told_files}
 use Rattle.ferry_disk.specs.Files.{Files}
 use Rattle.ferry_gen.specs.Source.{source_secret}
@@ -13,14 +13,15 @@ use Rattle.ferry_repo.specs.Opening.{OpensFilesTo, RefusesRepo, RepoState}
 use Rattle.ferry_repo.specs.declared.fault.RepoFault.{RepoFault}
 use Rattle.ferry_repo.specs.declared.fault.RepoFault.TheVariants as Repos
 use Rattle.ferry_repo.specs.declared.secret.Secret.{Secret}
-use Rattle.ferry_status.specs.Status.{carry_status}
+use Rattle.ferry_status.specs.Status.{carry_status, output_failed}
+use Rattle.ferry_status.specs.Opened.{IsDoneUnless}
 use Rattle.ferry_store.specs.Key.{RefusesGiven}
 use Rattle.ferry_store.specs.Store.{RefusesFiles, RefusesInit}
 use Rattle.ferry_store.specs.declared.fault.StoreRefusal.{StoreRefusal}
 use Rattle.ferry_store.specs.declared.fault.StoreRefusal.TheVariants as Stores
 use Rattle.ferry_write.specs.declared.fault.WriteFault.TheVariants as Writes
 use Rattle.ferry_run_drill.proofs.SmallLemmas.{first_small}
-use Rattle.ferry_run_drill.specs.Complete.{EndsCopy, EndsFrom, IsDoneUnless, IsFree}
+use Rattle.ferry_run_drill.specs.Complete.{EndsCopy, EndsFrom, IsFree, MeetsLimit}
 use Rattle.ferry_run_drill.specs.Drill.{drill_time}
 
 -- No key is handed in.
@@ -29,7 +30,8 @@ IsUnkeyed secret = (fault : RepoFault) → RefusesGiven secret (Stores.Repo faul
 
 -- a repository that isn't made
 pub init_ends : (secret : Secret) (start image : Files) → IsUnkeyed secret → IsFree start → (refusal : StoreRefusal)
-    → RefusesFiles secret drill_time start refusal → IsDoneUnless start image (carry_status (target_fault refusal))
+    → RefusesFiles secret drill_time start refusal
+    → IsDoneUnless (MeetsLimit start image) (λ other. output_failed other ≡ true) (carry_status (target_fault refusal))
 init_ends secret start image unkeyed free (Stores.Repo Repos.NoCommit) refused = absurd (unkeyed Repos.NoCommit refused.1)
 init_ends secret start image unkeyed free (Stores.Repo (Repos.Damaged segment at)) refused = absurd (unkeyed (Repos.Damaged segment at) refused.1)
 init_ends secret start image unkeyed free (Stores.Repo (Repos.Config cause)) refused = absurd (unkeyed (Repos.Config cause) refused.1)
@@ -69,13 +71,13 @@ unmade_ends secret timestamp (Some s) (Some t) unkeyed time refusal refused = λ
 
 -- a fault that may come at any time
 pub ends_anyway : (a b : Option Told) (fault : CarryFault)
-    → ((start image : Files) → IsDoneUnless start image (carry_status fault)) → EndsCopy a b fault
+    → ((start image : Files) → IsDoneUnless (MeetsLimit start image) (λ other. output_failed other ≡ true) (carry_status fault)) → EndsCopy a b fault
 ends_anyway None b fault any = tt
 ends_anyway (Some s) None fault any = tt
 ends_anyway (Some s) (Some t) fault any = λ begun free. any (told_files s) (told_files t)
 
 pub ends_from_anyway : (source : Files) (a b : Option Told) (fault : CarryFault)
-    → ((start image : Files) → IsDoneUnless start image (carry_status fault)) → EndsFrom source a b fault
+    → ((start image : Files) → IsDoneUnless (MeetsLimit start image) (λ other. output_failed other ≡ true) (carry_status fault)) → EndsFrom source a b fault
 ends_from_anyway source a b fault any = λ count most is plain apart. ends_anyway a b fault any
 
 -- a source that was made opens

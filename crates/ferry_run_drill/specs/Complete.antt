@@ -1,5 +1,5 @@
 -- What a drill asks, and that it is done where that is so.
-use Rattle.std.specs.Prelude.{◌≡◌, ◌≤◌, ◌⊎◌, ℕ, [], Option, IfSome}
+use Rattle.std.specs.Prelude.{◌≡◌, ◌≤◌, ◌⊎◌, ℕ, [], Option, IfSome, true}
 use Rattle.ferry_carry.specs.declared.options.Carried.{Carried}
 use Rattle.ferry_disk.specs.Device.{Told, told_files}
 use Rattle.ferry_disk.specs.Files.{Files, file_at}
@@ -8,11 +8,12 @@ use Rattle.ferry_gen.specs.Archives.{HasArchives}
 use Rattle.ferry_gen.specs.Source.{HasPlain, IsSource}
 use Rattle.ferry_log.specs.Log.{IsUncommitted}
 use Rattle.ferry_piece.specs.declared.fault.CarryFault.{CarryFault}
-use Rattle.ferry_status.specs.Status.{carry_status}
+use Rattle.ferry_status.specs.Status.{carry_status, output_failed}
 use Rattle.ferry_status.specs.declared.status.Limit.{Limit as LimitKind}
 use Rattle.ferry_status.specs.declared.status.Limit.TheVariants as Limits
 use Rattle.ferry_status.specs.declared.status.Status.{Status}
 use Rattle.ferry_status.specs.declared.status.Status.TheVariants as Statuses
+use Rattle.ferry_status.specs.Opened.{IsDoneUnless}
 use Rattle.ferry_stops.specs.Counters.{IsNonce}
 use Rattle.ferry_store.specs.Causes.{HasFewBlocks}
 use Rattle.ferry_store.specs.Init.{HasNoBlocks}
@@ -39,17 +40,7 @@ MeetsLimit start image limit = ⊥
 
 -- ---- where it is done
 
--- It is done, unless memory was refused, the target, the source of random bytes or the output failed, or a limit was met.
-abbrev pub IsDoneUnless : Files → Files → Status → Type 0
-IsDoneUnless start image Statuses.Done = Unit {0}
-IsDoneUnless start image Statuses.Memory = Unit {0}
-IsDoneUnless start image Statuses.TargetDevice = Unit {0}
-IsDoneUnless start image Statuses.EntropyDevice = Unit {0}
-IsDoneUnless start image Statuses.OutputDevice = Unit {0}
-IsDoneUnless start image (Statuses.Limit limit) = MeetsLimit start image limit
-IsDoneUnless start image status = ⊥
-
--- Behind a copy that came it is done, unless memory was refused, or the target or the output failed.
+-- Behind a copy that came a drill is done, unless memory was refused, or the target or the output failed.
 abbrev pub IsFinished : Status → Type 0
 IsFinished Statuses.Done = Unit {0}
 IsFinished Statuses.Memory = Unit {0}
@@ -61,9 +52,11 @@ IsFinished status = ⊥
 abbrev pub WhereFree : Option Told → Option Told → (Files → Files → Type 0) → Type 0
 WhereFree before now P = IfSome before (λ b. IfSome now (λ t. b.history.acts ≡ [] → IsFree (told_files b) → P (told_files b) (told_files t)))
 
--- A copy ends with a fault, so.
+-- A copy ends with a fault, so: that of a drill that is done, unless memory was refused, the target, the source of random bytes or the output failed, or a
+-- limit was met.
 abbrev pub EndsCopy : Option Told → Option Told → CarryFault → Type 0
-EndsCopy before now fault = WhereFree before now (λ start image. IsDoneUnless start image (carry_status fault))
+EndsCopy before now fault =
+    WhereFree before now (λ start image. IsDoneUnless (MeetsLimit start image) (λ other. output_failed other ≡ true) (carry_status fault))
 
 -- The same where the source was made, and none of its contents collide.
 abbrev pub EndsFrom : Files → Option Told → Option Told → CarryFault → Type 0
@@ -76,12 +69,9 @@ EndsChecked count carried now status = IfSome now (λ t. (copied : HasCopied cou
     → AreApartIn count (told_files t) → IsFinished status)
 
 -- A source was made; where none of its contents collide, nor any of those of the target's archives at the end, and the target was free, the drill is done,
--- unless memory was refused, a device failed, or a limit was met.
+-- unless memory was refused, the target, the source of random bytes or the output failed, or a limit was met.
 pub record EndsDone (count : ℕ) (before now : Option Told) (status : Status) : Type 0 where
   pub source : Files
   pub source_is : IsSource count source
-  pub ends : NoneCollide source_is → WhereFree before now (λ start image. AreApartIn count image → IsDoneUnless start image status)
-
--- Memory was refused before a source was made, or that.
-abbrev pub Completes : ℕ → Option Told → Option Told → Status → Type 0
-Completes count before now status = (status ≡ Statuses.Memory) ⊎ EndsDone count before now status
+  pub ends : NoneCollide source_is → WhereFree before now (λ start image. AreApartIn count image
+      → IsDoneUnless (MeetsLimit start image) (λ other. output_failed other ≡ true) status)

@@ -4,7 +4,7 @@ use Rattle.ferry_carry.specs.Lines.{name_line, told_of, total_line}
 use Rattle.ferry_carry.specs.declared.options.Carried.{Carried}
 use Rattle.ferry_check.specs.Verify.{AllOpen, FilesVerify, FirstBad}
 use Rattle.ferry_disk.specs.Act.{History, files_now}
-use Rattle.ferry_disk.specs.Device.{Rose, Told, WritesSome}
+use Rattle.ferry_disk.specs.Device.{Rose, Told, WritesSome, told_files}
 use Rattle.ferry_disk.specs.Files.{Files, file_at}
 use Rattle.ferry_disk.specs.declared.name.Name.TheVariants.{Nonce as NonceFile}
 use Rattle.ferry_gen.specs.Archives.{HasArchives, contents_from}
@@ -14,7 +14,6 @@ use Rattle.ferry_log.specs.Log.{IsUncommitted}
 use Rattle.ferry_nonce.specs.Counter.{HasNoNumber}
 use Rattle.ferry_piece.specs.Gather.{NoCollision}
 use Rattle.ferry_repo.specs.Opening.{OpensFilesTo, RepoState}
-use Rattle.ferry_repo.specs.Reason.{reason}
 use Rattle.ferry_repo.specs.declared.fault.RepoFault.{RepoFault}
 use Rattle.ferry_repo.specs.declared.secret.Secret.{Secret}
 use Rattle.ferry_status.specs.Devices.{Written}
@@ -22,6 +21,7 @@ use Rattle.ferry_status.specs.Output.{HasBegun, HasPrinted}
 use Rattle.ferry_status.specs.declared.status.Refusal.TheVariants.{Committed, Nonce}
 use Rattle.ferry_status.specs.declared.status.Status.{Status}
 use Rattle.ferry_status.specs.declared.status.Status.TheVariants as Statuses
+use Rattle.ferry_status.specs.Status.{bad_line}
 use Rattle.ferry_stops.specs.Tells.{lines_of}
 
 -- ---- the target
@@ -65,10 +65,6 @@ pub record HasCopied (count : ℕ) (carried : Carried) (now : History) : Type 0 
   pub transferred : carried.transferred ≡ count
   pub present : carried.present ≡ 0
 
--- The same, and the target verifies.
-abbrev pub HasDrilled : ℕ → Carried → History → Type 0
-HasDrilled count carried now = HasCopied count carried now × FilesVerify (files_now now) target_secret
-
 -- The target doesn't verify: this is its first fault.
 abbrev pub HasBad : Files → RepoFault → Type 0
 HasBad files fault = (repo : RepoState) × (OpensFilesTo files target_secret repo × FirstBad files repo fault)
@@ -81,13 +77,10 @@ done_line count carried =
     codes "drill " ++ (decimal count ++ (codes ": transferred " ++ (decimal carried.transferred ++ (codes " chunks " ++ (decimal carried.chunks
     ++ (codes " bytes " ++ (decimal carried.bytes ++ codes " check ok\n")))))))
 
--- the line of a target that doesn't verify
-abbrev pub bad_line : RepoFault → List ℕ
-bad_line fault = codes "bad " ++ (reason fault ++ (10 ∷ []))
-
--- The text is the line of a drill that is done.
+-- The text is the line of a drill that is done, and the target verifies.
 abbrev pub SaysDone : ℕ → Option Told → List ℕ → Type 0
-SaysDone count now text = (carried : Carried) × (IfSome now (λ t. HasDrilled count carried t.history) × (text ≡ done_line count carried))
+SaysDone count now text = (carried : Carried)
+    × (IfSome now (λ t. HasCopied count carried t.history × FilesVerify (told_files t) target_secret) × (text ≡ done_line count carried))
 
 -- The text is the line of a target that doesn't verify.
 abbrev pub SaysBad : Option Told → List ℕ → Type 0

@@ -1,12 +1,13 @@
 -- What the whole command leaves.
-use Rattle.std.specs.Prelude.{◌≡◌, ℕ, IfSome}
+use Rattle.std.specs.Prelude.{◌≡◌, ℕ, IfSome, ◌⊎◌}
 use Rattle.ferry_disk.specs.Device.{told_files}
 use Rattle.ferry_disk.specs.Moments.{Between}
 use Rattle.ferry_status.specs.Devices.{Devices}
 use Rattle.ferry_status.specs.declared.status.Status.{Status}
+use Rattle.ferry_status.specs.declared.status.Status.TheVariants.{Memory}
 use Rattle.ferry_store.specs.Store.{InitLeaves}
 use Rattle.ferry_write.specs.Session.{SettlesFirst}
-use Rattle.ferry_run_drill.specs.Complete.{Completes}
+use Rattle.ferry_run_drill.specs.Complete.{EndsDone}
 use Rattle.ferry_run_drill.specs.Drill.{PrintsDrill, TellsStart}
 
 -- A source of so many archives is made in memory, and copied into a new repository in the target, which is checked. The line says that it is done, or the first
@@ -18,4 +19,4 @@ pub record DrillsTarget (count : ℕ) (before : Devices) (status : Status) (afte
   pub start : IfSome before.target.told (λ t. TellsStart (told_files t) status)
   pub first : Between before.target.told after.target.told SettlesFirst
   pub kept : Between before.target.told after.target.told InitLeaves
-  pub completes : Completes count before.target.told after.target.told status
+  pub completes : (status ≡ Memory) ⊎ EndsDone count before.target.told after.target.told status

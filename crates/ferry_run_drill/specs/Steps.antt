@@ -16,6 +16,7 @@ use Rattle.ferry_status.specs.Devices.{Written}
 use Rattle.ferry_status.specs.Output.{HasBegun}
 use Rattle.ferry_status.specs.declared.status.Status.{Status}
 use Rattle.ferry_status.specs.declared.status.Status.TheVariants as Statuses
+use Rattle.ferry_status.specs.Status.{bad_line}
 use Rattle.ferry_stops.specs.Tells.{lines_of}
 use Rattle.ferry_store.specs.Commit.{IsSettled, accepted_in}
 use Rattle.ferry_store.specs.New.{OpensNew, first_manifest}
@@ -23,7 +24,7 @@ use Rattle.ferry_store.specs.Store.{StoreFits}
 use Rattle.ferry_store.specs.declared.fault.StoreRefusal.{StoreRefusal}
 use Rattle.ferry_store.specs.declared.fault.StoreRefusal.TheVariants as Stores
 use Rattle.ferry_store.specs.declared.store.Store.{Store}
-use Rattle.ferry_run_drill.specs.Drill.{bad_line, done_line, drill_time, target_block, target_secret}
+use Rattle.ferry_run_drill.specs.Drill.{done_line, drill_time, target_block, target_secret}
 use Rattle.ferry_write.specs.Room.{behind}
 
 -- how many pieces are put before what is done is committed

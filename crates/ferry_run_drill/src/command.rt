@@ -1,5 +1,5 @@
 //! The command that copies a source of its own, and checks the copy.
-ghost use Rattle.std.specs.Prelude.{◌≡◌, ◌≤◌, ℕ, [], false, IfErr, IfOk, IfSome, MatchOption};
+ghost use Rattle.std.specs.Prelude.{◌≡◌, ◌≤◌, ℕ, [], false, IfErr, IfOk, IfSome, MatchOption, ◌⊎◌};
 ghost use Rattle.ferry_carry.specs.declared.options.Carried.{Carried};
 ghost use Rattle.ferry_check.specs.Verify.{FilesVerify};
 ghost use Rattle.ferry_disk.specs.Device.{HasCause, KeepsTold, RoseWhere, told_files};
@@ -7,7 +7,7 @@ ghost use Rattle.ferry_disk.specs.Faults.{FailedWhere};
 ghost use Rattle.ferry_disk.specs.Files.{Files};
 ghost use Rattle.ferry_disk.specs.Moments.{Between};
 ghost use Rattle.ferry_log.specs.Log.{IsUncommitted};
-ghost use Rattle.ferry_run_drill.specs.Complete.{Completes, EndsChecked, IsFinished};
+ghost use Rattle.ferry_run_drill.specs.Complete.{EndsChecked, EndsDone, IsFinished};
 ghost use Rattle.ferry_run_drill.specs.Drill.{HasBad, HasCopied, OpensAll, PrintsDrill, TellsStart, target_secret};
 ghost use Rattle.ferry_run_drill.specs.Steps.{IsUnread, PrintsLine, SendsLine};
 ghost use Rattle.ferry_status.specs.Devices.{written};
@@ -47,7 +47,7 @@ pub fn drill<D: Depot, E: Entropy, K: Sink>(
     ensures prints { PrintsDrill count (D.told target.new) (written (K.written out.old) (K.faults out.old)) result
         (written (K.written out.new) (K.faults out.new)) }
     ensures start { IfSome (D.told target.old) (λ t. TellsStart (told_files t) result) }
-    ensures completes { Completes count (D.told target.old) (D.told target.new) result }
+    ensures completes { (result ≡ Statuses.Memory) ⊎ EndsDone count (D.told target.old) (D.told target.new) result }
     ensures first { Between (D.told target.old) (D.told target.new) SettlesFirst }
     ensures kept { Between (D.told target.old) (D.told target.new) InitLeaves }
     ensures own { source_failed result ≡ false }

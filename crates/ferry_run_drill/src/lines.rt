@@ -1,6 +1,7 @@
 //! The lines of the drill.
 ghost use Rattle.std.specs.Prelude.{◌≡◌, IfOk, string_bytes};
-ghost use Rattle.ferry_run_drill.specs.Drill.{bad_line, done_line};
+ghost use Rattle.ferry_run_drill.specs.Drill.{done_line};
+ghost use Rattle.ferry_status.specs.Status.{bad_line};
 
 use ferry_carry::Carried;
 use ferry_repo::RepoFault;

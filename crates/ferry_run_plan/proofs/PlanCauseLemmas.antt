@@ -1,5 +1,5 @@
 -- Lemmas on specs/Planning.antt: what is said at a later call holds at an earlier one, and where nothing refuses, a plan is made.
-use Rattle.std.proofs.Common.{◌≡◌, ◌⊎◌, inl, inr, ℕ, List, Option, Some, None, Result, Ok, Err, IfOk, IfErr, IsSome, refl, sym, ◌∙◌, subst}
+use Rattle.std.proofs.Common.{◌≡◌, ◌⊎◌, inl, inr, ℕ, List, Option, Some, None, Result, Ok, Err, IfOk, IfErr, IsSome, refl, sym, ◌∙◌, subst, IfSome}
 use Rattle.ferry_disk.specs.Device.{Told, heard, told_files}
 use Rattle.ferry_disk.specs.Files.{Files}
 use Rattle.ferry_piece.proofs.AmongLemmas.{among_next}
@@ -23,7 +23,7 @@ use Rattle.ferry_status.specs.declared.status.Secrets.{Secrets}
 use Rattle.ferry_status.specs.declared.status.Status.{Status}
 use Rattle.ferry_status.specs.declared.status.Status.TheVariants as Statuses
 use Rattle.ferry_run_plan.proofs.PlanLemmas.{files_same, refuses_same, request_same}
-use Rattle.ferry_run_plan.specs.Planning.{CanBePlanned, IsPlan, IsPlanRefused, IsPlannedUnless, RefusesChosen, RefusesPlanning, plan_line, planned_for}
+use Rattle.ferry_run_plan.specs.Planning.{CanBePlanned, IsPlan, IsPlannedUnless, RefusesChosen, RefusesPlanning, plan_line, planned_for}
 use Rattle.ferry_run_transfer.specs.Rerun.{IsAbsentOrEqual}
 use Rattle.ferry_run_transfer.specs.Transfer.{Request, chosen_of}
 use Rattle.ferry_run_transfer.specs.TransferCauses.{IsFirstMissing, IsFound}
@@ -69,19 +69,20 @@ module _ (request : Request) (s s_now t : Told) (same : told_files s_now ≡ tol
   status_before (Statuses.Limit Limits.Item) r = chosen_before Faults.Pieces r
 
 refused_over : (request : Request) (told now target : Option Told) (status : Status) → heard now ≡ heard told
-    → IsPlanRefused request now target status → IsPlanRefused request told target status
+    → IfSome now (λ s. IfSome target (λ t. RefusesPlanning request s t status)) → IfSome told (λ s. IfSome target (λ t. RefusesPlanning request s t status))
 refused_over request None now target status same r = tt
 refused_over request (Some s) None target status same r = absurd (let no : ⊥ = cc in no)
 refused_over request (Some s) (Some n) None status same r = tt
 refused_over request (Some s) (Some n) (Some t) status same r = status_before request s n t (files_same s n same) status r
 
 pub refused_before : (secrets : Secrets) (block : ℕ) (names : List (List ℕ)) (told now target : Option Told) (result : Result Planned Status)
-    → heard now ≡ heard told → IfErr result (IsPlanRefused (planned_for secrets block names now) now target)
-    → IfErr result (IsPlanRefused (planned_for secrets block names told) told target)
+    → heard now ≡ heard told → IfErr result (λ status. IfSome now (λ s. IfSome target (λ t. RefusesPlanning (planned_for secrets block names now) s t status)))
+    → IfErr result (λ status. IfSome told (λ s. IfSome target (λ t. RefusesPlanning (planned_for secrets block names told) s t status)))
 refused_before secrets block names told now target (Ok planned) same r = tt
 refused_before secrets block names told now target (Err status) same r =
     refused_over (planned_for secrets block names told) told now target status same
-    (subst (λ (request : Request). IsPlanRefused request now target status) (request_same secrets block names told now same) r)
+    (subst (λ (request : Request). IfSome now (λ s. IfSome target (λ t. RefusesPlanning request s t status))) (request_same secrets block names told now same)
+    r)
 
 both_over : (told now target : Option Told) (P : Files → Files → Type 0) → heard now ≡ heard told → WhereBoth now target P → WhereBoth told target P
 both_over None now target P same p = tt

@@ -27,7 +27,7 @@ use Rattle.ferry_status.specs.declared.status.Refusal.TheVariants as Refusals
 use Rattle.ferry_status.specs.declared.status.Secrets.{Secrets}
 use Rattle.ferry_status.specs.declared.status.Status.{Status}
 use Rattle.ferry_status.specs.declared.status.Status.TheVariants as Statuses
-use Rattle.ferry_run_plan.specs.Planning.{IsPlan, IsPlanRefused, PlansTransfer, RefusesChosen, RefusesPlanning}
+use Rattle.ferry_run_plan.specs.Planning.{IsPlan, PlansTransfer, RefusesChosen, RefusesPlanning}
 use Rattle.ferry_run_plan.specs.Planning.{plan_line, plan_status, planned_for}
 use Rattle.ferry_run_transfer.proofs.RefusedLemmas.{names_found}
 use Rattle.ferry_run_transfer.specs.Transfer.{Request, chosen_of}
@@ -89,7 +89,7 @@ abbrev pub IsUnfound : RepoState → List (List ℕ) → CarryFault → Type 0
 IsUnfound repo names fault = (fault ≡ Carry.Memory) ⊎ ((place : ℕ) × ((name : List ℕ)
     × (IsMissingName repo.manifest names place × ((slice_get names place ≡ Some name) × (fault ≡ Carry.NotFound name)))))
 
-pub unplanned_memory : (request : Request) (source target : Option Told) → IsPlanRefused request source target Statuses.Memory
+pub unplanned_memory : (request : Request) (source target : Option Told) → IfSome source (λ s. IfSome target (λ t. RefusesPlanning request s t Statuses.Memory))
 unplanned_memory request None target = tt
 unplanned_memory request (Some s) None = tt
 unplanned_memory request (Some s) (Some t) = tt
@@ -200,7 +200,7 @@ module _ (request : Request) (s t : Told) (source target : RepoState) (opens : O
 pub chosen_refused : (secrets : Secrets) (block : ℕ) (names : List (List ℕ)) (source target : RepoState) (told a b : Option Told)
     (chosen : List (List ℕ)) (fault : PlanFault) → Opens told secrets.source source → Opens a secrets.target target → heard b ≡ heard a
     → RefusesPlan told source block b target chosen fault → chosen ≡ chosen_of names source.manifest
-    → IsPlanRefused (planned_for secrets block names told) told a (plan_status fault)
+    → IfSome told (λ s. IfSome a (λ t. RefusesPlanning (planned_for secrets block names told) s t (plan_status fault)))
 chosen_refused secrets block names source target None a b chosen fault opens target_opens same r is = tt
 chosen_refused secrets block names source target (Some s) None b chosen fault opens target_opens same r is = tt
 chosen_refused secrets block names source target (Some s) (Some t) None chosen fault opens target_opens same r is = absurd (let no : ⊥ = cc in no)
@@ -219,20 +219,23 @@ plan_found secrets block names source (Some t) chosen opens is found =
     names_found secrets (record { block = block; checkpoint = 1; timestamp = None }) names source (Some t) chosen opens is found
 
 pub unopened_target : (request : Request) (source target : Option Told) (fault : RepoFault) → IfSome source (λ s. IsFound request (told_files s))
-    → IfSome target (λ t. RefusesRepo (told_files t) request.secrets.target fault) → IsPlanRefused request source target (target_status fault)
+    → IfSome target (λ t. RefusesRepo (told_files t) request.secrets.target fault)
+    → IfSome source (λ s. IfSome target (λ t. RefusesPlanning request s t (target_status fault)))
 unopened_target request None target fault found r = tt
 unopened_target request (Some s) None fault found r = tt
 unopened_target request (Some s) (Some t) fault found r = by_target (RefusesPlanning request s t) fault (λ files. (files, (found, r))) tt tt
 
 pub unopened_source : (request : Request) (source target : Option Told) (fault : RepoFault)
-    → IfSome source (λ s. RefusesRepo (told_files s) request.secrets.source fault) → IsPlanRefused request source target (repo_status fault)
+    → IfSome source (λ s. RefusesRepo (told_files s) request.secrets.source fault)
+    → IfSome source (λ s. IfSome target (λ t. RefusesPlanning request s t (repo_status fault)))
 unopened_source request None target fault r = tt
 unopened_source request (Some s) None fault r = tt
 unopened_source request (Some s) (Some t) fault r = by_repo (RefusesPlanning request s t) fault (λ files. (files, inl r)) tt tt
 
 pub unfound_refused : (secrets : Secrets) (block : ℕ) (names : List (List ℕ)) (source : RepoState) (told target : Option Told)
     (chosen : List (List ℕ)) (fault : CarryFault) → Opens told secrets.source source → IsUnfound source chosen fault
-    → chosen ≡ chosen_of names source.manifest → IsPlanRefused (planned_for secrets block names told) told target (carry_status fault)
+    → chosen ≡ chosen_of names source.manifest
+    → IfSome told (λ s. IfSome target (λ t. RefusesPlanning (planned_for secrets block names told) s t (carry_status fault)))
 unfound_refused secrets block names source None target chosen fault opens r is = tt
 unfound_refused secrets block names source (Some s) None chosen fault opens r is = tt
 unfound_refused secrets block names source (Some s) (Some t) chosen fault opens (inl memory) is =

@@ -1,6 +1,6 @@
 -- What the command that plans a transfer prints, and what it says where it makes no plan.
-use Rattle.std.specs.Prelude.{◌≡◌, ◌⊎◌, ◌++◌, ℕ, List, codes, decimal, Option, Some, None, IfSome, option_map}
-use Rattle.ferry_disk.specs.Device.{KeptWhere, Rose, Told, WritesSome, heard, told_files}
+use Rattle.std.specs.Prelude.{◌≡◌, ◌⊎◌, ◌++◌, ℕ, List, codes, decimal, Option, Some, None, IfSome}
+use Rattle.ferry_disk.specs.Device.{KeptWhere, Told, heard, told_files}
 use Rattle.ferry_disk.specs.Files.{Files}
 use Rattle.ferry_piece.specs.Gather.{IsAmong}
 use Rattle.ferry_plan.specs.Plan.{HasNoLong, Plans, RefusesPlan, WhereBoth}
@@ -11,13 +11,13 @@ use Rattle.ferry_repo.specs.Fault.{IsOfFiles}
 use Rattle.ferry_repo.specs.Opening.{OpensFilesTo, RefusesRepo, RepoState}
 use Rattle.ferry_repo.specs.Whole.{HasWhole, WholeArchive}
 use Rattle.ferry_status.specs.Devices.{Devices, Written}
-use Rattle.ferry_status.specs.Output.{HasBegun}
 use Rattle.ferry_status.specs.Status.{repo_status, target_failed, target_status}
 use Rattle.ferry_status.specs.declared.status.Secrets.{Secrets}
 use Rattle.ferry_status.specs.declared.status.Limit.TheVariants as Limits
 use Rattle.ferry_status.specs.declared.status.Refusal.TheVariants.{Repo}
 use Rattle.ferry_status.specs.declared.status.Status.{Status}
 use Rattle.ferry_status.specs.declared.status.Status.TheVariants as Statuses
+use Rattle.ferry_status.specs.Output.{PrintsText}
 use Rattle.ferry_run_transfer.specs.Rerun.{IsAbsentOrEqual, LacksName}
 use Rattle.ferry_run_transfer.specs.Transfer.{Request, asked, chosen_of}
 use Rattle.ferry_run_transfer.specs.TransferCauses.{IsFirstMissing, IsFound}
@@ -61,17 +61,6 @@ RefusesPlanning request source target Statuses.TargetDevice = Unit {0}
 RefusesPlanning request source target Statuses.Memory = Unit {0}
 RefusesPlanning request source target status = ⊥
 
--- The same, where both devices tell their files.
-abbrev pub IsPlanRefused : Request → Option Told → Option Told → Status → Type 0
-IsPlanRefused request source target status = IfSome source (λ s. IfSome target (λ t. RefusesPlanning request s t status))
-
--- A text was written, all of it, or so much as the output or memory allowed.
-abbrev pub Sends : List ℕ → Written → Status → Written → Type 0
-Sends text before Statuses.Done after = (after.bytes ≡ option_map (λ w. w ++ text) before.bytes) × (after.faults ≡ before.faults)
-Sends text before Statuses.OutputDevice after = WritesSome before.bytes text after.bytes × Rose before.faults after.faults
-Sends text before Statuses.Memory after = HasBegun (λ sent. sent ≡ text) before after
-Sends text before status after = ⊥
-
 -- no plan was made
 abbrev pub IsNoPlan : Status → Type 0
 IsNoPlan Statuses.Done = ⊥
@@ -81,11 +70,11 @@ IsNoPlan Statuses.EntropyDevice = ⊥
 IsNoPlan Statuses.OutputDevice = ⊥
 IsNoPlan status = Unit {0}
 
--- The plan was made, and its line written; or it is refused, nothing was written, and the status says why.
+-- The plan was made, and its line written; or none is made, nothing was written, and where both devices tell their files the status says why.
 abbrev pub PrintsPlan : Request → Option Told → Option Told → Written → Status → Written → Type 0
 PrintsPlan request source target before status after =
-    ((text : List ℕ) × (WhereBoth source target (λ s t. IsPlan request s t text) × Sends text before status after))
-    ⊎ ((after ≡ before) × (IsNoPlan status × IsPlanRefused request source target status))
+    ((text : List ℕ) × (WhereBoth source target (λ s t. IsPlan request s t text) × PrintsText (λ sent. sent ≡ text) before status after))
+    ⊎ ((after ≡ before) × (IsNoPlan status × IfSome source (λ s. IfSome target (λ t. RefusesPlanning request s t status))))
 
 -- What a transfer of the chosen archives would put is counted and printed, or that is refused. The target is only read, and no random bytes are used.
 pub record PlansTransfer (request : Request) (before : Devices) (status : Status) (after : Devices) : Type 0 where

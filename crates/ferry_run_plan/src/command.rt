@@ -5,7 +5,8 @@ ghost use Rattle.ferry_plan.specs.Plan.{WhereBoth};
 ghost use Rattle.ferry_repo.specs.Opening.{FitsRepo, OpensFilesTo, cached_in, repo_view};
 ghost use Rattle.ferry_status.specs.Devices.{written};
 ghost use Rattle.ferry_status.specs.Status.{source_failed, target_failed};
-ghost use Rattle.ferry_run_plan.specs.Planning.{IsNoPlan, IsPlan, IsPlanRefused, PrintsPlan, Sends, plan_line, plan_status, planned_for};
+ghost use Rattle.ferry_status.specs.Output.{PrintsText};
+ghost use Rattle.ferry_run_plan.specs.Planning.{IsNoPlan, IsPlan, PrintsPlan, RefusesPlanning, plan_line, plan_status, planned_for};
 ghost use Rattle.ferry_run_transfer.specs.Transfer.{chosen_of};
 
 use ferry_base::Bytes;
@@ -64,8 +65,8 @@ fn count<S: Shelf, T: Shelf>(
     requires block { (64 ≤ block) × (block ≤ 8388608) }
     ensures planned { IfOk result (λ planned. WhereBoth (S.told source.old) (T.told target.old) (λ s t.
         IsPlan (planned_for secrets.now block names.now (S.told source.old)) s t (plan_line planned))) }
-    ensures refused { IfErr result
-        (IsPlanRefused (planned_for secrets.now block names.now (S.told source.old)) (S.told source.old) (T.told target.old)) }
+    ensures refused { IfErr result (λ status. IfSome (S.told source.old) (λ s. IfSome (T.told target.old) (λ t.
+        RefusesPlanning (planned_for secrets.now block names.now (S.told source.old)) s t status))) }
     ensures none { IfErr result IsNoPlan }
     ensures same { KeepsTold source_failed (S.told source.old) (S.told source.new) result }
     ensures cause { HasCause source_failed (S.faults source.old) (S.faults source.new) result }
@@ -94,8 +95,8 @@ fn count_from<S: Shelf, T: Shelf>(
     requires source_fits { IfSome (S.told source.old) (λ t. FitsRepo (told_files t) (repo_view repo.old) (cached_in repo.old)) }
     ensures planned { IfOk result (λ planned. WhereBoth (S.told source.old) (T.told target.old) (λ s t.
         IsPlan (planned_for secrets.now block names.now (S.told source.old)) s t (plan_line planned))) }
-    ensures refused { IfErr result
-        (IsPlanRefused (planned_for secrets.now block names.now (S.told source.old)) (S.told source.old) (T.told target.old)) }
+    ensures refused { IfErr result (λ status. IfSome (S.told source.old) (λ s. IfSome (T.told target.old) (λ t.
+        RefusesPlanning (planned_for secrets.now block names.now (S.told source.old)) s t status))) }
     ensures none { IfErr result IsNoPlan }
     ensures same { KeepsTold source_failed (S.told source.old) (S.told source.new) result }
     ensures cause { HasCause source_failed (S.faults source.old) (S.faults source.new) result }
@@ -125,8 +126,9 @@ fn count_chosen<S: Shelf, T: Shelf>(
     ensures planned { (names : List (List ℕ)) → chosen.now ≡ chosen_of names (repo_view repo.old).manifest → IfOk result (λ planned.
         WhereBoth (S.told source.old) (T.told target.old) (λ s t.
         IsPlan (planned_for secrets.now block names (S.told source.old)) s t (plan_line planned))) }
-    ensures refused { (names : List (List ℕ)) → chosen.now ≡ chosen_of names (repo_view repo.old).manifest → IfErr result
-        (IsPlanRefused (planned_for secrets.now block names (S.told source.old)) (S.told source.old) (T.told target.old)) }
+    ensures refused { (names : List (List ℕ)) → chosen.now ≡ chosen_of names (repo_view repo.old).manifest → IfErr result (λ status.
+        IfSome (S.told source.old) (λ s. IfSome (T.told target.old) (λ t.
+        RefusesPlanning (planned_for secrets.now block names (S.told source.old)) s t status))) }
     ensures none { IfErr result IsNoPlan }
     ensures same { KeepsTold source_failed (S.told source.old) (S.told source.new) result }
     ensures cause { HasCause source_failed (S.faults source.old) (S.faults source.new) result }
@@ -162,7 +164,7 @@ fn of_plan(fault: PlanFault) -> Status
 
 /// Prints the line of a plan.
 fn print<K: Sink>(alloc: Global, planned: &Planned, out: &mut K) -> Status
-    ensures sent { Sends (plan_line planned.now) (written (K.written out.old) (K.faults out.old)) result
+    ensures sent { PrintsText (λ sent. sent ≡ plan_line planned.now) (written (K.written out.old) (K.faults out.old)) result
         (written (K.written out.new) (K.faults out.new)) }
 {
     let line = match plan_line(alloc, planned) {

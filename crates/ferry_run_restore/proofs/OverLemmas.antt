@@ -16,7 +16,7 @@ use Rattle.ferry_tree.specs.Restoring.{AreRead, PartOfArchive, PartOfFile, PartO
 use Rattle.ferry_tree.specs.Shapes.{chunks_of}
 use Rattle.ferry_tree.specs.declared.placing.Counts.{Counts}
 use Rattle.ferry_view.specs.Steps.{Begins}
-use Rattle.ferry_run_restore.specs.Restoring.{Leaves, RefusesOpened, RefusesRestoring, Restores}
+use Rattle.ferry_run_restore.specs.Restoring.{RefusesOpened, RefusesRestoring, WhereOpen}
 use Rattle.ferry_run_restore.specs.declared.restored.Restored.{Restored}
 
 module _ (a b : Option Told) (same : heard b ≡ heard a) (repo : RepoState) where
@@ -101,12 +101,12 @@ opened_fits before now repo secret opens same cached =
 module _ (a b : Option Told) (same : heard b ≡ heard a) (repo : RepoState) (secret : Secret) (opens : IfSome b (λ t. OpensFilesTo (told_files t) secret repo))
     (name : List ℕ) (before after : Option Planted) where
   pub restored_over : (result : Result Counts Restored) → IfOk result (λ counts. RestoresArchive a repo name before after counts)
-      → IfOk result (λ counts. Restores b secret name before after counts)
+      → IfOk result (λ counts. WhereOpen b secret (λ repo. RestoresArchive b repo name before after counts))
   restored_over (Ok counts) r = (repo, (opens, restores_over a b same repo name before after counts r))
   restored_over (Err ended) r = tt
 
   pub leaves_over : (result : Result Counts Restored) → OnErr result ((after ≡ before) ⊎ PartOfArchive a repo name before after)
-      → OnErr result (Leaves b secret name before after)
+      → OnErr result ((after ≡ before) ⊎ WhereOpen b secret (λ repo. PartOfArchive b repo name before after))
   leaves_over (Ok counts) r = tt
   leaves_over (Err ended) (inl same_tree) = inl same_tree
   leaves_over (Err ended) (inr part) = inr (repo, (opens, archive_over a b same repo name before after part))

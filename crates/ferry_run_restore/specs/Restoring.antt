@@ -23,39 +23,23 @@ use Rattle.ferry_run_restore.specs.declared.restored.Restored.TheVariants as End
 abbrev pub WhereOpen : Option Told → Secret → (RepoState → Type 0) → Type 0
 WhereOpen told secret Holds = (repo : RepoState) × (IfSome told (λ t. OpensFilesTo (told_files t) secret repo) × Holds repo)
 
--- The source opens, and the tree, which was empty, is that of the archive of the name, which has so many items of each kind.
-abbrev pub Restores : Option Told → Secret → List ℕ → Option Planted → Option Planted → Counts → Type 0
-Restores told secret name before after counts = WhereOpen told secret (λ repo. RestoresArchive told repo name before after counts)
-
--- The tree is as it was, or the source opens and the tree has a part of the archive.
-abbrev pub Leaves : Option Told → Secret → List ℕ → Option Planted → Option Planted → Type 0
-Leaves told secret name before after = (after ≡ before) ⊎ WhereOpen told secret (λ repo. PartOfArchive told repo name before after)
-
 -- What a status says of an opened source, where the archive isn't restored to its end.
 abbrev pub RefusesOpened : Files → RepoState → List ℕ → Option Planted → Restored → Type 0
-RefusesOpened files repo name before Ends.Done = ⊥
-RefusesOpened files repo name before (Ends.Usage word) = ⊥
 RefusesOpened files repo name before Ends.Memory = Unit {0}
 RefusesOpened files repo name before Ends.SourceDevice = Unit {0}
-RefusesOpened files repo name before Ends.OutputDevice = ⊥
 RefusesOpened files repo name before (Ends.Source fault) = IsOfFiles fault × RefusesArchive files repo name before (Faults.Source fault)
 RefusesOpened files repo name before (Ends.Place path fault) = RefusesArchive files repo name before (Faults.Place path fault)
 RefusesOpened files repo name before (Ends.NotFound what) = (what ≡ name) × RefusesArchive files repo name before Faults.NotFound
 RefusesOpened files repo name before Ends.TreeDevice = Unit {0}
 RefusesOpened files repo name before Ends.NotEmpty = RefusesArchive files repo name before Faults.NotEmpty
+RefusesOpened files repo name before ended = ⊥
 
 -- What a status says of a source that doesn't open.
 abbrev pub RefusesOpening : Files → Secret → Restored → Type 0
-RefusesOpening files secret Ends.Done = ⊥
-RefusesOpening files secret (Ends.Usage word) = ⊥
 RefusesOpening files secret Ends.Memory = Unit {0}
 RefusesOpening files secret Ends.SourceDevice = Unit {0}
-RefusesOpening files secret Ends.OutputDevice = ⊥
 RefusesOpening files secret (Ends.Source fault) = IsOfFiles fault × RefusesRepo files secret fault
-RefusesOpening files secret (Ends.Place path fault) = ⊥
-RefusesOpening files secret (Ends.NotFound what) = ⊥
-RefusesOpening files secret Ends.TreeDevice = ⊥
-RefusesOpening files secret Ends.NotEmpty = ⊥
+RefusesOpening files secret ended = ⊥
 
 -- What a status says where the archive isn't restored to its end: the source doesn't open, or it does, and the archive is refused so.
 abbrev pub RefusesRestoring : Option Told → Secret → List ℕ → Option Planted → Restored → Type 0
@@ -70,11 +54,14 @@ Sends text before Ends.Memory after =
     ((after.bytes ≡ before.bytes) ⊎ WritesSome before.bytes text after.bytes) × (after.faults ≡ before.faults)
 Sends text before ended after = ⊥
 
--- The archive is restored to its end, and its line written; or the tree has a part of it at most, nothing was written, and the status says why.
+-- The source opens, the tree, which was empty, is that of the archive of the name, which has so many items of each kind, and its line is written; or nothing
+-- was written, the tree is as it was, or has a part of the archive of an opened source, and the status says why.
 abbrev pub Answers : Option Told → Secret → List ℕ → Option Planted → Written → Restored → Option Planted → Written → Type 0
 Answers told secret name before output ended after printed =
-    ((counts : Counts) × (Restores told secret name before after counts × Sends (counts_line counts) output ended printed))
-    ⊎ ((printed ≡ output) × (Leaves told secret name before after × RefusesRestoring told secret name before ended))
+    ((counts : Counts) × (WhereOpen told secret (λ repo. RestoresArchive told repo name before after counts)
+    × Sends (counts_line counts) output ended printed))
+    ⊎ ((printed ≡ output) × (((after ≡ before) ⊎ WhereOpen told secret (λ repo. PartOfArchive told repo name before after))
+    × RefusesRestoring told secret name before ended))
 
 -- What the words say is done, but for the fault line: the archive of their name is restored so far; or they are wrong, and nothing is touched.
 abbrev pub DoesWords : Result (List ℕ) ℕ → Option Told → Secret → Option Planted → Written → Restored → Option Planted → Written → Type 0

@@ -3,7 +3,7 @@ ghost use Rattle.std.specs.Prelude.{◌≡◌, ◌⊎◌, ℕ, map, string_bytes
 ghost use Rattle.ferry_disk.specs.Device.{HasCause, KeepsTold, KeptWhere, RoseWhere, heard, told_files};
 ghost use Rattle.ferry_repo.specs.Opening.{FitsRepo, cached_in, repo_view};
 ghost use Rattle.ferry_run_restore.specs.Restored.{counts_line, source_failed, tree_failed};
-ghost use Rattle.ferry_run_restore.specs.Restoring.{Answers, DoesWords, IsStatusOf, Leaves, RefusesOpened, RefusesRestoring, Restores, Runs, Sends};
+ghost use Rattle.ferry_run_restore.specs.Restoring.{Answers, DoesWords, IsStatusOf, RefusesOpened, RefusesRestoring, Runs, Sends, WhereOpen};
 ghost use Rattle.ferry_status.specs.Devices.{written};
 ghost use Rattle.ferry_tree.specs.Restoring.{PartOfArchive, RestoresArchive};
 ghost use Rattle.ferry_words.specs.Restore.{restored_of};
@@ -104,8 +104,10 @@ fn restore_from<S: Shelf, T: Tree>(
     source: &mut S,
     tree: &mut T,
 ) -> Result<Counts, Restored>
-    ensures restored { IfOk result (λ counts. Restores (S.told source.old) secret.now name.now (T.told tree.old) (T.told tree.new) counts) }
-    ensures leaves { OnErr result (Leaves (S.told source.old) secret.now name.now (T.told tree.old) (T.told tree.new)) }
+    ensures restored { IfOk result (λ counts. WhereOpen (S.told source.old) secret.now (λ repo.
+        RestoresArchive (S.told source.old) repo name.now (T.told tree.old) (T.told tree.new) counts)) }
+    ensures leaves { OnErr result ((T.told tree.new ≡ T.told tree.old) ⊎ WhereOpen (S.told source.old) secret.now (λ repo.
+        PartOfArchive (S.told source.old) repo name.now (T.told tree.old) (T.told tree.new))) }
     ensures refused { IfErr result (RefusesRestoring (S.told source.old) secret.now name.now (T.told tree.old)) }
     ensures used { IfErr result (λ ended. (n : ℕ) → ended ≡ Restored.Usage n → ⊥) }
     ensures same { KeepsTold source_failed (S.told source.old) (S.told source.new) result }

@@ -18,14 +18,15 @@ use Rattle.ferry_repo.specs.Fault.{IsOfFiles}
 use Rattle.ferry_repo.specs.Opening.{OpensFilesTo, RefusesRepo, RepoState, repo_view}
 use Rattle.ferry_repo.specs.declared.fault.RepoFault.{RepoFault}
 use Rattle.ferry_repo.specs.declared.fault.RepoFault.TheVariants as Repos
-use Rattle.ferry_run_tag.proofs.ShowLemmas.{lie_before}
-use Rattle.ferry_run_tag.specs.Tag.{TagsDone, Tagging, IsTaggedUnless, IsTaggingRefused, IsReadyToTag, RefusesTags, RefusesOpened}
-use Rattle.ferry_run_tag.specs.Tag.{RefusesStore}
+use Rattle.ferry_run_tag.proofs.ShowLemmas.{Tagging, lie_before}
+use Rattle.ferry_run_tag.specs.Tag.{BreaksNew, LimitsTagging, RefusesTags, TagsDone}
 use Rattle.ferry_run_tag.specs.Steps.{GetsTags}
 use Rattle.ferry_status.specs.Status.{carry_status, target_status}
 use Rattle.ferry_status.specs.Telling.{RefusesTelling}
 use Rattle.ferry_status.specs.declared.status.Status.{Status}
 use Rattle.ferry_status.specs.declared.status.Status.TheVariants as Statuses
+use Rattle.ferry_status.specs.Opened.{IsDoneUnless, OpensNumbered, OpensWith, RefusesChange}
+use Rattle.ferry_status.specs.Devices.{IsRefusedBy}
 use Rattle.ferry_stops.specs.Counters.{IsNonce}
 use Rattle.ferry_store.specs.Causes.{StopsAt}
 use Rattle.ferry_store.specs.Store.{OpenFits, OpensFound, RefusesOpen}
@@ -34,11 +35,13 @@ use Rattle.ferry_store.specs.declared.fault.StoreRefusal.TheVariants as Stores
 use Rattle.ferry_store.specs.declared.store.Store.{Store}
 use Rattle.ferry_write.specs.Script.{AllDone}
 use Rattle.ferry_write.specs.declared.fault.WriteFault.TheVariants as Writes
+use Rattle.ferry_check.specs.Report.{ArchiveRead, AreRead}
 
 -- ---- why archives aren't tagged
 
 pub unopened_refused : (asked : Tagging) (before now : Option Told) (refusal : StoreRefusal)
-    → IfSome before (λ t. RefusesOpen asked.secret (told_files t) refusal) → RefusesTags asked before now (target_fault refusal)
+    → IfSome before (λ t. RefusesOpen asked.secret (told_files t) refusal)
+    → RefusesChange asked.secret (RefusesTags asked.timestamp now) before (target_fault refusal)
 unopened_refused asked None now refusal refused = tt
 unopened_refused asked (Some t) now refusal refused = λ begun. inl (refusal, (refl, refused))
 
@@ -46,7 +49,7 @@ unopened_refused asked (Some t) now refusal refused = λ begun. inl (refusal, (r
 pub untagged_refused : (asked : Tagging) (store : Store) (a b c : Option Told) (fault : CarryFault)
     → IfSome a (λ t. OpensFilesTo (told_files t) asked.secret (repo_view store.repo)) → Between a b (λ h g. AllDone h g × OpenFits store h g)
     → IfSome b (λ t. RefusesTagging (told_files t) (repo_view store.repo) (time_of asked.timestamp (repo_view store.repo).manifest) c fault)
-    → RefusesTags asked a c fault
+    → RefusesChange asked.secret (RefusesTags asked.timestamp c) a fault
 untagged_refused asked store None b c fault opens opened refused = tt
 untagged_refused asked store (Some t) b c fault opens opened refused = λ begun.
     let repo = repo_view store.repo in
@@ -57,7 +60,7 @@ untagged_refused asked store (Some t) b c fault opens opened refused = λ begun.
     inr (record {
       repo = repo;
       opens = opens;
-      refuses = tag_refused_same (files_now opened.0.history) (told_files t) repo time c fault
+      holds = tag_refused_same (files_now opened.0.history) (told_files t) repo time c fault
           (lie_before asked store t.history opened.0.history opens false o) refused_there;
     })
 
@@ -79,14 +82,15 @@ telling_refuses asked start now repo Stores.TooLarge refused = absurd refused
 telling_refuses asked start now repo Stores.Entropy refused = absurd refused
 
 pub untold_refused : (asked : Tagging) (count : ℕ) (a b c : Option Told) (refusal : StoreRefusal)
-    → Between a b (λ h g. AllDone h g × GetsTags asked count h g) → RefusesTelling refusal → RefusesTags asked a c (target_fault refusal)
+    → Between a b (λ h g. AllDone h g × GetsTags asked.secret count h g) → RefusesTelling refusal
+    → RefusesChange asked.secret (RefusesTags asked.timestamp c) a (target_fault refusal)
 untold_refused asked count None b c refusal tagged refused = tt
 untold_refused asked count (Some t) b c refusal tagged refused = λ begun.
     let tags = tagged.2.1 begun in
     inr (record {
       repo = tags.repo;
       opens = tags.opens;
-      refuses = telling_refuses asked (told_files t) c tags.repo refusal refused;
+      holds = telling_refuses asked (told_files t) c tags.repo refusal refused;
     })
 
 -- a line that isn't told is no refusal of what was asked for
@@ -104,9 +108,11 @@ untold_kept Stores.Entropy refused work = refused
 -- ---- where nothing refuses
 
 -- what is asked is there
-module _ (asked : Tagging) (start : Files) (now : Told) (ready : IsReadyToTag asked start) where
+module _ (asked : Tagging) (start : Files) (now : Told) (ready : OpensNumbered asked.secret start)
+    (reads : List ArchiveRead) (are_read : AreRead start ready.repo ready.repo.manifest.archives reads) where
   opened_ends : (fault : RepoFault) → RefusesRepo start asked.secret fault
-      → IsTaggedUnless asked ready.repo start now.history.start (told_files now) (target_status fault)
+      → IsDoneUnless (LimitsTagging asked.timestamp ready.repo start now.history.start (told_files now)) (BreaksNew start ready.repo (told_files now))
+      (target_status fault)
   opened_ends Repos.NoCommit refused = absurd (repo_apart start asked.secret ready.repo Repos.NoCommit ready.opens tt refused)
   opened_ends (Repos.Damaged segment at) refused = absurd (repo_apart start asked.secret ready.repo (Repos.Damaged segment at) ready.opens tt refused)
   opened_ends (Repos.Config cause) refused = absurd (repo_apart start asked.secret ready.repo (Repos.Config cause) ready.opens tt refused)
@@ -124,7 +130,8 @@ module _ (asked : Tagging) (start : Files) (now : Told) (ready : IsReadyToTag as
   opened_ends Repos.Memory refused = tt
 
   begun_ends : (refusal : StoreRefusal) → RefusesOpen asked.secret start refusal
-      → IsTaggedUnless asked ready.repo start now.history.start (told_files now) (carry_status (target_fault refusal))
+      → IsDoneUnless (LimitsTagging asked.timestamp ready.repo start now.history.start (told_files now)) (BreaksNew start ready.repo (told_files now))
+      (carry_status (target_fault refusal))
   begun_ends (Stores.Repo fault) refused = opened_ends fault refused
   begun_ends (Stores.Write Writes.Device) refused = tt
   begun_ends (Stores.Write Writes.Memory) refused = tt
@@ -143,13 +150,15 @@ module _ (asked : Tagging) (start : Files) (now : Told) (ready : IsReadyToTag as
   -- the record and the stream of each archive read
   all_read : (fault : RepoFault) → IsOfFiles fault → RefusesRefs start ready.repo fault → ⊥
   all_read fault of refused =
-      refs_apart start ready.repo [] _ fault (record { reads = ready.reads; are_read = ready.are_read; count_is = refl }) of refused
+      refs_apart start ready.repo [] _ fault (record { reads = reads; are_read = are_read; count_is = refl }) of refused
 
   abbrev Refuses : CarryFault → Type 0
   Refuses fault = RefusesTagging start ready.repo (time_of asked.timestamp ready.repo.manifest) (Some now) fault
 
   abbrev Ends : CarryFault → Type 0
-  Ends fault = IsTaggedUnless asked ready.repo start now.history.start (told_files now) (carry_status fault)
+  Ends fault =
+      IsDoneUnless (LimitsTagging asked.timestamp ready.repo start now.history.start (told_files now)) (BreaksNew start ready.repo (told_files now))
+      (carry_status fault)
 
   tagging_read : (fault : RepoFault) → IsOfFiles fault × RefusesRefs start ready.repo fault → ⊥
   tagging_read fault refused = all_read fault refused.0 refused.1
@@ -190,22 +199,31 @@ module _ (asked : Tagging) (start : Files) (now : Told) (ready : IsReadyToTag as
   tagging_ends (Carry.NotFound name) refused = absurd refused
   tagging_ends Carry.Pieces refused = absurd refused
 
-  refused_ends : (fault : CarryFault) → RefusesStore asked start fault ⊎ RefusesOpened asked start (Some now) fault
-      → IsTaggedUnless asked ready.repo start now.history.start (told_files now) (carry_status fault)
+  refused_ends : (fault : CarryFault)
+      → ((refusal : StoreRefusal) × ((fault ≡ target_fault refusal) × RefusesOpen asked.secret start refusal)) ⊎ OpensWith asked.secret
+      (λ files repo. RefusesTags asked.timestamp (Some now) files repo fault) start
+      → IsDoneUnless (LimitsTagging asked.timestamp ready.repo start now.history.start (told_files now)) (BreaksNew start ready.repo (told_files now))
+      (carry_status fault)
   refused_ends fault (inl refused) =
-      subst (λ (f : CarryFault). IsTaggedUnless asked ready.repo start now.history.start (told_files now) (carry_status f)) (sym refused.1.0)
+      subst (λ (f : CarryFault). IsDoneUnless (LimitsTagging asked.timestamp ready.repo start now.history.start (told_files now))
+      (BreaksNew start ready.repo (told_files now)) (carry_status f)) (sym refused.1.0)
       (begun_ends refused.0 refused.1.1)
   refused_ends fault (inr refused) =
       tagging_ends fault
       (subst (λ (r : RepoState). RefusesTagging start r (time_of asked.timestamp r.manifest) (Some now) fault)
-      (one_repo start asked.secret refused.repo ready.repo refused.opens ready.opens) refused.refuses)
+      (one_repo start asked.secret refused.repo ready.repo refused.opens ready.opens) refused.holds)
 
 pub tags_done : (asked : Tagging) (before now : Option Told) (status : Status)
-    → (status ≡ Statuses.Done) ⊎ IsTaggingRefused asked before now status → TagsDone asked before now status
+    → (status ≡ Statuses.Done) ⊎ IsRefusedBy carry_status (RefusesChange asked.secret (RefusesTags asked.timestamp now) before) status
+    → TagsDone asked.secret asked.timestamp before now status
 tags_done asked None now status end = tt
 tags_done asked (Some b) None status end = tt
-tags_done asked (Some b) (Some t) status (inl done) = λ begun ready.
-    subst (IsTaggedUnless asked ready.repo (told_files b) t.history.start (told_files t)) (sym done) tt
-tags_done asked (Some b) (Some t) status (inr refused) = λ begun ready.
-    subst (IsTaggedUnless asked ready.repo (told_files b) t.history.start (told_files t)) (sym refused.status_is)
-    (refused_ends asked (told_files b) t ready refused.fault (refused.refuses begun))
+tags_done asked (Some b) (Some t) status (inl done) = λ begun ready reads are_read.
+    subst (IsDoneUnless (LimitsTagging asked.timestamp ready.repo (told_files b) t.history.start (told_files t))
+    (BreaksNew (told_files b) ready.repo (told_files t)))
+    (sym done) tt
+tags_done asked (Some b) (Some t) status (inr refused) = λ begun ready reads are_read.
+    subst (IsDoneUnless (LimitsTagging asked.timestamp ready.repo (told_files b) t.history.start (told_files t))
+    (BreaksNew (told_files b) ready.repo (told_files t)))
+    (sym refused.status_is)
+    (refused_ends asked (told_files b) t ready reads are_read refused.fault (refused.refuses begun))

@@ -13,20 +13,20 @@ use Rattle.ferry_piece.proofs.WorkLemmas.{works_both, works_err, works_ok, works
 use Rattle.ferry_piece.specs.Fault.{target_fault}
 use Rattle.ferry_piece.specs.Work.{Works}
 use Rattle.ferry_piece.specs.declared.fault.CarryFault.{CarryFault}
-use Rattle.ferry_piece.specs.declared.fault.CarryFault.TheVariants as Carry
 use Rattle.ferry_refs.proofs.OldLemmas.{same_count}
 use Rattle.ferry_refs.proofs.SameLemmas.{are_read_same}
 use Rattle.ferry_refs.proofs.TagSameLemmas.{freed_same, old_same}
 use Rattle.ferry_refs.proofs.NeedlessLemmas.{needless_left}
 use Rattle.ferry_refs.proofs.TaggedLemmas.{standing_left, tagged_left}
 use Rattle.ferry_refs.specs.Deleting.{LeavesCommitted, time_of, with_deleted}
-use Rattle.ferry_refs.specs.Tagging.{BringsTexts, HasTagged, KeepsArchives, NeedsNoTag, ShowsTagged, Tags, TagsSound, next_tagged, with_puts}
+use Rattle.ferry_refs.specs.Tagging.{BringsTexts, HasTagged as HasWritten, KeepsArchives, NeedsNoTag, ShowsTagged, Tags, TagsSound, next_tagged, with_puts}
 use Rattle.ferry_repo.specs.Opening.{OpensFilesTo, repo_view}
-use Rattle.ferry_run_tag.proofs.ShowLemmas.{LeavesEach, all_left, each_tagged, each_opened, each_told, leaves_each, lie_before, lie_behind}
+use Rattle.ferry_run_tag.proofs.ShowLemmas.{LeavesEach, TagEach, Tagging, all_left, each_opened, each_tagged, each_told, leaves_each, lie_before, lie_behind}
 use Rattle.ferry_run_tag.proofs.ShowLemmas.{standing_now}
-use Rattle.ferry_run_tag.specs.Tag.{TagEach, TagEnds, Tagging, LeavesAll, tagged_line}
+use Rattle.ferry_run_tag.specs.Tag.{HasTagged, tagged_line}
 use Rattle.ferry_run_tag.specs.Steps.{GetsTags, HasTags}
 use Rattle.ferry_status.proofs.TellLemmas.{settled_some, tells_same}
+use Rattle.ferry_status.specs.Opened.{LeavesAll}
 use Rattle.ferry_stops.proofs.TellLemmas.{line_told}
 use Rattle.ferry_stops.specs.Tells.{TellsNothing, lines_of}
 use Rattle.ferry_store.proofs.StandingLemmas.{manifest_learnt}
@@ -42,7 +42,7 @@ use Rattle.ferry_write.specs.Script.{AllDone}
 
 -- each record had a tag
 needless_then : (asked : Tagging) (store : Store) (count : ℕ) (h g i : History) (opens : OpensFilesTo (files_now h) asked.secret (repo_view store.repo))
-    (o : OpensFound false store h g) → TellsNothing h g → TellsNothing g i → NeedsNoTag (repo_view store.repo) count g i → HasTags asked count h i
+    (o : OpensFound false store h g) → TellsNothing h g → TellsNothing g i → NeedsNoTag (repo_view store.repo) count g i → HasTags asked.secret count h i
 needless_then asked store count h g i opens o untold untold_then needs =
     let repo = repo_view store.repo in
     let time = time_of asked.timestamp repo.manifest in
@@ -67,8 +67,8 @@ needless_then asked store count h g i opens o untold untold_then needs =
 -- some got one
 tagged_then : (asked : Tagging) (store now : Store) (count : ℕ) (h g i : History) (opens : OpensFilesTo (files_now h) asked.secret (repo_view store.repo))
     (o : OpensFound false store h g) → TellsNothing h g → TellsNothing g i
-    → HasTagged false (time_of asked.timestamp (repo_view store.repo).manifest) (files_now g) (repo_view store.repo) o.fits.written now count i
-    → HasTags asked count h i
+    → HasWritten false (time_of asked.timestamp (repo_view store.repo).manifest) (files_now g) (repo_view store.repo) o.fits.written now count i
+    → HasTags asked.secret count h i
 tagged_then asked store now count h g i opens o untold untold_then d =
     let repo = repo_view store.repo in
     let time = time_of asked.timestamp repo.manifest in
@@ -110,7 +110,7 @@ tagged_then asked store now count h g i opens o untold untold_then d =
 
 gets_then : (asked : Tagging) (store now : Store) (count : ℕ) (h g i : History) → OpensFilesTo (files_now h) asked.secret (repo_view store.repo)
     → TellsNothing h g → OpenFits store h g → TellsNothing g i
-    → Tags (time_of asked.timestamp (repo_view store.repo).manifest) store now count g i → GetsTags asked count h i
+    → Tags (time_of asked.timestamp (repo_view store.repo).manifest) store now count g i → GetsTags asked.secret count h i
 gets_then asked store now count h g i opens untold fits untold_then tags begun =
     let o : OpensFound false store h g = fits false begun (λ c. absurd (let no : ⊥ = cc in no)) in
     elim (tags false o.fits) [
@@ -119,8 +119,8 @@ gets_then asked store now count h g i opens untold fits untold_then tags begun =
     ]
 
 -- that is told
-ends_then : (asked : Tagging) (count : ℕ) (h g i : History) → GetsTags asked count h g → i ≡ with_act (TellOf (tagged_line count)) true g
-    → TagEnds asked h i
+ends_then : (asked : Tagging) (count : ℕ) (h g i : History) → GetsTags asked.secret count h g → i ≡ with_act (TellOf (tagged_line count)) true g
+    → (h.acts ≡ [] → HasTagged asked.secret h i)
 ends_then asked count h g i gets is begun =
     let tags = gets begun in
     let line = tagged_line count in
@@ -175,11 +175,11 @@ pub tagged_works : (asked : Tagging) (store now : Store) (a b c : Option Told) (
     → Between b c TellsNothing
     → Works (TagsSound (time_of asked.timestamp (repo_view store.repo).manifest) store)
     (Tags (time_of asked.timestamp (repo_view store.repo).manifest) store now) b c m k result
-    → Works (TagEach asked) (GetsTags asked) a c n k result
+    → Works (TagEach asked) (GetsTags asked.secret) a c n k result
 tagged_works asked store now a b c n m k result opens untold opened untold_then tagged =
     let time = time_of asked.timestamp (repo_view store.repo).manifest in
     works_then OpensUntold (OpensStore asked) (TagsSound time store)
-    (λ (count : ℕ) h g. TellsNothing h g × Tags time store now count h g) (TagEach asked) (GetsTags asked) a b c n m k store result
+    (λ (count : ℕ) h g. TellsNothing h g × Tags time store now count h g) (TagEach asked) (GetsTags asked.secret) a b c n m k store result
     (λ h g i each done q sound. each_tagged asked store h g i q.1.0 each.1 done q.1.1 sound)
     (λ count h g i q e. gets_then asked store now count h g i q.1.0 q.0.0 q.1.1 e.0 e.1)
     (opened_works asked store a b n m opens untold opened)
@@ -187,13 +187,13 @@ tagged_works asked store now a b c n m k result opens untold opened untold_then 
 
 -- the line is told, or it isn't
 told_works : (asked : Tagging) (count : ℕ) (a b c : Option Told) (n m k : ℕ) (result : Result (Unit {0}) CarryFault)
-    → Works (TagEach asked) (GetsTags asked) a b n m (Ok count)
+    → Works (TagEach asked) (GetsTags asked.secret) a b n m (Ok count)
     → Works (IsStep (TellOf (tagged_line count))) (λ _ h g. g ≡ with_act (TellOf (tagged_line count)) true h) b c m k result
-    → Works (TagEach asked) (λ _. TagEnds asked) a c n k result
+    → Works (TagEach asked) (λ _ h g. h.acts ≡ [] → HasTagged asked.secret h g) a c n k result
 told_works asked count a b c n m k result tagged told =
     let line = tagged_line count in
-    works_then (TagEach asked) (GetsTags asked) (IsStep (TellOf line)) (λ _ h g. g ≡ with_act (TellOf line) true h) (TagEach asked)
-    (λ (_ : Unit {0}). TagEnds asked) a b c n m k count result
+    works_then (TagEach asked) (GetsTags asked.secret) (IsStep (TellOf line)) (λ _ h g. g ≡ with_act (TellOf line) true h) (TagEach asked)
+    (λ (_ : Unit {0}) h g. h.acts ≡ [] → HasTagged asked.secret h g) a b c n m k count result
     (λ h g i each done gets is. each_told asked line h g i each done (λ begun. settled_some g.acts (gets begun).settled_is) is)
     (λ _ h g i gets is. ends_then asked count h g i gets is) tagged told
 
@@ -204,10 +204,10 @@ did_works E Q a b n m x p = record { each = p.each; end = p.end; ends = p.ends; 
 
 -- it isn't told
 pub untold_works : (asked : Tagging) (count : ℕ) (a b c : Option Told) (n m k : ℕ) (refusal : StoreRefusal)
-    → Works (TagEach asked) (GetsTags asked) a b n m (Ok count)
+    → Works (TagEach asked) (GetsTags asked.secret) a b n m (Ok count)
     → Did {T = Unit {0}} (IsStep (TellOf (tagged_line count))) (λ _ h g. g ≡ with_act (TellOf (tagged_line count)) true h) b c m k
     (Err refusal)
-    → Works (TagEach asked) (λ (_ : Unit {0}). TagEnds asked) a c n k (Err (target_fault refusal))
+    → Works (TagEach asked) (λ (_ : Unit {0}) h g. h.acts ≡ [] → HasTagged asked.secret h g) a c n k (Err (target_fault refusal))
 untold_works asked count a b c n m k refusal tagged told =
     told_works asked count a b c n m k (Err (target_fault refusal)) tagged
     (record {
@@ -219,10 +219,10 @@ untold_works asked count a b c n m k refusal tagged told =
 
 -- it is told
 pub all_works : (asked : Tagging) (count : ℕ) (a b c : Option Told) (n m k : ℕ)
-    → Works (TagEach asked) (GetsTags asked) a b n m (Ok count)
+    → Works (TagEach asked) (GetsTags asked.secret) a b n m (Ok count)
     → Did {T = Unit {0}} (IsStep (TellOf (tagged_line count))) (λ _ h g. g ≡ with_act (TellOf (tagged_line count)) true h) b c m k
     (Ok tt)
-    → Works (TagEach asked) (λ (_ : Unit {0}). TagEnds asked) a c n k (Ok tt)
+    → Works (TagEach asked) (λ (_ : Unit {0}) h g. h.acts ≡ [] → HasTagged asked.secret h g) a c n k (Ok tt)
 all_works asked count a b c n m k tagged told =
     told_works asked count a b c n m k (Ok tt) tagged
     (did_works {T = Unit {0}} (IsStep (TellOf (tagged_line count))) (λ _ h g. g ≡ with_act (TellOf (tagged_line count)) true h) b c m k
@@ -233,22 +233,24 @@ all_works asked count a b c n m k tagged told =
 -- the target wasn't opened
 pub unopened_works : (asked : Tagging) (Q : Store → History → History → Type 0) (a b : Option Told) (n m : ℕ) (refusal : StoreRefusal)
     → Between a b TellsNothing → Did OpenEach Q a b n m (Err refusal)
-    → Works (TagEach asked) (GetsTags asked) a b n m (Err (target_fault refusal))
+    → Works (TagEach asked) (GetsTags asked.secret) a b n m (Err (target_fault refusal))
 unopened_works asked Q a b n m refusal untold opened =
-    works_err OpenEach Q (TagEach asked) (GetsTags asked) a b n m refusal (λ h g none each. (each_opened asked h g each).0) untold opened
+    works_err OpenEach Q (TagEach asked) (GetsTags asked.secret) a b n m refusal (λ h g none each. (each_opened asked h g each).0) untold opened
 
-pub unopened_left : (asked : Tagging) (a b : Option Told) → Between a b TellsNothing → Between a b OpenEach → Between a b (LeavesAll asked)
+pub unopened_left : (asked : Tagging) (a b : Option Told) → Between a b TellsNothing → Between a b OpenEach
+    → Between a b (LeavesAll asked.secret (KeepsArchives asked.secret))
 unopened_left asked a b untold each =
-    between_map a b (λ h g. TellsNothing h g × OpenEach h g) (LeavesAll asked)
+    between_map a b (λ h g. TellsNothing h g × OpenEach h g) (LeavesAll asked.secret (KeepsArchives asked.secret))
     (λ h g e. let both = each_opened asked h g e.1 in all_left asked h g both.0 both.1 e.0) (between_both a b TellsNothing OpenEach untold each)
 
 -- nothing was committed behind the opening
 pub untagged_left : (asked : Tagging) (store : Store) (a b c : Option Told) (n m : ℕ)
     → IfSome a (λ t. OpensFilesTo (told_files t) asked.secret (repo_view store.repo)) → Between a b TellsNothing → Did OpenEach OpenFits a b n m (Ok store)
-    → Between b c TellsNothing → Between b c (LeavesCommitted store) → Between a c (TagEach asked) → Between a c (LeavesAll asked)
+    → Between b c TellsNothing → Between b c (LeavesCommitted store) → Between a c (TagEach asked)
+    → Between a c (LeavesAll asked.secret (KeepsArchives asked.secret))
 untagged_left asked store a b c n m opens untold opened untold_then leaves each =
     let first = (opened_works asked store a b n m opens untold opened) in
-    between_map a c (λ h i. TagEach asked h i × (LeavesEach asked h i × TellsNothing h i)) (LeavesAll asked)
+    between_map a c (λ h i. TagEach asked h i × (LeavesEach asked h i × TellsNothing h i)) (LeavesAll asked.secret (KeepsArchives asked.secret))
     (λ h i e. all_left asked h i e.0 e.1.0 e.1.1)
     (between_both a c (TagEach asked) (λ h i. LeavesEach asked h i × TellsNothing h i) each
     (between_then a b c (λ h g. OpensUntold h g × (AllDone h g × OpensStore asked store h g)) (λ h g. TellsNothing h g × LeavesCommitted store h g)
@@ -258,6 +260,8 @@ untagged_left asked store a b c n m opens untold opened untold_then leaves each 
     (between_both b c TellsNothing (LeavesCommitted store) untold_then leaves)))
 
 -- what is known at the end
-pub tagged_ended : (asked : Tagging) (a b : Option Told) (n m : ℕ) → Works (TagEach asked) (λ (_ : Unit {0}). TagEnds asked) a b n m (Ok tt)
-    → Between a b (TagEnds asked)
-tagged_ended asked a b n m works = between_map a b (λ h g. AllDone h g × TagEnds asked h g) (TagEnds asked) (λ h g e. e.1) works.end
+pub tagged_ended : (asked : Tagging) (a b : Option Told) (n m : ℕ)
+    → Works (TagEach asked) (λ (_ : Unit {0}) h g. h.acts ≡ [] → HasTagged asked.secret h g) a b n m (Ok tt)
+    → Between a b (λ h g. h.acts ≡ [] → HasTagged asked.secret h g)
+tagged_ended asked a b n m works =
+    between_map a b (λ h g. AllDone h g × (h.acts ≡ [] → HasTagged asked.secret h g)) (λ h g. h.acts ≡ [] → HasTagged asked.secret h g) (λ h g e. e.1) works.end

@@ -1,5 +1,5 @@
 -- Lemmas on specs/Tag.antt: what each stop leaves while archives are tagged, and while that is told.
-use Rattle.std.proofs.Common.{◌≡◌, inl, inr, ℕ, suc, Bool, true, false, List, [], Some, map, refl, sym, ◌∙◌, ap, subst}
+use Rattle.std.proofs.Common.{◌≡◌, inl, inr, ℕ, suc, Bool, true, false, List, [], Some, map, refl, sym, ◌∙◌, ap, subst, Option}
 use Rattle.std.proofs.lemmas.List.{append-nil}
 use Rattle.ferry_disk.proofs.ImageLemmas.{plain_read}
 use Rattle.ferry_disk.specs.Act.{TellOf, History, files_now}
@@ -16,10 +16,11 @@ use Rattle.ferry_refs.specs.Deleting.{LeavesCommitted, time_of}
 use Rattle.ferry_refs.specs.Tagging.{KeepsArchives, ShowsRenewed, ShowsTagged, TagsSound}
 use Rattle.ferry_repo.proofs.LawLemmas.{one_repo}
 use Rattle.ferry_repo.specs.Opening.{OpensFilesTo, RepoState, repo_view}
-use Rattle.ferry_run_tag.specs.Tag.{KeepsEach, LeavesAll, TagEach, TagLeaves, Tagging}
+use Rattle.ferry_repo.specs.declared.secret.Secret.{Secret}
 use Rattle.ferry_segment.specs.Entry.{LogEntry}
 use Rattle.ferry_status.proofs.LeftLemmas.{now_left}
 use Rattle.ferry_status.proofs.TellLemmas.{AreSome, first_then, keeps_then, numbers_then, stops_then}
+use Rattle.ferry_status.specs.Opened.{ChangesEach, ChangesLeave, LeavesAll}
 use Rattle.ferry_stops.proofs.EntryLemmas.{log_shown}
 use Rattle.ferry_stops.specs.Blobs.{AllTraced}
 use Rattle.ferry_stops.specs.Chance.{EachStop}
@@ -35,6 +36,22 @@ use Rattle.ferry_store.specs.declared.store.Store.{Store}
 use Rattle.ferry_write.proofs.LawLemmas.{fits_now}
 use Rattle.ferry_write.specs.Room.{behind}
 use Rattle.ferry_write.specs.Script.{AllDone}
+
+-- what a tagging is asked for: the target's secret, and the time of the manifest, where it is given
+pub record Tagging : Type 0 where
+  pub secret : Secret
+  pub timestamp : Option (List ℕ)
+
+abbrev pub tagging : Secret → Option (List ℕ) → Tagging
+tagging secret timestamp = record { secret = secret; timestamp = timestamp }
+
+-- Files have each archive that a repository had which opened from these, with the tags that they had, or with all.
+abbrev pub KeepsEach : Tagging → Files → RepoState → Files → Type 0
+KeepsEach asked start before image = (tagged : Bool) × KeepsArchives asked.secret start before tagged image
+
+-- At each moment of the command.
+abbrev pub TagEach : Tagging → History → History → Type 0
+TagEach asked = ChangesEach asked.secret (KeepsArchives asked.secret)
 
 -- what is shown of a store that is written, where its files are read
 pub standing_now : (counts : Bool) (store : Store) (written : Written) (h : History) → IsUnderWay counts store.session store.counter written h
@@ -215,12 +232,13 @@ each_opened asked h g each =
 
 -- ---- what is read then
 
-pub some_left : (asked : Tagging) (h g : History) → TagEach asked h g → TagLeaves asked h g
+pub some_left : (asked : Tagging) (h g : History) → TagEach asked h g → ChangesLeave asked.secret (KeepsArchives asked.secret) h g
 some_left asked h g each begun repo opens =
     let moments = each.0 begun repo opens in
     moments.last (files_now g) (now_left (EachStop (KeepsEach asked (files_now h) repo)) h g begun each.1.1.1 moments)
 
-pub all_left : (asked : Tagging) (h g : History) → TagEach asked h g → LeavesEach asked h g → TellsNothing h g → LeavesAll asked h g
+pub all_left : (asked : Tagging) (h g : History) → TagEach asked h g → LeavesEach asked h g → TellsNothing h g
+    → LeavesAll asked.secret (KeepsArchives asked.secret) h g
 all_left asked h g each leaves untold begun repo opens =
     let moments = leaves begun repo opens in (
       moments.last (files_now g) (now_left (EachStop (KeepsArchives asked.secret (files_now h) repo false)) h g begun each.1.1.1 moments),

@@ -5,14 +5,14 @@ use Rattle.ferry_disk.specs.Act.{History, files_now}
 use Rattle.ferry_disk.specs.Image.{settled}
 use Rattle.ferry_refs.specs.Tagging.{KeepsArchives}
 use Rattle.ferry_repo.specs.Opening.{OpensFilesTo, RepoState}
-use Rattle.ferry_run_tag.specs.Tag.{Tagging}
+use Rattle.ferry_repo.specs.declared.secret.Secret.{Secret}
 use Rattle.ferry_stops.specs.Tells.{lines_of}
 
 -- The target's files opened, and now they open with each archive that was there, and each record has a tag; so many had none. No line was told.
-pub record HasTags (asked : Tagging) (count : ℕ) (before now : History) : Type 0 where
+pub record HasTags (secret : Secret) (count : ℕ) (before now : History) : Type 0 where
   pub repo : RepoState
-  pub opens : OpensFilesTo (files_now before) asked.secret repo
-  pub left : KeepsArchives asked.secret (files_now before) repo true (files_now now)
+  pub opens : OpensFilesTo (files_now before) secret repo
+  pub left : KeepsArchives secret (files_now before) repo true (files_now now)
   pub reads : List ArchiveRead
   pub are_read : AreRead (files_now before) repo repo.manifest.archives reads
   pub count_is : count ≡ length (untagged reads)
@@ -20,5 +20,5 @@ pub record HasTags (asked : Tagging) (count : ℕ) (before now : History) : Type
   pub settled_is : settled now.acts ≡ true
 
 -- The same of a run that had made no act.
-abbrev pub GetsTags : Tagging → ℕ → History → History → Type 0
-GetsTags asked count before now = before.acts ≡ [] → HasTags asked count before now
+abbrev pub GetsTags : Secret → ℕ → History → History → Type 0
+GetsTags secret count before now = before.acts ≡ [] → HasTags secret count before now

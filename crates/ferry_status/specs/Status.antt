@@ -149,6 +149,10 @@ taken_line name = codes "name taken: " ++ (escaped name ++ (10 ∷ []))
 abbrev pub missing_line : List ℕ → List ℕ
 missing_line what = codes "not found: " ++ (escaped what ++ (10 ∷ []))
 
+-- the line of a repository that doesn't verify: its first fault
+abbrev pub bad_line : RepoFault → List ℕ
+bad_line fault = codes "bad " ++ (reason fault ++ (10 ∷ []))
+
 -- the fault line, nothing where a status has none
 abbrev pub fault_line : Status → List ℕ
 fault_line Done = []

@@ -24,8 +24,8 @@ use Rattle.ferry_repo.proofs.LawLemmas.{has_live, live_there}
 use Rattle.ferry_repo.specs.Opening.{OpensFilesTo, RepoState}
 use Rattle.ferry_repo.specs.declared.secret.Secret.{Secret}
 use Rattle.ferry_run_compact.specs.Compact.{CompactEach, KeepsObjects}
-use Rattle.ferry_run_delete.specs.Delete.{DeleteEach, Deletion, deletion}
-use Rattle.ferry_run_tag.specs.Tag.{TagEach, Tagging, tagging}
+use Rattle.ferry_run_delete.proofs.ShowLemmas.{DeleteEach, Deletion, deletion}
+use Rattle.ferry_run_tag.proofs.ShowLemmas.{TagEach, Tagging, tagging}
 use Rattle.ferry_run_transfer.specs.Rerun.{HasNumber}
 use Rattle.ferry_run_transfer.specs.Transfer.{Request, TransferEach, asked}
 use Rattle.ferry_segment.specs.Entry.{LogEntry, PutEntry, DeleteEntry, CommitEntry}
@@ -274,14 +274,14 @@ command_goes (Transfer block checkpoint timestamp names) secrets before now firs
 command_goes (Delete timestamp name) secrets before now first last devices status after told told_after first_is last_is writes does may =
     delete_goes (deletion secrets.target name timestamp) before now may.begun may.kept writes
     (between_known (DeleteEach (deletion secrets.target name timestamp)) devices.target.told after.target.told first last before now told told_after first_is
-    last_is does.each)
+    last_is does.changes.each)
 command_goes (Compact threshold) secrets before now first last devices status after told told_after first_is last_is writes does may =
     compact_goes secrets.target before now may.begun may.kept writes
     (between_known CompactEach devices.target.told after.target.told first last before now told told_after first_is last_is does.each)
 command_goes (TagArchives timestamp) secrets before now first last devices status after told told_after first_is last_is writes does may =
     tag_goes (tagging secrets.target timestamp) before now may.begun may.kept writes
     (between_known (TagEach (tagging secrets.target timestamp)) devices.target.told after.target.told first last before now told told_after first_is
-    last_is does.each)
+    last_is does.changes.each)
 command_goes Keys secrets before now first last devices status after told told_after first_is last_is writes does may = absurd writes
 command_goes Key secrets before now first last devices status after told told_after first_is last_is writes does may = absurd writes
 command_goes ListArchives secrets before now first last devices status after told told_after first_is last_is writes does may = absurd writes

@@ -26,10 +26,11 @@ use Rattle.ferry_store.specs.declared.fault.StoreRefusal.{StoreRefusal}
 use Rattle.ferry_store.specs.declared.fault.StoreRefusal.TheVariants as Store
 use Rattle.ferry_store.specs.declared.store.Store.{Store as StoreValue}
 use Rattle.ferry_status.proofs.TellLemmas.{end_known, fail_as, first_then, keeps_then, numbers_then, repo_is, rose_as, settled_some, stops_then, tells_same}
-use Rattle.ferry_top.specs.Init.{CommandEach, InitTells, IsFault, IsReady, IsRefused, initialized_line}
+use Rattle.ferry_top.specs.Init.{CommandEach, IsFault, IsReady, MakesAndTells, initialized_line}
 use Rattle.ferry_status.specs.Telling.{RefusesTelling}
 use Rattle.ferry_status.specs.Status.{store_status, target_status}
 use Rattle.ferry_status.specs.declared.status.Status.{Status}
+use Rattle.ferry_status.specs.Devices.{IsRefusedBy}
 use Rattle.ferry_write.specs.Script.{AllDone}
 use Rattle.ferry_write.specs.declared.fault.WriteFault.TheVariants as Writes
 
@@ -92,7 +93,7 @@ pub record HasId (secret : Secret) (id : List ℕ) (files : Files) : Type 0 wher
   pub id_is : id ≡ config.id
 
 pub tells_then : (secret : Secret) (iterations : ℕ) (timestamp bytes id : List ℕ) (h g i : History) → InitMakes secret iterations timestamp bytes h g
-    → HasId secret id (files_now g) → i ≡ with_act (TellOf (initialized_line id)) true g → InitTells secret iterations timestamp bytes h i
+    → HasId secret id (files_now g) → i ≡ with_act (TellOf (initialized_line id)) true g → (h.acts ≡ [] → MakesAndTells secret iterations timestamp bytes h i)
 tells_then secret iterations timestamp bytes id h g i makes has is e =
     let m = makes e in
     let unlocks = m.opens.opens.opens.unlocks in
@@ -146,12 +147,12 @@ pub did_tell : (secret : Secret) (iterations : ℕ) (timestamp bytes id : List �
     (result : Result (Unit {0}) StoreRefusal) → Did (InitEach secret) InitFits a b n m (Ok store) → Between a b (InitMakes secret iterations timestamp bytes)
     → IfSome b (λ t. HasId secret id (told_files t)) → Between b c (λ h g. g ≡ h) → failed_told c ≡ failed_told b → k ≡ m
     → Did (IsStep (TellOf (initialized_line id))) (λ _ h g. g ≡ with_act (TellOf (initialized_line id)) true h) c d k l result
-    → Did (CommandEach secret) (λ _. InitTells secret iterations timestamp bytes) a d n l result
+    → Did (CommandEach secret) (λ _ h g. h.acts ≡ [] → MakesAndTells secret iterations timestamp bytes h g) a d n l result
 did_tell secret iterations timestamp bytes id store a b c d n m k l result did makes has same ends cause tells =
     let line = initialized_line id in
     did_then (InitEach secret) (Made secret iterations timestamp bytes id) (IsStep (TellOf line)) (λ _ h g. g ≡ with_act (TellOf line) true h)
     (CommandEach secret)
-    (λ _. InitTells secret iterations timestamp bytes) a c d n k l store result
+    (λ _ h g. h.acts ≡ [] → MakesAndTells secret iterations timestamp bytes h g) a c d n k l store result
     (λ h g i each done made is. each_then secret iterations timestamp bytes store line h g i each done made.0.0 made.0.1 is)
     (λ y h g i made is. tells_then secret iterations timestamp bytes id h g i made.0.1 made.1 is)
     (did_read secret iterations timestamp bytes id store a b c n m k did makes has same ends cause) tells
@@ -264,6 +265,7 @@ ready_refused secret timestamp files Store.Entropy ready r = inr (inr refl)
 ready_refused secret timestamp files Store.Memory ready r = inl refl
 
 pub init_completes : (secret : Secret) (timestamp : List ℕ) (told : Told) (status : Status) → told.history.acts ≡ []
-    → IsReady secret timestamp (told_files told) → IsRefused secret timestamp (Some told) status → IsFault status
+    → IsReady secret timestamp (told_files told) → IsRefusedBy store_status (λ refusal. RefusesInit secret timestamp told.history refusal) status
+    → IsFault status
 init_completes secret timestamp told status e ready refused =
     subst IsFault (sym refused.status_is) (ready_refused secret timestamp (told_files told) refused.fault ready (refused.refuses e))

@@ -15,7 +15,8 @@ use Rattle.ferry_view.specs.Output.{IsOfArchive, ShowsAll, ShowsSome, view_faile
 use Rattle.ferry_view.specs.declared.fault.ViewFault.{ViewFault}
 use Rattle.ferry_view.specs.declared.fault.ViewFault.TheVariants as View
 use Rattle.ferry_status.specs.Devices.{Written}
-use Rattle.ferry_top.specs.Items.{OpensWith, ShowsAsRead, RefusesShowing}
+use Rattle.ferry_status.specs.Opened.{OpensWith}
+use Rattle.ferry_top.specs.Items.{ShowsAsRead, RefusesShowing}
 use Rattle.ferry_status.specs.Output.{HasBegun, HasPrinted, PrintsAsRead}
 use Rattle.ferry_status.specs.Status.{view_status}
 use Rattle.ferry_status.specs.declared.status.Refusal.{Refusal}

@@ -8,7 +8,7 @@ use Rattle.ferry_disk.specs.Device.{Told, told_files}
 use Rattle.ferry_disk.specs.Files.{Files}
 use Rattle.ferry_log.proofs.LawLemmas.{damaged_apart, uncommitted_apart}
 use Rattle.ferry_repo.proofs.LawLemmas.{one_repo, repo_apart}
-use Rattle.ferry_repo.specs.Opening.{RepoState}
+use Rattle.ferry_repo.specs.Opening.{RefusesKey, RefusesRepo, RepoState}
 use Rattle.ferry_repo.specs.declared.fault.RepoFault.{RepoFault}
 use Rattle.ferry_repo.specs.declared.fault.RepoFault.TheVariants as Repos
 use Rattle.ferry_repo.specs.declared.secret.Secret.{Secret}
@@ -20,14 +20,15 @@ use Rattle.ferry_status.specs.declared.status.Refusal.TheVariants.{Repo, Nonce, 
 use Rattle.ferry_status.specs.declared.status.Status.{Status}
 use Rattle.ferry_status.specs.declared.status.Status.TheVariants.{Done, No, Usage, Memory, SourceDevice, TargetDevice, EntropyDevice, OutputDevice}
 use Rattle.ferry_status.specs.declared.status.Status.TheVariants.{SourceRefused, TargetRefused, Taken, NotFound, Limit}
+use Rattle.ferry_status.specs.Opened.{OpensWith}
 use Rattle.ferry_top.specs.Check.{Checks}
-use Rattle.ferry_top.specs.Items.{LacksArchive, LacksPath, OpensWith, RefusesShowing, ShowsFile, ShowsItems}
-use Rattle.ferry_top.specs.Key.{IsIdLine, RefusesUnlocking}
+use Rattle.ferry_top.specs.Items.{LacksArchive, LacksPath, RefusesShowing, ShowsWhole}
+use Rattle.ferry_top.specs.Key.{IsIdLine}
 use Rattle.ferry_top.specs.Keys.{IsListing, RefusesKeys}
-use Rattle.ferry_top.specs.List.{RefusesOpening}
 use Rattle.ferry_top.specs.Ready.{IsDoneOr}
+use Rattle.ferry_top.specs.List.{RefusesBy}
 use Rattle.ferry_view.proofs.LawLemmas.{file_apart, listing_apart}
-use Rattle.ferry_view.specs.Items.{RefusesFile, RefusesItems}
+use Rattle.ferry_view.specs.Items.{IsFile, IsItemListing, RefusesFile, RefusesItems}
 use Rattle.ferry_view.specs.declared.fault.ViewFault.TheVariants as View
 
 -- ---- by what a command prints
@@ -87,13 +88,13 @@ keys_never files text is (Repo Repos.Memory) r = r
 keys_never files text is (Nonce fault) r = r
 keys_never files text is Committed r = r
 
-pub key_never : (secret : Secret) (bytes text : List ℕ) → IsIdLine secret bytes text → (refusal : Refusal) → RefusesUnlocking secret bytes refusal → ⊥
+pub key_never : (secret : Secret) (bytes text : List ℕ) → IsIdLine secret bytes text → (refusal : Refusal) → RefusesBy (RefusesKey bytes secret) refusal → ⊥
 key_never secret bytes text is (Repo fault) r = let both = sym is.unlocks ∙ r.1 r.0 in let no : ⊥ = cc in no
 key_never secret bytes text is (Nonce fault) r = r
 key_never secret bytes text is Committed r = r
 
 pub opening_never : {P : Files → RepoState → Type 0} (secret : Secret) (files : Files) → OpensWith secret P files → (refusal : Refusal)
-    → RefusesOpening secret files refusal → ⊥
+    → RefusesBy (RefusesRepo files secret) refusal → ⊥
 opening_never secret files opens (Repo fault) r = repo_apart files secret opens.repo fault opens.opens r.0 r.1
 opening_never secret files opens (Nonce fault) r = r
 opening_never secret files opens Committed r = r
@@ -102,7 +103,8 @@ opening_never secret files opens Committed r = r
 there_too : (secret : Secret) (P Q : Files → RepoState → Type 0) (files : Files) (a : OpensWith secret P files) → OpensWith secret Q files → Q files a.repo
 there_too secret P Q files a b = subst (Q files) (one_repo files secret b.repo a.repo b.opens a.opens) b.holds
 
-pub items_never : (secret : Secret) (name : List ℕ) (files : Files) (text : List ℕ) → ShowsItems secret name files text → (refusal : Refusal)
+pub items_never : (secret : Secret) (name : List ℕ) (files : Files) (text : List ℕ) → ShowsWhole secret (λ f r. IsItemListing f r name) files text
+    → (refusal : Refusal)
     → RefusesShowing secret (λ f repo. RefusesItems f repo name) files refusal → ⊥
 items_never secret name files text is (Repo fault) (of, inl r) = repo_apart files secret is.repo fault is.opens of r
 items_never secret name files text is (Repo fault) (of, inr w) =
@@ -111,12 +113,14 @@ items_never secret name files text is (Repo fault) (of, inr w) =
 items_never secret name files text is (Nonce fault) r = r
 items_never secret name files text is Committed r = r
 
-pub archive_there : (secret : Secret) (name : List ℕ) (files : Files) (text : List ℕ) → ShowsItems secret name files text → (what : List ℕ)
+pub archive_there : (secret : Secret) (name : List ℕ) (files : Files) (text : List ℕ) → ShowsWhole secret (λ f r. IsItemListing f r name) files text
+    → (what : List ℕ)
     → LacksArchive secret name files what → ⊥
 archive_there secret name files text is what (same, w) =
     listing_apart files is.repo name text View.NotFound is.holds tt (there_too secret _ (λ f repo. RefusesItems f repo name View.NotFound) files is w)
 
-pub file_never : (secret : Secret) (name path : List ℕ) (files : Files) (text : List ℕ) → ShowsFile secret name path files text → (refusal : Refusal)
+pub file_never : (secret : Secret) (name path : List ℕ) (files : Files) (text : List ℕ) → ShowsWhole secret (λ f r. IsFile f r name path) files text
+    → (refusal : Refusal)
     → RefusesShowing secret (λ f repo. RefusesFile f repo name path) files refusal → ⊥
 file_never secret name path files text is (Repo fault) (of, inl r) = repo_apart files secret is.repo fault is.opens of r
 file_never secret name path files text is (Repo fault) (of, inr w) =
@@ -125,7 +129,8 @@ file_never secret name path files text is (Repo fault) (of, inr w) =
 file_never secret name path files text is (Nonce fault) r = r
 file_never secret name path files text is Committed r = r
 
-pub path_there : (secret : Secret) (name path : List ℕ) (files : Files) (text : List ℕ) → ShowsFile secret name path files text → (what : List ℕ)
+pub path_there : (secret : Secret) (name path : List ℕ) (files : Files) (text : List ℕ) → ShowsWhole secret (λ f r. IsFile f r name path) files text
+    → (what : List ℕ)
     → LacksPath secret name path files what → ⊥
 path_there secret name path files text is what (inl (same, w)) =
     file_apart files is.repo name path text View.NotFound is.holds tt

@@ -3,43 +3,48 @@ use Rattle.std.proofs.Common.{◌≡◌, ◌⊎◌, inl, inr, ℕ, false, List, 
 use Rattle.ferry_disk.specs.Device.{Told, told_files}
 use Rattle.ferry_disk.specs.Files.{Files, contents_at}
 use Rattle.ferry_disk.specs.declared.name.Name.TheVariants.{Config}
-use Rattle.ferry_repo.specs.Opening.{RepoState}
+use Rattle.ferry_repo.specs.Opening.{RefusesKey, RefusesRepo, RepoState}
 use Rattle.ferry_repo.specs.declared.fault.RepoFault.TheVariants as Repos
 use Rattle.ferry_repo.specs.declared.secret.Secret.{Secret}
 use Rattle.ferry_run_compact.proofs.CompactCauseLemmas.{compact_completes}
-use Rattle.ferry_run_compact.specs.Compact.{IsCompactedUnless, IsCompactingRefused}
-use Rattle.ferry_run_delete.specs.Delete.{DeletesDone, Deletion, IsDeletedUnless, LimitsDeletion, deletion}
+use Rattle.ferry_run_compact.specs.Compact.{IsCompactedUnless, ReadsTarget, RefusesCompacting}
+use Rattle.ferry_run_delete.specs.Delete.{DeletesDone, LimitsDeletion}
+use Rattle.ferry_run_delete.proofs.ShowLemmas.{Deletion, deletion}
 use Rattle.ferry_run_plan.proofs.PlanCauseLemmas.{plan_completes}
-use Rattle.ferry_run_plan.specs.Planning.{CanBePlanned, IsPlannedUnless, PrintsPlan, Sends, planned_for}
-use Rattle.ferry_run_tag.specs.Tag.{IsTaggedUnless, LimitsTagging, OpensNew, Tagging, TagsDone, tagging}
+use Rattle.ferry_run_plan.specs.Planning.{CanBePlanned, IsPlannedUnless, PrintsPlan, planned_for}
+use Rattle.ferry_run_tag.specs.Tag.{BreaksNew, LimitsTagging, OpensNew, TagsDone}
+use Rattle.ferry_run_tag.proofs.ShowLemmas.{Tagging, tagging}
 use Rattle.ferry_carry.specs.States.{Drawn, drawn_from}
 use Rattle.ferry_run_transfer.specs.Transfer.{Request, asked}
-use Rattle.ferry_run_transfer.specs.TransferCauses.{EndsDone, IsDoneUnless, MeetsLimit}
-use Rattle.ferry_status.specs.Devices.{Devices, Written}
-use Rattle.ferry_status.specs.Status.{entropy_failed, target_failed}
+use Rattle.ferry_run_transfer.specs.TransferCauses.{EndsDone, IsDoneUnless as IsCopiedUnless, MeetsLimit}
+use Rattle.ferry_status.specs.Devices.{Devices, IsRefusedBy, Written}
+use Rattle.ferry_status.specs.Status.{entropy_failed, store_status, target_failed}
 use Rattle.ferry_status.specs.declared.status.Limit.{Limit as LimitKind}
 use Rattle.ferry_status.specs.declared.status.Refusal.TheVariants.{Repo, Nonce, Committed}
 use Rattle.ferry_status.specs.declared.status.Secrets.{Secrets}
 use Rattle.ferry_status.specs.declared.status.Status.{Status}
 use Rattle.ferry_status.specs.declared.status.Status.TheVariants.{Done, No, Usage, Memory, SourceDevice, TargetDevice, EntropyDevice, OutputDevice}
 use Rattle.ferry_status.specs.declared.status.Status.TheVariants.{SourceRefused, TargetRefused, Taken, NotFound, Limit}
+use Rattle.ferry_status.specs.Opened.{IsDoneUnless}
+use Rattle.ferry_status.specs.Output.{PrintsText}
 use Rattle.ferry_stops.specs.Tells.{lines_of}
 use Rattle.ferry_top.proofs.InitLemmas.{init_completes}
-use Rattle.ferry_top.specs.Init.{IsFault, IsReady, IsRefused, time_or}
-use Rattle.ferry_top.specs.Items.{LacksArchive, LacksPath, RefusesShowing, ShowsFile, ShowsFileFront, ShowsItems, ShowsItemsFront}
-use Rattle.ferry_top.specs.Key.{IsIdLine, RefusesUnlocking}
+use Rattle.ferry_top.specs.Init.{IsFault, IsReady, time_or}
+use Rattle.ferry_top.specs.Items.{LacksArchive, LacksPath, RefusesShowing, ShowsAsRead, ShowsWhole}
+use Rattle.ferry_top.specs.Key.{IsIdLine}
 use Rattle.ferry_top.specs.Keys.{IsListing, RefusesKeys}
-use Rattle.ferry_top.specs.List.{IsArchiveListing, RefusesOpening}
+use Rattle.ferry_top.specs.List.{IsArchiveListing, RefusesBy}
 use Rattle.ferry_top.specs.MakeKey.{IsDrawnKey, PrintsKey}
-use Rattle.ferry_top.specs.Ready.{HasShown, IsDoneOr, IsReadyTo, IsReadyToCompact, Meets, Tells}
+use Rattle.ferry_top.specs.Ready.{HasShown, IsDoneOr, IsReadyTo, Meets, Tells}
 use Rattle.ferry_top.specs.Run.{DoesCommand, Shows}
-use Rattle.ferry_view.specs.Items.{RefusesFile, RefusesItems}
+use Rattle.ferry_view.specs.Items.{IsFile, IsFileText, IsItemListing, IsItemText, RefusesFile, RefusesItems}
 use Rattle.ferry_view.specs.declared.fault.ViewFault.TheVariants as View
 use Rattle.ferry_words.specs.declared.command.Command.{Command}
 use Rattle.ferry_words.specs.declared.command.Command.TheVariants.{Keys, Key, List as ListArchives, ListItems, Extract, Check}
 use Rattle.ferry_words.specs.declared.command.Command.TheVariants.{Init, MakeKey, Transfer, Plan, Delete, Compact, TagArchives, Drill}
 use Rattle.ferry_top.proofs.ReadyLemmas.{prints_done, reads_done, keys_never, key_never, opening_never, items_never, archive_there, file_never}
 use Rattle.ferry_top.proofs.ReadyLemmas.{path_there, checks_done}
+use Rattle.ferry_store.specs.Store.{RefusesInit}
 
 -- ---- the commands of the target
 
@@ -81,14 +86,15 @@ fault_done (NotFound name) IsMet f = absurd (no_fault (NotFound name) refl refl 
 fault_done (Limit limit) IsMet f = absurd (no_fault (Limit limit) refl refl (λ e. let no : ⊥ = cc in no) f)
 
 init_done : (secret : Secret) (timestamp : List ℕ) (t : Told) (status : Status) (IsMet : LimitKind → Type 0) → t.history.acts ≡ []
-    → IsReady secret timestamp (told_files t) → (status ≡ Done) ⊎ IsRefused secret timestamp (Some t) status → IsDoneOr IsMet status
+    → IsReady secret timestamp (told_files t) → (status ≡ Done) ⊎ IsRefusedBy store_status (λ refusal. RefusesInit secret timestamp t.history refusal) status
+    → IsDoneOr IsMet status
 init_done secret timestamp t status IsMet begun ready (inl done) = subst (IsDoneOr IsMet) (sym done) tt
 init_done secret timestamp t status IsMet begun ready (inr refused) =
     fault_done status IsMet (init_completes secret timestamp t status begun ready refused)
 
 module _ (request : Request) (source start : Files) (lines : List (List ℕ)) (image : Files) (IsMet : LimitKind → Type 0)
     (met : (limit : LimitKind) → MeetsLimit request source start lines image limit → IsMet limit) where
-  transfer_done : (status : Status) → IsDoneUnless request source start lines image status → IsDoneOr IsMet status
+  transfer_done : (status : Status) → IsCopiedUnless request source start lines image status → IsDoneOr IsMet status
   transfer_done Done d = tt
   transfer_done Memory d = tt
   transfer_done SourceDevice d = tt
@@ -104,8 +110,8 @@ module _ (request : Request) (source start : Files) (lines : List (List ℕ)) (i
   transfer_done (NotFound name) d = absurd d
 
 module _ (asked_for : Deletion) (repo : RepoState) (start image : Files) (IsMet : LimitKind → Type 0)
-    (met : (limit : LimitKind) → LimitsDeletion asked_for repo start image limit → IsMet limit) where
-  delete_done : (status : Status) → IsDeletedUnless asked_for repo start image status → IsDoneOr IsMet status
+    (met : (limit : LimitKind) → LimitsDeletion asked_for.name asked_for.timestamp repo start image limit → IsMet limit) where
+  delete_done : (status : Status) → IsDoneUnless (LimitsDeletion asked_for.name asked_for.timestamp repo start image) (λ _. ⊥) status → IsDoneOr IsMet status
   delete_done Done d = tt
   delete_done Memory d = tt
   delete_done SourceDevice d = tt
@@ -121,8 +127,9 @@ module _ (asked_for : Deletion) (repo : RepoState) (start image : Files) (IsMet 
   delete_done (NotFound name) d = absurd d
 
 module _ (asked_for : Tagging) (repo : RepoState) (files start image : Files) (opens : OpensNew files repo image) (IsMet : LimitKind → Type 0)
-    (met : (limit : LimitKind) → LimitsTagging asked_for repo files start image limit → IsMet limit) where
-  tag_done : (status : Status) → IsTaggedUnless asked_for repo files start image status → IsDoneOr IsMet status
+    (met : (limit : LimitKind) → LimitsTagging asked_for.timestamp repo files start image limit → IsMet limit) where
+  tag_done : (status : Status) → IsDoneUnless (LimitsTagging asked_for.timestamp repo files start image) (BreaksNew files repo image) status
+      → IsDoneOr IsMet status
   tag_done Done d = tt
   tag_done Memory d = tt
   tag_done SourceDevice d = tt
@@ -184,7 +191,8 @@ plan_done (TargetRefused refusal) IsMet d = absurd d
 plan_done (Taken name) IsMet d = absurd d
 plan_done (NotFound name) IsMet d = absurd d
 
-sent_done : (text : List ℕ) (before after : Written) (status : Status) (IsMet : LimitKind → Type 0) → Sends text before status after → IsDoneOr IsMet status
+sent_done : (text : List ℕ) (before after : Written) (status : Status) (IsMet : LimitKind → Type 0) → PrintsText (λ sent. sent ≡ text) before status after
+    → IsDoneOr IsMet status
 sent_done text before after Done IsMet s = tt
 sent_done text before after OutputDevice IsMet s = tt
 sent_done text before after Memory IsMet s = tt
@@ -207,11 +215,11 @@ planned_done request source target before after status IsMet can (inr p) = plan_
 
 compacted_done : (b t : Told) (status : Status) (IsMet : LimitKind → Type 0)
     → ((limit : LimitKind) → IsCompactedUnless (told_files t) (Limit limit) → IsMet limit)
-    → IsReadyToCompact (told_files b) → (status ≡ Done) ⊎ IsCompactingRefused (Some b) (Some t) status → IsDoneOr IsMet status
+    → ReadsTarget (told_files b) → (status ≡ Done) ⊎ RefusesCompacting (told_files b) (told_files t) status → IsDoneOr IsMet status
 compacted_done b t status IsMet met ready (inl done) = subst (IsDoneOr IsMet) (sym done) tt
 compacted_done b t status IsMet met ready (inr refused) =
     compact_done (told_files t) IsMet met status
-    (compact_completes (told_files b) (told_files t) ready.0 ready.1.1.0 status ready.1.0 ready.1.1.1 refused)
+    (compact_completes (told_files b) (told_files t) ready.0.0 ready.1.0 status ready.0.1 ready.1.1 refused)
 
 -- ---- all commands
 
@@ -224,18 +232,18 @@ module _ (secrets : Secrets) (drawn : Drawn) (output output_now : Written) (stat
       prints_done IsListing RefusesKeys s output output_now status IsMet (keys_never (told_files s) ready.0 ready.1) shows
   shown Key (Some s) IsMet ready shows =
       prints_done (λ files text. IsIdLine secrets.source (contents_at files Config) text)
-      (λ files refusal. RefusesUnlocking secrets.source (contents_at files Config) refusal) s output output_now status IsMet
+      (λ files. RefusesBy (RefusesKey (contents_at files Config) secrets.source)) s output output_now status IsMet
       (key_never secrets.source (contents_at (told_files s) Config) ready.0 ready.1) shows
   shown ListArchives (Some s) IsMet ready shows =
-      prints_done (IsArchiveListing secrets.source) (RefusesOpening secrets.source) s output output_now status IsMet
+      prints_done (IsArchiveListing secrets.source) (λ files. RefusesBy (RefusesRepo files secrets.source)) s output output_now status IsMet
       (opening_never {P = λ files repo. Unit {0}} secrets.source (told_files s) (record { repo = ready.1.repo; opens = ready.1.opens; holds = tt })) shows
   shown (ListItems name) (Some s) IsMet ready shows =
-      reads_done (ShowsItems secrets.source name) (ShowsItemsFront secrets.source name)
+      reads_done (ShowsWhole secrets.source (λ f r. IsItemListing f r name)) (ShowsAsRead secrets.source (λ f r. IsItemText f r name))
       (RefusesShowing secrets.source (λ files repo. RefusesItems files repo name)) (LacksArchive secrets.source name) s output output_now status IsMet
       (items_never secrets.source name (told_files s) ready.0 ready.1)
       (archive_there secrets.source name (told_files s) ready.0 ready.1) shows
   shown (Extract name path) (Some s) IsMet ready shows =
-      reads_done (ShowsFile secrets.source name path) (ShowsFileFront secrets.source name path)
+      reads_done (ShowsWhole secrets.source (λ f r. IsFile f r name path)) (ShowsAsRead secrets.source (λ f r. IsFileText f r name path))
       (RefusesShowing secrets.source (λ files repo. RefusesFile files repo name path)) (LacksPath secrets.source name path) s output output_now status IsMet
       (file_never secrets.source name path (told_files s) ready.0 ready.1)
       (path_there secrets.source name path (told_files s) ready.0 ready.1) shows
@@ -255,7 +263,7 @@ module _ (secrets : Secrets) (drawn : Drawn) (output output_now : Written) (stat
 
   made : (iterations : ℕ) (timestamp : Option (List ℕ)) (source before now : Option Told) → IfSome before (λ b. b.history.acts ≡ [])
       → IsReadyTo (Init iterations timestamp) secrets drawn source before now
-      → (status ≡ Done) ⊎ IsRefused secrets.target (time_or timestamp) before status
+      → (status ≡ Done) ⊎ IsRefusedBy store_status (λ refusal. IfSome before (λ t. RefusesInit secrets.target (time_or timestamp) t.history refusal)) status
       → IsDoneOr (Meets (Init iterations timestamp) secrets source before now) status
   made iterations timestamp source None now begun ready refused = absurd ready
   made iterations timestamp source (Some b) now begun ready refused =
@@ -282,29 +290,32 @@ module _ (secrets : Secrets) (drawn : Drawn) (output output_now : Written) (stat
       planned_done (planned_for secrets block names (Some s)) s b output output_now status (Meets (Plan block names) secrets (Some s) (Some b) now) ready prints
 
   deleted : (timestamp : Option (List ℕ)) (name : List ℕ) (source before now : Option Told) → IfSome before (λ b. b.history.acts ≡ [])
-      → IsReadyTo (Delete timestamp name) secrets drawn source before now → DeletesDone (deletion secrets.target name timestamp) before now status
+      → IsReadyTo (Delete timestamp name) secrets drawn source before now → DeletesDone secrets.target name timestamp before now status
       → IsDoneOr (Meets (Delete timestamp name) secrets source before now) status
   deleted timestamp name source None now begun ready done = absurd ready
   deleted timestamp name source (Some b) None begun ready done = absurd ready
   deleted timestamp name source (Some b) (Some t) begun ready done =
-      delete_done (deletion secrets.target name timestamp) ready.repo t.history.start (told_files t)
-      (Meets (Delete timestamp name) secrets source (Some b) (Some t)) (λ limit m. (ready.repo, (ready.opens, m))) status (done begun ready)
+      delete_done (deletion secrets.target name timestamp) ready.0.repo t.history.start (told_files t)
+      (Meets (Delete timestamp name) secrets source (Some b) (Some t)) (λ limit m. (ready.0.repo, (ready.0.opens, m))) status
+      (done begun ready.0 ready.1.0 ready.1.1.0 ready.1.1.1)
 
   compacted : (threshold : ℕ) (source before now : Option Told) → IsReadyTo (Compact threshold) secrets drawn source before now
-      → (status ≡ Done) ⊎ IsCompactingRefused before now status → IsDoneOr (Meets (Compact threshold) secrets source before now) status
+      → (status ≡ Done) ⊎ IfSome before (λ b. IfSome now (λ t. RefusesCompacting (told_files b) (told_files t) status))
+      → IsDoneOr (Meets (Compact threshold) secrets source before now) status
   compacted threshold source None now ready refused = absurd ready
   compacted threshold source (Some b) None ready refused = absurd ready
   compacted threshold source (Some b) (Some t) ready refused =
       compacted_done b t status (Meets (Compact threshold) secrets source (Some b) (Some t)) (λ limit m. m) ready refused
 
   tagged : (timestamp : Option (List ℕ)) (source before now : Option Told) → IfSome before (λ b. b.history.acts ≡ [])
-      → IsReadyTo (TagArchives timestamp) secrets drawn source before now → TagsDone (tagging secrets.target timestamp) before now status
+      → IsReadyTo (TagArchives timestamp) secrets drawn source before now → TagsDone secrets.target timestamp before now status
       → IsDoneOr (Meets (TagArchives timestamp) secrets source before now) status
   tagged timestamp source None now begun ready done = absurd ready
   tagged timestamp source (Some b) None begun ready done = absurd ready
   tagged timestamp source (Some b) (Some t) begun ready done =
-      tag_done (tagging secrets.target timestamp) ready.0.repo (told_files b) t.history.start (told_files t) ready.1
-      (Meets (TagArchives timestamp) secrets source (Some b) (Some t)) (λ limit m. (ready.0.repo, (ready.0.opens, m))) status (done begun ready.0)
+      tag_done (tagging secrets.target timestamp) ready.0.repo (told_files b) t.history.start (told_files t) ready.1.1
+      (Meets (TagArchives timestamp) secrets source (Some b) (Some t)) (λ limit m. (ready.0.repo, (ready.0.opens, m))) status
+      (done begun ready.0 ready.1.0.0 ready.1.0.1)
 
 abbrev drawn_in : Devices → Devices → Drawn
 drawn_in before after = drawn_from before.entropy.bytes after.entropy.bytes

@@ -7,27 +7,27 @@ use Rattle.ferry_disk.specs.Moments.{Between}
 use Rattle.ferry_repo.specs.declared.secret.Secret.{Secret}
 use Rattle.ferry_run_compact.proofs.CompactLemmas.{compacts_nothing}
 use Rattle.ferry_run_delete.proofs.DoneLemmas.{deletes_nothing}
-use Rattle.ferry_run_delete.specs.Delete.{deletion}
+use Rattle.ferry_run_delete.proofs.ShowLemmas.{deletion}
 use Rattle.ferry_run_tag.proofs.DoneLemmas.{tags_nothing}
-use Rattle.ferry_run_tag.specs.Tag.{tagging}
+use Rattle.ferry_run_tag.proofs.ShowLemmas.{tagging}
 use Rattle.ferry_top.proofs.InitLemmas.{each_command}
 use Rattle.ferry_status.proofs.StatusLemmas.{IsOfStore, of_store}
 use Rattle.ferry_run_plan.proofs.PlanLemmas.{plans_nothing}
 use Rattle.ferry_run_transfer.proofs.DoneLemmas.{transfers_nothing}
 use Rattle.ferry_top.specs.Check.{Checks}
-use Rattle.ferry_status.specs.Devices.{Devices, HasCauses, Store as Target, Written}
+use Rattle.ferry_status.specs.Devices.{Devices, HasCauses, IsRefusedBy, Store as Target, Written}
 use Rattle.ferry_store.proofs.CallLemmas.{first_here, read_first}
 use Rattle.ferry_store.proofs.StepLemmas.{here_each}
 use Rattle.ferry_store.proofs.StoreLemmas.{each_here}
 use Rattle.ferry_store.specs.Store.{RefusesInit}
 use Rattle.ferry_store.specs.declared.fault.StoreRefusal.TheVariants as Store
-use Rattle.ferry_top.specs.Init.{CommandEach, IsRefused, time_or}
+use Rattle.ferry_top.specs.Init.{CommandEach, time_or}
 use Rattle.ferry_top.specs.MakeKey.{PrintsKey}
 use Rattle.ferry_run_drill.proofs.NothingLemmas.{drills_nothing}
 use Rattle.ferry_run_plan.specs.Planning.{planned_for}
 use Rattle.ferry_top.specs.Run.{DoesCommand, Runs}
 use Rattle.ferry_status.specs.Output.{Prints, PrintsAsRead, Reports}
-use Rattle.ferry_status.specs.Status.{source_failed, target_failed, entropy_failed, output_failed}
+use Rattle.ferry_status.specs.Status.{entropy_failed, output_failed, source_failed, store_status, target_failed}
 use Rattle.ferry_run_transfer.specs.Transfer.{asked}
 use Rattle.ferry_status.specs.declared.status.Refusal.{Refusal}
 use Rattle.ferry_status.specs.declared.status.Secrets.{Secrets}
@@ -197,7 +197,8 @@ done_is = record { source = refl; output = refl; used = λ n o. let no : ⊥ = c
 of_refusal : (status : Status) → IsOfStore status → IsOfInit status
 of_refusal status is = record { source = is.source; output = is.output; used = is.used }
 
-pub of_init : (secret : Secret) (timestamp : List ℕ) (target : Option Told) (status : Status) → (status ≡ Done) ⊎ IsRefused secret timestamp target status
+pub of_init : (secret : Secret) (timestamp : List ℕ) (target : Option Told) (status : Status)
+    → (status ≡ Done) ⊎ IsRefusedBy store_status (λ refusal. IfSome target (λ t. RefusesInit secret timestamp t.history refusal)) status
     → IsOfInit status
 of_init secret timestamp target status (inl e) = subst IsOfInit (sym e) done_is
 of_init secret timestamp target status (inr r) = subst IsOfInit (sym r.status_is) (of_refusal _ (of_store r.fault))
@@ -241,11 +242,11 @@ first_of (Ok (Init iterations timestamp)) secrets before after status does =
 first_of (Ok (Transfer block checkpoint timestamp names)) secrets before after status does =
     between_map before.target.told after.target.told _ SettlesFirst (λ h g each. each.1.1.1) does.each
 first_of (Ok (Delete timestamp name)) secrets before after status does =
-    between_map before.target.told after.target.told _ SettlesFirst (λ h g each. each.1.1.1) does.each
+    between_map before.target.told after.target.told _ SettlesFirst (λ h g each. each.1.1.1) does.changes.each
 first_of (Ok (Compact threshold)) secrets before after status does =
     between_map before.target.told after.target.told _ SettlesFirst (λ h g each. each.1.1.1) does.each
 first_of (Ok (TagArchives timestamp)) secrets before after status does =
-    between_map before.target.told after.target.told _ SettlesFirst (λ h g each. each.1.1.1) does.each
+    between_map before.target.told after.target.told _ SettlesFirst (λ h g each. each.1.1.1) does.changes.each
 first_of (Ok (Plan block names)) secrets before after status does =
     read_first {T = Unit {0}} {F = Bool} (λ failed. failed) before.target.told after.target.told (Err (target_failed status)) does.target
 first_of (Ok (Drill count)) secrets before after status does = does.first

@@ -5,14 +5,14 @@ use Rattle.ferry_check.specs.declared.report.Report.{Report}
 use Rattle.ferry_disk.specs.Device.{Told, told_files, Rose, WritesSome}
 use Rattle.ferry_disk.specs.Files.{Files}
 use Rattle.ferry_repo.specs.Fault.{IsOfFiles}
-use Rattle.ferry_repo.specs.Opening.{RepoState, OpensFilesTo}
-use Rattle.ferry_repo.specs.Reason.{reason}
+use Rattle.ferry_repo.specs.Opening.{OpensFilesTo, RefusesRepo, RepoState}
 use Rattle.ferry_repo.specs.declared.fault.RepoFault.{RepoFault}
 use Rattle.ferry_repo.specs.declared.secret.Secret.{Secret}
 use Rattle.ferry_status.specs.Devices.{Written}
-use Rattle.ferry_top.specs.List.{RefusesOpening}
 use Rattle.ferry_status.specs.declared.status.Status.{Status}
 use Rattle.ferry_status.specs.declared.status.Status.TheVariants.{Done, No, Memory, SourceDevice, OutputDevice, SourceRefused}
+use Rattle.ferry_status.specs.Status.{bad_line}
+use Rattle.ferry_top.specs.List.{RefusesBy}
 
 -- the line of a repository that verifies: how many archives and live chunks it has, how many of these no archive uses, and how many
 -- archives have an untagged record
@@ -20,10 +20,6 @@ abbrev pub good_line : Report → List ℕ
 good_line report =
     codes "ok archives " ++ (decimal report.archives ++ (codes " chunks " ++ (decimal report.chunks
     ++ (codes " orphans " ++ (decimal report.orphans ++ (codes " untagged " ++ (decimal report.untagged ++ (10 ∷ []))))))))
-
--- the line of one that doesn't: its first fault
-abbrev pub bad_line : RepoFault → List ℕ
-bad_line fault = codes "bad " ++ (reason fault ++ (10 ∷ []))
 
 -- the line by the first fault, none where there is none
 abbrev pub line_by : Report → Option RepoFault → List ℕ
@@ -59,5 +55,5 @@ Checks secret source before Memory after = (after ≡ before)
 Checks secret source before SourceDevice after = after ≡ before
 Checks secret source before OutputDevice after =
     Reported secret source (λ report. WritesSome before.bytes (report_line report) after.bytes × Rose before.faults after.faults)
-Checks secret source before (SourceRefused refusal) after = IfSome source (λ t. RefusesOpening secret (told_files t) refusal) × (after ≡ before)
+Checks secret source before (SourceRefused refusal) after = IfSome source (λ t. RefusesBy (RefusesRepo (told_files t) secret) refusal) × (after ≡ before)
 Checks secret source before status after = ⊥

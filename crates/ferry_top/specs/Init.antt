@@ -2,7 +2,6 @@
 use Rattle.std.specs.Prelude.{◌≡◌, ◌⊎◌, ℕ, true, List, [], ◌∷◌, ◌++◌, codes, Option, unwrap_or, IfSome, option_map}
 use Rattle.hex.specs.Hex.{encode_lower}
 use Rattle.ferry_disk.specs.Act.{History, TellOf, with_act}
-use Rattle.ferry_disk.specs.Device.{Told}
 use Rattle.ferry_disk.specs.Files.{Files, file_at}
 use Rattle.ferry_disk.specs.Moments.{Between}
 use Rattle.ferry_disk.specs.declared.name.Name.TheVariants.{Nonce as NonceFile}
@@ -33,18 +32,9 @@ pub record MakesAndTells (secret : Secret) (iterations : ℕ) (timestamp bytes :
   pub made : History
   pub tells : now ≡ with_act (TellOf (initialized_line makes.opens.repo.config.id)) true made
 
--- The same of a run that had made no act.
-abbrev pub InitTells : Secret → ℕ → List ℕ → List ℕ → History → History → Type 0
-InitTells secret iterations timestamp bytes before now = before.acts ≡ [] → MakesAndTells secret iterations timestamp bytes before now
-
 -- At each moment of the command, and at its end.
 abbrev pub CommandEach : Secret → History → History → Type 0
 CommandEach secret before now = WritesEach (λ h g. InitShows secret h g × (h.acts ≡ [] → InitLeaves h g)) before now
-
--- A status is that of a refusal, which says this of the target.
-abbrev pub IsRefused : Secret → List ℕ → Option Told → Status → Type 0
-IsRefused secret timestamp target status =
-    IsRefusedBy store_status (λ refusal. IfSome target (λ t. RefusesInit secret timestamp t.history refusal)) status
 
 -- A repository is made in the target, or that is refused. Whatever a stop leaves at any moment has no commit, or is the new repository; the
 -- counter blocks of the runs before stay apart, and none of this run's, and no number of the file `nonce`, is below the one that it began with. Source and
@@ -53,9 +43,10 @@ pub record MakesRepository (secret : Secret) (iterations : ℕ) (timestamp : Lis
   pub source : after.source ≡ before.source
   pub output : after.output ≡ before.output
   pub made : status ≡ Done → (bytes : List ℕ) × (after.entropy.bytes ≡ option_map (λ d. d ++ bytes) before.entropy.bytes)
-      × Between before.target.told after.target.told (InitTells secret iterations timestamp bytes)
+      × Between before.target.told after.target.told (λ h g. h.acts ≡ [] → MakesAndTells secret iterations timestamp bytes h g)
   pub each : Between before.target.told after.target.told (CommandEach secret)
-  pub refused : (status ≡ Done) ⊎ IsRefused secret timestamp before.target.told status
+  pub refused : (status ≡ Done)
+      ⊎ IsRefusedBy store_status (λ refusal. IfSome before.target.told (λ t. RefusesInit secret timestamp t.history refusal)) status
 
 -- ---- where nothing refuses
 

@@ -1,13 +1,10 @@
--- What the command that opens the repository key writes, and what it says where it doesn't.
+-- What the command that opens the repository key writes.
 use Rattle.std.specs.Prelude.{◌≡◌, ℕ, List}
 use Rattle.ferry_config.specs.declared.config.Config.{Config}
 use Rattle.ferry_keyblob.specs.Opening.{Opened}
-use Rattle.ferry_repo.specs.Fault.{IsOfFiles}
-use Rattle.ferry_repo.specs.Opening.{UnlocksTo, RefusesKey}
+use Rattle.ferry_repo.specs.Opening.{UnlocksTo}
 use Rattle.ferry_repo.specs.declared.secret.Secret.{Secret}
 use Rattle.ferry_top.specs.Keys.{key_line}
-use Rattle.ferry_status.specs.declared.status.Refusal.{Refusal}
-use Rattle.ferry_status.specs.declared.status.Refusal.TheVariants.{Repo}
 
 -- The text is the line of the key in a file `config` that the secret opens: its repository id in hex digits, a space, the
 -- iterations of its envelope, and a line feed.
@@ -17,8 +14,3 @@ pub record IsIdLine (secret : Secret) (bytes text : List ℕ) : Type 0 where
   pub key : Opened
   pub unlocks : UnlocksTo bytes secret config iterations key
   pub line : text ≡ key_line key.repository_id iterations
-
--- what a refusal says of a file `config` and a secret
-abbrev pub RefusesUnlocking : Secret → List ℕ → Refusal → Type 0
-RefusesUnlocking secret bytes (Repo fault) = IsOfFiles fault × RefusesKey bytes secret fault
-RefusesUnlocking secret bytes refusal = ⊥

@@ -2,7 +2,8 @@
 use Rattle.std.specs.Prelude.{◌≡◌, ℕ, List}
 use Rattle.ferry_disk.specs.Files.{Files}
 use Rattle.ferry_repo.specs.Fault.{IsOfFiles}
-use Rattle.ferry_repo.specs.Opening.{RepoState, OpensFilesTo, RefusesRepo}
+use Rattle.ferry_repo.specs.Opening.{RepoState, OpensFilesTo}
+use Rattle.ferry_repo.specs.declared.fault.RepoFault.{RepoFault}
 use Rattle.ferry_repo.specs.declared.secret.Secret.{Secret}
 use Rattle.ferry_status.specs.declared.status.Refusal.{Refusal}
 use Rattle.ferry_status.specs.declared.status.Refusal.TheVariants.{Repo}
@@ -14,7 +15,7 @@ pub record IsArchiveListing (secret : Secret) (files : Files) (text : List ℕ) 
   pub opens : OpensFilesTo files secret repo
   pub lines : text ≡ archive_lines repo.manifest.archives
 
--- what a refusal says of the files of a source that is to be opened
-abbrev pub RefusesOpening : Secret → Files → Refusal → Type 0
-RefusesOpening secret files (Repo fault) = IsOfFiles fault × RefusesRepo files secret fault
-RefusesOpening secret files refusal = ⊥
+-- What a refusal of a source says, where each fault of its files says this.
+abbrev pub RefusesBy : (RepoFault → Type 0) → Refusal → Type 0
+RefusesBy Refuses (Repo fault) = IsOfFiles fault × Refuses fault
+RefusesBy Refuses refusal = ⊥

@@ -1,11 +1,11 @@
 -- What the command that makes a key writes.
-use Rattle.std.specs.Prelude.{◌≡◌, ◌⊎◌, ℕ, List, ◌++◌, Option, option_map}
-use Rattle.ferry_disk.specs.Device.{Rose, WritesSome}
+use Rattle.std.specs.Prelude.{◌≡◌, ℕ, List, ◌++◌, Option, option_map}
 use Rattle.ferry_repo.specs.declared.secret.Secret.{Secret}
 use Rattle.ferry_store.specs.Key.{IsNewKeyFile}
 use Rattle.ferry_status.specs.Devices.{Devices, Written}
 use Rattle.ferry_status.specs.declared.status.Status.{Status}
-use Rattle.ferry_status.specs.declared.status.Status.TheVariants.{Done, Memory, EntropyDevice, OutputDevice}
+use Rattle.ferry_status.specs.declared.status.Status.TheVariants.{EntropyDevice}
+use Rattle.ferry_status.specs.Output.{PrintsText}
 
 -- The text is that of a key file, made of the bytes that the source of random bytes has handed out meanwhile.
 pub record IsDrawnKey (passphrase : List ℕ) (iterations : ℕ) (before after : Option (List ℕ)) (text : List ℕ) : Type 0 where
@@ -13,16 +13,10 @@ pub record IsDrawnKey (passphrase : List ℕ) (iterations : ℕ) (before after :
   pub key : IsNewKeyFile passphrase iterations bytes text
   pub drawn : after ≡ option_map (λ d. d ++ bytes) before
 
--- What is written when the command ends with a status, where it prints such a text.
+-- What is written when the command ends with a status, where it prints such a text: nothing where the source of random bytes failed.
 abbrev pub PrintsKey : (List ℕ → Type 0) → Written → Status → Written → Type 0
-PrintsKey IsText before Done after =
-    (text : List ℕ) × IsText text × (after.bytes ≡ option_map (λ w. w ++ text) before.bytes) × (after.faults ≡ before.faults)
-PrintsKey IsText before Memory after =
-    (after ≡ before) ⊎ ((text : List ℕ) × IsText text × WritesSome before.bytes text after.bytes × (after.faults ≡ before.faults))
 PrintsKey IsText before EntropyDevice after = after ≡ before
-PrintsKey IsText before OutputDevice after =
-    (text : List ℕ) × IsText text × WritesSome before.bytes text after.bytes × Rose before.faults after.faults
-PrintsKey IsText before status after = ⊥
+PrintsKey IsText before status after = PrintsText IsText before status after
 
 -- The text of a new key file is printed, sealed with the passphrase. Source and target are not used.
 pub record MakesKey (secret : Secret) (iterations : ℕ) (before : Devices) (status : Status) (after : Devices) : Type 0 where

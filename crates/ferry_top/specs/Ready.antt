@@ -1,18 +1,16 @@
 -- What a command asks of what its devices tell, and that it is done where that is there.
-use Rattle.std.specs.Prelude.{◌≡◌, ℕ, List, Option, Some, None, Ok}
-use Rattle.ferry_check.specs.Verify.{Verifies}
-use Rattle.ferry_config.specs.Config.{config_of}
-use Rattle.ferry_config.specs.declared.config.Config.{Config as Settings}
+use Rattle.std.specs.Prelude.{ℕ, List, Option, Some, None}
+use Rattle.ferry_check.specs.Verify.{IsNamed, Verifies}
+use Rattle.ferry_check.specs.Report.{ArchiveRead, AreRead}
 use Rattle.ferry_disk.specs.Device.{Told, told_files}
 use Rattle.ferry_disk.specs.Files.{Files, contents_at}
 use Rattle.ferry_disk.specs.declared.name.Name.TheVariants.{Config}
-use Rattle.ferry_log.specs.State.{IsStateOf, LogState}
 use Rattle.ferry_repo.specs.Opening.{OpensFilesTo, RepoState}
 use Rattle.ferry_repo.specs.declared.secret.Secret.{Secret}
-use Rattle.ferry_run_compact.specs.Compact.{IsCompactedUnless}
-use Rattle.ferry_run_delete.specs.Delete.{IsReadyToDelete, LimitsDeletion, deletion}
+use Rattle.ferry_run_compact.specs.Compact.{IsCompactedUnless, ReadsTarget}
+use Rattle.ferry_run_delete.specs.Delete.{LimitsDeletion}
 use Rattle.ferry_run_plan.specs.Planning.{CanBePlanned, planned_for}
-use Rattle.ferry_run_tag.specs.Tag.{IsReadyToTag, LimitsTagging, OpensNew, tagging}
+use Rattle.ferry_run_tag.specs.Tag.{LimitsTagging, OpensNew}
 use Rattle.ferry_carry.specs.States.{Drawn}
 use Rattle.ferry_run_transfer.specs.Transfer.{KeepsArchives, NoneCollide, Request, asked}
 use Rattle.ferry_run_transfer.specs.TransferCauses.{IsReadyFor, MeetsLimit}
@@ -20,15 +18,17 @@ use Rattle.ferry_status.specs.declared.status.Limit.{Limit as LimitKind}
 use Rattle.ferry_status.specs.declared.status.Secrets.{Secrets}
 use Rattle.ferry_status.specs.declared.status.Status.{Status}
 use Rattle.ferry_status.specs.declared.status.Status.TheVariants.{Done, Memory, SourceDevice, TargetDevice, EntropyDevice, OutputDevice, Limit}
+use Rattle.ferry_status.specs.Opened.{OpensNumbered, OpensWith}
 use Rattle.ferry_stops.specs.Tells.{lines_of}
 use Rattle.ferry_top.specs.Init.{IsReady, time_or}
-use Rattle.ferry_top.specs.Items.{OpensWith, ShowsFile, ShowsItems}
 use Rattle.ferry_top.specs.Key.{IsIdLine}
 use Rattle.ferry_top.specs.Keys.{IsListing}
 use Rattle.ferry_top.specs.List.{IsArchiveListing}
+use Rattle.ferry_top.specs.Items.{ShowsWhole}
 use Rattle.ferry_words.specs.declared.command.Command.{Command}
 use Rattle.ferry_words.specs.declared.command.Command.TheVariants.{Keys, Key, List as ListArchives, ListItems, Extract, Check}
 use Rattle.ferry_words.specs.declared.command.Command.TheVariants.{Init, MakeKey, Transfer, Plan, Delete, Compact, TagArchives}
+use Rattle.ferry_view.specs.Items.{IsFile, IsItemListing}
 
 -- A device tells, and this holds of it.
 abbrev pub Tells : Option Told → (Told → Type 0) → Type 0
@@ -40,8 +40,8 @@ abbrev pub HasShown : Command → Secret → Files → Type 0
 HasShown Keys secret files = (text : List ℕ) × IsListing files text
 HasShown Key secret files = (text : List ℕ) × IsIdLine secret (contents_at files Config) text
 HasShown ListArchives secret files = (text : List ℕ) × IsArchiveListing secret files text
-HasShown (ListItems name) secret files = (text : List ℕ) × ShowsItems secret name files text
-HasShown (Extract name path) secret files = (text : List ℕ) × ShowsFile secret name path files text
+HasShown (ListItems name) secret files = (text : List ℕ) × ShowsWhole secret (λ f repo. IsItemListing f repo name) files text
+HasShown (Extract name path) secret files = (text : List ℕ) × ShowsWhole secret (λ f repo. IsFile f repo name path) files text
 HasShown Check secret files = OpensWith secret Verifies files
 HasShown command secret files = ⊥
 
@@ -51,9 +51,9 @@ IsReadyToCopy request drawn source start now = (ready : IsReadyFor request drawn
     × ((keeps : KeepsArchives request (told_files start) ready.repo.manifest (lines_of now.history.acts) (told_files now))
     × NoneCollide request (told_files start) keeps.begun)
 
--- what a compaction asks of its target: that its log and its settings read
-abbrev pub IsReadyToCompact : Files → Type 0
-IsReadyToCompact files = (state : LogState) × (IsStateOf files state × ((config : Settings) × (config_of (contents_at files Config) ≡ Ok config)))
+-- The record and the stream of each archive of a repository read.
+abbrev pub AllRead : Files → RepoState → Type 0
+AllRead files repo = (reads : List ArchiveRead) × AreRead files repo repo.manifest.archives reads
 
 -- what each command asks of what the source and the target tell before it, and `transfer` and `tag-archives` also of what the target tells behind it,
 -- `transfer` of what was drawn too
@@ -65,10 +65,11 @@ IsReadyTo (Transfer block checkpoint timestamp names) secrets drawn source befor
 IsReadyTo (Plan block names) secrets drawn source before now =
     Tells source (λ s. Tells before (λ b. CanBePlanned (planned_for secrets block names (Some s)) (told_files s) (told_files b)))
 IsReadyTo (Delete timestamp name) secrets drawn source before now =
-    Tells before (λ b. Tells now (λ t. IsReadyToDelete (deletion secrets.target name timestamp) (told_files b)))
-IsReadyTo (Compact threshold) secrets drawn source before now = Tells before (λ b. Tells now (λ t. IsReadyToCompact (told_files b)))
+    Tells before (λ b. Tells now (λ t.
+    (ready : OpensNumbered secrets.target (told_files b)) × (IsNamed ready.repo name × AllRead (told_files b) ready.repo)))
+IsReadyTo (Compact threshold) secrets drawn source before now = Tells before (λ b. Tells now (λ t. ReadsTarget (told_files b)))
 IsReadyTo (TagArchives timestamp) secrets drawn source before now = Tells before (λ b. Tells now (λ t.
-    (ready : IsReadyToTag (tagging secrets.target timestamp) (told_files b)) × OpensNew (told_files b) ready.repo (told_files t)))
+    (ready : OpensNumbered secrets.target (told_files b)) × (AllRead (told_files b) ready.repo × OpensNew (told_files b) ready.repo (told_files t))))
 IsReadyTo command secrets drawn source before now = Tells source (λ s. HasShown command secrets.source (told_files s))
 
 -- the limits that a command can meet, each with what it says then
@@ -78,10 +79,10 @@ Meets (Transfer block checkpoint timestamp names) secrets source before now limi
     (lines_of t.history.acts) (told_files t) limit)))
 Meets (Delete timestamp name) secrets source before now limit = Tells before (λ b. Tells now (λ t. (repo : RepoState)
     × (OpensFilesTo (told_files b) secrets.target repo
-    × LimitsDeletion (deletion secrets.target name timestamp) repo t.history.start (told_files t) limit)))
+    × LimitsDeletion name timestamp repo t.history.start (told_files t) limit)))
 Meets (TagArchives timestamp) secrets source before now limit = Tells before (λ b. Tells now (λ t. (repo : RepoState)
     × (OpensFilesTo (told_files b) secrets.target repo
-    × LimitsTagging (tagging secrets.target timestamp) repo (told_files b) t.history.start (told_files t) limit)))
+    × LimitsTagging timestamp repo (told_files b) t.history.start (told_files t) limit)))
 Meets (Compact threshold) secrets source before now limit = Tells now (λ t. IsCompactedUnless (told_files t) (Limit limit))
 Meets command secrets source before now limit = ⊥
 

@@ -1,7 +1,8 @@
 //! The command that verifies the source.
 ghost use Rattle.std.specs.Prelude.{◌≡◌, IfOk, string_bytes};
 ghost use Rattle.ferry_disk.specs.Device.{KeptWhere, RoseWhere, heard};
-ghost use Rattle.ferry_top.specs.Check.{bad_line, good_line, report_line};
+ghost use Rattle.ferry_top.specs.Check.{good_line, report_line};
+ghost use Rattle.ferry_status.specs.Status.{bad_line};
 ghost use Rattle.ferry_status.specs.Devices.{written};
 ghost use Rattle.ferry_top.specs.Run.{Shows};
 ghost use Rattle.ferry_status.specs.Status.{source_failed};

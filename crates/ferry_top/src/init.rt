@@ -1,5 +1,5 @@
 //! The command that makes a repository.
-ghost use Rattle.std.specs.Prelude.{◌≡◌, ◌≤◌, ◌⊎◌, ◌++◌, ℕ, List, IfOk, IfErr, IfSome, OnOk, option_map, true};
+ghost use Rattle.std.specs.Prelude.{◌≡◌, ◌≤◌, ◌⊎◌, ◌++◌, ℕ, List, IfOk, IfErr, IfSome, OnOk, option_map, true, []};
 ghost use Rattle.ferry_disk.specs.Act.{TellOf, with_act};
 ghost use Rattle.ferry_disk.specs.Device.{HasCause, RoseWhere};
 ghost use Rattle.ferry_disk.specs.Faults.{FailedWhere};
@@ -7,10 +7,11 @@ ghost use Rattle.ferry_disk.specs.Moments.{Between};
 ghost use Rattle.ferry_store.specs.Fault.{source_failed};
 ghost use Rattle.ferry_store.specs.State.{Did, IsStep};
 ghost use Rattle.ferry_store.specs.Store.{RefusesInit};
-ghost use Rattle.ferry_top.specs.Init.{CommandEach, InitTells, IsRefused, initialized_line, time_or};
+ghost use Rattle.ferry_top.specs.Init.{CommandEach, MakesAndTells, initialized_line, time_or};
 ghost use Rattle.ferry_status.specs.Telling.{RefusesTelling};
-ghost use Rattle.ferry_status.specs.Status.{entropy_failed, target_failed};
+ghost use Rattle.ferry_status.specs.Status.{entropy_failed, store_status, target_failed};
 ghost use Rattle.ferry_status.specs.declared.status.Status.TheVariants as TheStatus;
+ghost use Rattle.ferry_status.specs.Devices.{IsRefusedBy};
 
 use ferry_base::{Bytes, Id};
 use ferry_disk::{Depot, Entropy};
@@ -35,9 +36,10 @@ pub(crate) fn init<D: Depot, E: Entropy>(
 ) -> Status
     requires iterations { (1 ≤ iterations) × (iterations ≤ 10000000) }
     ensures made { result ≡ TheStatus.Done → (bytes : List ℕ) × (E.drawn entropy.new ≡ option_map (λ d. d ++ bytes) (E.drawn entropy.old))
-        × Between (D.told target.old) (D.told target.new) (InitTells secret.now iterations (time_or timestamp) bytes) }
+        × Between (D.told target.old) (D.told target.new) (λ h g. h.acts ≡ [] → MakesAndTells secret.now iterations (time_or timestamp) bytes h g) }
     ensures each { Between (D.told target.old) (D.told target.new) (CommandEach secret.now) }
-    ensures refused { (result ≡ TheStatus.Done) ⊎ IsRefused secret.now (time_or timestamp) (D.told target.old) result }
+    ensures refused { (result ≡ TheStatus.Done) ⊎ IsRefusedBy store_status (λ refusal. IfSome (D.told target.old) (λ t.
+        RefusesInit secret.now (time_or timestamp) t.history refusal)) result }
     ensures ends { FailedWhere (target_failed result) (D.told target.old) (D.told target.new) }
     ensures cause { RoseWhere (target_failed result) (D.faults target.old) (D.faults target.new) }
     ensures entropy { RoseWhere (entropy_failed result) (E.faults entropy.old) (E.faults entropy.new) }
@@ -70,7 +72,7 @@ fn make<D: Depot, E: Entropy>(
 ) -> Result<(), StoreRefusal>
     requires iterations { (1 ≤ iterations) × (iterations ≤ 10000000) }
     ensures made { (bytes : List ℕ) × (OnOk result (E.drawn entropy.new ≡ option_map (λ d. d ++ bytes) (E.drawn entropy.old))
-        × Did (CommandEach secret.now) (λ _. InitTells secret.now iterations timestamp.now bytes)
+        × Did (CommandEach secret.now) (λ _ h g. h.acts ≡ [] → MakesAndTells secret.now iterations timestamp.now bytes h g)
         (D.told target.old) (D.told target.new) (D.faults target.old) (D.faults target.new) result) }
     ensures refused { IfErr result (λ refusal. IfSome (D.told target.old) (λ t. RefusesInit secret.now timestamp.now t.history refusal)) }
     ensures entropy { HasCause source_failed (E.faults entropy.old) (E.faults entropy.new) result }

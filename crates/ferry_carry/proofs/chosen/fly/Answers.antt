@@ -29,7 +29,9 @@ use Rattle.ferry_store.specs.Commit.{accepted_in}
 use Rattle.ferry_store.specs.declared.fault.StoreRefusal.TheVariants.{TooLarge}
 use Rattle.ferry_carry.proofs.CauseLemmas.{name_refused}
 use Rattle.ferry_carry.specs.Refusals.{RefusesName, WhereTold}
+use Rattle.ferry_carry.proofs.MetLemmas.{stops_by, turn_by}
 use Rattle.ferry_carry.proofs.TurnLemmas.{stops_flight}
+use Rattle.ferry_compare.specs.Compare.{seen}
 use Rattle.ferry_carry.specs.States.{target_state}
 
 pub loop-init : goal.loop-init
@@ -83,7 +85,7 @@ returns-in_err-step-clause-works g c =
     let fault = c.in_err-step.field-0.0 in
     λ fits.
     let before = invariant.works fits in
-    let stepped = c.in_err-step.ensures.works before.fits in (
+    let stepped = c.in_err-step.ensures.works (seen b (repo_view middle.repo)) before.fits in (
       before.more ++ stepped.0,
       (
         stepped.1.0,
@@ -91,7 +93,8 @@ returns-in_err-step-clause-works g c =
           taken_err from name fits.added (before.more ++ stepped.0) stepped.1.0 store now _ a d n k c.from_residual.result fault c.from_residual.ensures.1
               (takes_refused later (g.S.Shelf.told c.step.new.shelf) after (repo_view c.step.new.source) from other name called fits.added stepped.0
               stepped.1.0 store middle now c.loop.flight _ a b d n m k fault same names invariant.accepted invariant.most.keys
-              (accepts_on middle middle invariant.settled) invariant.unspent before stepped.1.1.0),
+              (accepts_on middle middle invariant.settled) invariant.unspent before
+              (turn_by _ _ _ _ c.loop.flight.work (target_state b m middle) (target_state d k now) _ (Err fault) c.in_err-step.ensures.reads stepped.1.1.0)),
           match_err {T = Bool} _
               (λ (f : CarryFault). IsNoChunk f ⊎ WhereTold from a (λ _. TagsDrawn (repo_view store.repo).keys (fits.added ++ (before.more ++ stepped.0))
               (g.E.Entropy.drawn c.args.entropy.now) (g.E.Entropy.drawn c.step.new.entropy)))
@@ -126,21 +129,21 @@ returns-in-Named-clause-works g c =
     let same : other ≡ from =
     origin_same told later source after c.args.flight.now.options c.loop.flight.options invariant.alike invariant.repo invariant.options in
     let names = ap (λ (e : ArchiveRef). e.name) invariant.named in
-    let seen = g.S.Shelf.told c.step.new.shelf in
+    let last = g.S.Shelf.told c.step.new.shelf in
     let then = repo_view c.step.new.source in
     let flight = c.step.new.self in
     λ fits.
     let before = invariant.works fits in
-    let stepped = c.in_ok-step.ensures.works before.fits in
+    let stepped = c.in_ok-step.ensures.works (seen b (repo_view middle.repo)) before.fits in
     let records = stepped.1.0 in
-    let turn = subst (λ (t : Turn). TakesTurn seen then other (archive_adds called before.fits.added stepped.0 records) (target_state b m middle)
-    (target_state d k now) flight (Ok t)) c.in-Named.is
-    stepped.1.1.0 in (
+    let turn = subst (λ (t : Turn). TakesTurn (seen last then) other (archive_adds called before.fits.added stepped.0 records) (target_state b m middle)
+    (target_state d k now) (seen d (repo_view now.repo)) flight (Ok t)) c.in-Named.is
+    (turn_by _ _ _ _ c.loop.flight.work (target_state b m middle) (target_state d k now) _ _ c.in_ok-step.ensures.reads stepped.1.1.0) in (
       before.more ++ stepped.0,
       (
         records,
         (
-          takes_last later seen after then from other name called fits.added stepped.0 records store middle now c.loop.flight flight a b d n m k true same
+          takes_last later last after then from other name called fits.added stepped.0 records store middle now c.loop.flight flight a b d n m k true same
               names invariant.accepted invariant.most.keys (ap (λ (e : ArchiveRef). e.name) (c.step.ensures.turn.turn.name ∙ invariant.named)) before turn,
           flown_named told c.args.flight.now.options c.loop.flight.options source after store middle now c.args.flight.now.named c.loop.flight.named records
               (g.E.Entropy.drawn c.args.entropy.now) (g.E.Entropy.drawn c.loop.entropy) (g.E.Entropy.drawn c.step.new.entropy) invariant.settled
@@ -173,21 +176,21 @@ returns-in-Present-clause-works g c =
     let same : other ≡ from =
     origin_same told later source after c.args.flight.now.options c.loop.flight.options invariant.alike invariant.repo invariant.options in
     let names = ap (λ (e : ArchiveRef). e.name) invariant.named in
-    let seen = g.S.Shelf.told c.step.new.shelf in
+    let last = g.S.Shelf.told c.step.new.shelf in
     let then = repo_view c.step.new.source in
     let flight = c.step.new.self in
     λ fits.
     let before = invariant.works fits in
-    let stepped = c.in_ok-step.ensures.works before.fits in
+    let stepped = c.in_ok-step.ensures.works (seen b (repo_view middle.repo)) before.fits in
     let records = stepped.1.0 in
-    let turn = subst (λ (t : Turn). TakesTurn seen then other (archive_adds called before.fits.added stepped.0 records) (target_state b m middle)
-    (target_state d k now) flight (Ok t)) c.in-Present.is
-    stepped.1.1.0 in (
+    let turn = subst (λ (t : Turn). TakesTurn (seen last then) other (archive_adds called before.fits.added stepped.0 records) (target_state b m middle)
+    (target_state d k now) (seen d (repo_view now.repo)) flight (Ok t)) c.in-Present.is
+    (turn_by _ _ _ _ c.loop.flight.work (target_state b m middle) (target_state d k now) _ _ c.in_ok-step.ensures.reads stepped.1.1.0) in (
       before.more ++ stepped.0,
       (
         records,
         (
-          takes_last later seen after then from other name called fits.added stepped.0 records store middle now c.loop.flight flight a b d n m k false same
+          takes_last later last after then from other name called fits.added stepped.0 records store middle now c.loop.flight flight a b d n m k false same
               names invariant.accepted invariant.most.keys (ap (λ (e : ArchiveRef). e.name) (c.step.ensures.turn.turn.name ∙ invariant.named)) before turn,
           flown_present from name store now records (g.E.Entropy.drawn c.args.entropy.now) (g.E.Entropy.drawn c.step.new.entropy)
               (subst (λ (m : ManifestText). IsSome (archive_named name m.archives)) invariant.accepted
@@ -223,19 +226,20 @@ loop-preserved g c =
     let same : other ≡ from =
     origin_same told later source after c.args.flight.now.options c.loop.flight.options invariant.alike invariant.repo invariant.options in
     let names = ap (λ (e : ArchiveRef). e.name) invariant.named in
-    let seen = g.S.Shelf.told c.step.new.shelf in
+    let last = g.S.Shelf.told c.step.new.shelf in
     let then = repo_view c.step.new.source in
     let flight = c.step.new.self in
     let ensures = c.in_ok-step.ensures in
     let turned : (start : List Addition) (before : TakesOn later after from name start store middle c.loop.flight a b n m)
-    → TakesOn seen then from name start store now flight a d n k =
+    → TakesOn last then from name start store now flight a d n k =
     λ start before.
-    let stepped = ensures.works before.fits in
-    takes_more later seen after then from other name called start stepped.0 stepped.1.0 store middle now c.loop.flight flight a b d n m k same names
+    let stepped = ensures.works (seen b (repo_view middle.repo)) before.fits in
+    takes_more later last after then from other name called start stepped.0 stepped.1.0 store middle now c.loop.flight flight a b d n m k same names
     (accepts_on middle middle invariant.settled) before
-    (subst (λ (t : Turn). TakesTurn seen then other (archive_adds called before.fits.added stepped.0 stepped.1.0) (target_state b m middle) (target_state d
-    k now) flight (Ok t)) c.in-More.is
-    stepped.1.1.0) in
+    (subst (λ (t : Turn). TakesTurn (seen last then) other (archive_adds called before.fits.added stepped.0 stepped.1.0) (target_state b m middle)
+    (target_state d
+    k now) (seen d (repo_view now.repo)) flight (Ok t)) c.in-More.is
+    (turn_by _ _ _ _ c.loop.flight.work (target_state b m middle) (target_state d k now) _ _ ensures.reads stepped.1.1.0)) in
     record {
       flight = (turned c.requires.flight.added (invariant.works c.requires.flight)).fits;
       named = ensures.turn.turn.name ∙ invariant.named;
@@ -301,6 +305,12 @@ returns-clause-works g c =
 
 pub returns-in_err-step-clause-refused : goal.returns-in_err-step-clause-refused
 returns-in_err-step-clause-refused g c =
+    let b = g.D.Shelf.told c.loop.depot in
+    let middle = c.loop.store in
+    let stops = stops_by (flown_from (g.S.Shelf.told c.loop.shelf) (repo_view c.loop.source) c.loop.flight) c.loop.flight.work
+    (target_state b (g.D.Shelf.faults c.loop.depot) middle) (target_state (g.D.Shelf.told c.step.new.depot) (g.D.Shelf.faults c.step.new.depot)
+    c.step.new.store) c.loop.flight.named (Err c.in_err-step.field-0.0) c.in_err-step.ensures.reads
+    (c.in_err-step.ensures.refused (seen b (repo_view middle.repo)) c.loop.invariant.flight) in
     stops_flight {T = Bool} _ _ _ _ _ _ c.from_residual.result
     (let invariant = c.loop.invariant in
     let store = c.args.store.now in
@@ -318,7 +328,7 @@ returns-in_err-step-clause-refused g c =
     err_is c.from_residual.result fault (λ (r : Result Bool CarryFault). IfErr r (RefusesName from a store d now name)) c.from_residual.ensures.1
     (name_refused {T = Turn} from other a b d _ store c.loop.store now name c.loop.flight.named.name (Err fault) same
     (ap (λ (e : ArchiveRef). e.name) invariant.named) (invariant.works c.requires.flight).works.each invariant.most
-    c.in_err-step.ensures.turn.refused.refused))
+    stops.refused))
     (let invariant = c.loop.invariant in
     let flight = c.args.flight.now in
     let store = c.args.store.now in
@@ -331,7 +341,10 @@ returns-in_err-step-clause-refused g c =
     c.from_residual.ensures.1
     (flown_large d flight.options.timestamp c.loop.flight.options.timestamp source (repo_view c.loop.source) store c.loop.store flight.named
     c.loop.flight.named fault invariant.settled (ap (λ (o : Options). o.timestamp) invariant.options) invariant.repo invariant.named invariant.accepted
-    invariant.most.keys c.requires.flight.stands.named c.in_err-step.ensures.turn.refused.limit))
+    invariant.most.keys c.requires.flight.stands.named stops.limit))
+
+pub step-requires-clause-flight : goal.step-requires-clause-flight
+step-requires-clause-flight g c = (seen (g.D.Shelf.told c.loop.depot) (repo_view c.loop.store.repo), c.loop.invariant.flight)
 
 pub step-requires-clause-both : goal.step-requires-clause-both
 step-requires-clause-both g c = record {

@@ -1,7 +1,7 @@
 use Rattle.std.proofs.Common.{Ok, ap, subst}
-use Rattle.ferry_compare.specs.Compare.{comparison_view}
+use Rattle.ferry_compare.specs.Compare.{comparison_view, seen}
 use Rattle.ferry_compare.specs.Steps.{RefusesSource}
-use Rattle.ferry_plan.proofs.PresentLemmas.{differ_first, equal_first, source_first}
+use Rattle.ferry_plan.proofs.PresentLemmas.{differ_first, differ_now, equal_first, source_first}
 use Rattle.ferry_plan.proofs.present.is_equal.Goals as goal
 use Rattle.ferry_repo.proofs.FaultLemmas.{gives_err}
 use Rattle.ferry_repo.specs.Opening.{repo_view}
@@ -32,4 +32,9 @@ returns-in-Differs-clause-differs g c differs =
     differ_first (g.S.Shelf.told c.args.shelf.now) (g.S.Shelf.told c.loop.shelf) (repo_view c.args.source.now) (repo_view c.loop.source)
     (g.T.Shelf.told c.args.other.now) (g.T.Shelf.told c.loop.other) (repo_view c.args.target.now) (repo_view c.loop.target)
     (comparison_view c.args.comparison.now).name (comparison_view c.loop.comparison).name invariant.source_alike invariant.source_is
-    invariant.target_alike invariant.target_is invariant.name (c.in_ok-compared.ensures.differs (ap Ok c.in-Differs.is))
+    invariant.target_alike invariant.target_is invariant.name
+    (differ_now _ _ _ _ _ (comparison_view c.loop.comparison).other
+    (c.in_ok-compared.ensures.differs (seen (g.T.Shelf.told c.loop.other) (repo_view c.loop.target)) invariant.fits (ap Ok c.in-Differs.is)))
+
+pub step-requires-clause-fits : goal.step-requires-clause-fits
+step-requires-clause-fits g c = (seen (g.T.Shelf.told c.loop.other) (repo_view c.loop.target), c.loop.invariant.fits)

@@ -1,4 +1,4 @@
-use Rattle.std.proofs.Common.{◌≡◌, Result, Ok, Err, sym, subst}
+use Rattle.std.proofs.Common.{◌≡◌, Result, Ok, Err, sym, subst, []}
 use Rattle.ferry_compact.specs.Choice.{chosen_in}
 use Rattle.ferry_disk.proofs.FaultLemmas.{keeps_end}
 use Rattle.ferry_repo.specs.Fault.{repo_failed}
@@ -9,7 +9,7 @@ use Rattle.ferry_store.specs.declared.fault.StoreRefusal.{StoreRefusal}
 use Rattle.ferry_run_compact.proofs.ToldLemmas.{did_compact, did_read, did_stop, line_removes, shut_read, shut_same, stop_removes, told_removes, went_all}
 use Rattle.ferry_status.proofs.TellLemmas.{repo_is}
 use Rattle.ferry_run_compact.proofs.command.compact_target.Goals as goal
-use Rattle.ferry_run_compact.specs.Compact.{CompactEach, CompactEnds, compacted_line}
+use Rattle.ferry_run_compact.specs.Compact.{CompactEach, HasCompacted, compacted_line}
 use Rattle.ferry_write.specs.Session.{SettlesFirst}
 
 pub returns-in_err-log-clause-did : goal.returns-in_err-log-clause-did
@@ -21,8 +21,8 @@ returns-in_err-log-clause-did g c =
     let fault = c.in_err-log.field-0.0 in
     let same = c.in_err-log.ensures.same in
     err_is c.from_residual.result (repo_refusal fault)
-    (λ (r : Result (Unit {0}) StoreRefusal). Did CompactEach (λ _. CompactEnds c.args.threshold) a b n m r) c.from_residual.ensures.1
-    (did_read (λ _. CompactEnds c.args.threshold) (repo_refusal fault) (repo_failed fault) a b n m (repo_is fault)
+    (λ (r : Result (Unit {0}) StoreRefusal). Did CompactEach (λ _ h g. h.acts ≡ [] → HasCompacted c.args.threshold h g) a b n m r) c.from_residual.ensures.1
+    (did_read (λ _ h g. h.acts ≡ [] → HasCompacted c.args.threshold h g) (repo_refusal fault) (repo_failed fault) a b n m (repo_is fault)
     (same_told {T = Unit {0}} repo_failed a b (Err fault) same) (keeps_end {T = Unit {0}} repo_failed a b (Err fault) same)
     c.in_err-log.ensures.cause)
 
@@ -44,8 +44,8 @@ returns-in-Err-clause-did g c =
     let chosen = chosen_in c.args.threshold state.extents in
     let same = c.in_ok-log.ensures.same in
     let h = c.in-Err.ensures in
-    subst (λ (r : StoreRefusal). Did CompactEach (λ _. CompactEnds c.args.threshold) a d n k (Err r)) (sym c.of_compacting.ensures)
-    (did_stop state chosen (λ _. CompactEnds c.args.threshold) c.in-Err.fault a b d n m k
+    subst (λ (r : StoreRefusal). Did CompactEach (λ _ h g. h.acts ≡ [] → HasCompacted c.args.threshold h g) a d n k (Err r)) (sym c.of_compacting.ensures)
+    (did_stop state chosen (λ _ h g. h.acts ≡ [] → HasCompacted c.args.threshold h g) c.in-Err.fault a b d n m k
     (went_all state chosen a b d (same_told {T = Unit {0}} repo_failed a b (Ok tt) same) c.in_ok-log.ensures.log h.live h.kept h.numbers h.first
     h.removes h.plain) (keeps_end {T = Unit {0}} repo_failed a b (Ok tt) same) h.ends c.in_ok-log.ensures.cause h.cause)
 

@@ -1,18 +1,19 @@
-use Rattle.std.proofs.Common.{rules, ◌≡◌, inr, ℕ, List, subst}
+use Rattle.std.proofs.Common.{rules, ◌≡◌, inr, ℕ, List, subst, []}
 use Rattle.ferry_disk.proofs.MomentLemmas.{between_map}
 use Rattle.ferry_disk.specs.Moments.{Between}
 use Rattle.ferry_run_delete.proofs.CauseLemmas.{deletes_done}
 use Rattle.ferry_run_delete.proofs.EndLemmas.{deleted_ended}
-use Rattle.ferry_run_delete.proofs.ShowLemmas.{some_left}
+use Rattle.ferry_run_delete.proofs.ShowLemmas.{DeleteEach, deletion, some_left}
 use Rattle.ferry_run_delete.proofs.command.delete.Goals as goal
-use Rattle.ferry_run_delete.specs.Delete.{DeleteEach, DeleteEnds, DeleteLeaves, RefusesDeletion, deletion}
+use Rattle.ferry_run_delete.specs.Delete.{HasDeleted, LeavesOthers, RefusesDeletion}
+use Rattle.ferry_status.specs.Opened.{ChangesLeave, RefusesChange}
 
 pub returns-in-Ok-clause-ended : goal.returns-in-Ok-clause-ended
 returns-in-Ok-clause-ended g c done =
     let a = g.D.Shelf.told c.args.target.now in
     let b = g.D.Shelf.told c.delete_and_tell.new.target in
     let same : c.as_slice.result.now ≡ c.args.name = search rules in
-    subst (λ (name : List ℕ). Between a b (DeleteEnds (deletion c.args.secret.now name c.args.timestamp))) same
+    subst (λ (name : List ℕ). Between a b (λ h g. h.acts ≡ [] → HasDeleted c.args.secret.now name c.args.timestamp h g)) same
     (deleted_ended (deletion c.args.secret.now c.as_slice.result.now c.args.timestamp) a b (g.D.Shelf.faults c.args.target.now)
     (g.D.Shelf.faults c.delete_and_tell.new.target) c.in-Ok.ensures.works)
 
@@ -22,8 +23,9 @@ returns-in-Ok-clause-left g c =
     let b = g.D.Shelf.told c.delete_and_tell.new.target in
     let asked = deletion c.args.secret.now c.as_slice.result.now c.args.timestamp in
     let same : c.as_slice.result.now ≡ c.args.name = search rules in
-    subst (λ (name : List ℕ). Between a b (DeleteLeaves (deletion c.args.secret.now name c.args.timestamp))) same
-    (between_map a b (DeleteEach asked) (DeleteLeaves asked) (some_left asked) c.in-Ok.ensures.works.each)
+    subst (λ (name : List ℕ). Between a b (ChangesLeave c.args.secret.now (LeavesOthers c.args.secret.now name c.args.timestamp))) same
+    (between_map a b (DeleteEach asked) (ChangesLeave asked.secret (LeavesOthers asked.secret asked.name asked.timestamp)) (some_left asked)
+    c.in-Ok.ensures.works.each)
 
 pub returns-clause-left : goal.returns-clause-left
 returns-clause-left g c =
@@ -31,8 +33,9 @@ returns-clause-left g c =
     let b = g.D.Shelf.told c.delete_and_tell.new.target in
     let asked = deletion c.args.secret.now c.as_slice.result.now c.args.timestamp in
     let same : c.as_slice.result.now ≡ c.args.name = search rules in
-    subst (λ (name : List ℕ). Between a b (DeleteLeaves (deletion c.args.secret.now name c.args.timestamp))) same
-    (between_map a b (DeleteEach asked) (DeleteLeaves asked) (some_left asked) c.in-Err.ensures.works.each)
+    subst (λ (name : List ℕ). Between a b (ChangesLeave c.args.secret.now (LeavesOthers c.args.secret.now name c.args.timestamp))) same
+    (between_map a b (DeleteEach asked) (ChangesLeave asked.secret (LeavesOthers asked.secret asked.name asked.timestamp)) (some_left asked)
+    c.in-Err.ensures.works.each)
 
 pub returns-clause-completes : goal.returns-clause-completes
 returns-clause-completes g c =
@@ -43,6 +46,8 @@ returns-clause-completes g c =
     (inr (record {
       fault = c.in-Err.fault;
       status_is = c.of_carry.ensures;
-      refuses = subst (λ (name : List ℕ). RefusesDeletion (deletion c.args.secret.now name c.args.timestamp) a b c.in-Err.fault) same
+      refuses =
+          subst (λ (name : List ℕ). RefusesChange c.args.secret.now (RefusesDeletion name c.args.timestamp b) a c.in-Err.fault)
+          same
           c.in-Err.ensures.refused;
     }))

@@ -1,12 +1,13 @@
-use Rattle.std.proofs.Common.{Result}
+use Rattle.std.proofs.Common.{Result, [], ◌≡◌}
 use Rattle.ferry_piece.proofs.WorkLemmas.{err_is}
 use Rattle.ferry_piece.specs.Fault.{target_fault}
 use Rattle.ferry_piece.specs.Work.{Works}
 use Rattle.ferry_piece.specs.declared.fault.CarryFault.{CarryFault}
 use Rattle.ferry_run_delete.proofs.EndLemmas.{all_works, untold_works}
 use Rattle.ferry_run_delete.proofs.command.delete_and_tell.Goals as goal
-use Rattle.ferry_run_delete.specs.Delete.{DeleteEach, DeleteEnds, deletion}
+use Rattle.ferry_run_delete.specs.Delete.{HasDeleted}
 use Rattle.ferry_run_delete.specs.Steps.{GoesAway}
+use Rattle.ferry_run_delete.proofs.ShowLemmas.{DeleteEach, deletion}
 use Rattle.ferry_status.proofs.OpenedLemmas.{known_then}
 use Rattle.ferry_write.specs.Script.{AllDone}
 
@@ -21,7 +22,8 @@ returns-in_err-tell_deleted-clause-works g c =
     let k = g.D.Shelf.faults c.tell_deleted.new.target in
     let refusal = c.in_err-tell_deleted.field-0.0 in
     err_is c.from_residual-in_err-tell_deleted.result (target_fault refusal)
-    (λ (r : Result (Unit {0}) CarryFault). Works (DeleteEach asked) (λ _. DeleteEnds asked) a d n k r) c.from_residual-in_err-tell_deleted.ensures.1
+    (λ (r : Result (Unit {0}) CarryFault). Works (DeleteEach asked) (λ _ h g. h.acts ≡ [] → HasDeleted asked.secret asked.name asked.timestamp h g) a d n k r)
+    c.from_residual-in_err-tell_deleted.ensures.1
     (untold_works asked c.in_ok-count.count a b d n m k refusal c.in_ok-count.ensures.works c.in_err-tell_deleted.ensures.did)
 
 pub returns-clause-works : goal.returns-clause-works
@@ -35,12 +37,14 @@ pub returns-in_err-tell_deleted-clause-shut : goal.returns-in_err-tell_deleted-c
 returns-in_err-tell_deleted-clause-shut g c =
     let asked = deletion c.args.secret.now c.args.name.now c.args.timestamp.now in
     known_then c.args.secret.now (g.D.Shelf.told c.args.target.now) (g.D.Shelf.told c.delete_archive.new.target) (g.D.Shelf.told c.tell_deleted.new.target)
-    (λ h k. AllDone h k × GoesAway asked c.in_ok-count.count h k) _ c.requires.begun (λ h k acts e. let gone = e.1 acts in (gone.repo, gone.opens))
+    (λ h k. AllDone h k × GoesAway asked.secret asked.name asked.timestamp c.in_ok-count.count h k) _ c.requires.begun
+    (λ h k acts e. let gone = e.1 acts in (gone.repo, gone.opens))
     c.in_ok-count.ensures.works.end c.in_err-tell_deleted.ensures.did.each
 
 pub returns-clause-shut : goal.returns-clause-shut
 returns-clause-shut g c =
     let asked = deletion c.args.secret.now c.args.name.now c.args.timestamp.now in
     known_then c.args.secret.now (g.D.Shelf.told c.args.target.now) (g.D.Shelf.told c.delete_archive.new.target) (g.D.Shelf.told c.tell_deleted.new.target)
-    (λ h k. AllDone h k × GoesAway asked c.in_ok-count.count h k) _ c.requires.begun (λ h k acts e. let gone = e.1 acts in (gone.repo, gone.opens))
+    (λ h k. AllDone h k × GoesAway asked.secret asked.name asked.timestamp c.in_ok-count.count h k) _ c.requires.begun
+    (λ h k acts e. let gone = e.1 acts in (gone.repo, gone.opens))
     c.in_ok-count.ensures.works.end c.in_ok-tell_deleted.ensures.did.each

@@ -11,9 +11,11 @@ use Rattle.ferry_repo.specs.Opening.{repo_view}
 use Rattle.ferry_run_delete.proofs.CauseLemmas.{undeleted_refused}
 use Rattle.ferry_run_delete.proofs.EndLemmas.{archived_works, named_then, undeleted_left, unopened_left, unopened_works}
 use Rattle.ferry_run_delete.proofs.command.delete_archive.Goals as goal
-use Rattle.ferry_run_delete.specs.Delete.{DeleteEach, LeavesAll, deletion}
+use Rattle.ferry_run_delete.specs.Delete.{LeavesOthers}
 use Rattle.ferry_run_delete.specs.Steps.{GoesAway}
+use Rattle.ferry_run_delete.proofs.ShowLemmas.{DeleteEach, deletion}
 use Rattle.ferry_status.proofs.OpenedLemmas.{opened_then}
+use Rattle.ferry_status.specs.Opened.{LeavesAll}
 use Rattle.ferry_store.proofs.UseLemmas.{fits_opened}
 use Rattle.ferry_store.specs.Store.{OpenEach, OpenFits}
 
@@ -26,7 +28,7 @@ returns-in_err-store-clause-works g c =
     let m = g.D.Shelf.faults c.open.new.depot in
     let refusal = c.in_err-store.field-0.0 in
     err_is c.from_residual.result (target_fault refusal)
-    (λ (r : Result ℕ CarryFault). Works (DeleteEach asked) (GoesAway asked) a b n m r) c.from_residual.ensures.1
+    (λ (r : Result ℕ CarryFault). Works (DeleteEach asked) (GoesAway asked.secret asked.name asked.timestamp) a b n m r) c.from_residual.ensures.1
     (unopened_works asked OpenFits a b n m refusal c.in_err-store.ensures.untold c.in_err-store.ensures.did)
 
 pub returns-in_err-store-clause-kept : goal.returns-in_err-store-clause-kept
@@ -35,7 +37,9 @@ returns-in_err-store-clause-kept g c =
     let a = g.D.Shelf.told c.args.target.now in
     let b = g.D.Shelf.told c.open.new.depot in
     err_is c.from_residual.result (target_fault c.in_err-store.field-0.0)
-    (λ (r : Result ℕ CarryFault). IfErr r (λ (f : CarryFault). IsOfWork f → Between a b (LeavesAll asked))) c.from_residual.ensures.1
+    (λ (r : Result ℕ CarryFault). IfErr r (λ (f : CarryFault). IsOfWork f → Between a b
+    (LeavesAll asked.secret (LeavesOthers asked.secret asked.name asked.timestamp))))
+    c.from_residual.ensures.1
     (λ work. unopened_left asked a b c.in_err-store.ensures.untold c.in_err-store.ensures.did.each)
 
 pub delete-requires-clause-fits : goal.delete-requires-clause-fits

@@ -1,4 +1,4 @@
-use Rattle.std.proofs.Common.{[], IfSome, subst, sym, ◌∙◌}
+use Rattle.std.proofs.Common.{[], IfSome, subst, sym, ◌∙◌, ◌≡◌, ◌⊎◌}
 use Rattle.ferry_disk.specs.Act.{files_now}
 use Rattle.ferry_disk.specs.Device.{told_files}
 use Rattle.ferry_disk.specs.Files.{Files}
@@ -15,8 +15,9 @@ use Rattle.ferry_run_drill.proofs.CompleteLemmas.{finished_completes, refused_co
 use Rattle.ferry_run_drill.proofs.PrintLemmas.{of_fault}
 use Rattle.ferry_run_drill.proofs.WorkLemmas.{copied_drill, copied_start, each_read, leaves_here}
 use Rattle.ferry_run_drill.proofs.command.drill.Goals as goal
-use Rattle.ferry_run_drill.specs.Complete.{Completes}
 use Rattle.ferry_run_drill.specs.Drill.{PrintsDrill, TellsStart}
+use Rattle.ferry_run_drill.specs.Complete.{EndsDone}
+use Rattle.ferry_status.specs.declared.status.Status.TheVariants as Statuses
 
 pub returns-in_default-clause-first : goal.returns-in_default-clause-first
 returns-in_default-clause-first g c = here_each SettlesFirst (g.D.Shelf.told c.args.target.now) first_here
@@ -79,7 +80,7 @@ pub returns-clause-completes : goal.returns-clause-completes
 returns-clause-completes g c =
     let a = g.D.Shelf.told c.args.target.now in
     let d = g.D.Shelf.told c.copy_source.new.target in
-    subst (Completes c.args.count a d) (sym c.of_carry.ensures)
+    subst (λ (s : Status). (s ≡ Statuses.Memory) ⊎ EndsDone c.args.count a d s) (sym c.of_carry.ensures)
     (refused_completes c.args.count (files_now c.in-Some.source.history) a d c.in-Err.fault c.requires.most c.in-Some.ensures.source c.in-Some.ensures.plain
     c.in-Err.ensures.completes)
 

@@ -7,14 +7,15 @@ use Rattle.ferry_piece.specs.Fault.{IsOfWork, target_fault}
 use Rattle.ferry_piece.specs.Work.{Works}
 use Rattle.ferry_piece.specs.declared.fault.CarryFault.{CarryFault}
 use Rattle.ferry_refs.specs.Deleting.{time_of}
-use Rattle.ferry_refs.specs.Tagging.{RefusesTagging, Tags, TagsSound}
+use Rattle.ferry_refs.specs.Tagging.{KeepsArchives, RefusesTagging, Tags, TagsSound}
 use Rattle.ferry_repo.specs.Opening.{repo_view}
 use Rattle.ferry_run_tag.proofs.CauseLemmas.{untagged_refused}
 use Rattle.ferry_run_tag.proofs.EndLemmas.{tagged_works, unopened_left, unopened_works, untagged_left}
 use Rattle.ferry_run_tag.proofs.command.tag_target.Goals as goal
-use Rattle.ferry_run_tag.specs.Tag.{TagEach, LeavesAll, tagging}
 use Rattle.ferry_run_tag.specs.Steps.{GetsTags}
+use Rattle.ferry_run_tag.proofs.ShowLemmas.{TagEach, tagging}
 use Rattle.ferry_status.proofs.OpenedLemmas.{opened_then}
+use Rattle.ferry_status.specs.Opened.{LeavesAll}
 use Rattle.ferry_store.proofs.UseLemmas.{fits_opened}
 use Rattle.ferry_store.specs.Store.{OpenEach, OpenFits}
 
@@ -27,7 +28,7 @@ returns-in_err-store-clause-works g c =
     let m = g.D.Shelf.faults c.open.new.depot in
     let refusal = c.in_err-store.field-0.0 in
     err_is c.from_residual.result (target_fault refusal)
-    (λ (r : Result ℕ CarryFault). Works (TagEach asked) (GetsTags asked) a b n m r) c.from_residual.ensures.1
+    (λ (r : Result ℕ CarryFault). Works (TagEach asked) (GetsTags asked.secret) a b n m r) c.from_residual.ensures.1
     (unopened_works asked OpenFits a b n m refusal c.in_err-store.ensures.untold c.in_err-store.ensures.did)
 
 pub returns-in_err-store-clause-kept : goal.returns-in_err-store-clause-kept
@@ -36,7 +37,8 @@ returns-in_err-store-clause-kept g c =
     let a = g.D.Shelf.told c.args.target.now in
     let b = g.D.Shelf.told c.open.new.depot in
     err_is c.from_residual.result (target_fault c.in_err-store.field-0.0)
-    (λ (r : Result ℕ CarryFault). IfErr r (λ (f : CarryFault). IsOfWork f → Between a b (LeavesAll asked))) c.from_residual.ensures.1
+    (λ (r : Result ℕ CarryFault). IfErr r (λ (f : CarryFault). IsOfWork f → Between a b (LeavesAll asked.secret (KeepsArchives asked.secret))))
+    c.from_residual.ensures.1
     (λ work. unopened_left asked a b c.in_err-store.ensures.untold c.in_err-store.ensures.did.each)
 
 pub tag_archives-requires-clause-fits : goal.tag_archives-requires-clause-fits

@@ -1,8 +1,8 @@
-use Rattle.std.proofs.Common.{inr, ℕ, List, IfSome, subst}
+use Rattle.std.proofs.Common.{inr, ℕ, List, IfSome, subst, [], ◌≡◌}
 use Rattle.ferry_disk.proofs.MomentLemmas.{between_map}
 use Rattle.ferry_disk.specs.Moments.{Between}
 use Rattle.ferry_top.proofs.init.init.Goals as goal
-use Rattle.ferry_top.specs.Init.{InitTells}
+use Rattle.ferry_top.specs.Init.{MakesAndTells}
 use Rattle.ferry_store.specs.Store.{RefusesInit}
 use Rattle.ferry_write.specs.Script.{AllDone}
 
@@ -14,9 +14,9 @@ returns-in-Ok-clause-made g c e =
     let secret = c.args.secret.now in (
       made.0,
       made.1.0,
-      subst (λ (time : List ℕ). Between a b (InitTells secret c.args.iterations time made.0)) c.time_of-time.ensures
-          (between_map a b (λ h g. AllDone h g × InitTells secret c.args.iterations c.time_of-time.result.now made.0 h g)
-          (InitTells secret c.args.iterations c.time_of-time.result.now made.0) (λ h g x. x.1) made.1.1.end),
+      subst (λ (time : List ℕ). Between a b (λ h g. h.acts ≡ [] → MakesAndTells secret c.args.iterations time made.0 h g)) c.time_of-time.ensures
+          (between_map a b (λ h g. AllDone h g × (h.acts ≡ [] → MakesAndTells secret c.args.iterations c.time_of-time.result.now made.0 h g))
+          (λ h g. h.acts ≡ [] → MakesAndTells secret c.args.iterations c.time_of-time.result.now made.0 h g) (λ h g x. x.1) made.1.1.end),
     )
 
 pub returns-clause-refused : goal.returns-clause-refused

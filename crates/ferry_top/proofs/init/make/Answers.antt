@@ -9,7 +9,7 @@ use Rattle.ferry_store.specs.Store.{InitFits, RefusesInit}
 use Rattle.ferry_store.specs.declared.fault.StoreRefusal.{StoreRefusal}
 use Rattle.ferry_top.proofs.InitLemmas.{did_failed, did_tell, did_unread, has_id, line_refused, on_ok, refuses_reading}
 use Rattle.ferry_top.proofs.init.make.Goals as goal
-use Rattle.ferry_top.specs.Init.{CommandEach, InitTells}
+use Rattle.ferry_top.specs.Init.{CommandEach, MakesAndTells}
 
 pub returns-in_err-init-clause-made : goal.returns-in_err-init-clause-made
 returns-in_err-init-clause-made g c =
@@ -21,12 +21,13 @@ returns-in_err-init-clause-made g c =
     let refusal = c.in_err-init.field-0.0 in
     err_is c.from_residual.result refusal (λ (r : Result (Unit {0}) StoreRefusal). (x : List ℕ)
     × (OnOk r (g.E.Entropy.drawn c.init.new.entropy ≡ option_map (λ d. d ++ x) (g.E.Entropy.drawn c.args.entropy.now))
-    × Did (CommandEach secret) (λ _. InitTells secret c.args.iterations c.args.timestamp.now x) a b n m r))
+    × Did (CommandEach secret) (λ _ h g. h.acts ≡ [] → MakesAndTells secret c.args.iterations c.args.timestamp.now x h g) a b n m r))
     c.from_residual.ensures.1 (
       [],
       (
         tt,
-        did_failed secret InitFits (λ _. InitTells secret c.args.iterations c.args.timestamp.now []) a b n m refusal c.in_err-init.ensures.did,
+        did_failed secret InitFits (λ _ h g. h.acts ≡ [] → MakesAndTells secret c.args.iterations c.args.timestamp.now [] h g) a b n m refusal
+            c.in_err-init.ensures.did,
       ),
     )
 
@@ -43,12 +44,12 @@ returns-in_err-unlocked-clause-made g c =
     let same = c.in_err-unlocked.ensures.same in
     err_is c.from_residual-in_err-unlocked.result (repo_refusal fault) (λ (r : Result (Unit {0}) StoreRefusal). (x : List ℕ)
     × (OnOk r (g.E.Entropy.drawn c.init.new.entropy ≡ option_map (λ d. d ++ x) (g.E.Entropy.drawn c.args.entropy.now))
-    × Did (CommandEach secret) (λ _. InitTells secret c.args.iterations c.args.timestamp.now x) a d n k r))
+    × Did (CommandEach secret) (λ _ h g. h.acts ≡ [] → MakesAndTells secret c.args.iterations c.args.timestamp.now x h g) a d n k r))
     c.from_residual-in_err-unlocked.ensures.1 (
       [],
       (
         tt,
-        did_unread secret (λ _. InitTells secret c.args.iterations c.args.timestamp.now []) c.in_ok-init.field-0 a b d n m k fault
+        did_unread secret (λ _ h g. h.acts ≡ [] → MakesAndTells secret c.args.iterations c.args.timestamp.now [] h g) c.in_ok-init.field-0 a b d n m k fault
             c.in_ok-init.ensures.did (same_told {T = Unit {0}} repo_failed b d (Err fault) same) (keeps_end {T = Unit {0}} repo_failed b d (Err fault) same)
             c.in_err-unlocked.ensures.cause,
       ),

@@ -9,7 +9,7 @@ use Rattle.ferry_view.specs.Output.{IsOfArchive, ShowsAll, ShowsSome}
 use Rattle.ferry_view.specs.declared.fault.ViewFault.{ViewFault}
 use Rattle.ferry_view.specs.declared.fault.ViewFault.TheVariants as View
 use Rattle.ferry_status.specs.Devices.{written}
-use Rattle.ferry_top.specs.Items.{LacksPath, RefusesShowing, ShowsFile, ShowsFileFront}
+use Rattle.ferry_top.specs.Items.{LacksPath, RefusesShowing, ShowsAsRead, ShowsWhole}
 use Rattle.ferry_status.specs.Output.{PrintsAsRead}
 use Rattle.ferry_status.specs.declared.status.Status.{Status}
 use Rattle.ferry_top.proofs.ItemsLemmas.{all_shown, fits_later, named_there, not_named, not_shown}
@@ -36,7 +36,8 @@ returns-in-Ok-extract-clause-out g c =
     let all = subst (λ (p : List ℕ). ShowsAll (λ f text. IsFile f repo name p text) later before.bytes after.bytes) c.as_slice-3.ensures
     (subst (λ (n : List ℕ). ShowsAll (λ f text. IsFile f repo n c.as_slice-3.result.now text) later before.bytes after.bytes) c.as_slice-2.ensures
     c.in-Ok-extract.ensures.ok) in
-    all_shown (λ f r text. IsFile f r name path text) (ShowsFileFront pass name path) (RefusesShowing pass (λ f r. RefusesFile f r name path))
+    all_shown (λ f r text. IsFile f r name path text) (ShowsAsRead pass (λ f r. IsFileText f r name path))
+    (RefusesShowing pass (λ f r. RefusesFile f r name path))
     (LacksPath pass name path) (told c.args.source.now) later pass repo before after
     (record { same = c.in-Ok.ensures.same; opens = c.in-Ok.ensures.repository }) all c.in-Ok-extract.ensures.cause
 
@@ -67,9 +68,11 @@ returns-in-Err-extract-clause-out g c =
     c.record_id.ensures.id ∙ ap (λ n. option_map (λ (a : ArchiveRef). a.id) (archive_named n repo.manifest.archives)) c.as_slice.ensures in
     let named : archive_named name repo.manifest.archives ≡ None → ⊥ =
     named_there (archive_named name repo.manifest.archives) c.record_id.result named_id (let yes : is_some c.record_id.result ≡ true = cc in yes) in
-    subst (λ (s : Status). PrintsAsRead (ShowsFile pass name path) (ShowsFileFront pass name path) (RefusesShowing pass (λ f r. RefusesFile f r name path))
+    subst (λ (s : Status). PrintsAsRead (ShowsWhole pass (λ f r. IsFile f r name path)) (ShowsAsRead pass (λ f r. IsFileText f r name path))
+    (RefusesShowing pass (λ f r. RefusesFile f r name path))
     (LacksPath pass name path) source before s after) (sym c.of_view.ensures)
-    (not_shown (ShowsFile pass name path) (λ f r text. IsFileText f r name path text) (λ f r. RefusesFile f r name path) (LacksPath pass name path) source
+    (not_shown (ShowsWhole pass (λ f r. IsFile f r name path)) (λ f r text. IsFileText f r name path text) (λ f r. RefusesFile f r name path)
+    (LacksPath pass name path) source
     later pass repo before after fault path (record { same = c.in-Ok.ensures.same; opens = c.in-Ok.ensures.repository }) some all refused
     c.in-Err-extract.ensures.cause
     (λ e. told_with source later (λ f. OpensFilesTo f pass repo) (λ f. RefusesFile f repo name path View.NotFound) (λ f. LacksPath pass name path f path)
@@ -107,9 +110,11 @@ returns-in-Err-2-clause-out g c =
     c.record_id.ensures.id ∙ ap (λ n. option_map (λ (a : ArchiveRef). a.id) (archive_named n repo.manifest.archives)) c.as_slice.ensures in
     let none : archive_named name repo.manifest.archives ≡ None =
     not_named (archive_named name repo.manifest.archives) c.record_id.result named_id (let no : is_some c.record_id.result ≡ false = cc in no) in
-    subst (λ (s : Status). PrintsAsRead (ShowsFile pass name path) (ShowsFileFront pass name path) (RefusesShowing pass (λ f r. RefusesFile f r name path))
+    subst (λ (s : Status). PrintsAsRead (ShowsWhole pass (λ f r. IsFile f r name path)) (ShowsAsRead pass (λ f r. IsFileText f r name path))
+    (RefusesShowing pass (λ f r. RefusesFile f r name path))
     (LacksPath pass name path) source before s after) (sym c.of_view-in-Err-2.ensures)
-    (not_shown (ShowsFile pass name path) (λ f r text. IsFileText f r name path text) (λ f r. RefusesFile f r name path) (LacksPath pass name path) source
+    (not_shown (ShowsWhole pass (λ f r. IsFile f r name path)) (λ f r text. IsFileText f r name path text) (λ f r. RefusesFile f r name path)
+    (LacksPath pass name path) source
     later pass repo before after fault name (record { same = c.in-Ok.ensures.same; opens = c.in-Ok.ensures.repository }) some all refused
     c.in-Err-extract.ensures.cause
     (λ e. told_then source (λ f. OpensFilesTo f pass repo) (λ f. LacksPath pass name path f name)

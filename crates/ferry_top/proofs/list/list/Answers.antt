@@ -1,8 +1,8 @@
 use Rattle.std.proofs.Common.{sym, subst}
-use Rattle.ferry_repo.specs.Opening.{repo_view}
+use Rattle.ferry_repo.specs.Opening.{RefusesRepo, repo_view}
 use Rattle.ferry_view.specs.Lines.{archive_lines}
 use Rattle.ferry_status.specs.Devices.{written}
-use Rattle.ferry_top.specs.List.{IsArchiveListing, RefusesOpening}
+use Rattle.ferry_top.specs.List.{IsArchiveListing, RefusesBy}
 use Rattle.ferry_status.specs.Output.{Prints}
 use Rattle.ferry_status.specs.declared.status.Status.{Status}
 use Rattle.ferry_top.proofs.ListLemmas.{archives_of}
@@ -26,7 +26,7 @@ returns-clause-out g c =
     let after = written (g.K.Sink.written c.list.new.out) (g.K.Sink.faults c.list.new.out) in
     let repo = repo_view c.in-Ok.repo in
     let fault = c.in-Err-list.fault in
-    subst (λ (s : Status). Prints (IsArchiveListing pass) (RefusesOpening pass) source before s after) (sym c.of_output.ensures)
-    (cut_text (IsArchiveListing pass) (RefusesOpening pass) source before after (archive_lines repo.manifest.archives) fault
+    subst (λ (s : Status). Prints (IsArchiveListing pass) (λ files. RefusesBy (RefusesRepo files pass)) source before s after) (sym c.of_output.ensures)
+    (cut_text (IsArchiveListing pass) (λ files. RefusesBy (RefusesRepo files pass)) source before after (archive_lines repo.manifest.archives) fault
     (archives_of source pass repo c.in-Ok.ensures.repository)
     c.in-Err-list.ensures.err c.in-Err-list.ensures.cause)

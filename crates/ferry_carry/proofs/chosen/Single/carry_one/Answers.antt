@@ -14,6 +14,7 @@ use Rattle.ferry_piece.specs.Fault.{IsOfWork}
 use Rattle.ferry_carry.specs.Telling.{Reports, StopsUnnamed}
 use Rattle.ferry_piece.specs.declared.fault.CarryFault.{CarryFault}
 use Rattle.ferry_piece.specs.declared.fault.CarryFault.TheVariants.{Target}
+use Rattle.ferry_compare.specs.Compare.{seen}
 use Rattle.ferry_disk.specs.Moments.{Between}
 use Rattle.ferry_repo.specs.Opening.{repo_view}
 use Rattle.ferry_stops.specs.Tells.{TellsNothing}
@@ -47,6 +48,7 @@ returns-in_err-flight-clause-works g c =
 pub complete-done-requires-clause-flight : goal.complete-done-requires-clause-flight
 complete-done-requires-clause-flight g c =
     c.in_ok-flight.ensures.flight (g.S.Shelf.told c.args.shelf.now) (g.D.Shelf.told c.args.depot.now) c.args.store.now
+    (seen (g.D.Shelf.told c.args.depot.now) (repo_view c.args.store.now.repo))
 
 pub returns-clause-works : goal.returns-clause-works
 returns-clause-works g c =

@@ -7,7 +7,7 @@ use Rattle.ferry_repo.specs.Archives.{archive_named}
 use Rattle.ferry_repo.specs.Opening.{repo_view}
 
 pub returns-clause-flight : goal.returns-clause-flight
-returns-clause-flight c told heard store =
+returns-clause-flight c told heard store met =
     let archives = c.as_slice-archives.result.now in
     let named = c.in-Some.named in
     let found : archive_named c.args.name.now archives ≡ Some named = sym c.in_ok-named.ensures.entry ∙ c.in-Some.is in

@@ -18,21 +18,25 @@ use Rattle.ferry_piece.specs.Puts.{AtBegin, border_behind}
 use Rattle.ferry_piece.specs.declared.fault.CarryFault.{CarryFault}
 use Rattle.ferry_carry.specs.declared.flight.Turn.{Turn}
 use Rattle.ferry_carry.specs.declared.flight.Turn.TheVariants.{More}
+use Rattle.ferry_compare.specs.Compare.{comparison_view, met_behind, seen}
 use Rattle.ferry_compare.specs.declared.comparison.Compared.{Compared}
 use Rattle.ferry_repo.specs.Archives.{archive_named}
 use Rattle.ferry_repo.specs.Opening.{RepoState, repo_view}
 use Rattle.ferry_carry.proofs.CauseLemmas.{comparing_refused, pending_refused, taken_refused}
 use Rattle.ferry_carry.proofs.NamingManifestLemmas.{pieces_limit, taken_limit}
 use Rattle.ferry_carry.specs.Carrying.{origin}
-use Rattle.ferry_carry.specs.Refusals.{DiffersThere, IsLimited, Leaves, RefusesComparing, RefusesName}
+use Rattle.ferry_carry.specs.Refusals.{DiffersThere, IsLimited, Leaves, RefusesComparing, RefusesMet}
 use Rattle.ferry_piece.specs.Stops.{StopsPieces}
 use Rattle.std.proofs.lemmas.Result.{IfErr-weaker}
 use Rattle.ferry_store.specs.Commit.{accepted_in}
 use Rattle.ferry_piece.proofs.FewLemmas.{begun_as, begun_same, begun_then}
+use Rattle.ferry_carry.proofs.MetLemmas.{comparing_reads, present_reads, taken_reads}
 use Rattle.ferry_carry.proofs.TurnLemmas.{stops_turn, flies_present}
+use Rattle.ferry_carry.specs.States.{target_state}
+use Rattle.ferry_carry.specs.Turns.{OnlyReads}
 
 pub returns-in-More-clause-works : goal.returns-in-More-clause-works
-returns-in-More-clause-works g c =
+returns-in-More-clause-works g c = λ met goes.
     let store = c.args.store.now in
     let now = c.compare_item-compared.new.store in
     let from = flown_from (g.S.Shelf.told c.args.shelf.now) (repo_view c.args.source.now) c.args.self.now in
@@ -50,7 +54,7 @@ returns-in-More-clause-works g c =
           (carried_from {T = Compared} {U = Compared} [] from (name ∷ []) store now [] a b n m compared compared c.requires.both.target.accepts
           (read_rest store now read) works);
       begins = begins_there a from (repo_view store.repo).keys (accepted_in store) name
-          (there_accepted store name c.requires.both.target.accepts c.requires.comparison.there);
+          (there_accepted store name c.requires.both.target.accepts goes.there);
       stands = stands_within at from.most store [] a b works.works.each;
       last = tt;
       held = tt;
@@ -65,14 +69,15 @@ returns-in-More-clause-works g c =
             uncounted = c.requires.flight.uncounted;
           };
           added = [];
-          work = subst (WorkFits (g.S.Shelf.told c.compare_item-compared.new.shelf) (repo_view c.compare_item-compared.new.source) b now
-              c.args.self.now.named c.args.self.now.options []) (sym c.renew.ensures) (
+          work = subst (WorkFits (seen (g.S.Shelf.told c.compare_item-compared.new.shelf) (repo_view c.compare_item-compared.new.source)) b now
+              (met_behind (comparison_view c.args.comparison).other met (seen b (repo_view now.repo))) c.args.self.now.named c.args.self.now.options
+              []) (sym c.renew.ensures) (
                 record {
                   fits = record {
-                    comparison = c.in_ok-compared.ensures.comparison (ap Ok c.in-More.is);
-                    same_name = c.compare_item-compared.ensures.name ∙ c.requires.comparison.same_name;
+                    comparison = c.in_ok-compared.ensures.comparison met goes.comparison (ap Ok c.in-More.is);
+                    same_name = c.compare_item-compared.ensures.name ∙ goes.same_name;
                   };
-                  there = subst (λ (r : RepoState). IsSome (archive_named name r.manifest.archives)) (sym read.repo) c.requires.comparison.there;
+                  there = subst (λ (r : RepoState). IsSome (archive_named name r.manifest.archives)) (sym read.repo) goes.there;
                 },
                 refl,
               );
@@ -83,7 +88,7 @@ returns-in-More-clause-works g c =
     }
 
 pub returns-in-Equal-clause-works : goal.returns-in-Equal-clause-works
-returns-in-Equal-clause-works g c =
+returns-in-Equal-clause-works g c = λ met goes.
     let store = c.args.store.now in
     let middle = c.compare_item-compared.new.store in
     let now = c.present.new.store in
@@ -97,8 +102,8 @@ returns-in-Equal-clause-works g c =
     let k = g.D.Shelf.faults c.present.new.depot in
     let rest = read_rest store middle c.compare_item-compared.ensures.both.target.read in
     let same : IsSame from b (repo_view middle.repo) name =
-    subst (IsSame from b (repo_view middle.repo)) c.requires.comparison.same_name
-    (c.in_ok-compared.ensures.found.equal (ap Ok c.in-Equal.is) from.block from.most from.time) in
+    subst (IsSame from b (repo_view middle.repo)) goes.same_name
+    ((c.in_ok-compared.ensures.found met goes.comparison).equal (ap Ok c.in-Equal.is) from.block from.most from.time) in
     let compared = c.in_ok-compared.field-0 in
     let works = c.in_ok-compared.ensures.works from.most in
     let ends = c.present.ensures.works from.most in
@@ -107,21 +112,21 @@ returns-in-Equal-clause-works g c =
       flies = present_flies {T = Compared} from name store middle now a b d n m k compared c.present.result c.requires.both.target.accepts
           (rest_accepts store middle rest c.requires.both.target.accepts) rest c.present.ensures.target.rest c.present.ensures.pending
           c.present.ensures.present
-          (rest_there store middle name rest c.requires.comparison.there) same works ends;
+          (rest_there store middle name rest goes.there) same works ends;
       begins = begins_there a from (repo_view store.repo).keys (accepted_in store) name
-          (there_accepted store name c.requires.both.target.accepts c.requires.comparison.there);
+          (there_accepted store name c.requires.both.target.accepts goes.there);
       stands = present_stands {T = Compared} from.most store middle a b d n m compared c.present.result rest.keys works ends.each;
       last = told_unbroken {T = Turn} a (repo_view store.repo).keys [] c.present.result (spent_chunk {T = Turn} c.present.result c.present.ensures.spent);
       held = held_spent {T = Turn} (border_behind AtBegin []) from.most store now [] a d c.present.result c.present.ensures.spent;
       fills = filled_apart {T = Turn} a from (repo_view store.repo).keys (accepted_in store) name [] c.present.result apart;
-      lists = turn_present (g.S.Shelf.told c.compare_item-compared.new.shelf) (repo_view c.compare_item-compared.new.source) d now _ a from
+      lists = turn_present (g.S.Shelf.told c.compare_item-compared.new.shelf) (repo_view c.compare_item-compared.new.source) d now _ _ a from
           (repo_view store.repo).keys c.present.result c.requires.flight.uncounted c.present.ensures.present;
       few = present_few store now c.present.result c.present.ensures.present
           (begun_then {T = Compared} {U = Turn} 0 1 2 store middle now (Ok compared) c.present.result (omega arith) works.few c.present.ensures.few);
     }
 
 pub returns-in_err-compared-clause-works : goal.returns-in_err-compared-clause-works
-returns-in_err-compared-clause-works g c =
+returns-in_err-compared-clause-works g c = λ met goes.
     let store = c.args.store.now in
     let now = c.compare_item-compared.new.store in
     let from = flown_from (g.S.Shelf.told c.args.shelf.now) (repo_view c.args.source.now) c.args.self.now in
@@ -133,21 +138,21 @@ returns-in_err-compared-clause-works g c =
     let fault = c.in_err-compared.field-0.0 in
     let at = border_behind AtBegin [] in
     let works = c.in_err-compared.ensures.works from.most in
-    turned_err _ _ from name [] [] [] store now _ a b n m c.from_residual.result fault c.from_residual.ensures.1 (record {
+    turned_err _ _ from name [] [] [] store now _ _ a b n m c.from_residual.result fault c.from_residual.ensures.1 (record {
       flies = flies_fault {T = Compared} [] from name store now [] a b n m fault c.requires.both.target.accepts works;
       begins = begins_there a from (repo_view store.repo).keys (accepted_in store) name
-          (there_accepted store name c.requires.both.target.accepts c.requires.comparison.there);
+          (there_accepted store name c.requires.both.target.accepts goes.there);
       stands = λ _. stands_within at from.most store [] a b works.works.each;
       last = works.last;
       held = held_within {T = Turn} at from.most store now [] a b (Err fault) works.held;
       fills = fills_there a from (repo_view store.repo).keys (accepted_in store) name fault
-          (there_accepted store name c.requires.both.target.accepts c.requires.comparison.there);
+          (there_accepted store name c.requires.both.target.accepts goes.there);
       lists = tt;
       few = begun_same {T = Compared} {U = Turn} 0 2 store now fault (omega arith) works.few;
     })
 
 pub returns-in-Differs-clause-works : goal.returns-in-Differs-clause-works
-returns-in-Differs-clause-works g c =
+returns-in-Differs-clause-works g c = λ met goes.
     let store = c.args.store.now in
     let now = c.compare_item-compared.new.store in
     let from = flown_from (g.S.Shelf.told c.args.shelf.now) (repo_view c.args.source.now) c.args.self.now in
@@ -165,50 +170,46 @@ returns-in-Differs-clause-works g c =
     record {
       flies = flies_fault {T = Compared} [] from name store now [] a b n m c.taken.result c.requires.both.target.accepts refused;
       begins = begins_there a from (repo_view store.repo).keys (accepted_in store) name
-          (there_accepted store name c.requires.both.target.accepts c.requires.comparison.there);
+          (there_accepted store name c.requires.both.target.accepts goes.there);
       stands = λ _. stands_within at from.most store [] a b works.works.each;
       last = refused.last;
       held = held_within {T = Turn} at from.most store now [] a b (Err c.taken.result) refused.held;
       fills = fills_there a from (repo_view store.repo).keys (accepted_in store) name c.taken.result
-          (there_accepted store name c.requires.both.target.accepts c.requires.comparison.there);
+          (there_accepted store name c.requires.both.target.accepts goes.there);
       lists = tt;
       few = begun_same {T = Compared} {U = Turn} 0 2 store now c.taken.result (omega arith) refused.few;
     }
 
-pub returns-in-Differs-clause-turn : goal.returns-in-Differs-clause-turn
-returns-in-Differs-clause-turn g c = record {
-  source = search rules;
-  target = search rules;
-  refused =
-      record {
-        refused =
-            let store = c.args.store.now in
-            let now = c.compare_item-compared.new.store in
-            let from = flown_from (g.S.Shelf.told c.args.shelf.now) (repo_view c.args.source.now) c.args.self.now in
-            let name = c.args.self.now.named.name in
-            let a = g.D.Shelf.told c.args.depot.now in
-            let b = g.D.Shelf.told c.compare_item-compared.new.depot in
-            let read = c.compare_item-compared.ensures.both.target.read in
-            let left = left_read from.most store b now read c.compare_item-compared.ensures.both.target.fits c.requires.both.target.unspent
-            c.requires.both.target.pending in
-            let differs : DiffersThere from b (repo_view now.repo) name =
-            subst (DiffersThere from b (repo_view now.repo)) c.requires.comparison.same_name
-            (c.in_ok-compared.ensures.found.differs_now (ap Ok c.in-Differs.is) from.block from.most from.time) in
-            taken_refused from a b store now name c.as_slice.result.now c.taken.result c.taken.ensures.taken c.as_slice.ensures differs (record {
-              usable = left_usable from.most store b now left c.requires.both.target.packable c.requires.both.target.accepts;
-              there = subst (λ (r : RepoState). IsSome (archive_named name r.manifest.archives)) (sym read.repo) c.requires.comparison.there;
-            });
-        limit =
-            let flight = c.args.self.now in
-            taken_limit (g.D.Shelf.told c.compare_item-compared.new.depot) flight.options.timestamp (repo_view c.args.source.now) c.args.store.now flight.named
-            c.as_slice.result.now c.taken.result c.taken.ensures.taken;
-        left =
-            let compared = c.compare_item-compared.ensures in
-            λ _. left_read c.args.self.now.options.checkpoint c.args.store.now (g.D.Shelf.told c.compare_item-compared.new.depot)
-            c.compare_item-compared.new.store compared.both.target.read compared.both.target.fits c.requires.both.target.unspent c.requires.both.target.pending;
-      };
-  turn = search rules;
-}
+pub returns-in-Differs-clause-refused : goal.returns-in-Differs-clause-refused
+returns-in-Differs-clause-refused g c = λ met goes.
+    record {
+      refused =
+          let store = c.args.store.now in
+          let now = c.compare_item-compared.new.store in
+          let from = flown_from (g.S.Shelf.told c.args.shelf.now) (repo_view c.args.source.now) c.args.self.now in
+          let name = c.args.self.now.named.name in
+          let a = g.D.Shelf.told c.args.depot.now in
+          let b = g.D.Shelf.told c.compare_item-compared.new.depot in
+          let read = c.compare_item-compared.ensures.both.target.read in
+          let left = left_read from.most store b now read c.compare_item-compared.ensures.both.target.fits c.requires.both.target.unspent
+          c.requires.both.target.pending in
+          let then = met_behind (comparison_view c.args.comparison).other met (seen b (repo_view now.repo)) in
+          let differs : DiffersThere from then.told then.repo name =
+          subst (DiffersThere from then.told then.repo) goes.same_name
+          ((c.in_ok-compared.ensures.found met goes.comparison).differs (ap Ok c.in-Differs.is) from.block from.most from.time) in
+          taken_refused from a b store now then name c.as_slice.result.now c.taken.result c.taken.ensures.taken c.as_slice.ensures differs (record {
+            usable = left_usable from.most store b now left c.requires.both.target.packable c.requires.both.target.accepts;
+            there = subst (λ (r : RepoState). IsSome (archive_named name r.manifest.archives)) (sym read.repo) goes.there;
+          });
+      limit =
+          let flight = c.args.self.now in
+          taken_limit (g.D.Shelf.told c.compare_item-compared.new.depot) flight.options.timestamp (repo_view c.args.source.now) c.args.store.now flight.named
+          c.as_slice.result.now c.taken.result c.taken.ensures.taken;
+      left =
+          let compared = c.compare_item-compared.ensures in
+          λ _. left_read c.args.self.now.options.checkpoint c.args.store.now (g.D.Shelf.told c.compare_item-compared.new.depot)
+          c.compare_item-compared.new.store compared.both.target.read compared.both.target.fits c.requires.both.target.unspent c.requires.both.target.pending;
+    }
 
 pub returns-in-Equal-clause-turn : goal.returns-in-Equal-clause-turn
 returns-in-Equal-clause-turn g c = record {
@@ -222,68 +223,89 @@ returns-in-Equal-clause-turn g c = record {
       c.present.result (read_rest store middle c.compare_item-compared.ensures.both.target.read) c.requires.both.target.packable
       c.requires.both.target.accepts
       c.requires.both.target.committed ends.target.rest ends.target.fits ends.target.unspent ends.pending;
-  refused =
-      stops_turn {T = Turn} _ _ _ _ _ _ c.present.result
-      (let store = c.args.store.now in
-      let middle = c.compare_item-compared.new.store in
-      let from = flown_from (g.S.Shelf.told c.args.shelf.now) (repo_view c.args.source.now) c.args.self.now in
-      pending_refused {T = Turn} from (g.D.Shelf.told c.args.depot.now) (g.D.Shelf.told c.present.new.depot) store c.present.new.store
-      (repo_view middle.repo).keys c.args.self.now.named.name c.present.result (ap (λ (r : RepoState). r.keys)
-      c.compare_item-compared.ensures.both.target.read.repo)
-      c.present.ensures.target.refusal.target c.present.ensures.target.stops)
-      (let d = g.D.Shelf.told c.present.new.depot in
-      let store = c.args.store.now in
-      let flight = c.args.self.now in
-      let given = flight.options.timestamp in
-      let source = repo_view c.args.source.now in
-      let keys = (repo_view c.compare_item-compared.new.store.repo).keys in
-      IfErr-weaker c.present.result (StopsPieces d keys) (IsLimited d given source store flight.named)
-      (λ fault stops. pieces_limit d keys given source store flight.named fault stops) c.present.ensures.target.stops)
-      (targets_leave {T = Turn} c.args.self.now.options.checkpoint c.args.store.now (g.D.Shelf.told c.present.new.depot) c.present.new.store c.present.result
-      c.present.ensures.target.refusal.target);
   turn = search rules;
 }
 
-pub returns-in_err-compared-clause-turn : goal.returns-in_err-compared-clause-turn
-returns-in_err-compared-clause-turn g c = record {
-  source = search rules;
-  target = search rules;
-  refused =
-      stops_turn {T = Turn} _ _ _ _ _ _ c.from_residual.result
-      (let store = c.args.store.now in
-      let now = c.compare_item-compared.new.store in
-      let told = g.S.Shelf.told c.args.shelf.now in
-      let source = repo_view c.args.source.now in
-      let block = c.args.self.now.options.block in
-      let most = c.args.self.now.options.checkpoint in
-      let name = c.args.self.now.named.name in
-      let a = g.D.Shelf.told c.args.depot.now in
-      let b = g.D.Shelf.told c.compare_item-compared.new.depot in
-      let fault = c.in_err-compared.field-0.0 in
-      let compared = c.compare_item-compared.ensures in
-      let left = left_read most store b now compared.both.target.read compared.both.target.fits c.requires.both.target.unspent
-      c.requires.both.target.pending in
-      err_is c.from_residual.result fault (λ (r : Result Turn CarryFault). IfErr r (RefusesName (origin told source block most
-      c.args.self.now.options.timestamp)
-      a store b now name))
-      c.from_residual.ensures.1
-      (comparing_refused told a b source block most c.args.self.now.options.timestamp name store now fault c.in_err-compared.ensures.both.target.stops
-      (left_usable most store b now left c.requires.both.target.packable c.requires.both.target.accepts)
-      (subst (λ (n : List ℕ). RefusesComparing told source n fault) c.requires.comparison.same_name c.in_err-compared.ensures.refused.refused)))
-      (let b = g.D.Shelf.told c.compare_item-compared.new.depot in
-      let store = c.args.store.now in
-      let flight = c.args.self.now in
-      let given = flight.options.timestamp in
-      let source = repo_view c.args.source.now in
-      let fault = c.in_err-compared.field-0.0 in
-      err_is c.from_residual.result fault (λ (r : Result Turn CarryFault). IfErr r (IsLimited b given source store flight.named)) c.from_residual.ensures.1
-      (pieces_limit b (repo_view store.repo).keys given source store flight.named fault c.in_err-compared.ensures.both.target.stops))
-      (let store = c.args.store.now in
-      let now = c.compare_item-compared.new.store in
-      let b = g.D.Shelf.told c.compare_item-compared.new.depot in
-      let most = c.args.self.now.options.checkpoint in
-      let compared = c.compare_item-compared.ensures in
-      err_is c.from_residual.result c.in_err-compared.field-0.0 (λ (r : Result Turn CarryFault). IfErr r (Leaves most store b now)) c.from_residual.ensures.1
-      (λ _. left_read most store b now compared.both.target.read compared.both.target.fits c.requires.both.target.unspent c.requires.both.target.pending));
-  turn = search rules;
-}
+pub returns-in-Equal-clause-refused : goal.returns-in-Equal-clause-refused
+returns-in-Equal-clause-refused g c = λ met goes.
+    stops_turn {T = Turn} _ _ _ _ _ _ _ c.present.result
+    (let store = c.args.store.now in
+    let middle = c.compare_item-compared.new.store in
+    let from = flown_from (g.S.Shelf.told c.args.shelf.now) (repo_view c.args.source.now) c.args.self.now in
+    pending_refused {T = Turn} from (g.D.Shelf.told c.args.depot.now) (g.D.Shelf.told c.present.new.depot) store c.present.new.store _
+    (repo_view middle.repo).keys c.args.self.now.named.name c.present.result (ap (λ (r : RepoState). r.keys)
+    c.compare_item-compared.ensures.both.target.read.repo)
+    c.present.ensures.target.refusal.target c.present.ensures.target.stops)
+    (let d = g.D.Shelf.told c.present.new.depot in
+    let store = c.args.store.now in
+    let flight = c.args.self.now in
+    let given = flight.options.timestamp in
+    let source = repo_view c.args.source.now in
+    let keys = (repo_view c.compare_item-compared.new.store.repo).keys in
+    IfErr-weaker c.present.result (StopsPieces d keys) (IsLimited d given source store flight.named)
+    (λ fault stops. pieces_limit d keys given source store flight.named fault stops) c.present.ensures.target.stops)
+    (targets_leave {T = Turn} c.args.self.now.options.checkpoint c.args.store.now (g.D.Shelf.told c.present.new.depot) c.present.new.store c.present.result
+    c.present.ensures.target.refusal.target)
+
+pub returns-in_err-compared-clause-refused : goal.returns-in_err-compared-clause-refused
+returns-in_err-compared-clause-refused g c = λ met goes.
+    stops_turn {T = Turn} _ _ _ _ _ _ _ c.from_residual.result
+    (let store = c.args.store.now in
+    let now = c.compare_item-compared.new.store in
+    let told = g.S.Shelf.told c.args.shelf.now in
+    let source = repo_view c.args.source.now in
+    let block = c.args.self.now.options.block in
+    let most = c.args.self.now.options.checkpoint in
+    let name = c.args.self.now.named.name in
+    let a = g.D.Shelf.told c.args.depot.now in
+    let b = g.D.Shelf.told c.compare_item-compared.new.depot in
+    let fault = c.in_err-compared.field-0.0 in
+    let compared = c.compare_item-compared.ensures in
+    let left = left_read most store b now compared.both.target.read compared.both.target.fits c.requires.both.target.unspent
+    c.requires.both.target.pending in
+    err_is c.from_residual.result fault (λ (r : Result Turn CarryFault). IfErr r (RefusesMet (origin told source block most
+    c.args.self.now.options.timestamp)
+    a store b now (met_behind (comparison_view c.args.comparison).other met (seen b (repo_view now.repo))) name))
+    c.from_residual.ensures.1
+    (comparing_refused told a b source block most c.args.self.now.options.timestamp name store now _ fault c.in_err-compared.ensures.both.target.stops
+    (left_usable most store b now left c.requires.both.target.packable c.requires.both.target.accepts)
+    (subst (λ (n : List ℕ). RefusesComparing told source n fault) goes.same_name c.in_err-compared.ensures.refused.refused)))
+    (let b = g.D.Shelf.told c.compare_item-compared.new.depot in
+    let store = c.args.store.now in
+    let flight = c.args.self.now in
+    let given = flight.options.timestamp in
+    let source = repo_view c.args.source.now in
+    let fault = c.in_err-compared.field-0.0 in
+    err_is c.from_residual.result fault (λ (r : Result Turn CarryFault). IfErr r (IsLimited b given source store flight.named)) c.from_residual.ensures.1
+    (pieces_limit b (repo_view store.repo).keys given source store flight.named fault c.in_err-compared.ensures.both.target.stops))
+    (let store = c.args.store.now in
+    let now = c.compare_item-compared.new.store in
+    let b = g.D.Shelf.told c.compare_item-compared.new.depot in
+    let most = c.args.self.now.options.checkpoint in
+    let compared = c.compare_item-compared.ensures in
+    err_is c.from_residual.result c.in_err-compared.field-0.0 (λ (r : Result Turn CarryFault). IfErr r (Leaves most store b now)) c.from_residual.ensures.1
+    (λ _. left_read most store b now compared.both.target.read compared.both.target.fits c.requires.both.target.unspent c.requires.both.target.pending))
+
+pub returns-in-Differs-clause-reads : goal.returns-in-Differs-clause-reads
+returns-in-Differs-clause-reads g c =
+    let a = g.D.Shelf.told c.args.depot.now in
+    let b = g.D.Shelf.told c.compare_item-compared.new.depot in
+    taken_reads (target_state a (g.D.Shelf.faults c.args.depot.now) c.args.store.now)
+    (target_state b (g.D.Shelf.faults c.compare_item-compared.new.depot) c.compare_item-compared.new.store) c.as_slice.result.now c.taken.result
+    c.taken.ensures.taken (record { told = c.in_ok-compared.ensures.same; repo = c.compare_item-compared.ensures.both.target.read.repo })
+
+pub returns-in-Equal-clause-reads : goal.returns-in-Equal-clause-reads
+returns-in-Equal-clause-reads g c =
+    present_reads (target_state (g.D.Shelf.told c.args.depot.now) (g.D.Shelf.faults c.args.depot.now) c.args.store.now)
+    (target_state (g.D.Shelf.told c.present.new.depot) (g.D.Shelf.faults c.present.new.depot) c.present.new.store) c.present.result
+    c.present.ensures.present c.present.ensures.target.refusal.target
+
+pub returns-in_err-compared-clause-reads : goal.returns-in_err-compared-clause-reads
+returns-in_err-compared-clause-reads g c =
+    let told = g.S.Shelf.told c.args.shelf.now in
+    let to = target_state (g.D.Shelf.told c.args.depot.now) (g.D.Shelf.faults c.args.depot.now) c.args.store.now in
+    let to_now = target_state (g.D.Shelf.told c.compare_item-compared.new.depot) (g.D.Shelf.faults c.compare_item-compared.new.depot)
+    c.compare_item-compared.new.store in
+    let fault = c.in_err-compared.field-0.0 in
+    err_is c.from_residual.result fault (OnlyReads to to_now) c.from_residual.ensures.1
+    (comparing_reads to to_now told (repo_view c.args.source.now) (comparison_view c.args.comparison).name fault c.in_err-compared.ensures.refused.refused)

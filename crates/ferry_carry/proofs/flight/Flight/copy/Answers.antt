@@ -1,5 +1,6 @@
 use Rattle.std.proofs.Common.{rules, ◌≡◌, inr, [], ◌∷◌, ◌++◌, false, true, Some, None, Bool, List, Result, Ok, Err, refl, sym, ◌∙◌, subst, IfErr, ℕ}
 use Rattle.std.proofs.Common.{◌+◌, ◌*◌, length, arith}
+use Rattle.ferry_compare.specs.Compare.{seen}
 use Rattle.ferry_carry.proofs.CauseLemmas.{end_refused, lacks_by, step_refused}
 use Rattle.ferry_carry.proofs.AcceptingLemmas.{next_rest}
 use Rattle.ferry_carry.proofs.FlightLemmas.{rest_accepts}
@@ -129,13 +130,14 @@ returns-in-Ok-true-clause-works g c =
                   uncounted = c.requires.flight.uncounted;
                 };
                 added = added ++ stepped.0;
-                work = subst (WorkFits later after b now named flight.options (added ++ stepped.0)) (sym c.renew.ensures) (record {
-                  fits = record { ready = ensures.copy.ready; walk_fits = ensures.copy.walk_fits };
-                  unnamed = subst (λ (m : ManifestText). archive_named name m.archives ≡ None) (sym ensures.both.target.rest.accepted)
-                      c.requires.copy.1.unnamed;
-                  copied = so_far_later told later source after from.block from.most from.time named b now c.step.new.self (added ++ stepped.0)
-                      ensures.both.source.same ensures.both.source.kept so_far;
-                });
+                work = subst (WorkFits (seen later after) b now (seen b (repo_view now.repo)) named flight.options (added ++ stepped.0))
+                    (sym c.renew.ensures) (record {
+                      fits = record { ready = ensures.copy.ready; walk_fits = ensures.copy.walk_fits };
+                      unnamed = subst (λ (m : ManifestText). archive_named name m.archives ≡ None) (sym ensures.both.target.rest.accepted)
+                          c.requires.copy.1.unnamed;
+                      copied = so_far_later told later source after from.block from.most from.time named b now c.step.new.self (added ++ stepped.0)
+                          ensures.both.source.same ensures.both.source.kept so_far;
+                    });
               },
               refl,
             );
@@ -190,8 +192,8 @@ returns-in_err-self-in-Ok-false-clause-works g c =
       (
         [],
         (
-          turned_err _ _ from name added ends.0 [] store now _ a d n k c.from_residual.result fault c.from_residual.ensures.1
-              (turn_ended from name added ends.0 [] store middle now _ _ _ a b d n m k more (Err fault) c.requires.both.target.accepts rest
+          turned_err _ _ from name added ends.0 [] store now _ _ a d n k c.from_residual.result fault c.from_residual.ensures.1
+              (turn_ended from name added ends.0 [] store middle now _ _ _ _ a b d n m k more (Err fault) c.requires.both.target.accepts rest
               c.requires.copy.1.unnamed first
               (flies_err {T = Carried} added from name (name ∷ []) ends.0 middle now now b d m k fault does.carries) does.begins does.stands does.last
               does.held
@@ -249,7 +251,7 @@ returns-in_ok-self-in-Ok-false-clause-works g c =
       (
         records,
         (
-          turn_ended from name added ends.0 records store middle now _ _ _ a b d n m k more (Ok Named) c.requires.both.target.accepts rest
+          turn_ended from name added ends.0 records store middle now _ _ _ _ a b d n m k more (Ok Named) c.requires.both.target.accepts rest
               c.requires.copy.1.unnamed first
               (flies_as {T = Carried} added from name (name ∷ []) ends.0 middle now b d m k c.in_ok-self-in-Ok-false.field-0 Named refl does.carries)
               does.begins tt tt tt tt (
@@ -268,52 +270,47 @@ returns-in_ok-self-in-Ok-false-clause-works g c =
       ),
     )
 
-pub returns-in-Err-clause-turn : goal.returns-in-Err-clause-turn
-returns-in-Err-clause-turn g c = record {
-  source = search rules;
-  target = search rules;
-  refused =
-      record {
-        refused =
-            let a = g.D.Shelf.told c.args.depot.now in
-            let b = g.D.Shelf.told c.step.new.depot in
-            let store = c.args.store.now in
-            let now = c.step.new.store in
-            let fault = c.in-Err.fault in
-            let told = g.S.Shelf.told c.args.shelf.now in
-            let source = repo_view c.args.source.now in
-            let flight = c.args.self.now in
-            let block = flight.options.block in
-            let most = flight.options.checkpoint in
-            let time = flight.options.timestamp in
-            let named = flight.named in
-            let added = c.requires.copy.0 in
-            let so = c.requires.copy.1.copied in
-            let refused = c.in-Err.ensures.refused time named added c.requires.flight.named (so_far_as told source block most time named a store c.args.copy
-            added so)
-            in
-            let lacks = lacks_by (repo_view store.repo).manifest (accepted_in store) named.name c.requires.both.target.accepts c.requires.copy.1.unnamed in
-            let left = left_then most c.args.copy.contents.checkpoint store store b now fault (sym so.0.most) (rest_here store)
-            c.in-Err.ensures.both.target.left in
-            step_refused (origin told source block most time) a b store now named.name fault lacks c.in-Err.ensures.both.target.stops
-            (λ other. left_usable most store b now (left other) c.requires.both.target.packable c.requires.both.target.accepts)
-            (subst (λ (l : ℕ). RefusesStep (origin told source block l time) a named.name fault) (sym so.0.most)
-            (subst (λ (d : ℕ). RefusesStep (origin told source d c.args.copy.contents.checkpoint time) a named.name fault) (sym so.0.block) refused));
-        limit =
-            let b = g.D.Shelf.told c.step.new.depot in
-            let store = c.args.store.now in
-            let flight = c.args.self.now in
-            let given = flight.options.timestamp in
-            let source = repo_view c.args.source.now in
-            pieces_limit b (repo_view store.repo).keys given source store flight.named c.in-Err.fault c.in-Err.ensures.both.target.stops;
-        left =
-            let store = c.args.store.now in
-            left_then c.args.self.now.options.checkpoint c.args.copy.contents.checkpoint store store (g.D.Shelf.told c.step.new.depot) c.step.new.store
-            c.in-Err.fault
-            (sym c.requires.copy.1.copied.0.most) (rest_here store) c.in-Err.ensures.both.target.left;
-      };
-  turn = search rules;
-}
+pub returns-in-Err-clause-refused : goal.returns-in-Err-clause-refused
+returns-in-Err-clause-refused g c =
+    record {
+      refused =
+          let a = g.D.Shelf.told c.args.depot.now in
+          let b = g.D.Shelf.told c.step.new.depot in
+          let store = c.args.store.now in
+          let now = c.step.new.store in
+          let fault = c.in-Err.fault in
+          let told = g.S.Shelf.told c.args.shelf.now in
+          let source = repo_view c.args.source.now in
+          let flight = c.args.self.now in
+          let block = flight.options.block in
+          let most = flight.options.checkpoint in
+          let time = flight.options.timestamp in
+          let named = flight.named in
+          let added = c.requires.copy.0 in
+          let so = c.requires.copy.1.copied in
+          let refused = c.in-Err.ensures.refused time named added c.requires.flight.named (so_far_as told source block most time named a store c.args.copy
+          added so)
+          in
+          let lacks = lacks_by (repo_view store.repo).manifest (accepted_in store) named.name c.requires.both.target.accepts c.requires.copy.1.unnamed in
+          let left = left_then most c.args.copy.contents.checkpoint store store b now fault (sym so.0.most) (rest_here store)
+          c.in-Err.ensures.both.target.left in
+          step_refused (origin told source block most time) a b store now named.name fault lacks c.in-Err.ensures.both.target.stops
+          (λ other. left_usable most store b now (left other) c.requires.both.target.packable c.requires.both.target.accepts)
+          (subst (λ (l : ℕ). RefusesStep (origin told source block l time) a named.name fault) (sym so.0.most)
+          (subst (λ (d : ℕ). RefusesStep (origin told source d c.args.copy.contents.checkpoint time) a named.name fault) (sym so.0.block) refused));
+      limit =
+          let b = g.D.Shelf.told c.step.new.depot in
+          let store = c.args.store.now in
+          let flight = c.args.self.now in
+          let given = flight.options.timestamp in
+          let source = repo_view c.args.source.now in
+          pieces_limit b (repo_view store.repo).keys given source store flight.named c.in-Err.fault c.in-Err.ensures.both.target.stops;
+      left =
+          let store = c.args.store.now in
+          left_then c.args.self.now.options.checkpoint c.args.copy.contents.checkpoint store store (g.D.Shelf.told c.step.new.depot) c.step.new.store
+          c.in-Err.fault
+          (sym c.requires.copy.1.copied.0.most) (rest_here store) c.in-Err.ensures.both.target.left;
+    }
 
 pub returns-in-Ok-true-clause-turn : goal.returns-in-Ok-true-clause-turn
 returns-in-Ok-true-clause-turn g c = record {
@@ -330,73 +327,67 @@ returns-in-Ok-true-clause-turn g c = record {
         most_kept = search rules;
         settled = search rules;
       };
-  refused = search rules;
   turn = search rules;
 }
 
-pub returns-in_err-self-in-Ok-false-clause-turn : goal.returns-in_err-self-in-Ok-false-clause-turn
-returns-in_err-self-in-Ok-false-clause-turn g c = record {
-  source = search rules;
-  target = search rules;
-  refused =
-      stops_turn {T = Turn} _ _ _ _ _ _ c.from_residual.result
-      (let a = g.D.Shelf.told c.args.depot.now in
-      let b = g.D.Shelf.told c.step.new.depot in
-      let d = g.D.Shelf.told c.end_copy-put.new.depot in
-      let n = g.D.Shelf.faults c.args.depot.now in
-      let m = g.D.Shelf.faults c.step.new.depot in
-      let store = c.args.store.now in
-      let middle = c.step.new.store in
-      let now = c.end_copy-put.new.store in
-      let fault = c.in_err-self-in-Ok-false.field-0.0 in
-      let told = g.S.Shelf.told c.args.shelf.now in
-      let source = repo_view c.args.source.now in
-      let from = flown_from told source c.args.self.now in
-      let named = c.args.self.now.named in
-      let copy = c.args.copy in
-      let more = c.in-Ok-false.field-0 in
-      let not_more : more ≡ false = search rules in
-      let added = c.requires.copy.0 in
-      let so = c.requires.copy.1.copied in
-      let stepped = c.in-Ok-false.ensures.copied from.time named added (so_far_as told source from.block from.most from.time named a store copy added so) in
-      let works = stepped_as told source from.block from.most copy.block copy.contents.checkpoint from.time named a b store middle c.step.new.self added
-      stepped.0 n m
-      (Ok more) (sym so.0.block) (sym so.0.most) stepped.1 in
-      let ended : CopiesOn from named b middle c.step.new.self added stepped.0 false =
-      subst (CopiesOn from named b middle c.step.new.self added stepped.0) not_more works.1.1.1 in
-      let lacks = lacks_by (repo_view store.repo).manifest (accepted_in store) named.name c.requires.both.target.accepts c.requires.copy.1.unnamed in
-      let left = left_then from.most c.step.new.self.contents.checkpoint store middle d now fault (c.in-Ok-false.ensures.copy.checkpoint ∙ sym so.0.most)
-      c.in-Ok-false.ensures.both.target.rest c.in_err-self-in-Ok-false.ensures.refusal.left in
-      err_is c.from_residual.result fault (λ (r : Result Turn CarryFault). IfErr r (RefusesName from a store d now named.name))
-      c.from_residual.ensures.1
-      (end_refused from a b d (KeepsStanding from.most store stepped.0) store middle now named.name fault works.0.works.each
-      c.in-Ok-false.ensures.both.target.rest.keys lacks
-      c.in_err-self-in-Ok-false.ensures.refusal.stops (λ other. left_usable from.most store d now (left other) c.requires.both.target.packable
-      c.requires.both.target.accepts)
-      (c.in_err-self-in-Ok-false.ensures.refused from added (ended.1 c.requires.flight.named))))
-      (let d = g.D.Shelf.told c.end_copy-put.new.depot in
-      let store = c.args.store.now in
-      let flight = c.args.self.now in
-      let given = flight.options.timestamp in
-      let source = repo_view c.args.source.now in
-      let fault = c.in_err-self-in-Ok-false.field-0.0 in
-      err_is c.from_residual.result fault (λ (r : Result Turn CarryFault). IfErr r (IsLimited d given source store flight.named))
-      c.from_residual.ensures.1
-      (rest_limit d given source (repo_view c.step.new.source) store c.step.new.store flight.named fault c.in-Ok-false.ensures.both.target.rest
-      c.step.ensures.both.source.kept
-      c.in_err-self-in-Ok-false.ensures.refusal.limit))
-      (let store = c.args.store.now in
-      let middle = c.step.new.store in
-      let now = c.end_copy-put.new.store in
-      let d = g.D.Shelf.told c.end_copy-put.new.depot in
-      let most = c.args.self.now.options.checkpoint in
-      let fault = c.in_err-self-in-Ok-false.field-0.0 in
-      err_is c.from_residual.result fault (λ (r : Result Turn CarryFault). IfErr r (Leaves most store d now)) c.from_residual.ensures.1
-      (left_then most c.step.new.self.contents.checkpoint store middle d now fault (c.in-Ok-false.ensures.copy.checkpoint ∙ sym
-      c.requires.copy.1.copied.0.most)
-      c.in-Ok-false.ensures.both.target.rest c.in_err-self-in-Ok-false.ensures.refusal.left));
-  turn = search rules;
-}
+pub returns-in_err-self-in-Ok-false-clause-refused : goal.returns-in_err-self-in-Ok-false-clause-refused
+returns-in_err-self-in-Ok-false-clause-refused g c =
+    stops_turn {T = Turn} _ _ _ _ _ _ _ c.from_residual.result
+    (let a = g.D.Shelf.told c.args.depot.now in
+    let b = g.D.Shelf.told c.step.new.depot in
+    let d = g.D.Shelf.told c.end_copy-put.new.depot in
+    let n = g.D.Shelf.faults c.args.depot.now in
+    let m = g.D.Shelf.faults c.step.new.depot in
+    let store = c.args.store.now in
+    let middle = c.step.new.store in
+    let now = c.end_copy-put.new.store in
+    let fault = c.in_err-self-in-Ok-false.field-0.0 in
+    let told = g.S.Shelf.told c.args.shelf.now in
+    let source = repo_view c.args.source.now in
+    let from = flown_from told source c.args.self.now in
+    let named = c.args.self.now.named in
+    let copy = c.args.copy in
+    let more = c.in-Ok-false.field-0 in
+    let not_more : more ≡ false = search rules in
+    let added = c.requires.copy.0 in
+    let so = c.requires.copy.1.copied in
+    let stepped = c.in-Ok-false.ensures.copied from.time named added (so_far_as told source from.block from.most from.time named a store copy added so) in
+    let works = stepped_as told source from.block from.most copy.block copy.contents.checkpoint from.time named a b store middle c.step.new.self added
+    stepped.0 n m
+    (Ok more) (sym so.0.block) (sym so.0.most) stepped.1 in
+    let ended : CopiesOn from named b middle c.step.new.self added stepped.0 false =
+    subst (CopiesOn from named b middle c.step.new.self added stepped.0) not_more works.1.1.1 in
+    let lacks = lacks_by (repo_view store.repo).manifest (accepted_in store) named.name c.requires.both.target.accepts c.requires.copy.1.unnamed in
+    let left = left_then from.most c.step.new.self.contents.checkpoint store middle d now fault (c.in-Ok-false.ensures.copy.checkpoint ∙ sym so.0.most)
+    c.in-Ok-false.ensures.both.target.rest c.in_err-self-in-Ok-false.ensures.refusal.left in
+    err_is c.from_residual.result fault (λ (r : Result Turn CarryFault). IfErr r (RefusesName from a store d now named.name))
+    c.from_residual.ensures.1
+    (end_refused from a b d (KeepsStanding from.most store stepped.0) store middle now named.name fault works.0.works.each
+    c.in-Ok-false.ensures.both.target.rest.keys lacks
+    c.in_err-self-in-Ok-false.ensures.refusal.stops (λ other. left_usable from.most store d now (left other) c.requires.both.target.packable
+    c.requires.both.target.accepts)
+    (c.in_err-self-in-Ok-false.ensures.refused from added (ended.1 c.requires.flight.named))))
+    (let d = g.D.Shelf.told c.end_copy-put.new.depot in
+    let store = c.args.store.now in
+    let flight = c.args.self.now in
+    let given = flight.options.timestamp in
+    let source = repo_view c.args.source.now in
+    let fault = c.in_err-self-in-Ok-false.field-0.0 in
+    err_is c.from_residual.result fault (λ (r : Result Turn CarryFault). IfErr r (IsLimited d given source store flight.named))
+    c.from_residual.ensures.1
+    (rest_limit d given source (repo_view c.step.new.source) store c.step.new.store flight.named fault c.in-Ok-false.ensures.both.target.rest
+    c.step.ensures.both.source.kept
+    c.in_err-self-in-Ok-false.ensures.refusal.limit))
+    (let store = c.args.store.now in
+    let middle = c.step.new.store in
+    let now = c.end_copy-put.new.store in
+    let d = g.D.Shelf.told c.end_copy-put.new.depot in
+    let most = c.args.self.now.options.checkpoint in
+    let fault = c.in_err-self-in-Ok-false.field-0.0 in
+    err_is c.from_residual.result fault (λ (r : Result Turn CarryFault). IfErr r (Leaves most store d now)) c.from_residual.ensures.1
+    (left_then most c.step.new.self.contents.checkpoint store middle d now fault (c.in-Ok-false.ensures.copy.checkpoint ∙ sym
+    c.requires.copy.1.copied.0.most)
+    c.in-Ok-false.ensures.both.target.rest c.in_err-self-in-Ok-false.ensures.refusal.left))
 
 pub returns-in_ok-self-in-Ok-false-clause-turn : goal.returns-in_ok-self-in-Ok-false-clause-turn
 returns-in_ok-self-in-Ok-false-clause-turn g c = record {
@@ -416,6 +407,5 @@ returns-in_ok-self-in-Ok-false-clause-turn g c = record {
             c.in_ok-self-in-Ok-false.ensures.target.most;
         settled = search rules;
       };
-  refused = search rules;
   turn = search rules;
 }

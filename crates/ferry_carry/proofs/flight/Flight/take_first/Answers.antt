@@ -12,11 +12,13 @@ use Rattle.ferry_carry.proofs.ProgressEndLemmas.{begin_copied}
 use Rattle.ferry_carry.proofs.WorkLemmas.{carried_nothing}
 use Rattle.ferry_piece.proofs.WorkLemmas.{err_is}
 use Rattle.ferry_carry.proofs.flight.Flight.take_first.Goals as goal
-use Rattle.ferry_carry.specs.Flight.{TakesTurn, flown_from, archive_adds}
+use Rattle.ferry_carry.specs.Flight.{FitsComparing, TakesTurn, flown_from, archive_adds}
 use Rattle.ferry_piece.specs.Puts.{AtBegin, border_behind}
 use Rattle.ferry_piece.specs.declared.fault.CarryFault.{CarryFault}
 use Rattle.ferry_carry.specs.declared.flight.Turn.{Turn}
 use Rattle.ferry_carry.specs.declared.flight.Turn.TheVariants.{Named}
+use Rattle.ferry_carry.proofs.MetLemmas.{stops_read, turn_read}
+use Rattle.ferry_compare.specs.Compare.{comparison_view, seen}
 use Rattle.ferry_compare.specs.declared.comparison.Comparison.{Comparison}
 use Rattle.ferry_repo.specs.Archives.{archive_named}
 use Rattle.ferry_repo.specs.Opening.{RepoState, repo_view}
@@ -48,7 +50,7 @@ returns-in_err-copy-clause-works g c =
       (
         [],
         (
-          turned_err _ _ from name [] [] [] store store _ a a n n c.from_residual-in_err-copy.result fault c.from_residual-in_err-copy.ensures.1 (record {
+          turned_err _ _ from name [] [] [] store store _ _ a a n n c.from_residual-in_err-copy.result fault c.from_residual-in_err-copy.ensures.1 (record {
             flies = flies_err {T = Turn} [] from name [] [] store store store a a n n fault
                 (carried_nothing {T = Turn} [] from (name ∷ []) [] [] store store a n fault c.requires.both.target.accepts
                 c.in_err-copy.ensures.spares.still);
@@ -74,6 +76,18 @@ returns-in_err-copy-clause-works g c =
 
 pub returns-in_ok-comparison-clause-works : goal.returns-in_ok-comparison-clause-works
 returns-in_ok-comparison-clause-works g c =
+    let met = seen (g.D.Shelf.told c.begin_comparing.new.depot) (repo_view c.begin_comparing.new.store.repo) in
+    let there : IsSome (archive_named c.args.self.now.named.name (repo_view c.args.store.now.repo).manifest.archives) = search rules in
+    let goes : FitsComparing (g.S.Shelf.told c.begin_comparing.new.shelf) (repo_view c.begin_comparing.new.source)
+    (g.D.Shelf.told c.begin_comparing.new.depot) (repo_view c.begin_comparing.new.store.repo) met c.args.self.now.named.name c.in_ok-comparison.comparison =
+    record {
+      fits = c.in_ok-comparison.ensures.comparison;
+      there = subst (λ (r : RepoState). IsSome (archive_named c.args.self.now.named.name r.manifest.archives))
+          (sym c.begin_comparing.ensures.both.target.read.repo) there;
+    } in
+    let to = target_state (g.D.Shelf.told c.begin_comparing.new.depot) (g.D.Shelf.faults c.begin_comparing.new.depot) c.begin_comparing.new.store in
+    let to_now = target_state (g.D.Shelf.told c.compare.new.depot) (g.D.Shelf.faults c.compare.new.depot) c.compare.new.store in
+    let walk = (comparison_view c.in_ok-comparison.comparison).other in
     let told = g.S.Shelf.told c.args.shelf.now in
     let later = g.S.Shelf.told c.begin_comparing.new.shelf in
     let source = repo_view c.args.source.now in
@@ -86,13 +100,14 @@ returns-in_ok-comparison-clause-works g c =
         [],
         (
           turned_behind {T = Comparison} told later (g.S.Shelf.told c.compare.new.shelf) source after (repo_view c.compare.new.source) flight.options.block
-              flight.options.checkpoint flight.options.timestamp flight.named.name store middle c.compare.new.store c.compare.new.self [] []
+              flight.options.checkpoint flight.options.timestamp flight.named.name store middle c.compare.new.store _ c.compare.new.self [] []
               (g.D.Shelf.told c.args.depot.now)
               (g.D.Shelf.told c.begin_comparing.new.depot) (g.D.Shelf.told c.compare.new.depot) (g.D.Shelf.faults c.args.depot.now)
               (g.D.Shelf.faults c.begin_comparing.new.depot) (g.D.Shelf.faults c.compare.new.depot) c.in_ok-comparison.comparison c.compare.result
               c.in_ok-comparison.ensures.both.source.same c.begin_comparing.ensures.both.source.kept c.requires.both.target.accepts (read_rest store middle
               c.begin_comparing.ensures.both.target.read)
-              (c.in_ok-comparison.ensures.works flight.options.checkpoint) c.compare.ensures.works,
+              (c.in_ok-comparison.ensures.works flight.options.checkpoint)
+              (turn_read _ _ _ _ walk to to_now _ c.compare.result c.compare.ensures.reads (c.compare.ensures.works met goes)),
           unnamed_all _ (repo_view store.repo).keys (g.E.Entropy.drawn c.args.entropy.now) c.compare.result c.compare.ensures.only.unnamed,
         ),
       ),
@@ -116,7 +131,7 @@ returns-in_err-comparison-clause-works g c =
       (
         [],
         (
-          turned_err _ _ from name [] [] [] store now _ a b n m c.from_residual.result fault c.from_residual.ensures.1 (record {
+          turned_err _ _ from name [] [] [] store now _ _ a b n m c.from_residual.result fault c.from_residual.ensures.1 (record {
             flies = flies_fault {T = Comparison} [] from name store now [] a b n m fault c.requires.both.target.accepts works;
             begins = begins_none a from (repo_view store.repo).keys (accepted_in store) name;
             stands = λ _. stands_within at from.most store [] a b works.works.each;
@@ -153,9 +168,10 @@ returns-in_ok-copy-clause-works g c =
       (
         copied.1.0,
         (
-          subst (λ (f : Origin). TakesTurn (g.S.Shelf.told c.copy.new.shelf) (repo_view c.copy.new.source) f (archive_adds flight.named.name [] copied.0
+          subst (λ (f : Origin). TakesTurn (seen (g.S.Shelf.told c.copy.new.shelf) (repo_view c.copy.new.source)) f (archive_adds flight.named.name [] copied.0
               copied.1.0) (target_state a (g.D.Shelf.faults c.args.depot.now) store) (target_state (g.D.Shelf.told c.copy.new.depot) (g.D.Shelf.faults
-              c.copy.new.depot) c.copy.new.store) c.copy.new.self c.copy.result) (origin_kept told later source after block block most most time time
+              c.copy.new.depot) c.copy.new.store) (seen (g.D.Shelf.told c.copy.new.depot) (repo_view c.copy.new.store.repo)) c.copy.new.self
+              c.copy.result) (origin_kept told later source after block block most most time time
               ensures.source.same kept refl refl refl) copied.1.1.0,
           subst (λ (r : RepoState). MatchResult c.copy.result (λ (turn : Turn). turn ≡ Named → NamesNew time r store flight.named copied.1.0
               c.copy.new.store (g.E.Entropy.drawn c.args.entropy.now) (g.E.Entropy.drawn c.copy.new.entropy))
@@ -164,6 +180,19 @@ returns-in_ok-copy-clause-works g c =
         ),
       ),
     )
+
+pub compare-requires-clause-comparison : goal.compare-requires-clause-comparison
+compare-requires-clause-comparison g c =
+    let met = seen (g.D.Shelf.told c.begin_comparing.new.depot) (repo_view c.begin_comparing.new.store.repo) in
+    let there : IsSome (archive_named c.args.self.now.named.name (repo_view c.args.store.now.repo).manifest.archives) = search rules in
+    let goes : FitsComparing (g.S.Shelf.told c.begin_comparing.new.shelf) (repo_view c.begin_comparing.new.source)
+    (g.D.Shelf.told c.begin_comparing.new.depot) (repo_view c.begin_comparing.new.store.repo) met c.args.self.now.named.name c.in_ok-comparison.comparison =
+    record {
+      fits = c.in_ok-comparison.ensures.comparison;
+      there = subst (λ (r : RepoState). IsSome (archive_named c.args.self.now.named.name r.manifest.archives))
+          (sym c.begin_comparing.ensures.both.target.read.repo) there;
+    } in
+    (met, goes)
 
 pub copy-requires-clause-copy : goal.copy-requires-clause-copy
 copy-requires-clause-copy g c =
@@ -182,90 +211,80 @@ copy-requires-clause-copy g c =
       },
     )
 
-pub returns-in_err-comparison-clause-turn : goal.returns-in_err-comparison-clause-turn
-returns-in_err-comparison-clause-turn g c = record {
-  source = search rules;
-  target = search rules;
-  refused =
-      stops_turn {T = Turn} _ _ _ _ _ _ c.from_residual.result
-      (let store = c.args.store.now in
-      let now = c.begin_comparing.new.store in
-      let told = g.S.Shelf.told c.args.shelf.now in
-      let source = repo_view c.args.source.now in
-      let flight = c.args.self.now in
-      let a = g.D.Shelf.told c.args.depot.now in
-      let b = g.D.Shelf.told c.begin_comparing.new.depot in
-      let fault = c.in_err-comparison.field-0.0 in
-      let begun = c.begin_comparing.ensures in
-      let most = flight.options.checkpoint in
-      let left = left_read most store b now begun.both.target.read begun.both.target.fits c.requires.both.target.unspent c.requires.both.target.pending in
-      err_is c.from_residual.result fault
-      (λ (r : Result Turn CarryFault). IfErr r (RefusesName (origin told source flight.options.block flight.options.checkpoint flight.options.timestamp) a
-      store
-      b now flight.named.name))
-      c.from_residual.ensures.1
-      (comparing_refused told a b source flight.options.block flight.options.checkpoint flight.options.timestamp flight.named.name store now fault
-      c.in_err-comparison.ensures.both.target.stops (left_usable most store b now left c.requires.both.target.packable c.requires.both.target.accepts)
-      c.in_err-comparison.ensures.refused.refused))
-      (let b = g.D.Shelf.told c.begin_comparing.new.depot in
-      let store = c.args.store.now in
-      let flight = c.args.self.now in
-      let given = flight.options.timestamp in
-      let source = repo_view c.args.source.now in
-      let fault = c.in_err-comparison.field-0.0 in
-      err_is c.from_residual.result fault (λ (r : Result Turn CarryFault). IfErr r (IsLimited b given source store flight.named)) c.from_residual.ensures.1
-      (pieces_limit b (repo_view store.repo).keys given source store flight.named fault c.in_err-comparison.ensures.both.target.stops))
-      (let store = c.args.store.now in
-      let now = c.begin_comparing.new.store in
-      let b = g.D.Shelf.told c.begin_comparing.new.depot in
-      let most = c.args.self.now.options.checkpoint in
-      let begun = c.begin_comparing.ensures in
-      err_is c.from_residual.result c.in_err-comparison.field-0.0 (λ (r : Result Turn CarryFault). IfErr r (Leaves most store b now))
-      c.from_residual.ensures.1
-      (λ _. left_read most store b now begun.both.target.read begun.both.target.fits c.requires.both.target.unspent c.requires.both.target.pending));
-  turn = search rules;
-}
+pub returns-in_err-comparison-clause-refused : goal.returns-in_err-comparison-clause-refused
+returns-in_err-comparison-clause-refused g c =
+    stops_turn {T = Turn} _ _ _ _ _ _ _ c.from_residual.result
+    (let store = c.args.store.now in
+    let now = c.begin_comparing.new.store in
+    let told = g.S.Shelf.told c.args.shelf.now in
+    let source = repo_view c.args.source.now in
+    let flight = c.args.self.now in
+    let a = g.D.Shelf.told c.args.depot.now in
+    let b = g.D.Shelf.told c.begin_comparing.new.depot in
+    let fault = c.in_err-comparison.field-0.0 in
+    let begun = c.begin_comparing.ensures in
+    let most = flight.options.checkpoint in
+    let left = left_read most store b now begun.both.target.read begun.both.target.fits c.requires.both.target.unspent c.requires.both.target.pending in
+    err_is c.from_residual.result fault
+    (λ (r : Result Turn CarryFault). IfErr r (RefusesName (origin told source flight.options.block flight.options.checkpoint flight.options.timestamp) a
+    store
+    b now flight.named.name))
+    c.from_residual.ensures.1
+    (comparing_refused told a b source flight.options.block flight.options.checkpoint flight.options.timestamp flight.named.name store now _ fault
+    c.in_err-comparison.ensures.both.target.stops (left_usable most store b now left c.requires.both.target.packable c.requires.both.target.accepts)
+    c.in_err-comparison.ensures.refused.refused))
+    (let b = g.D.Shelf.told c.begin_comparing.new.depot in
+    let store = c.args.store.now in
+    let flight = c.args.self.now in
+    let given = flight.options.timestamp in
+    let source = repo_view c.args.source.now in
+    let fault = c.in_err-comparison.field-0.0 in
+    err_is c.from_residual.result fault (λ (r : Result Turn CarryFault). IfErr r (IsLimited b given source store flight.named)) c.from_residual.ensures.1
+    (pieces_limit b (repo_view store.repo).keys given source store flight.named fault c.in_err-comparison.ensures.both.target.stops))
+    (let store = c.args.store.now in
+    let now = c.begin_comparing.new.store in
+    let b = g.D.Shelf.told c.begin_comparing.new.depot in
+    let most = c.args.self.now.options.checkpoint in
+    let begun = c.begin_comparing.ensures in
+    err_is c.from_residual.result c.in_err-comparison.field-0.0 (λ (r : Result Turn CarryFault). IfErr r (Leaves most store b now))
+    c.from_residual.ensures.1
+    (λ _. left_read most store b now begun.both.target.read begun.both.target.fits c.requires.both.target.unspent c.requires.both.target.pending))
 
-pub returns-in_err-copy-clause-turn : goal.returns-in_err-copy-clause-turn
-returns-in_err-copy-clause-turn g c = record {
-  source = search rules;
-  target = search rules;
-  refused =
-      stops_turn {T = Turn} _ _ _ _ _ _ c.from_residual-in_err-copy.result
-      (let a = g.D.Shelf.told c.args.depot.now in
-      let store = c.args.store.now in
-      let told = g.S.Shelf.told c.args.shelf.now in
-      let source = repo_view c.args.source.now in
-      let flight = c.args.self.now in
-      let block = flight.options.block in
-      let most = flight.options.checkpoint in
-      let time = flight.options.timestamp in
-      let fault = c.in_err-copy.field-0.0 in
-      err_is c.from_residual-in_err-copy.result fault
-      (λ (r : Result Turn CarryFault). IfErr r (RefusesName (origin told source block most time) a store a store flight.named.name))
-      c.from_residual-in_err-copy.ensures.1
-      (begin_refused told a a source block most time flight.named store store fault c.requires.flight.named
-      (left_usable most store a store (left_here most store a c.requires.both.target.fits c.requires.both.target.unspent c.requires.both.target.pending)
-      c.requires.both.target.packable c.requires.both.target.accepts)
-      c.in_err-copy.ensures.refused))
-      (let a = g.D.Shelf.told c.args.depot.now in
-      let store = c.args.store.now in
-      let flight = c.args.self.now in
-      let given = flight.options.timestamp in
-      let told = g.S.Shelf.told c.args.shelf.now in
-      let source = repo_view c.args.source.now in
-      let fault = c.in_err-copy.field-0.0 in
-      err_is c.from_residual-in_err-copy.result fault (λ (r : Result Turn CarryFault). IfErr r (IsLimited a given source store flight.named))
-      c.from_residual-in_err-copy.ensures.1
-      (begin_limit told a given source store flight.named flight.named.id fault c.in_err-copy.ensures.refused))
-      (let store = c.args.store.now in
-      let a = g.D.Shelf.told c.args.depot.now in
-      let most = c.args.self.now.options.checkpoint in
-      err_is c.from_residual-in_err-copy.result c.in_err-copy.field-0.0 (λ (r : Result Turn CarryFault). IfErr r (Leaves most store a store))
-      c.from_residual-in_err-copy.ensures.1 (λ _. left_here most store a c.requires.both.target.fits c.requires.both.target.unspent
-      c.requires.both.target.pending));
-  turn = search rules;
-}
+pub returns-in_err-copy-clause-refused : goal.returns-in_err-copy-clause-refused
+returns-in_err-copy-clause-refused g c =
+    stops_turn {T = Turn} _ _ _ _ _ _ _ c.from_residual-in_err-copy.result
+    (let a = g.D.Shelf.told c.args.depot.now in
+    let store = c.args.store.now in
+    let told = g.S.Shelf.told c.args.shelf.now in
+    let source = repo_view c.args.source.now in
+    let flight = c.args.self.now in
+    let block = flight.options.block in
+    let most = flight.options.checkpoint in
+    let time = flight.options.timestamp in
+    let fault = c.in_err-copy.field-0.0 in
+    err_is c.from_residual-in_err-copy.result fault
+    (λ (r : Result Turn CarryFault). IfErr r (RefusesName (origin told source block most time) a store a store flight.named.name))
+    c.from_residual-in_err-copy.ensures.1
+    (begin_refused told a a source block most time flight.named store store fault c.requires.flight.named
+    (left_usable most store a store (left_here most store a c.requires.both.target.fits c.requires.both.target.unspent c.requires.both.target.pending)
+    c.requires.both.target.packable c.requires.both.target.accepts)
+    c.in_err-copy.ensures.refused))
+    (let a = g.D.Shelf.told c.args.depot.now in
+    let store = c.args.store.now in
+    let flight = c.args.self.now in
+    let given = flight.options.timestamp in
+    let told = g.S.Shelf.told c.args.shelf.now in
+    let source = repo_view c.args.source.now in
+    let fault = c.in_err-copy.field-0.0 in
+    err_is c.from_residual-in_err-copy.result fault (λ (r : Result Turn CarryFault). IfErr r (IsLimited a given source store flight.named))
+    c.from_residual-in_err-copy.ensures.1
+    (begin_limit told a given source store flight.named flight.named.id fault c.in_err-copy.ensures.refused))
+    (let store = c.args.store.now in
+    let a = g.D.Shelf.told c.args.depot.now in
+    let most = c.args.self.now.options.checkpoint in
+    err_is c.from_residual-in_err-copy.result c.in_err-copy.field-0.0 (λ (r : Result Turn CarryFault). IfErr r (Leaves most store a store))
+    c.from_residual-in_err-copy.ensures.1 (λ _. left_here most store a c.requires.both.target.fits c.requires.both.target.unspent
+    c.requires.both.target.pending))
 
 pub returns-in_ok-comparison-clause-turn : goal.returns-in_ok-comparison-clause-turn
 returns-in_ok-comparison-clause-turn g c = record {
@@ -275,68 +294,79 @@ returns-in_ok-comparison-clause-turn g c = record {
       let middle = c.begin_comparing.new.store in
       flies_read {T = Turn} _ _ store middle (g.D.Shelf.told c.compare.new.depot) c.compare.new.store c.compare.result
       (read_rest store middle c.begin_comparing.ensures.both.target.read) c.compare.ensures.turn.target;
-  refused =
-      stops_turn {T = Turn} _ _ _ _ _ _ c.compare.result
-      (let flight = c.args.self.now in
-      let store = c.args.store.now in
-      let middle = c.begin_comparing.new.store in
-      let told = g.S.Shelf.told c.args.shelf.now in
-      let later = g.S.Shelf.told c.begin_comparing.new.shelf in
-      let source = repo_view c.args.source.now in
-      let after = repo_view c.begin_comparing.new.source in
-      let block = flight.options.block in
-      let most = flight.options.checkpoint in
-      let time = flight.options.timestamp in
-      name_refused {T = Turn} (origin told source block most time) (origin later after block most time) (g.D.Shelf.told c.args.depot.now)
-      (g.D.Shelf.told c.begin_comparing.new.depot) (g.D.Shelf.told c.compare.new.depot) (KeepsStanding most store []) store middle c.compare.new.store
-      flight.named.name flight.named.name c.compare.result
-      (origin_kept told later source after block block most most time time c.in_ok-comparison.ensures.both.source.same
-      c.begin_comparing.ensures.both.source.kept refl refl refl) refl
-      (c.in_ok-comparison.ensures.works most).works.each (most_from store middle (read_rest store middle c.begin_comparing.ensures.both.target.read))
-      (turn_refused {T = Turn} _ _ _ _ _ _ c.compare.result c.compare.ensures.turn.refused))
-      (let d = g.D.Shelf.told c.compare.new.depot in
-      let store = c.args.store.now in
-      let middle = c.begin_comparing.new.store in
-      let flight = c.args.self.now in
-      let given = flight.options.timestamp in
-      let source = repo_view c.args.source.now in
-      let after = repo_view c.begin_comparing.new.source in
-      IfErr-weaker c.compare.result (IsLimited d given after middle flight.named) (IsLimited d given source store flight.named)
-      (λ fault limited.
-      rest_limit d given source after store middle flight.named fault (read_rest store middle c.begin_comparing.ensures.both.target.read)
-      c.begin_comparing.ensures.both.source.kept
-      limited) (turn_limit {T = Turn} _ _ _ _ _ _ c.compare.result c.compare.ensures.turn.refused))
-      (let store = c.args.store.now in
-      let middle = c.begin_comparing.new.store in
-      let most = c.args.self.now.options.checkpoint in
-      lefts_then {T = Turn} most most store middle (g.D.Shelf.told c.compare.new.depot) c.compare.new.store c.compare.result refl
-      (read_rest store middle c.begin_comparing.ensures.both.target.read) (turn_left {T = Turn} _ _ _ _ _ _ c.compare.result c.compare.ensures.turn.refused));
   turn = search rules;
 }
 
-pub returns-in_ok-copy-clause-turn : goal.returns-in_ok-copy-clause-turn
-returns-in_ok-copy-clause-turn g c = record {
-  source = search rules;
-  target = search rules;
-  refused =
-      stops_turn {T = Turn} _ _ _ _ _ _ c.copy.result
-      (let flight = c.args.self.now in
-      let told = g.S.Shelf.told c.args.shelf.now in
-      let later = g.S.Shelf.told c.begin.new.shelf in
-      let source = repo_view c.args.source.now in
-      let after = repo_view c.begin.new.source in
-      let block = flight.options.block in
-      let most = flight.options.checkpoint in
-      let time = flight.options.timestamp in
-      subst (λ (f : Origin). IfErr c.copy.result (RefusesName f (g.D.Shelf.told c.args.depot.now) c.args.store.now (g.D.Shelf.told c.copy.new.depot)
-      c.copy.new.store flight.named.name)) (origin_kept told later source after block block most most time time c.in_ok-copy.ensures.source.same
-      c.begin.ensures.source.kept
-      refl
-      refl refl)
-      (turn_refused {T = Turn} _ _ _ _ _ _ c.copy.result c.copy.ensures.turn.refused))
-      (let flight = c.args.self.now in
-      subst (λ (r : RepoState). IfErr c.copy.result (IsLimited (g.D.Shelf.told c.copy.new.depot) flight.options.timestamp r c.args.store.now flight.named))
-      c.begin.ensures.source.kept (turn_limit {T = Turn} _ _ _ _ _ _ c.copy.result c.copy.ensures.turn.refused))
-      (turn_left {T = Turn} _ _ _ _ _ _ c.copy.result c.copy.ensures.turn.refused);
-  turn = search rules;
-}
+pub returns-in_ok-comparison-clause-refused : goal.returns-in_ok-comparison-clause-refused
+returns-in_ok-comparison-clause-refused g c =
+    let met = seen (g.D.Shelf.told c.begin_comparing.new.depot) (repo_view c.begin_comparing.new.store.repo) in
+    let there : IsSome (archive_named c.args.self.now.named.name (repo_view c.args.store.now.repo).manifest.archives) = search rules in
+    let goes : FitsComparing (g.S.Shelf.told c.begin_comparing.new.shelf) (repo_view c.begin_comparing.new.source)
+    (g.D.Shelf.told c.begin_comparing.new.depot) (repo_view c.begin_comparing.new.store.repo) met c.args.self.now.named.name c.in_ok-comparison.comparison =
+    record {
+      fits = c.in_ok-comparison.ensures.comparison;
+      there = subst (λ (r : RepoState). IsSome (archive_named c.args.self.now.named.name r.manifest.archives))
+          (sym c.begin_comparing.ensures.both.target.read.repo) there;
+    } in
+    let to = target_state (g.D.Shelf.told c.begin_comparing.new.depot) (g.D.Shelf.faults c.begin_comparing.new.depot) c.begin_comparing.new.store in
+    let to_now = target_state (g.D.Shelf.told c.compare.new.depot) (g.D.Shelf.faults c.compare.new.depot) c.compare.new.store in
+    let walk = (comparison_view c.in_ok-comparison.comparison).other in
+    let stops = stops_read (flown_from (g.S.Shelf.told c.begin_comparing.new.shelf) (repo_view c.begin_comparing.new.source) c.args.self.now) walk to to_now
+    c.args.self.now.named c.compare.result c.compare.ensures.reads (c.compare.ensures.refused met goes) in
+    stops_turn {T = Turn} _ _ _ _ _ _ _ c.compare.result
+    (let flight = c.args.self.now in
+    let store = c.args.store.now in
+    let middle = c.begin_comparing.new.store in
+    let told = g.S.Shelf.told c.args.shelf.now in
+    let later = g.S.Shelf.told c.begin_comparing.new.shelf in
+    let source = repo_view c.args.source.now in
+    let after = repo_view c.begin_comparing.new.source in
+    let block = flight.options.block in
+    let most = flight.options.checkpoint in
+    let time = flight.options.timestamp in
+    name_refused {T = Turn} (origin told source block most time) (origin later after block most time) (g.D.Shelf.told c.args.depot.now)
+    (g.D.Shelf.told c.begin_comparing.new.depot) (g.D.Shelf.told c.compare.new.depot) (KeepsStanding most store []) store middle c.compare.new.store
+    flight.named.name flight.named.name c.compare.result
+    (origin_kept told later source after block block most most time time c.in_ok-comparison.ensures.both.source.same
+    c.begin_comparing.ensures.both.source.kept refl refl refl) refl
+    (c.in_ok-comparison.ensures.works most).works.each (most_from store middle (read_rest store middle c.begin_comparing.ensures.both.target.read))
+    (turn_refused {T = Turn} _ _ _ _ _ _ _ c.compare.result stops))
+    (let d = g.D.Shelf.told c.compare.new.depot in
+    let store = c.args.store.now in
+    let middle = c.begin_comparing.new.store in
+    let flight = c.args.self.now in
+    let given = flight.options.timestamp in
+    let source = repo_view c.args.source.now in
+    let after = repo_view c.begin_comparing.new.source in
+    IfErr-weaker c.compare.result (IsLimited d given after middle flight.named) (IsLimited d given source store flight.named)
+    (λ fault limited.
+    rest_limit d given source after store middle flight.named fault (read_rest store middle c.begin_comparing.ensures.both.target.read)
+    c.begin_comparing.ensures.both.source.kept
+    limited) (turn_limit {T = Turn} _ _ _ _ _ _ _ c.compare.result stops))
+    (let store = c.args.store.now in
+    let middle = c.begin_comparing.new.store in
+    let most = c.args.self.now.options.checkpoint in
+    lefts_then {T = Turn} most most store middle (g.D.Shelf.told c.compare.new.depot) c.compare.new.store c.compare.result refl
+    (read_rest store middle c.begin_comparing.ensures.both.target.read) (turn_left {T = Turn} _ _ _ _ _ _ _ c.compare.result stops))
+
+pub returns-in_ok-copy-clause-refused : goal.returns-in_ok-copy-clause-refused
+returns-in_ok-copy-clause-refused g c =
+    stops_turn {T = Turn} _ _ _ _ _ _ _ c.copy.result
+    (let flight = c.args.self.now in
+    let told = g.S.Shelf.told c.args.shelf.now in
+    let later = g.S.Shelf.told c.begin.new.shelf in
+    let source = repo_view c.args.source.now in
+    let after = repo_view c.begin.new.source in
+    let block = flight.options.block in
+    let most = flight.options.checkpoint in
+    let time = flight.options.timestamp in
+    subst (λ (f : Origin). IfErr c.copy.result (RefusesName f (g.D.Shelf.told c.args.depot.now) c.args.store.now (g.D.Shelf.told c.copy.new.depot)
+    c.copy.new.store flight.named.name)) (origin_kept told later source after block block most most time time c.in_ok-copy.ensures.source.same
+    c.begin.ensures.source.kept
+    refl
+    refl refl)
+    (turn_refused {T = Turn} _ _ _ _ _ _ _ c.copy.result c.copy.ensures.refused))
+    (let flight = c.args.self.now in
+    subst (λ (r : RepoState). IfErr c.copy.result (IsLimited (g.D.Shelf.told c.copy.new.depot) flight.options.timestamp r c.args.store.now flight.named))
+    c.begin.ensures.source.kept (turn_limit {T = Turn} _ _ _ _ _ _ _ c.copy.result c.copy.ensures.refused))
+    (turn_left {T = Turn} _ _ _ _ _ _ _ c.copy.result c.copy.ensures.refused)

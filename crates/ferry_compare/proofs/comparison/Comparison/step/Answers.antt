@@ -17,7 +17,7 @@ returns-in_err-item-clause-refused_source g c =
     let repo = repo_view c.args.source.now in
     let state = comparison_view c.args.self.now in
     gives_err c.from_residual.result _ _ c.from_residual.ensures.1 (λ y is. subst (λ (f : CompareFault). RefusesSource told repo state.name f) (sym is)
-    (source_ends told repo state.name state.walk c.requires.fits.front c.in_err-item.field-0.0 c.requires.fits.read c.in_err-item.ensures.refused))
+    (source_ends told repo state.name state.walk c.requires.fits.1.front c.in_err-item.field-0.0 c.requires.fits.1.read c.in_err-item.ensures.refused))
 
 pub returns-in_err-take-in-Some-clause-refused_source : goal.returns-in_err-take-in-Some-clause-refused_source
 returns-in_err-take-in-Some-clause-refused_source g c =
@@ -31,13 +31,13 @@ returns-in_err-take-in-Some-clause-refused_source g c =
     let goes = goes_of told repo state.walk now item leads c.in_ok-item.ensures.walk_fits c.in_ok-item.ensures.archive in
     gives_err c.from_residual-in_err-take-in-Some.result _ _ c.from_residual-in_err-take-in-Some.ensures.1 (λ y is.
     subst (λ (f : CompareFault). RefusesSource told repo state.name f) (sym is)
-    (source_lacks told repo state.name state.walk now c.requires.fits.front item c.in_err-take-in-Some.field-0.0
-    (log_fits told repo _ c.requires.source_fits) c.requires.fits.read goes
+    (source_lacks told repo state.name state.walk now c.requires.fits.1.front item c.in_err-take-in-Some.field-0.0
+    (log_fits told repo _ c.requires.source_fits) c.requires.fits.1.read goes
     (item_at_first told (g.S.Shelf.told c.step_ahead.new.shelf) repo (repo_view c.step_ahead.new.repo) item.chunks c.in_err-take-in-Some.field-0.0
     c.in_ok-item.ensures.same c.in_ok-item.ensures.kept c.in_err-take-in-Some.ensures.refused)))
 
 pub returns-in_ok-take-in-Some-clause-fits : goal.returns-in_ok-take-in-Some-clause-fits
-returns-in_ok-take-in-Some-clause-fits g c = λ e.
+returns-in_ok-take-in-Some-clause-fits g c = λ met old e.
     let told = g.S.Shelf.told c.args.shelf.now in
     let mid = g.S.Shelf.told c.step_ahead.new.shelf in
     let repo = repo_view c.args.source.now in
@@ -53,10 +53,11 @@ returns-in_ok-take-in-Some-clause-fits g c = λ e.
     let goes = goes_of told repo state.walk now item leads c.in_ok-item.ensures.walk_fits c.in_ok-item.ensures.archive in
     let takes = takes_first told mid repo mid_repo heard target item state.other after c.in_ok-item.ensures.same c.in_ok-item.ensures.kept
     c.in_ok-take-in-Some.ensures.takes in
-    let fits = both_go told repo heard target state.name state.walk now state.other after c.requires.fits.front item
-    (log_fits told repo _ c.requires.source_fits) (log_fits heard target _ c.requires.target_fits) c.requires.fits.read c.requires.fits.beside goes takes in
+    let fits = both_go told repo heard target met state.name state.walk now state.other after old.front item
+    (log_fits told repo _ c.requires.source_fits) (log_fits heard target _ c.requires.target_fits) old.read old.beside
+    (λ none. (c.in_ok-take-in-Some.ensures.unread none).1) goes takes in
     fits_later told (g.S.Shelf.told c.take.new.shelf) repo (repo_view c.take.new.source) heard (g.T.Shelf.told c.take.new.other) target
-    (repo_view c.take.new.target) (record { name = state.name; walk = now; other = after })
+    (repo_view c.take.new.target) met state.other (record { name = state.name; walk = now; other = after })
     (c.in_ok-take-in-Some.ensures.same ∙ c.in_ok-item.ensures.same) (c.in_ok-take-in-Some.ensures.kept ∙ c.in_ok-item.ensures.kept)
     c.in_ok-take-in-Some.ensures.target_same c.in_ok-take-in-Some.ensures.target_kept fits
 
@@ -76,14 +77,14 @@ pub returns-in-None-clause-equal : goal.returns-in-None-clause-equal
 returns-in-None-clause-equal g c = λ e.
     let state = comparison_view c.args.self.now in
     both_end (g.S.Shelf.told c.args.shelf.now) (repo_view c.args.source.now) (g.T.Shelf.told c.args.other.now) (repo_view c.args.target.now) state.name
-    state.walk state.other c.requires.fits.front c.requires.fits.read (c.in_ok-item.ensures.none (ap (λ x. Ok x) c.in-None.is)) c.requires.fits.beside
-    (c.finish.ensures.equal e)
+    state.walk state.other c.requires.fits.1.front c.requires.fits.0 c.requires.fits.1.read (c.in_ok-item.ensures.none (ap (λ x. Ok x) c.in-None.is))
+    c.requires.fits.1.beside (c.finish.ensures.equal e)
 
 pub returns-in-None-clause-differs : goal.returns-in-None-clause-differs
-returns-in-None-clause-differs g c = λ e.
+returns-in-None-clause-differs g c = λ met old e.
     let heard = g.T.Shelf.told c.args.other.now in
     let target = repo_view c.args.target.now in
     let state = comparison_view c.args.self.now in
-    one_ends (g.S.Shelf.told c.args.shelf.now) (repo_view c.args.source.now) heard target state.name state.walk state.other c.requires.fits.front
-    c.requires.fits.read (c.in_ok-item.ensures.none (ap (λ x. Ok x) c.in-None.is)) (log_fits heard target _ c.requires.target_fits)
-    c.requires.fits.beside (c.finish.ensures.differs e)
+    one_ends (g.S.Shelf.told c.args.shelf.now) (repo_view c.args.source.now) heard target state.name state.walk state.other old.front
+    met old.read (c.in_ok-item.ensures.none (ap (λ x. Ok x) c.in-None.is)) (log_fits heard target _ c.requires.target_fits)
+    old.beside (c.finish.ensures.differs e)
