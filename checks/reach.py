@@ -14,6 +14,8 @@ import re
 TOP = os.path.join(os.path.dirname(os.path.abspath(__file__)), "..")
 CALLS = [("ferry_top", "src/top.rt", "pub fn run<"), ("ferry_run_restore", "src/command.rt", "pub fn restore<")]
 HEAD = re.compile(r"^( *)(?:(?:abbrev|unfoldable) )?(?:pub )?(?:(record|data) )?([^\s:({]+)(?=$| )")
+# The line above definitions that name each other.
+MUTUAL = re.compile(r"((abbrev|unfoldable) )?(pub )?mutual *")
 USE = re.compile(r"\buse (Rattle\.[\w.]+?)(?:\.\{([^}]*)\}| as (\S+?))?;?\s*$")
 WORD = re.compile(r"[^\s(){},;λ]+")
 
@@ -64,7 +66,7 @@ def definitions_of(path):
         if not line.strip() or line.lstrip().startswith("--") or line.startswith(("use ", "pub mod ", "#")):
             continue
         if not line.startswith(" "):
-            is_mutual = line.strip() == "mutual"
+            is_mutual = MUTUAL.fullmatch(line) is not None
             if is_mutual:
                 name = None
                 continue
