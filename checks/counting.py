@@ -1,8 +1,11 @@
 """What a check counts: what was right, what wasn't, and what can't be tried where it runs."""
+import os
 import sys
 
 passed = failed = 0
 skipped = []
+# Whether the first thing that isn't right ends the check: checks/mutants.py asks for no more.
+IS_ENDED_BY_FIRST = "FERRY_FIRST" in os.environ
 
 
 def judge(is_right, what):
@@ -13,6 +16,8 @@ def judge(is_right, what):
     else:
         failed += 1
         print(f"FAIL {what}", flush=True)
+        if IS_ENDED_BY_FIRST:
+            finish()
 
 
 def skip(what):

@@ -3,23 +3,26 @@
 
 A plain program of this folder makes a source of three archives. A transfer of them runs under strace, and is killed as it makes one of its calls of the
 system; COUNT calls are taken, 50 where it isn't given, evenly spread over all that there are, one of each name among them, or all where COUNT is at least
-so many; the status has to be that of a kill. After each kill:
+so many, and none, of the other commands neither, where it is 0; the status has to be that of a kill. After each kill:
 `list` and `check` of the target end well; the names that were told are there; those that are there are a front of the chosen ones; `list NAME` and
 `extract` print of them what the plain program has put into the source; and the same words run again end with 0 and leave all three, each told once. The
 same is looked at where a file may not grow beyond a size, where the target's folder can't be written, and where nobody reads standard output; there the
 status is that of the device that failed. An `init`, a compaction, a deletion of an archive and a `tag-archives` are killed at each of their calls, and done again: what is
 live stays behind a compaction; the archive is there as it was or is gone, and each other one is there, behind a deletion; each archive is there, and all records have
 their tags or those that had none have none, behind a `tag-archives`.
-Where RANDOM is given, so many runs of each command are killed besides, each at a random time, as SEED has it; where Borg is installed the source of all is one that
-Borg wrote, and each hundredth target is checked with `borg check --verify-data`. And where file systems may be mounted,
+Where RANDOM is given, each command is killed so many times besides at a random time between its first change of the target and its last, as SEED has it: a line for each
+says how many runs that took, and it is a failure where more than half of them ended by themselves or had changed nothing yet. Where Borg is installed the source of all is one that
+Borg wrote, with its key sealed anew by one iteration, and each hundredth target is checked with `borg check --verify-data`. And where file systems may be mounted, and COUNT isn't 0,
 the target lies on one that is too small, and on one that becomes read only. Where commands are named, of `transfer`, `init`, `compact`, `delete` and
 `tag-archives`, only those are killed.
 One line for each thing that differs, then what can't be tried here (no strace, no other user, no mounts, no Borg), and at the end
 'N passed, M failed, K skipped'; status 1 where M isn't 0.
 """
+import base64
 import glob
 import os
 import random
+import re
 import resource
 import shutil
 import signal
@@ -31,8 +34,9 @@ import time
 sys.dont_write_bytecode = True
 import segments
 import tracing
+from chance import Chance
 from counting import finish, judge, skip
-from repositories import Archive, Item, Keys, escaped, fields, repository
+from repositories import Archive, Item, Keys, escaped, fields, key_of, repository, resealed
 from tags import OLDER, interpreter
 from users import give, other_user
 
@@ -100,6 +104,17 @@ def listed_by_borg(root, name):
     return b"".join(lines)
 
 
+def with_few_iterations(root):
+    """Seals the source's key with one iteration, so that a run doesn't spend its time on opening it."""
+    path = os.path.join(root, "source/config")
+    with open(path, "rb") as file:
+        settings = file.read()
+    secret = SECRETS["BORG_OTHER_PASSPHRASE"].encode()
+    key = base64.b64encode(resealed(key_of(settings), secret, 1))
+    with open(path, "wb") as file:
+        file.write(re.sub(rb"(?m)^key *=.*\n(?:[ \t]+.*\n?)*", b"key = " + key + b"\n", settings))
+
+
 def make_borg_source(root):
     """The same of a source that Borg writes, with the contents of the other one."""
     wanted = {}
@@ -117,6 +132,7 @@ def make_borg_source(root):
     for name in NAMES:
         ran = run_borg(root, "create", "--compression=none", "--chunker-params=fixed,3000", f"source::{name}", f"tree/{name}", program=older(name))
         judge(ran.returncode == 0, f"borg create {name} ends with {ran.returncode}: {ran.stderr}")
+    with_few_iterations(root)
     return {name: (listed_by_borg(root, name), wanted[name]) for name in NAMES}
 
 
@@ -163,10 +179,14 @@ class Trial:
             if meanwhile is not None:
                 meanwhile(process)
             process.wait()
+        return process.returncode, self.told()
+
+    def told(self):
+        """The names that a transfer told."""
         with open(self.path("told"), "rb") as told:
             lines = [line for line in told.read().split(b"\n")[:-1]]
         words = (b"transferred ", b"present ")
-        return process.returncode, [line.split(b" ", 1)[1].decode() for line in lines if line.startswith(words)]
+        return [line.split(b" ", 1)[1].decode() for line in lines if line.startswith(words)]
 
     def look(self, what, told, paths=None):
         """Looks at what is there after a transfer that didn't end, and extracts these paths of each archive."""
@@ -213,6 +233,8 @@ def spread(calls, count):
 
 def kills_at_calls(trial):
     """Transfers that are killed at calls of the system."""
+    if COUNT == 0:
+        return
     if shutil.which("strace") is None:
         skip("kills at calls of the system: there is no strace")
         return
@@ -282,24 +304,27 @@ def borg_checks(trial, what, folder="target", secret="BORG_PASSPHRASE"):
 def random_kills(trial):
     """Transfers that are killed at random times."""
     some = random.Random(SEED)
-    trial.begin()
-    begun = time.monotonic()
-    trial.transfer()
-    lasts = time.monotonic() - begun
-    for number in range(RANDOM):
-        after = some.uniform(0, 1.1 * lasts)
 
-        def kill(process):
-            time.sleep(after)
-            process.kill()
+    def start():
+        with open(trial.path("told"), "wb") as out:
+            return trial.start(*WORDS, stdout=out)
 
-        trial.begin()
-        status, told = trial.transfer(kill)
-        what = f"killed after {after:.4f} of {lasts:.4f} seconds"
-        judge(status in (0, -signal.SIGKILL), f"{what}: status {status}")
-        trial.look(what, told, {name: [some.choice(paths)] if paths else [] for name, paths in trial.paths().items()})
+    chance = Chance("a transfer", SEED, trial.path("target"), trial.begin, start, lambda: contents_of(trial.path("target")))
+    for number, what in enumerate(chance.kills(RANDOM)):
+        trial.look(what, trial.told(), {name: [some.choice(paths)] if paths else [] for name, paths in trial.paths().items()})
         if number % 100 == 0:
             borg_checks(trial, what)
+
+
+def contents_of(folder):
+    """The files and folders of a target, with their bytes."""
+    found = {}
+    for place, folders, files in os.walk(folder):
+        found.update((os.path.join(place, name), None) for name in folders)
+        for name in files:
+            with open(os.path.join(place, name), "rb") as file:
+                found[os.path.join(place, name)] = file.read()
+    return found, os.path.exists(folder)
 
 
 def mounted(trial, options):
@@ -358,9 +383,9 @@ class Command:
         self.called, self.target, self.words, self.make, self.secrets = called, target, words, make, {**os.environ, **(secrets or {})}
         self.calls = target + ".calls"
 
-    def start(self, *prefix):
+    def start(self, *prefix, stdout=subprocess.PIPE):
         words = [*prefix, PROGRAM, "-", self.target, *self.words]
-        return subprocess.Popen(words, env=self.secrets, stdin=subprocess.DEVNULL, stdout=subprocess.PIPE, stderr=subprocess.DEVNULL)
+        return subprocess.Popen(words, env=self.secrets, stdin=subprocess.DEVNULL, stdout=stdout, stderr=subprocess.DEVNULL)
 
     def run(self, *prefix):
         process = self.start(*prefix)
@@ -369,6 +394,11 @@ class Command:
 
     def killed(self):
         """What to call each killed run, once it was made and killed. The first are those at the calls of the system, as a run to its end shows them."""
+        if COUNT > 0:
+            yield from self.killed_at_calls()
+        yield from self.killed_by_chance()
+
+    def killed_at_calls(self):
         self.make()
         self.run(*tracing.tracing(self.calls))
         places = tracing.places(self.calls, self.target)
@@ -379,24 +409,11 @@ class Command:
             what = f"{self.called} that is killed at the {place[0]} of number {place[1]}"
             judge(status == -signal.SIGKILL, f"{what}: status {status}")
             yield what
-        yield from self.killed_by_chance()
 
     def killed_by_chance(self):
-        some = random.Random(f"{SEED} {self.called}")
-        self.make()
-        begun = time.monotonic()
-        self.run()
-        lasts = time.monotonic() - begun
-        for number in range(RANDOM):
-            after = some.uniform(0, 1.1 * lasts)
-            self.make()
-            process = self.start()
-            time.sleep(after)
-            process.kill()
-            process.communicate()
-            what = f"{self.called} that is killed after {after:.4f} of {lasts:.4f} seconds"
-            judge(process.returncode in (0, -signal.SIGKILL), f"{what}: status {process.returncode}")
-            yield what
+        if RANDOM > 0:
+            start = lambda: self.start(stdout=subprocess.DEVNULL)
+            yield from Chance(self.called, SEED, self.target, self.make, start, lambda: contents_of(self.target)).kills(RANDOM)
 
 
 def kills_of_making(root):
@@ -527,11 +544,13 @@ def kills_of_tagging(trial):
 def kills_of_transfer(trial):
     """Transfers that are killed, and those whose target or output fails."""
     kills_at_calls(trial)
-    small_files(trial)
-    closed_folder(trial)
-    unread_output(trial)
-    if RANDOM > 0:
+    if COUNT > 0:
+        small_files(trial)
+        closed_folder(trial)
+        unread_output(trial)
+    if RANDOM > 0 and COUNT > 0:
         small_systems(trial)
+    if RANDOM > 0:
         random_kills(trial)
 
 
@@ -546,7 +565,7 @@ def main():
             kills_of_transfer(trial)
         others = (("init", kills_of_making, root), ("compact", kills_of_compaction, root), ("delete", kills_of_deletion, trial), ("tag-archives", kills_of_tagging, trial))
         for command, kills, made in others:
-            if command in CHOSEN and shutil.which("strace") is not None:
+            if command in CHOSEN and (COUNT == 0 or shutil.which("strace") is not None):
                 kills(made)
         if RANDOM > 0 and not is_of_borg:
             skip("a source that Borg wrote: there is no Borg")

@@ -10,7 +10,6 @@ what can't be tried here (no strace, no libcrypto, no repositories of Borg), and
 import base64
 import concurrent.futures
 import hashlib
-import json
 import os
 import pty
 import random
@@ -32,6 +31,7 @@ import segments
 import tracing
 import trees
 from counting import finish, skip
+from explaining import OUTPUT_ROW, PLAIN, explained, filled, met, untried
 from repositories import Archive, Item, Keys, fields, pack, repository
 from segments import COMMIT, COMMIT_SEGMENT, MAGIC, delete, put, sealed, segment
 
@@ -44,24 +44,10 @@ NOTHING = (0, b"")
 GREATEST = 2**64 - 1
 TEN_A_FOLDER = b"[repository]\nversion = 1\nid = %s\nsegments_per_dir = 10" % (b"00" * 32)
 KEYS = ("source", "-", "keys")
+COMPRESSED = b"archives and manifest: borgferry-plain %s puts what is compressed there again without"
+TAG = b"borgferry-plain --tag-archives %s writes the right one"
 # How long one run may last, in seconds: what has no end fails.
 LIMIT = 600
-
-
-def plain_words():
-    """The rows of the table of plain words in docs/FORMATS.md: the line on standard output, where, and the line on standard error."""
-    formats = os.path.join(os.path.dirname(os.path.abspath(__file__)), "..", "docs", "FORMATS.md")
-    with open(formats, encoding="utf-8") as file:
-        section = file.read().split("\n## Plain words on standard error\n")[1].split("\n## ")[0]
-    table = section[section.index("| Line on standard output |") :]
-    rows = [[cell.strip() for cell in row.strip("| ").split(" | ")] for row in re.findall(r"(?m)^\| (.*) \|$", table)[1:]]
-    return {(row[0].strip("`"), row[1] if len(row) == 3 else ""): row[-1] for row in rows}
-
-
-PLAIN = plain_words()
-# The rows that a run came under, each with the repository that it spoke of, and those that nothing can be run for here.
-met = set()
-untried = set()
 
 
 def line(*pairs):
@@ -119,159 +105,14 @@ def start(words, cwd, variables=None, stdout=subprocess.PIPE, stderr=subprocess.
     return ran.returncode, ran.stdout or b"", ran.stderr or b""
 
 
-def run(words, cwd, variables=None, says=b"", is_record=False, prefix=(), foreign=""):
+def run(words, cwd, variables=None, says=b"", prefix=(), foreign=""):
     """The status and the output of one run, whose standard error is the line of its row, and has this text in it.
 
-    `is_record` says whether the object that it names is an archive's record, `foreign` is the printed path that isn't UTF-8, or whose link leads to none that
-    is; nobody sees these from outside.
+    `foreign` is the printed path that isn't UTF-8, or whose link leads to none that is; nobody sees that from outside.
     """
     status, out, err = start(words, cwd, variables, prefix=prefix)
-    explained(words, cwd, status, out, err, variables or {}, says, is_record, foreign)
+    explained(holds, words, cwd, status, out, err, variables or {}, says, foreign)
     return status, out
-
-
-SOURCE_WORDS = {"{place}": "SOURCE", "{passphrase}": "BORG_OTHER_PASSPHRASE", "{key file}": "BORG_OTHER_KEY_FILE", "{init}": ""}
-TARGET_WORDS = {
-    "{place}": "TARGET", "{passphrase}": "BORG_PASSPHRASE", "{key file}": "BORG_KEY_FILE",
-    "{init}": "; borgferry - TARGET init makes a repository there",
-}
-LOCK_ROW = "none", "a lock of Borg lies in TARGET, in front of `init`, `transfer`, `delete`, `tag-archives` and `compact`"
-INDEX_ROW = "none", "files of Borg's lie in TARGET, behind `delete`, `tag-archives` and `compact`"
-EMPTY_ROW = "none", "`init` or `make-key` is done with an empty passphrase"
-OUTPUT_ROW = "none", "standard output failed, status 7"
-FOREIGN_ROW = "tree failed", "the path PATH isn't UTF-8, or the target of the symbolic link there"
-UNREAD_ROWS = {of: ("target refused: REASON", f"an archive, the command {of}") for of in ("delete", "tag-archives")}
-
-
-def filled(row, side, path=""):
-    """The text of a row for one of the repositories, the source or the target, and for a path, as a line."""
-    text = PLAIN.get(row, f"no such row: {row}")
-    if row == FOREIGN_ROW:
-        text = text.replace("PATH", path)
-    for name, word in (TARGET_WORDS if side == "target" else SOURCE_WORDS).items():
-        text = text.replace(name, word)
-    return b"%s\n" % text.encode()
-
-
-def is_remote(word):
-    """Whether a colon stands before the first slash of a place."""
-    return ":" in os.fsdecode(word).split("/")[0]
-
-
-def where_of_usage(words, cwd):
-    """Where `usage` comes from: the row of the table."""
-    if any(isinstance(word, bytes) and not is_text(word) for word in words):
-        return "a word isn't UTF-8"
-    if len(words) < 3 or (words[0] == words[1] and words[0] != "-"):
-        return "no two places and a command"
-    if is_remote(words[0]) or is_remote(words[1]):
-        return "a place has a colon before its first slash"
-    return "both places are one folder, spelled in two ways"
-
-
-def is_text(word):
-    try:
-        return word.decode("utf-8") is not None
-    except UnicodeDecodeError:
-        return False
-
-
-FAULT_LINE = re.compile(
-    r"(source refused: |target refused: |name taken: |not found: |usage|memory$|key file unreadable$|entropy failed$|tree failed$|not empty$"
-    r"|source device failed$|target device failed$|limit: |BORG_)[^\n]*\n?$"
-)
-
-
-def name_of_line(out):
-    """The fault line of a run as the table has it, with the names, ids and numbers in it as words."""
-    told = FAULT_LINE.search(out.decode("utf-8", "replace"))
-    line = told[0].rstrip("\n") if told else ""
-    line = re.sub(r"^(name taken|not found): .*", r"\1: NAME", re.sub(r"\b[0-9a-f]{64}$", "ID", line))
-    line = re.sub(r"^(source refused: place \d) .*", r"\1 PATH", line)
-    return re.sub(r"segment \d+ at \d+$", "segment S at A", re.sub(r"^usage: word \d+$", "usage: word N", line))
-
-
-def where_of(line, kinds, words, cwd, place, is_zero, is_record):
-    """Which of the rows of a line a run comes under, of those that the table has."""
-    if line == "usage":
-        return where_of_usage(words, cwd)
-    if line == "usage: word N":
-        return f"the command {words[2]}" if f"the command {words[2]}" in kinds else "another word"
-    if line == "not found: NAME":
-        return f"the command {words[2]}" if f"the command {words[2]}" in kinds else "another command"
-    for where, is_so in {
-        "`-` or an empty word": place in ("-", ""),
-        "the folder isn't there": not os.path.exists(os.path.join(cwd, place)),
-        "the zero id": is_zero,
-        "an archive's record": is_record,
-        "another id": True,
-    }.items():
-        if is_so and where in kinds:
-            return where
-    return ""
-
-
-def row_of(words, cwd, status, out, variables, is_record, foreign):
-    """The row of the table of plain words that a run comes under, `None` where nothing is said, and the repository that it speaks of."""
-    if status in (1, 7):
-        return (("bad REASON", "") if status == 1 else OUTPUT_ROW), "source"
-    if status == 0 and words[2:3] in (("delete",), ("tag-archives",), ("compact",)) and words[3:4] != ("--help",):
-        return (INDEX_ROW if has_index(os.path.join(cwd, words[1])) else None), "target"
-    if status == 0:
-        is_new_key = len(words) > 2 and words[2] in ("init", "make-key") and words[3:4] != ["--help"]
-        return (EMPTY_ROW if is_new_key and not variables.get(b"BORG_PASSPHRASE") else None), "target"
-    line = name_of_line(out)
-    if len(words) > 2 and words[2] in UNREAD_ROWS and is_of_archive(line, out):
-        return UNREAD_ROWS[words[2]], "target"
-    side = "target" if line.startswith("target ") else "source"
-    if line == "tree failed" and foreign:
-        return FOREIGN_ROW, side
-    if line == "tree failed":
-        return (line, "`-` or an empty word" if words[1] in ("-", "") else ""), side
-    common = re.sub(r"^(source|target) (?=refused: )", "", line)
-    kinds = {where for name, where in PLAIN if name in (line, common)}
-    place = os.fsdecode(words[side == "target"]) if len(words) > 2 else ""
-    where = where_of(line, kinds, words, cwd, place, out.endswith(b"0" * 64 + b"\n"), is_record)
-    rows = [row for row in PLAIN if row in ((line, where), (common, where))]
-    return (rows[0] if len(rows) == 1 else (line, where)), side
-
-
-def is_of_archive(line, out):
-    """Whether a target is refused for an object of one of its archives."""
-    return re.match(r"target refused: (missing|blob \d|record \d|items \d) ID$", line) is not None and not out.endswith(ZERO_ID + b"\n")
-
-
-def has_index(folder):
-    """Whether files of Borg's lie in a repository that say where its objects are."""
-    return os.path.isdir(folder) and any(name.startswith(("index.", "hints.", "integrity.")) for name in os.listdir(folder))
-
-
-def is_locked(words, cwd):
-    """Whether Borg's lock lies in the target of a command that writes it."""
-    if len(words) < 3 or words[2] not in ("init", "transfer", "delete", "tag-archives", "compact"):
-        return False
-    target = os.path.join(cwd, os.fsdecode(words[1]))
-    roster = os.path.join(target, "lock.roster")
-    return os.path.lexists(os.path.join(target, "lock.exclusive")) or os.path.isfile(roster) and names_somebody(roster)
-
-
-def names_somebody(roster):
-    """Whether the text of a roster names somebody."""
-    with open(roster, encoding="utf-8") as file:
-        text = file.read()
-    return text != "" and any(json.loads(text).values())
-
-
-def explained(words, cwd, status, out, err, variables, says, is_record, foreign=""):
-    """Looks whether standard error has the line of the row that a run comes under, and no more; where the case says a text, that stands in it."""
-    row, side = row_of(words, cwd, status, out, variables, is_record, foreign)
-    before = filled(LOCK_ROW, "target") if is_locked(words, cwd) else b""
-    want = before + (b"" if row is None else filled(row, side, foreign))
-    judge(f"standard error of {words}", (status, err), (status, want))
-    if says not in err:
-        judge(f"standard error of {words}", (status, err), (status, says))
-    if err == want:
-        met.update([(row, side)] * (row is not None) + [(LOCK_ROW, "target")] * (before != b""))
 
 
 def judge(name, got, want):
@@ -499,6 +340,7 @@ def helps(good):
         text = file.read()
     judge("--help", run(["--help"], "/"), (0, text))
     judge("-h", run(["-h"], "/"), (0, text))
+    judge("help", run(["help"], "/"), (0, text))
     holds(max(map(len, text.decode().splitlines())) <= 80, "--help: a line is wider than 80 columns")
     lines = {}
     for part in re.split(rb"(?m)^(?=  [a-z])", text.split(b"\ncommands:\n")[1].split(b"\nvariables")[0])[1:]:
@@ -506,7 +348,7 @@ def helps(good):
         lines[command] = lines.get(command, b"") + part
     holds(len(lines) == 14, f"--help: the commands are {list(lines)}")
     for command, part in lines.items():
-        for given in [(command, "--help"), ("source", "source", command, "--help"), ("u@h:p", "-", command, "--help", "x")]:
+        for given in [("help", command), ("--help", command), ("-h", command), (command, "--help"), ("source", "source", command, "--help"), ("u@h:p", "-", command, "--help", "x")]:
             case(f"words {given}", good, (0, part), given, variables={b"BORG_PASSPHRASE": b"\xff"})
 
 
@@ -653,8 +495,7 @@ def archives():
 
     def showing(name, archive, want, *command, says=b"", **changed):
         made = repository(keys, PASSPHRASE, keys.blob(keys.tagged(fields(archive.named(b"a")))), *archive.chunks(**changed))
-        is_record = changed.get("compressed") == archive.id
-        case(f"{' '.join(map(repr, command))}: {name}", made, want, ("source", "-", *command), variables=OPEN, says=says, is_record=is_record)
+        case(f"{' '.join(map(repr, command))}: {name}", made, want, ("source", "-", *command), variables=OPEN, says=says)
 
     files = [Item(b"."), Item(b"empty", []), Item(b"f", [b"hello", b"", b" and more"]), Item(b"l", None, b"f"), Item(b"f", [b"another"]), Item(b"h", [b"x"], b"f")]
     odd = [Item(b"a\nb\\\x7f", [b"odd"]), Item(b"\xff\xfe", [b"\0" * 70000]), Item(b"", [b"none"])]
@@ -674,7 +515,7 @@ def archives():
         ("list", "a", "b"): wrong_word(3), ("extract",): wrong_word(2), ("extract", "a"): wrong_word(3), ("extract", "a", "f", "x"): wrong_word(4), ("list", "--x"): wrong_word(2),
     }.items():
         showing("words", good, want, *words, says=b"a link (l) has no content of its own" if want == missing(b"l") else b"")
-    showing("its stream is compressed", good, reason(b"blob 4", stream), "list", "a", says=b"or the list of an archive's items is compressed", compressed=stream)
+    showing("its stream is compressed", good, reason(b"blob 4", stream), "list", "a", says=COMPRESSED % b"SOURCE", compressed=stream)
     none = Archive(keys, b"a", [])
     showing("no items", none, NOTHING, "list", "a")
     showing("no items", none, missing(b"x"), "extract", "a", "x")
@@ -690,12 +531,12 @@ def archives():
         ("its record isn't there", {"without": record}, b"missing", record), ("its stream isn't there", {"without": stream}, b"missing", stream),
         ("its record is compressed", {"compressed": record}, b"blob 4", record), ("its stream has another id", {"other": stream}, b"blob 5", stream),
     ]:
-        says = {b"blob 4": b"an archive's record is compressed, as Borg's own compression and borg rename leave it: borg recreate --recompress"}.get(text, b"")
+        says = {b"blob 4": COMPRESSED % b"SOURCE"}.get(text, b"")
         showing(name, good, reason(text, id), "list", "a", says=says, **changed)
         showing(name, good, reason(text, id), "extract", "a", "f", says=says, **changed)
     for name, changed, text in [("a chunk isn't there", {"without": content}, b"missing"), ("a chunk is compressed", {"compressed": content}, b"blob 4"), ("a chunk has another id", {"other": content}, b"blob 5")]:
         status, line = reason(text, content)
-        says = b"a file's content or the list of an archive's items is compressed: borg recreate --recompress" if text == b"blob 4" else b""
+        says = COMPRESSED % b"SOURCE" if text == b"blob 4" else b""
         showing(name, good, (status, b"hello" + line), "extract", "a", "f", says=says, **changed)
         showing(f"{name}, which isn't looked at", good, (0, good.lines()), "list", "a", **changed)
         showing(f"{name}, which isn't the file's", good, (0, b"x"), "extract", "a", "h", **changed)
@@ -816,7 +657,7 @@ def every_byte():
         for (name, _, want), those in zip(all_of_them, pool.map(answers, all_of_them)):
             for command, (status, out, err) in zip(reads, those):
                 judge(f"{command}: {name}", (status, out), want(command))
-                explained(("source", "-", *command.split()), "/", status, out, err, OPEN, b"", False)
+                explained(holds, ("source", "-", *command.split()), "/", status, out, err, OPEN, b"")
 
 
 def key_files():
@@ -1185,11 +1026,11 @@ def undeleted():
     for id in (good.id, good.pieces[0][0]):
         for name in ("a", "b"):
             told(f"{name} where something of a isn't there", reason(b"missing", id), both, name, says=in_the_way, without=id)
-            told(f"{name} where something of a is compressed", reason(b"blob 4", id), both, name, says=in_the_way, compressed=id)
+            told(f"{name} where something of a is compressed", reason(b"blob 4", id), both, name, says=COMPRESSED % b"TARGET", compressed=id)
             told(f"{name} where something of a has another id", reason(b"blob 5", id), both, name, says=in_the_way, other=id)
     for text, how in [(b"record 1", {"packed": lambda text: text + b"\0"}), (b"record 2", {b"version": 2}), (b"record 4", {"info": b"other"})]:
         bad = Archive(keys, b"a", files, how=how)
-        told(f"an archive with {text}", reason(text, bad.id), {b"a": bad, b"b": other}, "b", says=in_the_way)
+        told(f"an archive with {text}", reason(text, bad.id), {b"a": bad, b"b": other}, "b", says=TAG % b"TARGET" if text == b"record 4" else in_the_way)
     for number, behind in [(1, b"\xc1"), (2, b"\x80"), (3, b"\x82\xa4path\xa1a\xa6chunks\xc3"), (4, b"\x82\xa4path\xa1a\xaechunks_healthy\xc0"), (5, b"\x81\xa4p")]:
         bad = Archive(keys, b"a", files, behind=behind)
         told(f"an archive with items {number}", reason(b"items %d" % number, bad.id), {b"a": bad, b"b": other}, "b", says=in_the_way)
@@ -1342,10 +1183,10 @@ def not_tagged(keys, good, other):
     reason = lambda text, id: (9, b"target refused: %s %s\n" % (text, id.hex().encode()))
     for id in (good.id, other.pieces[0][0]):
         told("something isn't there", reason(b"missing", id), both, says=in_the_way, without=id)
-        told("something is compressed", reason(b"blob 4", id), both, says=in_the_way, compressed=id)
+        told("something is compressed", reason(b"blob 4", id), both, says=COMPRESSED % b"TARGET", compressed=id)
         told("something has another id", reason(b"blob 5", id), both, says=in_the_way, other=id)
     bad = Archive(keys, b"a", good.items, how={"info": b"borg-metadata-authentication-manifest"})
-    told("a tag of a manifest", reason(b"record 4", bad.id), {b"a": bad, b"b": other}, says=in_the_way)
+    told("a tag of a manifest", reason(b"record 4", bad.id), {b"a": bad, b"b": other}, says=TAG % b"TARGET")
     bad = Archive(keys, b"a", good.items, behind=b"\xc1")
     told("items that don't read", reason(b"items 1", bad.id), {b"a": bad, b"b": other}, says=in_the_way)
 
@@ -1396,8 +1237,9 @@ def locks():
         beside = inside("target", {**made(others), "nonce": b"00000000000003e8", **lock})
         how = {"variables": {**OPEN, b"BORG_PASSPHRASE": PASSPHRASE}, "beside": beside}
         case(f"transfer: {name}", made(keys), total, ("source", "target", "transfer"), says=says, **how)
-        case(f"init: {name}", None, (9, b"target refused: committed\n"), ("-", "target", "init"), says=says, **how)
-        case(f"keys: {name}", None, segments_of(made(others)), ("target", "-", "keys"), **how)
+        case(f"init: {name}", None, withheld(b"other files") if "lock" in lock else (9, b"target refused: committed\n"), ("-", "target", "init"), says=b"" if "lock" in lock else says, **how)
+        case(f"keys: {name}", None, segments_of(made(others)), ("target", "-", "keys"), **{**how, "says": says.replace(b"TARGET", b"SOURCE")})
+        case(f"restore: {name}", None, (11, b"not found: a\n"), ("target", "folder", "restore", "a"), **{**how, "says": says.replace(b"TARGET", b"SOURCE")})
         case(f"list: {name} in a target that isn't used", made(keys), NOTHING, ("source", "target", "list"), **how)
 
 
@@ -1415,7 +1257,8 @@ def refused_targets():
     source = Archive(keys, b"a", files)
     made = lambda of, archive, **changed: repository(of, PASSPHRASE, of.blob(of.tagged(fields(archive.named(b"a")))), *archive.chunks(**changed))
     good = made(others, Archive(others, b"a", files))
-    bare = b"[repository]\nversion = 1\nid = %s\n" % ZERO_ID
+    other = others.repository.hex()
+    bare = b"[repository]\nversion = 1\nid = %s\n" % other.encode()
 
     def told(name, reason, target, says=b"", key_file=None, passphrase=PASSPHRASE, words=("source", "target", "transfer")):
         """A run over this target, None for a folder that isn't there."""
@@ -1428,25 +1271,25 @@ def refused_targets():
     told("no name", b"no commit", None, b"TARGET is - or empty", words=("source", "-", "transfer"))
     told("no segment", b"no commit", {"config": good["config"]}, b"borgferry - TARGET init makes a repository there")
     told("a damaged segment", b"damaged segment 0 at 0", {**good, "data/0/0": b""})
-    changed = lambda **lines: {**good, "config": config(table(ENVELOPE), **lines).encode()}
+    changed = lambda **lines: {**good, "config": config(table(ENVELOPE), **{"id": other, **lines}).encode()}
     told("no config", b"config 1", {name: content for name, content in good.items() if name != "config"})
     for number, target in enumerate([changed(version="2"), changed(id="00"), changed(key="***"), changed(max_segment_size="2M")], 2):
         told(f"config {number}", b"config %d" % number, target, b"TARGET/config")
     told("an id twice", b"config 6", {**good, "config": good["config"] + b"id = %s\n" % ZERO_ID})
     envelopes = [table(ENVELOPE)[:-1], table({}), table({**ENVELOPE, "algorithm": raw(b"sha1")}), table({**ENVELOPE, "iterations": b"\x00"})]
     for number, envelope in enumerate(envelopes, 1):
-        told(f"key {number}", b"key %d" % number, {**good, "config": repositories.config(envelope)}, b"-blake2" if number == 2 else b"")
+        told(f"key {number}", b"key %d" % number, {**good, "config": repositories.config(envelope, others.repository)}, b"-blake2" if number == 2 else b"")
     told("another passphrase", b"key 5", good, b"set the variable BORG_PASSPHRASE to that of the repository which is TARGET", passphrase=b"x")
     told("no key", b"no key", {**good, "config": bare}, b"--encryption none has no key and isn't read")
     body = base64.b64encode(others.text(PASSPHRASE))
-    for name, file, reason in [("a short id", b"BORG_KEY 12", b"key file 1"), ("no body", b"BORG_KEY %s\n" % ZERO_ID, b"key file 2"), ("another id", b"BORG_KEY %s\n" % (b"11" * 32) + body, b"key file of " + b"11" * 32)]:
+    for name, file, reason in [("a short id", b"BORG_KEY 12", b"key file 1"), ("no body", b"BORG_KEY %s\n" % other.encode(), b"key file 2"), ("another id", b"BORG_KEY %s\n" % (b"11" * 32) + body, b"key file of " + b"11" * 32)]:
         told(f"a key file of {name}", reason, {**good, "config": bare}, key_file=file)
     manifest = lambda blob: repository(others, PASSPHRASE, blob)
     blob = others.blob(others.tagged(fields()))
-    told("no manifest", b"missing " + ZERO_ID, manifest(None), b"borg check --repair makes it anew, and borg create --compression none plain")
+    told("no manifest", b"missing " + ZERO_ID, manifest(None), b"borg check --repair makes it anew, and borgferry-plain makes that plain")
     changed_mac = blob[:9] + bytes([blob[9] ^ 1]) + blob[10:]
     for number, bad in [(1, b"\x02" + blob[1:]), (2, blob[:42]), (3, changed_mac), (4, others.blob(others.tagged(fields()), b"\1\0"))]:
-        says = b"the manifest of TARGET is compressed: borg create --compression none TARGET::NAME" if number == 4 else b""
+        says = COMPRESSED % b"TARGET" if number == 4 else b""
         told(f"a manifest's blob {number}", b"blob %d %s" % (number, ZERO_ID), manifest(bad), says)
     untagged = b"borg create --compression none TARGET::NAME FOLDER writes one with its tag"
     for number, content in [(1, b""), (2, pack({b"version": 2})), (3, pack(fields())), (4, others.tagged(fields(), b"borg-metadata-authentication-archive"))]:
@@ -1456,7 +1299,7 @@ def refused_targets():
             id, blob = others.id(b"hello"), others.blob(content, header)
             target = {**repository(others, PASSPHRASE, others.blob(others.tagged(fields())), (id, blob)), "nonce": b"00000000000003e8"}
             make(root, {**inside("source", made(keys, source)), **inside("target", target)})
-            got = run(("source", "target", "transfer"), root, {**OPEN, b"BORG_PASSPHRASE": PASSPHRASE}, says=b"--target NEW TARGET::OLD makes a plain archive of one" if number == 4 else b"")
+            got = run(("source", "target", "transfer"), root, {**OPEN, b"BORG_PASSPHRASE": PASSPHRASE}, says=COMPRESSED % b"TARGET" if number == 4 else b"")
             judge(f"a target with a content that breaks rule {number}", got, (9, b"target refused: blob %d %s\n" % (number, id.hex().encode())))
     there = Archive(others, b"a", files)
     for name, archive, changed in [
@@ -1470,17 +1313,14 @@ def refused_targets():
 def of_borg():
     """What is said of repositories that Borg wrote in ways that aren't read, where they lie beside this one."""
     there = os.path.join(os.path.dirname(os.path.abspath(__file__)), "..", "..", "shared", "fixtures")
-    for words, status, says, is_record in [
-        (("recreated", "-", "list", "packed"), 8, b"borg rename, and borg recreate without --target, leave it so", False),
-        (("recreated", "-", "check"), 1, b"renamed or recreated is blob 4 or record 4", False),
-        (("renamed", "-", "list", "after"), 8, b"an archive's record is compressed, as Borg's own compression and borg rename leave it", True),
-        (("mixed", "-", "list", "old"), 8, b"an archive's record is compressed", True),
-        (("lz4", "-", "list"), 8, b"the manifest of SOURCE is compressed", False), (("anew", "-", "check"), 0, b"", False),
-        (("blake2", "-", "key"), 8, b"one of a -blake2 mode isn't read", False),
-        (("none", "-", "key"), 8, b"a repository of --encryption none has no key and isn't read", False),
+    compressed = COMPRESSED % b"SOURCE"
+    for words, status, says in [
+        (("recreated", "-", "list", "packed"), 8, TAG % b"SOURCE"), (("recreated", "-", "check"), 1, b"borgferry-plain SOURCE cures it"),
+        (("renamed", "-", "list", "after"), 8, compressed), (("mixed", "-", "list", "old"), 8, compressed), (("lz4", "-", "list"), 8, compressed), (("anew", "-", "check"), 0, b""),
+        (("blake2", "-", "key"), 8, b"one of a -blake2 mode isn't read"), (("none", "-", "key"), 8, b"a repository of --encryption none has no key and isn't read"),
     ]:
         if os.path.isdir(os.path.join(there, words[0])):
-            judge(f"Borg's {words}", (run(words, there, OPEN, says=says, is_record=is_record)[0], b""), (status, b""))
+            judge(f"Borg's {words}", (run(words, there, OPEN, says=says)[0], b""), (status, b""))
         else:
             skip(f"Borg's {words}: there is no ../shared/fixtures/{words[0]}")
 
@@ -1575,12 +1415,254 @@ def variables():
     case("the target's passphrase isn't UTF-8", good, not_text(target), variables={source: text, target: bad})
     with tempfile.TemporaryDirectory() as root:
         for words in [("-", "t", "init", "--iterations", "1"), ("-", "-", "make-key", "--iterations", "1")]:
-            for given, says in [({}, b"the key's passphrase is empty"), ({target: b""}, b"the key's passphrase is empty"), ({target: b"x"}, b"")]:
+            for given, says in [({}, b"the new key gets an empty passphrase"), ({target: b""}, b"the new key gets an empty passphrase"), ({target: b"x"}, b"")]:
                 words = (words[0], words[1] + "t" if words[2] == "init" else "-", *words[2:])
                 status, out = run(words, root, given, says=says)
                 judge(f"{words[2]}: a passphrase {given}", (status, b"" if out.startswith((b"initialized ", b"BORG_KEY ")) else out), (0, b""))
     case("wrong words come before a passphrase", good, USAGE, ["source"], variables={source: bad})
     case("--version needs no passphrase", good, (0, b"borgferry 0.1.0\n"), ["--version"], variables={source: bad})
+
+BORG_README = b"This is a Borg Backup repository.\nSee https://borgbackup.readthedocs.io/\n"
+INIT = ("-", "target", "init", "--iterations", "1")
+
+
+def withheld(cause):
+    return 17, b"withheld: %s\n" % cause
+
+
+def other_files():
+    """`init` writes over nothing and removes nothing but what a stop of it, or Borg, leaves; the line names the first other file."""
+    own = {
+        "a README of one's own": ("README", b"my notes\n"), "a README with more behind": ("README", BORG_README + b"and my notes\n"), "an empty README": ("README", b""),
+        "a config of another program": ("config", b"[core]\nbare = true\n"), "a config of no text": ("config", b""), "a file beside": ("notes", b"text"), "a folder beside": ("photos", None),
+        "a hidden file": (".notes", b""), "a link as README": ("README", "nowhere"), "a link as config": ("config", "nowhere"), "a folder as README": ("README", None),
+        "a file of a number in data": ("data/2023", b"BORG_SEG"), "a file in a folder of a number": ("data/2024/7", b"a text of my own"), "a short file there": ("data/2024/7", b"hello"),
+        "the segment of another program": ("data/0/0", b"ATTICSEG" + bytes(9)), "a folder in a folder": ("data/0/1", None), "a link in a folder": ("data/0/1", "nowhere"),
+        "a name in data": ("data/notes", None), "a name in a folder of a number": ("data/0/notes", b"BORG_SEG"), "a number with a zero in front": ("data/01", None), "data as a file": ("data", b"text"),
+        "data as a link": ("data", "nowhere"), "a folder of restic": ("data/4f", None), "a temporary file of another program": ("config.new", b""),
+    }
+    for name, (path, content) in own.items():
+        case(f"init: {name}", None, withheld(b"other files"), INIT, beside={f"target/{path}": content}, says=b"TARGET has %s, which is no file" % path.encode())
+    case("init: a name that isn't UTF-8", None, withheld(b"other files"), INIT, beside={b"target/\xff": b"x"}, says=b"TARGET has a file whose name isn't UTF-8")
+    restic = {"config": b"sealed", "data/4f/4f00": b"x", "index/00": b"x", "keys/00": b"x", "locks/00": b"x", "snapshots/00": b"x"}
+    git = {"HEAD": b"ref: refs/heads/main\n", "config": b"[core]\n\tbare = true\n", "description": b"x", "objects/info": None, "refs/heads": None}
+    attic = {"README": b"This is an Attic repository\n", "config": b"[repository]\nversion = 1\n", **{f"data/0/{number}": b"ATTICSEG" + bytes(9) for number in range(14)}}
+    for name, files in {"restic": restic, "bare git": git, "Attic": attic}.items():
+        case(f"init: a repository of {name}", None, withheld(b"other files"), INIT, beside=inside("target", files))
+    # What is left by a stop, or by Borg.
+    left = {
+        "README": BORG_README, "config": b"[repository]\nversion = 1\n", "nonce": b"0000000000000000", "lock.roster": b"{}", "lock.exclusive/host@1.2-3": b"", "index.5": b"x", "hints.5": b"x",
+        "integrity.5": b"x", "config.borgferry-new": b"[rep", "nonce.borgferry-new": b"", "README.borgferry-new": b"", "data/0/0": b"BORG_SEG", "data/0/1": b"BORG", "data/0/2": b"",
+        "data/1/1000": bytes(5), "data/7/5": MAGIC + b"torn",
+    }
+    with tempfile.TemporaryDirectory() as root:
+        for number, (path, content) in enumerate([*left.items(), (None, left)]):
+            folder = f"target{number}"
+            make(root, {f"{folder}/{path}": content} if path else inside(folder, left))
+            status, out = run(("-", folder, *INIT[2:]), root, says=b"")
+            holds(status == 0, f"init over what a stop leaves: {path}: {status} {out!r}")
+        make(root, {"empty": None})
+        holds(run(("-", "empty", *INIT[2:]), root)[0] == 0, "init in an empty folder fails")
+        make(root, {"here/notes": b"mine"})
+        judge("init in the current folder", run(("-", ".", *INIT[2:]), os.path.join(root, "here")), withheld(b"other files"))
+        for name, words in {"git": ("git", "init", "--quiet", "--bare", "theirs"), "restic": ("restic", "--quiet", "init", "--repo", "theirs")}.items():
+            if shutil.which(name) is None:
+                skip(f"init in a repository of {name}: there is none")
+                continue
+            place = os.path.join(root, f"of {name}")
+            make(place, {})
+            os.makedirs(place, exist_ok=True)
+            subprocess.run(words, cwd=place, env={**os.environ, "RESTIC_PASSWORD": "x"}, check=True, stdout=subprocess.DEVNULL, stderr=subprocess.DEVNULL)
+            before = state(place)
+            judge(f"init in a repository of {name}", run(("-", "theirs", *INIT[2:]), place), withheld(b"other files"))
+            holds(state(place) == before, f"init in a repository of {name}: it has changed")
+
+
+def one_key():
+    """Where both repositories have one key nothing is made or copied."""
+    keys, others = Keys(), Keys(b"other")
+    made = lambda of: {**repository(of, PASSPHRASE, of.blob(of.tagged(fields()))), "nonce": b"00000000000003e8"}
+    how = {"variables": {**OPEN, b"BORG_PASSPHRASE": PASSPHRASE}}
+    case("transfer: one key", made(keys), withheld(b"one key"), ("source", "target", "transfer"), beside=inside("target", made(Keys())), **how)
+    file = lambda of: b"BORG_KEY %s\n" % of.repository.hex().encode() + base64.b64encode(of.text(PASSPHRASE))
+    named = {**how["variables"], b"BORG_KEY_FILE": b"file"}
+    case("init: the source's key file", made(keys), withheld(b"one key"), ("source", *INIT[1:]), beside={"file": file(keys)}, variables=named)
+    with tempfile.TemporaryDirectory() as root:
+        make(root, {**inside("source", made(keys)), "file": file(others)})
+        judge("init: another key file", run(("source", *INIT[1:]), root, named, says=b"TARGET's key is that of the key file file, which"), (0, b"initialized %s\n" % others.repository.hex().encode()))
+        status, _ = run(("source", "other", *INIT[2:]), root, how["variables"], says=b"TARGET's key is new and lies in TARGET/config")
+        holds(status == 0, "init without a key file fails")
+
+
+def rolled_back():
+    """A file `nonce` that was put back is told before anything is written by it; one that isn't below the objects' numbers is right."""
+    keys, others = Keys(), Keys(b"other")
+    archive = Archive(others, b"a", [Item(b"f", [b"x" * 100])])
+    target = repository(others, PASSPHRASE, others.blob(others.tagged(fields(archive.named(b"a")))), *archive.chunks())
+    source = repository(keys, PASSPHRASE, keys.blob(keys.tagged(fields())))
+    end = others.nonce
+    how = {**OPEN, b"BORG_PASSPHRASE": PASSPHRASE}
+    words = {"transfer": ("source", "target", "transfer"), "delete": ("-", "target", "delete", "a"), "tag-archives": ("-", "target", "tag-archives")}
+    beside = lambda number, files=target, end=b"": inside("target", {**files, "nonce": b"%016x" % number + end})
+    for command, of in words.items():
+        for name, number in [("by one block", end - 1), ("to 0", 0)]:
+            says = b"printf %016x > TARGET/nonce" % (end + (1 << 40))
+            case(f"{command}: a nonce rolled back {name}", source, withheld(b"nonce"), of, beside=beside(number), variables=how, says=says)
+        case(f"{command}: a nonce with a line feed", source, withheld(b"nonce"), of, beside=beside(end - 1, end=b"\n"), variables=how)
+    total = (0, b"total 0 transferred 0 present 0 chunks 0 bytes 0 meta\n")
+    case("transfer: a nonce behind the last block", source, total, words["transfer"], beside=beside(end), variables=how)
+    case("compact: a nonce rolled back", None, (0, b"compacted 0\n"), ("-", "target", "compact"), beside=beside(0))
+    # Objects that the committed log doesn't have count too; what is no object of this cipher doesn't.
+    blob = bytes([3]) + bytes(32) + (10**6).to_bytes(8, "big") + bytes(17)
+    behind = {"data/0/2": segment(put(K, blob)) + b"torn"}
+    case("transfer: a nonce below an object behind the last commit", source, withheld(b"nonce"), words["transfer"], beside=beside(10**6 + 1, {**target, **behind}), variables=how)
+    others_behind = {"of another type": bytes([2]) + blob[1:], "shorter than its head": blob[:42], "of a keyed hash": bytes([5]) + blob[1:]}
+    for name, number, other in [("with lower numbers", 10**6 + 2, blob), *((name, end, other) for name, other in others_behind.items())]:
+        with tempfile.TemporaryDirectory() as root:
+            make(root, {**inside("source", source), **beside(number, {**target, "data/0/2": segment(put(K, other))})})
+            judge(f"transfer: an object {name}", run(words["transfer"], root, how), total)
+    last = bytes([0]) + bytes(32) + b"\xff" * 8 + bytes(2)
+    case("transfer: the last numbers", source, withheld(b"nonce"), words["transfer"], beside=beside(end, {**target, "data/0/2": segment(put(K, last))}), variables=how, says=b"the last numbers of its cipher")
+    left = {"data/0/0": segment(put(K, blob)), "nonce": b"%016x" % 5}
+    case("init: a nonce below what a stop left", None, withheld(b"nonce"), INIT, beside=inside("target", left))
+    case("init: no nonce beside what a stop left", None, withheld(b"nonce"), INIT, beside={"target/data/0/0": left["data/0/0"]})
+
+
+def streams():
+    """A passphrase may come from a stream; where a program is to print it, or the stream doesn't have it, nothing is done without it."""
+    key = ("source", "-", "key")
+    keys = Keys()
+    good = repository(keys, PASSPHRASE, keys.blob(keys.tagged(fields())))
+    told = (0, b"%s 1\n" % keys.repository.hex().encode())
+    number = {b"BORG_OTHER_PASSPHRASE_FD": b"3"}
+    for name, text in {"as it is": PASSPHRASE, "a line": PASSPHRASE + b"\n", "lines": PASSPHRASE + b"\n\n", "CR LF": PASSPHRASE + b"\r\n"}.items():
+        case(f"a stream: {name}", good, told, key, beside={"pass": text}, variables=number, prefix=["sh", "-c", 'exec "$@" 3<pass', ""])
+        case(f"a pipe: {name}", good, told, key, beside={"pass": text}, variables=number, prefix=["sh", "-c", 'cat pass | { exec "$@" 3<&0; }', ""])
+    for name, text in {"another passphrase": PASSPHRASE + b" ", "an empty stream": b""}.items():
+        case(f"a stream: {name}", good, refused(b"key 5"), key, beside={"pass": text}, variables=number, prefix=["sh", "-c", 'exec "$@" 3<pass', ""])
+    for name, text in {"not UTF-8": b"\xff", "too long": b"x" * 65537}.items():
+        case(f"a stream: {name}", good, withheld(b"passphrase"), key, beside={"pass": text}, variables=number, prefix=["sh", "-c", 'exec "$@" 3<pass', ""], says=b"BORG_OTHER_PASSPHRASE_FD names a stream")
+    case("a stream that isn't open", good, withheld(b"passphrase"), key, variables={b"BORG_OTHER_PASSPHRASE_FD": b"17"})
+    case("a stream without a number", good, refused(b"key 5"), key, variables={b"BORG_OTHER_PASSPHRASE_FD": b"x"})
+    case("a stream beside a passphrase", good, told, key, variables={**OPEN, b"BORG_OTHER_PASSPHRASE_FD": b"17"})
+    case("a program", good, withheld(b"passphrase"), key, variables={b"BORG_OTHER_PASSCOMMAND": b"echo x"}, says=b"BORG_OTHER_PASSCOMMAND is set, and this program starts no other")
+    case("a program beside a passphrase", good, told, key, variables={**OPEN, b"BORG_OTHER_PASSCOMMAND": b"false"})
+    others = Keys(b"other")
+    target = {**repository(others, b"another", others.blob(others.tagged(fields()))), "nonce": b"00000000000003e8"}
+    of_both = {**number, b"BORG_PASSPHRASE_FD": b"4"}
+    beside = {**inside("target", target), "one": PASSPHRASE, "other": b"another\n"}
+    total = (0, b"total 0 transferred 0 present 0 chunks 0 bytes 0 meta\n")
+    case("streams of both", good, total, ("source", "target", "transfer"), beside=beside, variables=of_both, prefix=["sh", "-c", 'exec "$@" 3<one 4<other', ""])
+    case("the stream of a target", None, (11, b"not found: b\n"), ("-", "target", "delete", "b"), beside=beside, variables=of_both, prefix=["sh", "-c", 'exec "$@" 4<other', ""])
+    case("the other's program", good, told, key, variables={**OPEN, b"BORG_PASSCOMMAND": b"false", b"BORG_PASSPHRASE_FD": b"17"})
+    case("a command that needs none", good, segments_of(good), KEYS, variables={b"BORG_OTHER_PASSCOMMAND": b"false", b"BORG_PASSCOMMAND": b"false"})
+    case("restore: a program", good, withheld(b"passphrase"), ("source", "folder", "restore", "a"), variables={b"BORG_OTHER_PASSCOMMAND": b"echo x"})
+    for words in (INIT, ("-", "-", "make-key", "--iterations", "1")):
+        case(f"{words[2]}: a program", None, withheld(b"passphrase"), words, variables={b"BORG_PASSCOMMAND": b"echo x"}, says=b"BORG_PASSCOMMAND is set")
+    launcher = os.path.join(os.path.dirname(os.path.abspath(__file__)), "..", "tools", "borgferry-passcommand")
+    with tempfile.TemporaryDirectory() as root:
+        make(root, inside("source", good))
+        os.symlink(PROGRAM, os.path.join(root, "borgferry"))
+        shutil.copy(launcher, os.path.join(root, "borgferry-passcommand"))
+        for name, command, want in [
+            ("prints it", b"echo '%s'" % PASSPHRASE, told), ("prints another", b"echo x", refused(b"key 5")), ("fails", b"false", withheld(b"passphrase")),
+            ("isn't there", b"./none", withheld(b"passphrase")), ("has an open quote", b"echo 'x", withheld(b"passphrase")),
+        ]:
+            env = environment({b"BORG_OTHER_PASSCOMMAND": command})
+            ran = subprocess.run([os.path.join(root, "borgferry-passcommand"), *key], cwd=root, env=env, capture_output=True, timeout=LIMIT)
+            judge(f"borgferry-passcommand: a program that {name}", (ran.returncode, ran.stdout), want)
+
+
+def large_files():
+    """Key files and locks are read up to a bound, which no right one meets."""
+    keys = Keys()
+    good = repository(keys, PASSPHRASE, keys.blob(keys.tagged(fields())))
+    bare = {**good, "config": b"[repository]\nversion = 1\nid = %s\n" % ZERO_ID}
+    file = b"BORG_KEY %s\n" % ZERO_ID + base64.b64encode(keys.text(PASSPHRASE))
+    told, key = (0, b"%s 1\n" % ZERO_ID), ("source", "-", "key")
+    for size, want in [(65536, told), (65537, (16, b"key file unreadable\n"))]:
+        text = file + b"\n" * (size - len(file))
+        case(f"a key file of {size} bytes", bare, want, key, beside={"file": text}, variables={**OPEN, b"BORG_OTHER_KEY_FILE": b"file"}, says=b"" if want == told else b"BORG_OTHER_KEY_FILE names file, which can't be read (has more than 65536 bytes)")
+    for name, path in {"that isn't there": b"none", "that is a folder": b"source"}.items():
+        case(f"a key file {name}", bare, (16, b"key file unreadable\n"), key, variables={**OPEN, b"BORG_KEY_FILE": path}, says=b"BORG_KEY_FILE names " + path)
+    roster = b" " * 65537
+    case("a large lock of the source", {**good, "lock.roster": roster}, DEVICE, KEYS, says=b"source/lock.roster has more than 65536 bytes")
+    others = Keys(b"other")
+    target = {**repository(others, PASSPHRASE, others.blob(others.tagged(fields()))), "lock.roster": roster}
+    case("a large lock of the target", None, (5, b"target device failed\n"), ("-", "target", "compact"), beside=inside("target", target), says=b"target/lock.roster has more than 65536 bytes")
+
+
+def told_before():
+    """What is told in front of a command that goes on: timestamps that Borg doesn't read or refuses, and a log that it takes nothing out of."""
+    keys = Keys(b"other")
+    archive = Archive(keys, b"a", [Item(b"f", [b"x"])])
+    text = b"2020-01-01T00:00:00.000000"
+    made = repository(keys, PASSPHRASE, keys.blob(keys.tagged(fields(archive.named(b"a")))), *archive.chunks())
+    how = {b"BORG_PASSPHRASE": PASSPHRASE}
+    times = {
+        "2020-01-01T00:00:00.000000": b"", "2020-01-01T00:00:00": b"before that of TARGET's manifest", "2026-12-31T23:59:59.5": b"", "2019-12-31T23:59:59.000000": b"before that of TARGET's manifest",
+        "yesterday": b"isn't of the form", "2026-02-29T00:00:00": b"isn't of the form", "2026-13-01T00:00:00": b"isn't of the form", "2026-01-01T24:00:00": b"isn't of the form",
+        "2026-01-01T00:00:60": b"isn't of the form", "2026-01-01T00:00:00.": b"isn't of the form", "2026-01-01T00:00:00.1234567": b"isn't of the form", "2026-01-01 00:00:00": b"isn't of the form",
+        "2026-01-01T00:00:00Z": b"isn't of the form", "0000-01-01T00:00:00": b"isn't of the form", "2024-02-29T00:00:00.000001": b"",
+    }
+    for time, says in times.items():
+        with tempfile.TemporaryDirectory() as root:
+            make(root, inside("target", {**made, "nonce": b"00000000000003e8"}))
+            words = ("-", "target", "tag-archives", "--timestamp", time)
+            status, out, err = start(words, root, how)
+            explained(holds, words, root, status, out, err, how, says)
+            holds(status == 0 and (says or not err), f"the time {time}: {status} {out!r} {err!r}")
+    for line, is_told in {b"append_only = 1": True, b"append_only=yes": True, b"append_only = 0": False, b"; append_only = 1": False, b"[other]\nappend_only = 1": False}.items():
+        files = {**made, "config": made["config"] + line + b"\n", "nonce": b"00000000000003e8"}
+        for words, want in [(("-", "target", "compact"), (0, b"compacted 0\n")), (("-", "target", "delete", "b"), (11, b"not found: b\n"))]:
+            case(f"{words[2]}: {line}", None, want, words, beside=inside("target", files), variables=how, says=b"TARGET/config says append_only" if is_told else b"")
+    # Where nothing was written Borg's files aren't out of date.
+    files = {**repository(keys, PASSPHRASE, keys.blob(keys.tagged(fields()))), "nonce": b"00000000000003e8", "index.1": b"x", "hints.1": b"x"}
+    for words, want in [(("-", "target", "tag-archives"), (0, b"tagged 0\n")), (("-", "target", "compact"), (0, b"compacted 0\n"))]:
+        with tempfile.TemporaryDirectory() as root:
+            make(root, inside("target", files))
+            status, out, err = start(words, root, how)
+            judge(f"{words[2]} with nothing to do", (status, out), want)
+            holds(err == b"", f"{words[2]} with nothing to do says {err!r}")
+
+
+def parents():
+    """Where the folder isn't there in which another is to be made, the line names it."""
+    case("init: no parent", None, (5, b"target device failed\n"), ("-", "a/b/c/target", "init", "--iterations", "1"), says=b"the folder a/b/c isn't there, in which TARGET is to be made")
+    case("init: a ~ in quotes", None, (5, b"target device failed\n"), ("-", "~/target", "init", "--iterations", "1"), says=b"the folder ~ isn't there")
+    keys = Keys()
+    archive = Archive(keys, b"a", [Item(b"f", [b"x"])])
+    good = repository(keys, PASSPHRASE, keys.blob(keys.tagged(fields(archive.named(b"a")))), *archive.chunks())
+    case("restore: no parent", good, (13, b"tree failed\n"), ("source", "a/folder", "restore", "a"), variables=OPEN, says=b"the folder a isn't there, in which FOLDER is to be made")
+
+
+def named_archives():
+    """The line in plain words names the archive that doesn't read, and what was copied before it."""
+    keys, others = Keys(), Keys(b"other")
+    made = {name: Archive(keys, name, [Item(b"f", [name * 70])]) for name in (b"a", b"b", b"c\n")}
+    lost = made[b"c\n"].keys.id(b"c\n" * 70)
+
+    def source(without=(), **changed):
+        chunks = dict(chunk for archive in made.values() for chunk in archive.chunks(**changed))
+        named = [entry for name, archive in made.items() for entry in archive.named(name)]
+        return repository(keys, PASSPHRASE, keys.blob(keys.tagged(fields(named))), *((id, blob) for id, blob in chunks.items() if id not in without))
+
+    target = {**repository(others, PASSPHRASE, others.blob(others.tagged(fields()))), "nonce": b"00000000000003e8"}
+    how = {**OPEN, b"BORG_PASSPHRASE": PASSPHRASE}
+    of_c = b"; what doesn't read is of the archive c\\x0a"
+    case("check: the archive is named", source([lost]), (1, b"bad missing %s\n" % lost.hex().encode()), ("source", "-", "check"), variables=OPEN, says=of_c)
+    with tempfile.TemporaryDirectory() as root:
+        make(root, {**inside("source", source([lost])), **inside("target", target)})
+        status, out = run(("source", "target", "transfer"), root, how, says=of_c + b"; 2 archives were copied before that and stay, the last of them b, and the same words go on behind it\n")
+        judge("transfer: what was copied is named", (status, out.splitlines()[-1]), (8, b"source refused: missing %s" % lost.hex().encode()))
+    with tempfile.TemporaryDirectory() as root:
+        make(root, {**inside("source", source([lost])), **inside("target", target)})
+        says = of_c + b"; one archive was copied before that and stays, b, and the same words go on behind it\n"
+        judge("transfer: one was copied", (run(("source", "target", "transfer", "b", "c\n"), root, how, says=says)[0], b""), (8, b""))
+    stream = made[b"b"].pieces[0][0]
+    broken = inside("target", {**source([stream]), "nonce": b"00000000000003e8"})
+    of_b = b"; what doesn't read is of the archive b\n"
+    case("delete: the archive is named", None, (9, b"target refused: missing %s\n" % stream.hex().encode()), ("-", "target", "delete", "a"), beside=broken, variables={b"BORG_PASSPHRASE": PASSPHRASE}, says=of_b)
 
 
 def outputs():
@@ -1589,13 +1671,15 @@ def outputs():
         make(root, inside("source", log(segment(put(K, b"abc")), COMMIT_SEGMENT)))
         for words, status in {("source", "-", "keys"): 7, ("-", "-", "keys"): 8, ("source", "-", "nothing"): 2, ("source",): 2, ("--help",): 7, ("-", "-", "drill", "1"): 7}.items():
             # Where the line of standard output says why, the one on standard error is the same whether that is taken or not.
-            says = filled(OUTPUT_ROW, "source") if status == 7 else start(words, root)[2]
+            says = filled(OUTPUT_ROW, "source") if status == 7 else re.escape(start(words, root)[2])
             with open("/dev/full", "wb") as full:
-                judge(f"a full output: {words}", start(words, root, stdout=full)[::2], (status, says))
+                given, _, err = start(words, root, stdout=full)
+            holds(given == status and re.fullmatch(says, err) and (status != 7 or b"(ENOSPC)" in err), f"a full output: {words}: {given} {err!r}")
             read, write = os.pipe()
             os.close(read)
-            judge(f"a pipe that nobody reads: {words}", start(words, root, stdout=write)[::2], (status, says))
+            given, _, err = start(words, root, stdout=write)
             os.close(write)
+            holds(given == status and re.fullmatch(says, err) and (status != 7 or b"(EPIPE)" in err), f"a pipe that nobody reads: {words}: {given} {err!r}")
         met.add((OUTPUT_ROW, "source"))
         for words in (("-", "-", "keys"), ("source", "-", "nothing"), ("source",)):
             want = run(words, root)
@@ -1757,7 +1841,7 @@ def rows():
 
 
 READING = (folders, logs, damage, memory, names, words, keys_of_configs, listings, archives, checked, every_byte)
-CASES = (*READING, key_files, targets, refused_targets, transfers, foreseen, plans, restores, deletions, taggings, compactions, locks, written, drills, limits, entropy, variables, of_borg, outputs, progress)
+CASES = (*READING, key_files, targets, refused_targets, transfers, foreseen, plans, restores, deletions, taggings, compactions, locks, written, drills, limits, entropy, variables, of_borg, other_files, one_key, rolled_back, streams, large_files, told_before, parents, named_archives, outputs, progress)
 
 
 def main(chosen):

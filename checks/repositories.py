@@ -6,6 +6,7 @@ shares nothing with the program. Texts of 4096 bytes and more are encrypted by l
 import base64
 import hashlib
 import hmac
+import re
 import struct
 
 import libcrypto
@@ -100,17 +101,49 @@ def pack(value):
     return struct.pack(">BI", 0xDF, len(value)) + b"".join(pack(key) + pack(value[key]) for key in sorted(value))
 
 
+def unpack(text, at=0):
+    """The value of msgpack at a place, byte strings for all texts, and the place behind it."""
+    head, at = text[at], at + 1
+    if head < 0x80 or head >= 0xE0:
+        return (head if head < 0x80 else head - 256), at
+    if head in (0xC0, 0xC2, 0xC3):
+        return {0xC0: None, 0xC2: False, 0xC3: True}[head], at
+    if 0xCC <= head <= 0xD3:
+        width = 1 << (head - 0xCC) % 4
+        return int.from_bytes(text[at : at + width], "big", signed=head >= 0xD0), at + width
+    if head < 0xC0:
+        return unpack_many(text, at, "map" if head < 0x90 else "array" if head < 0xA0 else "raw", head & (0x1F if head >= 0xA0 else 0x0F))
+    kind, width = {
+        0xC4: ("raw", 1), 0xC5: ("raw", 2), 0xC6: ("raw", 4), 0xD9: ("raw", 1), 0xDA: ("raw", 2), 0xDB: ("raw", 4),
+        0xDC: ("array", 2), 0xDD: ("array", 4), 0xDE: ("map", 2), 0xDF: ("map", 4),
+    }[head]
+    return unpack_many(text, at + width, kind, int.from_bytes(text[at : at + width], "big"))
+
+
+def unpack_many(text, at, kind, count):
+    """So many bytes, or entries of an array or a map, at a place, and the place behind them."""
+    if kind == "raw":
+        return text[at : at + count], at + count
+    values = []
+    for _ in range(count * (1 + (kind == "map"))):
+        value, at = unpack(text, at)
+        values.append(value)
+    return (values if kind == "array" else dict(zip(values[::2], values[1::2]))), at
+
+
 class Keys:
     """The secrets of a repository: all different, made of a seed."""
 
     def __init__(self, seed=b"keys"):
         self.enc_key, self.enc_hmac_key, self.id_key = (hashlib.sha256(seed + name).digest() for name in (b"1", b"2", b"3"))
+        # The id of the repository, zeros where no seed is given.
+        self.repository = bytes(32) if seed == b"keys" else hashlib.sha256(seed + b"4").digest()
         self.nonce = 0
 
     def text(self, passphrase, iterations=1):
         """The key text that opens with this passphrase."""
         inside = pack({
-            b"version": 1, b"repository_id": bytes(32), b"enc_key": self.enc_key, b"enc_hmac_key": self.enc_hmac_key,
+            b"version": 1, b"repository_id": self.repository, b"enc_key": self.enc_key, b"enc_hmac_key": self.enc_hmac_key,
             b"id_key": self.id_key, b"chunk_seed": -7, b"tam_required": True,
         })
         salt = bytes(range(32))
@@ -136,6 +169,28 @@ class Keys:
         tam = {b"type": b"HKDF_HMAC_SHA512", b"salt": salt}
         zeroed = pack({**fields, b"tam": {**tam, b"hmac": bytes(64)}})
         return pack({**fields, b"tam": {**tam, b"hmac": mac(key, zeroed, hashlib.sha512)}})
+
+
+def unsealed(text, passphrase):
+    """The fields of a sealed key, and the text inside it, which this passphrase opens."""
+    sealed, _ = unpack(text)
+    kek = hashlib.pbkdf2_hmac("sha256", passphrase, sealed[b"salt"], sealed[b"iterations"])
+    inside = ctr(kek, 0, sealed[b"data"])
+    if mac(kek, inside) != sealed[b"hash"]:
+        raise ValueError("the passphrase doesn't open the key")
+    return sealed, inside
+
+
+def resealed(text, passphrase, iterations):
+    """A sealed key with so many iterations in the place of those that it has."""
+    sealed, inside = unsealed(text, passphrase)
+    kek = hashlib.pbkdf2_hmac("sha256", passphrase, sealed[b"salt"], iterations)
+    return pack({**sealed, b"iterations": iterations, b"hash": mac(kek, inside), b"data": ctr(kek, 0, inside)})
+
+
+def key_of(settings):
+    """The sealed key in the text of `config`: the value of `key`, whose further lines begin with a blank."""
+    return base64.b64decode(b"".join(re.search(rb"(?m)^key *=(.*\n(?:[ \t]+.*\n?)*)", settings)[1].split()))
 
 
 def fields(archives=(), **others):
@@ -196,7 +251,7 @@ class Archive:
     def chunks(self, without=None, compressed=None, other=None):
         """The pairs of id and blob, each id once: without one, with one in a compressed content's form, or with one of other bytes."""
         contents = dict([(self.id, self.record), *self.pieces])
-        contents.update((self.keys.id(content), content) for item in self.items for content in item.contents or [])
+        contents.update((self.keys.id(content), content) for item in self.items for content in dict.fromkeys(item.contents or []))
         header = lambda id: b"\1\0" if id == compressed else b"\0\0"
         return [(id, self.keys.blob(b"other" if id == other else content, header(id))) for id, content in contents.items() if id != without]
 
@@ -209,8 +264,8 @@ class Archive:
         return next(b"".join(item.contents) for item in self.items if item.path == path and item.contents is not None)
 
 
-def config(key_text):
-    return b"[repository]\nversion = 1\nid = %s\nkey = %s\n" % (b"00" * 32, base64.b64encode(key_text))
+def config(key_text, id=bytes(32)):
+    return b"[repository]\nversion = 1\nid = %s\nkey = %s\n" % (id.hex().encode(), base64.b64encode(key_text))
 
 
 def repository(keys, passphrase, manifest_blob, *chunks):
@@ -218,7 +273,7 @@ def repository(keys, passphrase, manifest_blob, *chunks):
     entries = [segments.put(id, blob) for id, blob in chunks]
     if manifest_blob is not None:
         entries.append(segments.put(ZERO, manifest_blob))
-    return {"config": config(keys.text(passphrase)), "data/0/0": segments.segment(*entries), "data/0/1": segments.COMMIT_SEGMENT}
+    return {"config": config(keys.text(passphrase), keys.repository), "data/0/0": segments.segment(*entries), "data/0/1": segments.COMMIT_SEGMENT}
 
 
 def escaped(text):

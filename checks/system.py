@@ -2,7 +2,7 @@
 """What the program makes of the system that it runs on: system.py PROGRAM [CASE ..]
 
 No proof speaks of folders, of the random bytes of the system, of standard output and of variables; the cases here do, each by what a user would lose: random
-bytes that fail, end early or come in parts; a folder or a segment that can't be read; modes of files; parents that aren't there; links; an output
+bytes that fail, end early or come in parts; a folder or a segment that can't be read; modes of files; parents that aren't there; links; a config that is too large; an output
 that takes a part; streams that are closed; passphrases; where segments lie; the line of progress; the memory that heads take which claim more than is there. With names of cases, those alone are tried. One line for each
 thing that differs, then what can't be tried here (no strace, no Borg, no other user), and at the end 'N passed, M failed, K skipped'; status 1 where M isn't 0.
 """
@@ -23,63 +23,15 @@ sys.dont_write_bytecode = True
 import tracing
 from counting import finish, judge, skip
 from repositories import Archive, Item, Keys, config, fields, repository
-from users import other_user
+from running import DELETE, INIT, ITEM, PROGRAM, RECORD, VARIABLES, ended, injected, make_source, run, state, write
+from users import give, other_user
 
-PROGRAM = os.path.abspath(sys.argv[1])
-VARIABLES = {"BORG_PASSPHRASE": "passphrase", "BORG_OTHER_PASSPHRASE": "passphrase"}
-INIT = ("-", "target", "init", "--iterations", "1")
-DELETE = ("-", "target", "delete", "a")
-PROGRESS = re.compile(rb"\rread (\d+) MB, written (\d+) MB, \d+ s\x1b\[K")
+PROGRESS = re.compile(rb"\r(?:[^\r\n\x1b]*: )?read (\d+) MB, written (\d+) MB, \d+ s\x1b\[K")
+OPENING = re.compile(rb"\rreading the log: (\d+) MB, \d+ s\x1b\[K")
 
 
-def run(root, *words, prefix=(), variables=None, **others):
-    env = {name: value for name, value in os.environ.items() if not name.startswith("BORG_")}
-    pipes = {"stdout": subprocess.PIPE, "stderr": subprocess.PIPE, "stdin": subprocess.DEVNULL}
-    env.update(VARIABLES if variables is None else variables)
-    return subprocess.run([*prefix, PROGRAM, *words], cwd=root, env=env, timeout=600, **{**pipes, **others})
-
-
-def injected(root, *rules):
-    """The words in front of a program of which strace refuses or changes calls, those on some path alone where a rule names one."""
-    return ["strace", "-o", os.path.join(root, "calls"), *rules]
-
-
-def write(path, content):
-    os.makedirs(os.path.dirname(path), exist_ok=True)
-    with open(path, "wb") as file:
-        file.write(content)
-
-
-# What Borg's check wants of a record and of an item, beside what is read of them here.
-RECORD = {b"cmdline": [b"borg"], b"time": b"2020-01-01T00:00:00.000000"}
-ITEM = {b"mtime": 0}
-
-
-def make_source(root, folder="source", contents=4, size=64):
-    """A source with an archive `a` of a file of so many chunks of that size."""
-    keys = Keys()
-    file = Item(b"file", [bytes([65 + number]) * size for number in range(contents)], more=ITEM)
-    archive = Archive(keys, b"a", [file], length=1000, how=RECORD)
-    blob = keys.blob(keys.tagged(fields(archive.named(b"a"))))
-    for place, content in repository(keys, b"passphrase", blob, *dict(archive.chunks()).items()).items():
-        write(os.path.join(root, folder, place), content)
-
-
-def state(root):
-    """All names below a folder, with the contents of files and where links lead."""
-    found = {}
-    for folder, folders, files in os.walk(root):
-        for name in folders + files:
-            path = os.path.join(folder, name)
-            is_file = os.path.isfile(path) and not os.path.islink(path)
-            found[os.path.relpath(path, root)] = open(path, "rb").read() if is_file else os.readlink(path) if os.path.islink(path) else None
-    return found
-
-
-def ended(what, ran, status, out=None):
-    judge(ran.returncode == status, f"{what}: status {ran.returncode} for {status}: {ran.stdout!r} {ran.stderr!r}")
-    if out is not None:
-        judge(ran.stdout == out, f"{what}: {ran.stdout!r} for {out!r}")
+# What a stopped `init` may leave.
+LEFT = {"config": b"[repository]\n", "README": b"This is a Borg Backup repository.\n", "nonce": b"0000000000000000"}
 
 
 def random_bytes(root):
@@ -180,7 +132,7 @@ def closed_by_mode(root):
 
 
 def modes(root):
-    """The key is for its owner alone, whatever the mask; a config that is replaced keeps its mode."""
+    """The key is for its owner alone, whatever the mask, and whoever could read a config that is replaced; a nonce and a README keep their modes."""
     ended("init", run(root, *INIT, preexec_fn=lambda: os.umask(0)), 0)
     for folder, folders, files in os.walk(os.path.join(root, "target")):
         for name in [".", *folders]:
@@ -190,12 +142,15 @@ def modes(root):
             mode = os.stat(os.path.join(folder, name)).st_mode & 0o777
             judge(mode == 0o600, f"the file {name} has the mode {mode:o}")
     shutil.rmtree(os.path.join(root, "target"))
-    write(os.path.join(root, "target/config"), b"")
-    os.chmod(os.path.join(root, "target/config"), 0o640)
-    ended("init over a config", run(root, *INIT), 0)
-    mode = os.stat(os.path.join(root, "target/config")).st_mode & 0o777
-    judge(mode == 0o640, f"a config of mode 640 has {mode:o}")
-    shutil.rmtree(os.path.join(root, "target"))
+    for before, after in ((0o644, 0o600), (0o640, 0o600), (0o755, 0o600), (0o600, 0o600), (0o400, 0o400)):
+        for name in ("config", "README", "nonce"):
+            write(os.path.join(root, "target", name), LEFT[name])
+            os.chmod(os.path.join(root, "target", name), before)
+        ended(f"init over files of mode {before:o}", run(root, *INIT), 0)
+        for name, wanted in (("config", after), ("README", before), ("nonce", before)):
+            mode = os.stat(os.path.join(root, "target", name)).st_mode & 0o777
+            judge(mode == wanted, f"a {name} of mode {before:o} has {mode:o} and not {wanted:o}")
+        shutil.rmtree(os.path.join(root, "target"))
 
 
 def places(root):
@@ -207,7 +162,7 @@ def places(root):
         os.makedirs(os.path.join(folder, "data/0"))
         os.symlink(os.path.join(root, "outside"), os.path.join(folder, link))
         ran = run(root, *INIT)
-        judge(ran.returncode in (0, 5), f"init over the link {link}: status {ran.returncode}")
+        judge(ran.returncode in (0, 5, 17), f"init over the link {link}: status {ran.returncode}")
         judge(not os.path.lexists(os.path.join(root, "outside")), f"init over the link {link}: a file is made outside")
         shutil.rmtree(folder)
 
@@ -232,7 +187,7 @@ def unsynced(root):
     synced("the folder above a new one may not be looked into", "openat", "target/..", "EACCES", 5, True)
     for name, wanted in {"README": 5, "config": 5, "nonce": 5}.items():
         os.makedirs(os.path.join(root, "target"))
-        write(os.path.join(root, "target", name), b"0000000000000000")
+        write(os.path.join(root, "target", name), LEFT[name])
         synced(f"no sync of {name} is known", "fsync", f"target/{name}", "EINVAL", wanted, False)
 
 
@@ -381,7 +336,8 @@ def progress(root):
     ran, shown, lines = on_terminal(root, words, "fsync:delay_exit=60000")
     ended("a slow transfer", ran, 0)
     judge(lines and lines[-1][0] >= 2 and lines[-1][1] >= 2, f"the lines of progress are {lines}")
-    told = re.sub(rb"\r\x1b\[K", b"", PROGRESS.sub(b"", shown))
+    judge(b"\ra: read " in shown, f"the archive on its way isn't named: {shown!r}")
+    told = re.sub(rb"\r\x1b\[K", b"", OPENING.sub(b"", PROGRESS.sub(b"", shown)))
     judge(told == b"transferred a\ntotal 1 transferred 0 present 20 chunks 2000000 bytes 1 meta\n", f"beside the progress {told!r} is shown")
     for line in (b"transferred a", b"total 1"):
         judge(b"\r\x1b[K" + line in shown or b"\n" + line in shown, f"the line {line!r} stands behind a line of progress: {shown!r}")
@@ -389,6 +345,7 @@ def progress(root):
     ran, shown, lines = on_terminal(root, words, "lseek:delay_exit=40000")
     ended("a slow comparison", ran, 0)
     judge(lines and lines[-1][0] >= 6 and lines[-1][1] == 0, f"the lines of progress of a comparison are {lines}")
+    judge(OPENING.search(shown) is not None, f"the reading of a log isn't told: {shown!r}")
 
 
 def short_writes(root):
@@ -435,15 +392,26 @@ def restored(root):
     judge(state(folder) == {"file": contents}, f"restore: {state(folder)}")
     judge(os.stat(folder).st_mode & 0o777 == 0o700, "the folder of a restoring isn't its owner's alone")
     shutil.rmtree(folder)
+    for mode in (0o777, 0o775, 0o702):
+        os.mkdir(folder)
+        os.chmod(folder, mode)
+        ended(f"restore in a folder of mode {mode:o}", run(root, *words), 17, b"withheld: folder\n")
+        judge(state(folder) == {}, f"restore in a folder of mode {mode:o}: {state(folder)}")
+        os.rmdir(folder)
     other = other_user(PROGRAM, root)
     if other is None:
         skip("a folder that another user can't write: no other user can be taken")
         return
     os.makedirs(folder, mode=0o755)
-    ended("a folder that can't be written", run(root, *words, prefix=other), 13, b"tree failed\n")
-    judge(state(folder) == {}, f"a folder that can't be written: {state(folder)}")
-    os.chmod(folder, 0o333)
-    ended("a folder that can't be listed", run(root, *words, prefix=other), 13, b"tree failed\n")
+    if other:
+        ended("restore in another user's folder", run(root, *words, prefix=other), 17, b"withheld: folder\n")
+    give(folder)
+    for mode, what in ((0o500, "a folder that can't be written"), (0o300, "a folder that can't be listed")):
+        os.chmod(folder, mode)
+        ended(what, run(root, *words, prefix=other), 13, b"tree failed\n")
+        judge(state(folder) == {}, f"{what}: {state(folder)}")
+    if other:
+        ended("restore by root in another user's folder", run(root, *words), 17, b"withheld: folder\n")
 
 
 COUNT = b"\xff\xff\xff\xff"
@@ -495,8 +463,139 @@ def claimed_counts(root):
                 judge(ran.stdout.startswith(line), f"{place} with {claim} that claims more than is there: {' '.join(words)}: {ran.returncode} {ran.stdout!r}")
 
 
-NEED_STRACE = (random_bytes, unreadable, unsynced, progress)
-CASES = (*NEED_STRACE, closed_by_mode, drawn, modes, places, outputs, short_writes, restored, closed, passphrases, borders, claimed_counts)
+LINKED = ("data", "data/0", "data/0/0", "data/0/1", "config", "nonce", "README", "config.borgferry-new", "nonce.borgferry-new", "README.borgferry-new")
+# `init` over a folder without a commit, and what writes a target that has one.
+WRITING = (INIT, ("source", "target", "transfer"), DELETE, ("-", "target", "compact"), ("-", "target", "tag-archives"))
+
+
+def links(root):
+    """In a target no link is followed, written over or removed, and the repository that it leads to stays as it is; the target itself may be one, and in a source links are followed."""
+    make_source(root)
+    for place in ("kept", "other"):
+        ended(f"init of {place}", run(root, "-", place, "init", "--iterations", "1"), 0)
+        ended(f"transfer to {place}", run(root, "source", place, "transfer"), 0)
+    before = state(os.path.join(root, "other"))
+    for link in LINKED:
+        for words in WRITING:
+            # A deletion alone writes the nonce anew, and no other file beside.
+            if link.endswith("-new") and words is not INIT and (words is not DELETE or "nonce" not in link):
+                continue
+            what = f"{words[2]} over the link {link}"
+            target = os.path.join(root, "target")
+            if words is INIT:
+                os.makedirs(os.path.dirname(os.path.join(target, link)))
+            else:
+                shutil.copytree(os.path.join(root, "kept"), target)
+            path = os.path.join(target, link)
+            if os.path.isdir(path):
+                shutil.rmtree(path)
+            elif os.path.exists(path):
+                os.remove(path)
+            outside = os.path.join(root, "other", link.removesuffix(".borgferry-new"))
+            os.symlink(outside, path)
+            # What a stopped init leaves under these names is written anew; a link under another name is somebody's.
+            is_other = words is INIT and not link.startswith("nonce") and not link.endswith("-new")
+            ended(what, run(root, *words), *((17, b"withheld: other files\n") if is_other else (5, b"target device failed\n")))
+            judge(os.path.islink(path) and os.readlink(path) == outside, f"{what}: the link is gone")
+            judge(state(os.path.join(root, "other")) == before, f"{what}: the other repository has changed")
+            shutil.rmtree(target)
+    listed = run(root, "other", "-", "check").stdout
+    for link in ("data", "data/0", "data/0/0", "config"):
+        shutil.copytree(os.path.join(root, "other"), os.path.join(root, "linked"))
+        path = os.path.join(root, "linked", link)
+        shutil.rmtree(path) if os.path.isdir(path) else os.remove(path)
+        os.symlink(os.path.join(root, "other", link), path)
+        ended(f"a source with the link {link}", run(root, "linked", "-", "check"), 0, listed)
+        shutil.rmtree(os.path.join(root, "linked"))
+    os.symlink("kept", os.path.join(root, "target"))
+    ended("a target that is a link", run(root, *DELETE), 0)
+    os.remove(os.path.join(root, "target"))
+
+
+def foreign_segments(root):
+    """A target with a key and a commit of its own whose folder of segments is another repository's: `compact`, which asks for no key, leaves that one alone."""
+    make_source(root)
+    for place in ("other", "target"):
+        ended(f"init of {place}", run(root, "-", place, "init", "--iterations", "1"), 0)
+        ended(f"transfer to {place}", run(root, "source", place, "transfer"), 0)
+    ended("a deletion in other", run(root, "-", "other", "delete", "a"), 0)
+    before = state(os.path.join(root, "other"))
+    shutil.rmtree(os.path.join(root, "target/data/0"))
+    os.symlink("../../other/data/0", os.path.join(root, "target/data/0"))
+    ended("compact", run(root, "-", "target", "compact", "--threshold", "0"), 5, b"target device failed\n")
+    judge(state(os.path.join(root, "other")) == before, "compact: the other repository has changed")
+
+
+def large_config(root):
+    """A config of more than 1 MiB isn't read, in a source and in a target, and one of 1 MiB is."""
+    make_source(root)
+    ended("init", run(root, *INIT), 0)
+    for place, words, status in (("source", LISTED, 4), ("target", ("source", "target", "transfer"), 5), ("target", ("-", "target", "compact"), 5), ("target", INIT, 5)):
+        path = os.path.join(root, place, "config")
+        with open(path, "rb") as file:
+            text = file.read()
+        for size, wanted in ((1 << 20, None), ((1 << 20) + 1, status), (1 << 22, status)):
+            what = f"{words[2]} with a {place}'s config of {size} bytes"
+            write(path, text + b"#" * (size - len(text) - 1) + b"\n")
+            ran = run(root, *words)
+            if wanted is None:
+                judge(ran.returncode in (0, 9), f"{what}: status {ran.returncode}: {ran.stdout!r}")
+            else:
+                ended(what, ran, wanted, b"%s device failed\n" % place.encode())
+        write(path, text)
+
+
+def looks_before(root, *rules):
+    """How many looks at a target that isn't there `init` makes in front of making it."""
+    ended("init", run(root, *INIT, prefix=injected(root, *rules)), 0)
+    shutil.rmtree(os.path.join(root, "target"))
+    return [line.startswith("mkdir(") for line in tracing.lines_of(os.path.join(root, "calls"))].index(True)
+
+
+def refused_looks(root):
+    """Where a look at a target's folder is refused, each or one alone, that isn't taken for its absence: nothing is made, and the device has failed."""
+    place = "target"
+    rules = ("-P", place, "-e", "trace=statx,mkdir")
+    # The first look is that of main itself, which asks whether both places are one.
+    alone = [f":when={number}" for number in range(2, looks_before(root, *rules) + 1)]
+    judge(alone, "init looks at the target once")
+    for is_there, whens in ((False, ["", *alone]), (True, [""])):
+        if is_there:
+            os.mkdir(os.path.join(root, place))
+        for error, when in itertools.product(("EACCES", "EIO"), whens):
+            what = f"a look at a target that {'is' if is_there else 'isn' + chr(39) + 't'} there, refused by {error}{when}"
+            ran = run(root, *INIT, prefix=injected(root, *rules, "-e", f"inject=statx:error={error}{when}"))
+            calls = tracing.lines_of(os.path.join(root, "calls"))
+            judge(any("INJECTED" in line for line in calls), f"{what}: no look is refused")
+            judge(not any(line.startswith("mkdir(") for line in calls), f"{what}: a folder is made")
+            ended(what, ran, 5, b"target device failed\n")
+            judge(os.path.isdir(os.path.join(root, place)) == is_there and not state(root).get("target/README"), f"{what}: {state(root)}")
+
+
+def open_files(root):
+    """A file whose chunks lie in six segments by turns is read with each of them opened few times."""
+    keys = Keys()
+    rows = [[b"%d %2d " % (row, number) * 16 for number in range(20)] for row in range(6)]
+    by_turns = [chunk for column in zip(*rows) for chunk in column]
+    named, chunks = [], {}
+    for name, contents in [(b"%d" % row, contents) for row, contents in enumerate(rows)] + [(b"all", by_turns)]:
+        archive = Archive(keys, name, [Item(b"file", contents, more=ITEM)], length=100000, how=RECORD)
+        named += archive.named(name)
+        chunks.update(dict(archive.chunks()))
+    for place, content in repository(keys, b"passphrase", keys.blob(keys.tagged(fields(named))), *chunks.items()).items():
+        write(os.path.join(root, "source", place), content)
+    ended("init", run(root, *INIT), 0)
+    # Each archive is a commit, so that the chunks of each are in a segment of their own.
+    ended("a transfer", run(root, "source", "target", "transfer", "--block", "80", *(name.decode() for name, _, _ in named)), 0)
+    ran = run(root, "target", "-", "extract", "all", "file", prefix=injected(root, "-e", "trace=openat"))
+    ended("extract", ran, 0, b"".join(by_turns))
+    opened = [line for line in tracing.lines_of(os.path.join(root, "calls")) if re.search(r'"target/data/0/\d+"', line)]
+    segments = len(os.listdir(os.path.join(root, "target/data/0")))
+    judge(len(opened) <= 3 * segments, f"{segments} segments are opened {len(opened)} times")
+
+
+NEED_STRACE = (random_bytes, unreadable, unsynced, progress, refused_looks, open_files)
+CASES = (*NEED_STRACE, closed_by_mode, drawn, modes, places, outputs, short_writes, restored, closed, passphrases, borders, claimed_counts, links, foreign_segments, large_config)
 
 
 def main(chosen):

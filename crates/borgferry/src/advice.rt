@@ -5,8 +5,10 @@ ghost use Rattle.std.specs.Prelude.{◌≡◌, ◌↔◌, IsNone};
 ghost use Rattle.ferry_status.specs.declared.status.Status.TheVariants as TheStatus;
 
 use crate::refusal::{DEVICE, UNNAMED, of_repo};
-use crate::side::Side;
-use crate::target::{COMMITTED, ENTROPY, TARGET, of_deletion, of_limit, of_nonce, of_tagging};
+use crate::side::{Cause, Side};
+use crate::target::{
+    COMMITTED, ENTROPY, PARENT, TARGET, of_deletion, of_limit, of_nonce, of_tagging,
+};
 use ferry_real::Presence;
 use ferry_top::{Refusal, Status};
 
@@ -26,25 +28,41 @@ pub const REMOTE: &str =
 pub const ONE_FOLDER: &str =
     "SOURCE and TARGET are one folder, spelled in two ways: name two folders, or - for the one that the command doesn't use";
 
-/// Where Borg's lock lies in a target that is to be written. The command goes on.
+/// Where Borg's lock lies in a repository. The command goes on.
 pub const LOCKED: &str =
-    "TARGET has a lock of Borg, lock.exclusive or lock.roster, which isn't heeded: see that no Borg command runs on TARGET, nor borg with-lock around this one";
+    "{place} has a lock of Borg, lock.exclusive or lock.roster, which isn't heeded: see that no Borg command writes {place}, and that borg with-lock isn't around this one";
+
+/// Where something is to be taken out of a target that Borg takes nothing out of. The command goes on.
+pub const APPEND_ONLY: &str =
+    "TARGET/config says append_only, which isn't heeded: Borg would keep all segments there, and this command removes those that it needs no more";
 
 /// Where files of Borg lie in a target that something was taken out of. The command is done.
 pub const OUTDATED: &str =
     "TARGET has files index.*, hints.* or integrity.* of Borg that are out of date now: remove them before a Borg command uses TARGET";
 
-/// Where the passphrase of a new key is empty. The command is done.
+/// Where the passphrase of a new key is empty. The command goes on.
 pub const EMPTY_PASSPHRASE: &str =
-    "the key's passphrase is empty, since BORG_PASSPHRASE isn't set or is empty: who has the key reads the repository; borg key change-passphrase sets another";
+    "the new key gets an empty passphrase, since BORG_PASSPHRASE isn't set or is empty, and BORG_PASSCOMMAND and BORG_PASSPHRASE_FD name none: who has the key reads the repository; borg key change-passphrase sets another";
+
+/// Where a repository was made with a key of its own. The command is done.
+pub const NEW_KEY: &str =
+    "TARGET's key is new and lies in TARGET/config: borg key export TARGET FILE writes a copy of it, to be kept elsewhere";
+
+/// Where a key file was printed. The command is done.
+pub const NEW_KEY_FILE: &str =
+    "the key that was printed is new: keep the file elsewhere too, since it is in no repository, and use it for one repository alone";
+
+/// Where a timestamp isn't of Borg's form. The command goes on.
+pub const TIME_FORM: &str =
+    "this timestamp isn't of the form 2026-12-31T23:59:59.000000, which is UTC and the one that Borg reads: Borg fails at a repository whose manifest has another text";
+
+/// Where a timestamp is before that of the target's manifest. The command goes on.
+pub const EARLIER: &str =
+    "this timestamp is before that of TARGET's manifest, so a Borg that has seen TARGET refuses it: give a later one, or none";
 
 /// Where a variable isn't UTF-8.
 pub const NOT_TEXT: &str =
     "set the variable as UTF-8, or leave it out where the command doesn't need it";
-
-/// Where a key file can't be read.
-pub const UNREADABLE: &str =
-    "BORG_OTHER_KEY_FILE or BORG_KEY_FILE names a file that can't be read: see that it is there, or leave the variable out";
 
 /// Where memory was refused.
 pub const MEMORY: &str =
@@ -52,7 +70,7 @@ pub const MEMORY: &str =
 
 /// Where standard output can't be written. It has no fault line, which would go there too.
 pub const OUTPUT: &str =
-    "standard output can't be written, so lines are missing: see whether its disk is full or the program behind the pipe has ended";
+    "standard output can't be written{why}, so lines are missing: see whether its disk is full or the program behind the pipe has ended";
 
 /// Where no archive of the source has a name.
 pub const MISSING: &str = "no archive of SOURCE has this name: list prints the names";
@@ -67,7 +85,7 @@ const TAKEN: &str =
     "TARGET has an archive of this name that differs, or that doesn't read, as check of TARGET tells: choose other names, or another target; nothing of this archive was committed";
 
 const BAD: &str =
-    "the repository opens, and what the line names is the first thing in it that doesn't read: an archive that Borg compressed, renamed or recreated is blob 4 or record 4; of any other see what borg check --verify-data finds, and look at another copy";
+    "the repository opens, and what the line names is the first thing in it that doesn't read: what Borg compressed is blob 4, and borgferry-plain SOURCE cures it; of any other see what borg check --verify-data finds, and look at another copy";
 
 /// The repository that the line of a status speaks of.
 pub fn side_of(status: &Status) -> Side {
@@ -77,55 +95,55 @@ pub fn side_of(status: &Status) -> Side {
     }
 }
 
-/// The text for a status, without its end, where a command ended with one.
-///
-/// `command` is the first word of the command, `presence` says whether the folder of the repository that the status speaks of is
-/// there, and `is_record` whether the object that it names is an archive's record. `None` where the command is done.
-pub fn advice(
-    status: &Status,
-    command: &str,
-    presence: Presence,
-    is_record: bool,
-) -> Option<&'static str>
+/// What a line depends on beside the status: the first word of the command, whether the folder of the repository that the status speaks of is there, and what
+/// failed there.
+#[derive(Clone, Copy)]
+pub struct Ending<'a> {
+    pub command: &'a str,
+    pub presence: Presence,
+    pub cause: Cause<'a>,
+}
+
+/// The text for a status, without its end, where a command ended with one. `None` where the command is done.
+pub fn advice(status: &Status, ending: Ending) -> Option<&'static str>
     ensures said { IsNone result ↔ (status.now ≡ TheStatus.Done) }
 {
     match status {
         Status::Done => None,
         Status::No => Some(BAD),
-        Status::Usage(_) => Some(form_of(command)),
+        Status::Usage(_) => Some(form_of(ending.command)),
         Status::Memory => Some(MEMORY),
         Status::SourceDevice => Some(DEVICE),
-        Status::TargetDevice => Some(of_target_device(presence)),
+        Status::TargetDevice => Some(of_target_device(ending)),
         Status::EntropyDevice => Some(ENTROPY),
         Status::OutputDevice => Some(OUTPUT),
         Status::SourceRefused(refusal) | Status::TargetRefused(refusal) => {
-            Some(of_refusal(refusal, command, presence, is_record))
+            Some(of_refusal(refusal, ending))
         }
         Status::Taken(_) => Some(TAKEN),
-        Status::NotFound(_) => Some(of_missing_name(command)),
+        Status::NotFound(_) => Some(of_missing_name(ending.command)),
         Status::Limit(limit) => Some(of_limit(*limit)),
     }
 }
 
-/// A target whose device failed: one that is no folder can't be written.
-fn of_target_device(presence: Presence) -> &'static str {
-    match presence {
+/// A target whose device failed. It writes the command's lines as well; one that is no folder can't be written.
+fn of_target_device(ending: Ending) -> &'static str {
+    match ending.presence {
+        _ if ending.cause.is_output() => OUTPUT,
         Presence::Unnamed => UNNAMED,
-        Presence::There | Presence::Absent => TARGET,
+        Presence::Absent if ending.cause.is_absence() => PARENT,
+        Presence::Absent | Presence::There => TARGET,
     }
 }
 
 /// A repository that is refused.
-fn of_refusal(
-    refusal: &Refusal,
-    command: &str,
-    presence: Presence,
-    is_record: bool,
-) -> &'static str {
+fn of_refusal(refusal: &Refusal, ending: Ending) -> &'static str {
     match refusal {
-        Refusal::Repo(fault) if command == "delete" => of_deletion(fault, presence),
-        Refusal::Repo(fault) if command == "tag-archives" => of_tagging(fault, presence),
-        Refusal::Repo(fault) => of_repo(fault, presence, is_record),
+        Refusal::Repo(fault) if ending.command == "delete" => of_deletion(fault, ending.presence),
+        Refusal::Repo(fault) if ending.command == "tag-archives" => {
+            of_tagging(fault, ending.presence)
+        }
+        Refusal::Repo(fault) => of_repo(fault, ending.presence),
         Refusal::Nonce(fault) => of_nonce(*fault),
         Refusal::Committed => COMMITTED,
     }

@@ -5,15 +5,17 @@
 
 ghost use Rattle.std.specs.Prelude.{◌≡◌, [], IfSome};
 
-use crate::advice::{EMPTY_PASSPHRASE, LOCKED, OUTDATED, advice, side_of};
+use crate::after::{say, say_of_drill};
+use crate::before::look_before;
 use crate::fault::StartFault;
-use crate::places::{compressed, has_index, is_locked, is_record, presence};
-use crate::secrets::secrets;
-use crate::side::{Side, filled};
-use crate::start::advise;
-use ferry_disk::{Depot, MemoryDepot, Shelf};
-use ferry_real::{FolderDepot, FolderShelf, Progress, StdSink, SystemEntropy, Terminals};
+use crate::secrets::{Asked, secrets};
+use crate::side::{Cause, Side};
+use ferry_disk::{Depot, MemoryDepot, Shelf, Sink};
+use ferry_real::{
+    FolderDepot, FolderShelf, LastLine, Progress, StdSink, SystemEntropy, Terminals, Word,
+};
 use ferry_top::{Secrets, Status, run};
+use ferry_words::{Usage, read_words};
 use std::alloc::{AllocError, AllocGlobal, Global};
 use std::rc::Rc;
 use std::rt::Runtime;
@@ -30,7 +32,7 @@ pub struct Places<'a> {
 
 impl<'a> Places<'a> {
     /// The word for the repository of a side.
-    fn of(self, side: Side) -> &'a str {
+    pub fn of(self, side: Side) -> &'a str {
         match side {
             Side::Source => self.source,
             Side::Target => self.target,
@@ -40,10 +42,35 @@ impl<'a> Places<'a> {
 
 /// What a command is told: the places, its own words, and the secrets.
 #[derive(Clone, Copy)]
-struct Task<'a> {
-    places: Places<'a>,
-    words: &'a [String],
-    secrets: &'a Secrets,
+pub struct Task<'a> {
+    pub places: Places<'a>,
+    pub words: &'a [String],
+    pub secrets: &'a Secrets,
+}
+
+/// How a command ended: its status, in words why standard output or the random bytes failed, and what it printed last.
+#[derive(Drop)]
+pub struct Ended {
+    pub status: Status,
+    why: Option<String>,
+    pub last: LastLine,
+}
+
+/// The status of a command, and in words why the random bytes failed.
+#[derive(Drop)]
+struct Outcome {
+    status: Status,
+    why: Option<String>,
+}
+
+impl Ended {
+    /// Why standard output or the random bytes failed.
+    pub fn cause(&self) -> Cause<'_> {
+        match &self.why {
+            Some(why) => Cause::of_text(why.as_str()),
+            None => Cause::unknown(),
+        }
+    }
 }
 
 /// Runs a command between the repositories at two places. The secrets are read before anything else is looked at.
@@ -53,7 +80,7 @@ pub fn run_command<R: Runtime + AllocGlobal>(
     places: Places,
     words: &[String],
 ) -> Result<u8, StartFault> {
-    let secrets = secrets(rt)?;
+    let secrets = secrets(rt, asked_by(rt.alloc(), words)?)?;
     let task = Task {
         places,
         words,
@@ -62,14 +89,24 @@ pub fn run_command<R: Runtime + AllocGlobal>(
     run_task(rt, terminals, &task)
 }
 
-/// Runs a command, with the line that says how far it is. A lock on the target is told before it begins.
+/// Of which repositories a command asks for the passphrase: of none where the words are those of no command.
+fn asked_by(alloc: Global, words: &[String]) -> Result<Asked, StartFault> {
+    match read_words(alloc, words) {
+        Ok(command) => Ok(Asked::by(&command)),
+        Err(Usage::Memory) => Err(StartFault::Memory),
+        Err(Usage::Word(_)) => Ok(Asked::NONE),
+    }
+}
+
+/// Runs a command, with the line that says how far it is, behind what is looked at before.
 fn run_task<R: Runtime + AllocGlobal>(
     rt: &R,
     terminals: Terminals,
     task: &Task,
 ) -> Result<u8, StartFault> {
-    warn_of_lock(rt, task.places.target, name_of(task.words))?;
+    let names = look_before(rt, task)?;
     let progress = Progress::new(rt.clone()?, rt.alloc(), terminals)?;
+    progress.expect(names);
     with_source(rt, task, &progress)
 }
 
@@ -81,28 +118,27 @@ fn with_source<R: Runtime + AllocGlobal>(
 ) -> Result<u8, StartFault> {
     let own = rt.clone()?;
     let mut source = FolderShelf::new(own, rt.alloc(), task.places.source, progress.clone()?)?;
-    with_target(rt, task, progress, &mut source)
+    if name_of(task.words) == DRILL {
+        drill(rt, task, progress, &mut source)
+    } else {
+        with_target(rt, task, progress, &mut source)
+    }
 }
 
-/// Runs a command, with the files of both. A drill has a target in memory, which prints no line.
-fn with_target<R: Runtime + AllocGlobal>(
+/// Runs a drill, whose target is in memory and prints no line.
+fn drill<R: Runtime + AllocGlobal>(
     rt: &R,
     task: &Task,
     progress: &Rc<Progress<R>>,
     source: &mut FolderShelf<R>,
 ) -> Result<u8, StartFault> {
-    if name_of(task.words) == DRILL {
-        let alloc = rt.alloc();
-        let mut target = MemoryDepot::new(alloc, Vec::new(alloc), Vec::new(alloc))?;
-        return with_output(rt, task, progress, source, &mut target);
-    }
-    let own = rt.clone()?;
-    let mut target = FolderDepot::new(own, rt.alloc(), task.places.target, progress.clone()?)?;
-    with_output(rt, task, progress, source, &mut target)
+    let alloc = rt.alloc();
+    let mut target = MemoryDepot::new(alloc, Vec::new(alloc), Vec::new(alloc))?;
+    over_memory(rt, task, progress, source, &mut target)
 }
 
-/// Runs a command, with standard output.
-fn with_output<R: Runtime + AllocGlobal, D: Depot>(
+/// Runs a drill over its target, and says how that ended.
+fn over_memory<R: Runtime + AllocGlobal, D: Depot>(
     rt: &R,
     task: &Task,
     progress: &Rc<Progress<R>>,
@@ -111,27 +147,74 @@ fn with_output<R: Runtime + AllocGlobal, D: Depot>(
 ) -> Result<u8, StartFault>
     requires begun { IfSome (D.told target.old) (λ t. t.history.acts ≡ []) }
 {
-    let own = rt.clone()?;
-    let mut out = StdSink::new(own, progress.clone()?);
-    let status = with_entropy(rt, task, source, target, &mut out)?;
-    let is_record = names_record(rt.alloc(), &status, task.secrets, source, target);
+    let ended = with_output(rt, task, progress, source, target)?;
     progress.end();
-    say(rt, task, &status, is_record);
-    Ok(status.number())
+    say_of_drill(rt, task, &ended);
+    Ok(ended.status.number())
 }
 
-/// Runs a command, with the system's random bytes, and answers its status.
-fn with_entropy<R: Runtime + AllocGlobal, D: Depot>(
+/// Runs a command, with the files of both.
+fn with_target<R: Runtime + AllocGlobal>(
     rt: &R,
     task: &Task,
+    progress: &Rc<Progress<R>>,
     source: &mut FolderShelf<R>,
+) -> Result<u8, StartFault> {
+    let own = rt.clone()?;
+    let mut target = FolderDepot::new(own, rt.alloc(), task.places.target, progress.clone()?)?;
+    over_folders(rt, task, progress, source, &mut target)
+}
+
+/// Runs a command over both folders, and says how that ended.
+fn over_folders<R: Runtime + AllocGlobal>(
+    rt: &R,
+    task: &Task,
+    progress: &Rc<Progress<R>>,
+    source: &mut FolderShelf<R>,
+    target: &mut FolderDepot<R>,
+) -> Result<u8, StartFault> {
+    let ended = with_output(rt, task, progress, source, target)?;
+    progress.end();
+    say(rt, task, &ended, source, target);
+    Ok(ended.status.number())
+}
+
+/// Runs a command, with standard output.
+fn with_output<R: Runtime + AllocGlobal, S: Shelf, D: Depot>(
+    rt: &R,
+    task: &Task,
+    progress: &Rc<Progress<R>>,
+    source: &mut S,
     target: &mut D,
-    out: &mut StdSink<R>,
-) -> Result<Status, AllocError>
+) -> Result<Ended, AllocError>
+    requires begun { IfSome (D.told target.old) (λ t. t.history.acts ≡ []) }
+{
+    let own = rt.clone()?;
+    let mut out = StdSink::new(own, progress.clone()?);
+    let Outcome { status, why } = with_entropy(rt, task, source, target, &mut out)?;
+    let why = match out.failure() {
+        Some(failure) => words_of(rt.alloc(), failure.word()),
+        None => why,
+    };
+    Ok(Ended {
+        status,
+        why,
+        last: out.last(),
+    })
+}
+
+/// Runs a command, with the system's random bytes.
+fn with_entropy<R: Runtime + AllocGlobal, S: Shelf, D: Depot, O: Sink>(
+    rt: &R,
+    task: &Task,
+    source: &mut S,
+    target: &mut D,
+    out: &mut O,
+) -> Result<Outcome, AllocError>
     requires begun { IfSome (D.told target.old) (λ t. t.history.acts ≡ []) }
 {
     let mut entropy = SystemEntropy::new(rt.clone()?);
-    Ok(run(
+    let status = run(
         rt.alloc(),
         task.words,
         task.secrets,
@@ -139,86 +222,23 @@ fn with_entropy<R: Runtime + AllocGlobal, D: Depot>(
         target,
         &mut entropy,
         out,
-    ))
+    );
+    let why = match entropy.failure() {
+        Some(failure) => words_of(rt.alloc(), failure.word()),
+        None => None,
+    };
+    Ok(Outcome { status, why })
 }
 
-/// Whether the compressed object that a status names is an archive's record of the repository that the status speaks of.
-fn names_record<S: Shelf, T: Shelf>(
-    alloc: Global,
-    status: &Status,
-    secrets: &Secrets,
-    source: &mut S,
-    target: &mut T,
-) -> bool {
-    match (compressed(status), side_of(status)) {
-        (Some(id), Side::Source) => is_record(alloc, source, &secrets.source, &id),
-        (Some(id), Side::Target) => is_record(alloc, target, &secrets.target, &id),
-        (None, _) => false,
-    }
-}
-
-/// Says in plain words how a command ended, where there is something to say.
-fn say<R: Runtime + AllocGlobal>(rt: &R, task: &Task, status: &Status, is_record: bool) {
-    let side = side_of(status);
-    let presence = presence(rt, task.places.of(side));
-    let name = name_of(task.words);
-    match advice(status, name, presence, is_record) {
-        Some(text) => advise_of(rt, rt.alloc(), text, side),
-        None => note(rt, name, task),
-    }
+/// Why something failed, in words; none where memory is refused for them.
+fn words_of(alloc: Global, word: Word) -> Option<String> {
+    format!(in alloc; "{word}").ok()
 }
 
 /// The name of a command, its first word.
-fn name_of(words: &[String]) -> &str {
+pub fn name_of(words: &[String]) -> &str {
     match words {
         [name, ..] => name.as_str(),
         [] => "",
-    }
-}
-
-/// Warns where Borg's lock lies in a target that is to be written.
-fn warn_of_lock<R: Runtime + AllocGlobal>(
-    rt: &R,
-    target: &str,
-    name: &str,
-) -> Result<(), StartFault> {
-    if !writes_target(name) {
-        return Ok(());
-    }
-    if is_locked(rt, target)? {
-        advise(rt, LOCKED);
-    }
-    Ok(())
-}
-
-/// Whether a command writes the target.
-fn writes_target(name: &str) -> bool {
-    name == "init" || name == "transfer" || removes(name)
-}
-
-/// Whether a command takes objects or segments out of the target, after which Borg's own files are out of date.
-fn removes(name: &str) -> bool {
-    name == "delete" || name == "tag-archives" || name == "compact"
-}
-
-/// Says what is to be known behind a command that is done.
-fn note<R: Runtime>(rt: &R, name: &str, task: &Task) {
-    if removes(name) && has_index(rt, task.places.target) {
-        advise(rt, OUTDATED);
-    }
-    note_passphrase(rt, name, task.secrets);
-}
-
-/// Says where a new key has an empty passphrase.
-fn note_passphrase<R: Runtime>(rt: &R, name: &str, secrets: &Secrets) {
-    if (name == "init" || name == "make-key") && secrets.target.passphrase.as_slice().is_empty() {
-        advise(rt, EMPTY_PASSPHRASE);
-    }
-}
-
-/// Prints a line in plain words of one of the repositories. Where memory is refused for it, the status and the fault line tell alone.
-pub fn advise_of<R: Runtime>(rt: &R, alloc: Global, text: &str, side: Side) {
-    if let Ok(line) = filled(alloc, text, side) {
-        advise(rt, line.as_str());
     }
 }

@@ -12,7 +12,7 @@ and compact write the target, nothing the source.
 
 usage: borgferry SOURCE TARGET COMMAND ..
        borgferry COMMAND --help
-       borgferry --help, or -h
+       borgferry --help, help or -h
        borgferry --version
 
 SOURCE and TARGET are folders of repositories; the word - stands for no folder.
@@ -41,11 +41,15 @@ pub const COMMANDS: [&str; 14] = [
 
 /// What stands behind the commands in the help.
 pub const TAIL: &str = "
-variables, each as if empty where it is absent:
-  BORG_OTHER_PASSPHRASE  the passphrase of SOURCE
-  BORG_PASSPHRASE        the passphrase of TARGET
-  BORG_OTHER_KEY_FILE    the key file of SOURCE, none where empty
-  BORG_KEY_FILE          the key file of TARGET, none where empty
+variables:
+  BORG_OTHER_PASSPHRASE     the passphrase of SOURCE
+  BORG_PASSPHRASE           the passphrase of TARGET
+  BORG_OTHER_PASSPHRASE_FD  the number of a stream that has it, where that one
+  BORG_PASSPHRASE_FD        above is absent; with none of them it is empty
+  BORG_OTHER_PASSCOMMAND    a program that prints it, which isn't started here:
+  BORG_PASSCOMMAND          borgferry-passcommand does that
+  BORG_OTHER_KEY_FILE       the key file of SOURCE, none where empty
+  BORG_KEY_FILE             the key file of TARGET, none where empty
 
 A refusal is one line on standard output, and one in plain words on standard
 error, which says what it means and what to do.
@@ -67,6 +71,7 @@ status:
   13  restore: the folder can't be written
   14  restore: the folder isn't empty
   16  a key file can't be read
+  17  withheld: something of yours would be lost, and nothing was written
 ";
 
 /// The lines of a command in the help, `None` where there is no such command.
@@ -126,7 +131,7 @@ const INIT: &str = "  init [--iterations N] [--timestamp T]
       makes a repository in the target, with the key of the target's key file
       where there is one, and prints its id
       N: the iterations that seal a key, 1 to 10000000, else 100000
-      T: the timestamp of the new manifest
+      T: the timestamp of the new manifest, as 2026-12-31T23:59:59.000000 in UTC
 ";
 
 const TRANSFER: &str = "  transfer [--block B] [--checkpoint N] [--timestamp T] [NAME ..]

@@ -6,17 +6,25 @@
 #![tactic(auto)]
 
 mod advice;
+mod after;
+mod before;
 mod command;
 mod fault;
 mod lines;
+mod naming;
+mod numbers;
+mod other_files;
 mod places;
 mod refusal;
 mod restoring;
 mod secrets;
+mod settings;
 mod side;
 mod start;
 mod target;
+mod timestamp;
 mod tree;
+mod withheld;
 
 use ferry_real::Terminals;
 use std::io::IsTerminal;

@@ -1,16 +1,16 @@
 //! What is looked at of the two places by the program itself, beside what the command does.
 
-use ferry_base::{Id, ZERO_ID};
-use ferry_blob::BlobFault;
-use ferry_disk::Shelf;
-use ferry_real::Presence;
-use ferry_repo::{Repo, RepoFault, Secret};
-use ferry_top::{Refusal, Status};
+use crate::fault::{StartFault, large_lock};
+use crate::side::Side;
+use ferry_real::{Presence, SmallFault, read_small};
 use std::alloc::{AllocError, AllocGlobal, Global};
 use std::fs;
 use std::io::ErrorKind;
 use std::os::unix::fs::MetadataExt;
 use std::rt::Runtime;
+
+/// The most bytes of a file of Borg's lock.
+const LOCK_LIMIT: u64 = 65_536;
 
 /// Whether a word is read by Borg as a place on another machine, or with an archive behind: a colon stands before its first slash.
 pub fn is_remote(place: &str) -> bool {
@@ -44,7 +44,7 @@ fn identity<R: Runtime>(rt: &R, place: &str) -> Option<(u64, u64)> {
 }
 
 /// Whether a word stands for no folder.
-fn is_unnamed(place: &str) -> bool {
+pub fn is_unnamed(place: &str) -> bool {
     place.is_empty() || place == "-"
 }
 
@@ -61,14 +61,19 @@ pub fn presence<R: Runtime>(rt: &R, place: &str) -> Presence {
 
 /// Whether a lock of Borg lies in a repository's folder: the file or folder `lock.exclusive`, or a file `lock.roster` that names
 /// somebody.
-pub fn is_locked<R: Runtime + AllocGlobal>(rt: &R, place: &str) -> Result<bool, AllocError> {
+pub fn is_locked<R: Runtime + AllocGlobal>(
+    rt: &R,
+    place: &str,
+    side: Side,
+) -> Result<bool, StartFault> {
     if is_unnamed(place) {
         return Ok(false);
     }
     if is_exclusive(rt, rt.alloc(), place)? {
         return Ok(true);
     }
-    names_somebody_at(rt, rt.alloc(), place)
+    let roster = format!(in rt.alloc(); "{place}/lock.roster")?;
+    names_somebody_at(rt, rt.alloc(), roster, side)
 }
 
 /// Whether anything is at `lock.exclusive` in a folder.
@@ -77,14 +82,17 @@ fn is_exclusive<R: Runtime>(rt: &R, alloc: Global, place: &str) -> Result<bool, 
     Ok(fs::symlink_metadata(rt, path.as_str()).is_ok())
 }
 
-/// Whether the file `lock.roster` of a folder names somebody. Where it can't be read it names nobody.
-fn names_somebody_at<R: Runtime>(rt: &R, alloc: Global, place: &str) -> Result<bool, AllocError> {
-    let roster = format!(in alloc; "{place}/lock.roster")?;
-    if !is_file(rt, roster.as_str()) {
-        return Ok(false);
-    }
-    match fs::read(rt, roster.as_str()) {
+/// Whether the file at this path, `lock.roster` of a repository, names somebody. Where it can't be read it names nobody.
+fn names_somebody_at<R: Runtime>(
+    rt: &R,
+    alloc: Global,
+    roster: String,
+    side: Side,
+) -> Result<bool, StartFault> {
+    match read_small(rt, alloc, roster.as_str(), LOCK_LIMIT) {
         Ok(text) => Ok(names_somebody(text.as_slice())),
+        Err(SmallFault::TooLarge) => Err(large_lock(alloc, side, roster.as_str())?),
+        Err(SmallFault::Memory) => Err(StartFault::Memory),
         Err(_) => Ok(false),
     }
 }
@@ -111,14 +119,6 @@ fn is_index(name: &str) -> bool {
     name.starts_with(b"index.") || name.starts_with(b"hints.") || name.starts_with(b"integrity.")
 }
 
-/// Whether a regular file is at a path: a pipe, say, would be waited for.
-fn is_file<R: Runtime>(rt: &R, path: &str) -> bool {
-    match fs::metadata(rt, path) {
-        Ok(metadata) => metadata.is_file(),
-        Err(_) => false,
-    }
-}
-
 /// Whether the text of `lock.roster` names somebody: a list of its lists isn't empty, so that two brackets open one behind the
 /// other, blanks apart.
 fn names_somebody(text: &[u8]) -> bool {
@@ -129,41 +129,6 @@ fn names_somebody(text: &[u8]) -> bool {
             b'[' => is_behind_bracket = true,
             b' ' | b'\t' | b'\r' | b'\n' => {}
             _ => is_behind_bracket = false,
-        }
-    }
-    false
-}
-
-/// The compressed object that a status names, other than a manifest.
-pub fn compressed(status: &Status) -> Option<Id> {
-    match status {
-        Status::SourceRefused(Refusal::Repo(fault)) | Status::TargetRefused(Refusal::Repo(fault)) =>
-            compressed_in(fault),
-        _ => None,
-    }
-}
-
-/// The compressed object that the fault of a repository names, other than a manifest.
-pub fn compressed_in(fault: &RepoFault) -> Option<Id> {
-    match fault {
-        RepoFault::Blob(id, BlobFault::Compressed) if *id != ZERO_ID => Some(*id),
-        _ => None,
-    }
-}
-
-/// Whether an id is that of an archive's record in the repository that a shelf has. `false` where it doesn't open any more.
-pub fn is_record<S: Shelf>(alloc: Global, shelf: &mut S, secret: &Secret, id: &Id) -> bool {
-    match Repo::open(alloc, shelf, secret) {
-        Ok(repo) => has_record(&repo, id),
-        Err(_) => false,
-    }
-}
-
-/// Whether an id is that of an archive's record in a repository.
-fn has_record(repo: &Repo, id: &Id) -> bool {
-    for archive in repo.manifest().archives.as_slice() {
-        if archive.id == *id {
-            return true;
         }
     }
     false

@@ -14,7 +14,7 @@ use ferry_top::RepoFault;
 
 /// Where a repository's files can't be read.
 pub const DEVICE: &str =
-    "the files of {place} can't be read: see that it is a folder, that you may read all of it and that its disk answers";
+    "{file} can't be read{why}: see that {place} is a folder, that you may read all of it and that its disk answers";
 
 /// Where a word that stands for no folder is to be a repository.
 pub const UNNAMED: &str =
@@ -23,9 +23,17 @@ pub const UNNAMED: &str =
 const ABSENT: &str =
     "the folder {place} isn't there: see how it is spelled, and from which folder a path without / in front goes{init}";
 
+/// Where Borg compressed an object.
+pub const COMPRESSED: &str =
+    "Borg compressed this object, as by its default all that it writes, archives and manifest: borgferry-plain {place} puts what is compressed there again without, and leaves names, ids and times as they are";
+
+/// Where the tag of an archive's record is that of another text.
+pub const TAG: &str =
+    "the archive's authentication tag is that of another text, as borg rename, and borg recreate without --target, leave it: borgferry-plain --tag-archives {place} writes the right one, by which the archive gets another id";
+
 /// A repository that doesn't open. A folder that isn't there reads as one without files, so this is told in the place of what such a
-/// folder lacks first. `is_record` says whether the object that the fault names is an archive's record.
-pub fn of_repo(fault: &RepoFault, presence: Presence, is_record: bool) -> &'static str {
+/// folder lacks first.
+pub fn of_repo(fault: &RepoFault, presence: Presence) -> &'static str {
     match (fault, presence) {
         (RepoFault::NoCommit | RepoFault::Config(ConfigFault::Section), Presence::Absent) => ABSENT,
         (RepoFault::NoCommit | RepoFault::Config(ConfigFault::Section), Presence::Unnamed) => {
@@ -40,7 +48,7 @@ pub fn of_repo(fault: &RepoFault, presence: Presence, is_record: bool) -> &'stat
         (RepoFault::Config(fault), _) => of_config(*fault),
         (RepoFault::Key(fault), _) => of_key(*fault),
         (RepoFault::Missing(id), _) => of_missing(*id == ZERO_ID),
-        (RepoFault::Blob(id, fault), _) => of_blob(*fault, *id == ZERO_ID, is_record),
+        (RepoFault::Blob(_, fault), _) => of_blob(*fault),
         (RepoFault::Manifest(fault), _) => of_manifest(*fault),
         (RepoFault::Archive(_, fault), _) => of_record(*fault),
         (RepoFault::Item(_, fault), _) => of_item(*fault),
@@ -118,13 +126,13 @@ fn of_key_file(fault: KeyFileFault) -> &'static str {
 
 fn of_missing(is_manifest: bool) -> &'static str {
     if is_manifest {
-        "there is no manifest, which lists the archives: see that no file of {place} is missing; on a copy, borg check --repair makes it anew, and borg create --compression none plain"
+        "there is no manifest, which lists the archives: see that no file of {place} is missing; on a copy, borg check --repair makes it anew, and borgferry-plain makes that plain"
     } else {
         "an object isn't there that {place} needs: see that no file of {place} is missing, and what borg check finds"
     }
 }
 
-fn of_blob(fault: BlobFault, is_manifest: bool, is_record: bool) -> &'static str {
+fn of_blob(fault: BlobFault) -> &'static str {
     match fault {
         BlobFault::Kind => {
             "the object isn't of a repository made with --encryption repokey or keyfile, and no others are read"
@@ -135,21 +143,10 @@ fn of_blob(fault: BlobFault, is_manifest: bool, is_record: bool) -> &'static str
         BlobFault::Mac => {
             "the object was changed, or sealed with another key: see what borg check --verify-data {place} finds, and look at another copy"
         }
-        BlobFault::Compressed => of_compressed(is_manifest, is_record),
+        BlobFault::Compressed => COMPRESSED,
         BlobFault::Id => {
             "the object isn't the one that its id names: see what borg check --verify-data {place} finds, and look at another copy"
         }
-    }
-}
-
-/// An object that Borg compressed.
-fn of_compressed(is_manifest: bool, is_record: bool) -> &'static str {
-    if is_manifest {
-        "the manifest of {place} is compressed: borg create --compression none {place}::NAME FOLDER writes it plain, and an empty FOLDER will do"
-    } else if is_record {
-        "an archive's record is compressed, as Borg's own compression and borg rename leave it: borg recreate --recompress --compression none --chunker-params fixed,65536 --target NEW {place}::OLD makes a plain archive of it, and then one borg create --compression none a plain manifest"
-    } else {
-        "a file's content or the list of an archive's items is compressed: borg recreate --recompress --compression none --chunker-params fixed,65536 --target NEW {place}::OLD makes a plain archive of one, and then one borg create --compression none a plain manifest"
     }
 }
 
@@ -170,9 +167,7 @@ fn of_manifest(fault: MetaFault) -> &'static str {
 
 fn of_record(fault: MetaFault) -> &'static str {
     match fault {
-        MetaFault::Tag | MetaFault::TagMissing => {
-            "the archive's authentication tag is wrong: borg rename, and borg recreate without --target, leave it so, and then borg recreate --recompress --compression none --chunker-params fixed,65536 --target NEW {place}::OLD makes an archive that reads; else its record was changed without the key: don't trust it"
-        }
+        MetaFault::Tag | MetaFault::TagMissing => TAG,
         MetaFault::Memory => MEMORY,
         MetaFault::Pack | MetaFault::Field | MetaFault::TooLarge => {
             "the archive's record isn't as Borg 1 writes it: see what borg check {place} finds, and look at another copy of the repository"

@@ -1,12 +1,14 @@
 //! What the program does with its words: it prints what it says of itself, or runs a command.
 
 use crate::advice::OUTPUT;
+use crate::after::advise_of;
 use crate::command::{Places, run_command};
 use crate::fault::{StartFault, refuse};
 use crate::lines::{COMMANDS, HEAD, TAIL, VERSION, lines_of};
 use crate::places::{are_one, is_remote};
 use crate::restoring::run_restore;
-use ferry_real::Terminals;
+use crate::side::{Cause, Side};
+use ferry_real::{Terminals, Word};
 use ferry_top::places_fit;
 use std::alloc::AllocGlobal;
 use std::env;
@@ -55,15 +57,28 @@ fn do_words<R: Runtime + AllocGlobal>(
     words: &[String],
 ) -> Result<u8, StartFault> {
     match words {
-        [word] if is_help(word) || word.as_str() == "-h" => Ok(print_help(rt)),
+        [word] if is_help(word) || is_asked(word) => Ok(print_help(rt)),
         [word] if word.as_str() == "--version" => Ok(print(rt, VERSION)),
         [command, help] | [_, _, command, help, ..] if is_help(help) => {
-            match lines_of(command.as_str()) {
-                Some(lines) => Ok(print(rt, lines)),
-                None => run_words(rt, terminals, words),
-            }
+            help_of(rt, terminals, words, command)
+        }
+        [help, command] if is_help(help) || is_asked(help) => {
+            help_of(rt, terminals, words, command)
         }
         _ => run_words(rt, terminals, words),
+    }
+}
+
+/// Prints the lines of a command in the help, where there is such a command; else the words are no more than words.
+fn help_of<R: Runtime + AllocGlobal>(
+    rt: &R,
+    terminals: Terminals,
+    words: &[String],
+    command: &String,
+) -> Result<u8, StartFault> {
+    match lines_of(command.as_str()) {
+        Some(lines) => Ok(print(rt, lines)),
+        None => run_words(rt, terminals, words),
     }
 }
 
@@ -119,13 +134,18 @@ fn words<R: Runtime + AllocGlobal>(rt: &R) -> Result<Vec<String>, StartFault> {
     }
 }
 
+/// Whether a first word asks for help in another way.
+fn is_asked(word: &String) -> bool {
+    word.as_str() == "help" || word.as_str() == "-h"
+}
+
 /// Whether a word asks for help.
 fn is_help(word: &String) -> bool {
     word.as_str() == "--help"
 }
 
 /// Prints the help, and answers the status to end with.
-fn print_help<R: Runtime>(rt: &R) -> u8 {
+fn print_help<R: Runtime + AllocGlobal>(rt: &R) -> u8 {
     let mut status = print(rt, HEAD);
     for command in COMMANDS {
         if status == 0
@@ -138,11 +158,12 @@ fn print_help<R: Runtime>(rt: &R) -> u8 {
 }
 
 /// Prints a text, and answers the status to end with.
-fn print<R: Runtime>(rt: &R, text: &str) -> u8 {
+fn print<R: Runtime + AllocGlobal>(rt: &R, text: &str) -> u8 {
     match rt.write_all(text.as_bytes()) {
         Ok(()) => 0,
-        Err(_) => {
-            advise(rt, OUTPUT);
+        Err(error) => {
+            let cause = Cause::of_word(Word::of(&error));
+            advise_of(rt, rt.alloc(), OUTPUT, Side::Source, cause);
             OUTPUT_STATUS
         }
     }

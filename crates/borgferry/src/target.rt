@@ -1,18 +1,24 @@
 //! What only the target is refused for, and what limits it meets, in plain words.
 
-use crate::refusal::of_repo;
+use crate::refusal::{COMPRESSED, TAG, of_repo};
 use ferry_base::ZERO_ID;
+use ferry_blob::BlobFault;
+use ferry_manifest::MetaFault;
 use ferry_nonce::NonceFault;
 use ferry_real::Presence;
 use ferry_top::{Limit, RepoFault};
 
 /// Where the target's device failed.
 pub const TARGET: &str =
-    "the files of TARGET can't be read or written: see that it is a folder, that you may write all of it and that its disk has room";
+    "{file} can't be read or written{why}: see that TARGET is a folder, that you may write all of it and that its disk has room";
+
+/// Where the folder isn't there that the target's is to be made in.
+pub const PARENT: &str =
+    "the folder {file} isn't there, in which TARGET is to be made: make it first, or see how TARGET is spelled, where a ~ in quotes stays as it is";
 
 /// Where the system hands out no random bytes.
 pub const ENTROPY: &str =
-    "the system hands out no random bytes, without which no key is made: see that /dev/urandom can be read";
+    "the system hands out no random bytes{why}, without which no key is made: see that /dev/urandom can be read";
 
 /// Where a repository is to be made over another.
 pub const COMMITTED: &str =
@@ -20,11 +26,11 @@ pub const COMMITTED: &str =
 
 /// Where records are to get tags and an archive of the target doesn't read.
 const UNTAGGABLE: &str =
-    "TARGET has an archive that doesn't read, and while it has one no record gets a tag, since an object might go that it uses: list NAME, with TARGET in the place of SOURCE, is refused for it; borg recreate --recompress --compression none --chunker-params fixed,65536 --target NEW TARGET::NAME makes a plain one where Borg reads it, and borg delete --force TARGET::NAME takes it out";
+    "TARGET has an archive that doesn't read, and while it has one no record gets a tag, since an object might go that it uses: borg delete --force --force TARGET::NAME takes it out, and then borgferry-plain TARGET makes the manifest plain";
 
 /// Where an archive is to be deleted and one of the target doesn't read, it or another.
 const UNREAD: &str =
-    "TARGET has an archive that doesn't read, and while it has one none is deleted, since a chunk might go that it uses: list NAME, with TARGET in the place of SOURCE, is refused for it; borg recreate --recompress --compression none --chunker-params fixed,65536 --target NEW TARGET::NAME makes a plain one where Borg reads it, borg delete --force TARGET::NAME takes it out, and then one borg create --compression none makes a plain manifest";
+    "TARGET has an archive that doesn't read, and while it has one none is deleted, since a chunk might go that it uses: borg delete --force --force TARGET::NAME takes it out, and then borgferry-plain TARGET makes the manifest plain";
 
 /// A target of which no archive is deleted. All archives have to read for that, so what the fault names may be an object of any.
 pub fn of_deletion(fault: &RepoFault, presence: Presence) -> &'static str {
@@ -36,12 +42,14 @@ pub fn of_tagging(fault: &RepoFault, presence: Presence) -> &'static str {
     of_reading(fault, presence, UNTAGGABLE)
 }
 
-/// A target of which all archives have to read, with the text for one that doesn't.
+/// A target of which all archives have to read, with the text for one that doesn't and that nothing makes read.
 fn of_reading(fault: &RepoFault, presence: Presence, unread: &'static str) -> &'static str {
     match fault {
+        RepoFault::Blob(_, BlobFault::Compressed) => COMPRESSED,
+        RepoFault::Archive(_, MetaFault::Tag) => TAG,
         RepoFault::Missing(id) | RepoFault::Blob(id, _) if *id != ZERO_ID => unread,
         RepoFault::Archive(_, _) | RepoFault::Item(_, _) => unread,
-        _ => of_repo(fault, presence, false),
+        _ => of_repo(fault, presence),
     }
 }
 

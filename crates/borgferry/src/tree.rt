@@ -5,9 +5,9 @@ ghost use Rattle.ferry_run_restore.specs.declared.restored.Restored.TheVariants 
 
 use crate::advice::{MEMORY, MISSING, OUTPUT};
 use crate::refusal::{DEVICE, of_repo};
+use crate::side::{Cause, push_escaped};
 use ferry_real::Presence;
 use ferry_run_restore::Restored;
-use ferry_text::write_text;
 use ferry_tree::PlaceFault;
 use std::alloc::{AllocError, Global};
 
@@ -18,7 +18,10 @@ const UNNAMED: &str =
     "FOLDER is - or empty, which stands for no folder: name the folder that the archive is to be restored in";
 
 const TREE: &str =
-    "a file, folder or link can't be made in FOLDER: see that you may write it, that its disk has room and that it takes names of this length; what lies in front of it is in FOLDER";
+    "{file} can't be made{why}: see that you may write FOLDER, that its disk has room and that it takes names of this length; what lies in front of it is in FOLDER";
+
+const NO_PARENT: &str =
+    "the folder {file} isn't there, in which FOLDER is to be made: make it first, or see how FOLDER is spelled, where a ~ in quotes stays as it is";
 
 const FOREIGN: &str =
     ", or the target of the link there, isn't UTF-8, and so can't be made here: borg extract makes it; what lies in front of it is in FOLDER";
@@ -40,13 +43,12 @@ const PARENT: &str =
 
 /// The text for a status, without its end, where a restoring ended with one.
 ///
-/// `source` says whether the folder of the source is there, `folder` whether that of the tree is, and `is_record` whether the object that the status
-/// names is an archive's record. `None` where the archive is restored.
+/// `source` says whether the folder of the source is there, `folder` whether that of the tree is. `None` where the archive is restored.
 pub fn advice_of(
     ended: &Restored,
     source: Presence,
     folder: Presence,
-    is_record: bool,
+    cause: Cause,
 ) -> Option<&'static str>
     ensures said { IsNone result ↔ (ended.now ≡ TheRestored.Done) }
 {
@@ -56,10 +58,10 @@ pub fn advice_of(
         Restored::Memory => Some(MEMORY),
         Restored::SourceDevice => Some(DEVICE),
         Restored::OutputDevice => Some(OUTPUT),
-        Restored::Source(fault) => Some(of_repo(fault, source, is_record)),
+        Restored::Source(fault) => Some(of_repo(fault, source)),
         Restored::Place(_, fault) => Some(of_place(*fault)),
         Restored::NotFound(_) => Some(MISSING),
-        Restored::TreeDevice => Some(of_tree(folder)),
+        Restored::TreeDevice => Some(of_tree(folder, cause)),
         Restored::NotEmpty => Some(NOT_EMPTY),
     }
 }
@@ -75,10 +77,11 @@ fn of_place(fault: PlaceFault) -> &'static str {
 }
 
 /// A tree that failed.
-fn of_tree(folder: Presence) -> &'static str {
+fn of_tree(folder: Presence, cause: Cause) -> &'static str {
     match folder {
         Presence::Unnamed => UNNAMED,
-        Presence::There | Presence::Absent => TREE,
+        Presence::Absent if cause.is_absence() => NO_PARENT,
+        Presence::Absent | Presence::There => TREE,
     }
 }
 
@@ -88,24 +91,4 @@ pub fn foreign_line(alloc: Global, path: &[u8]) -> Result<String, AllocError> {
     push_escaped(alloc, path, &mut line)?;
     line.push_str(FOREIGN)?;
     Ok(line)
-}
-
-/// Appends bytes as names are printed; a byte that isn't part of a character of UTF-8 is printed as `\x` and two hex digits too.
-fn push_escaped(alloc: Global, bytes: &[u8], line: &mut String) -> Result<(), AllocError> {
-    let mut escaped = Vec::new(alloc);
-    write_text(bytes, &mut escaped)?;
-    for chunk in escaped.as_slice().utf8_chunks() {
-        line.push_str(chunk.valid())?;
-        push_digits(alloc, chunk.invalid(), line)?;
-    }
-    Ok(())
-}
-
-/// Appends `\x` and two hex digits for each byte.
-fn push_digits(alloc: Global, bytes: &[u8], line: &mut String) -> Result<(), AllocError> {
-    for byte in bytes {
-        line.push_str("\\x")?;
-        line.push_str(&hex::encode(alloc, [*byte])?)?;
-    }
-    Ok(())
 }

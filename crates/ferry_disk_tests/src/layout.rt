@@ -1,7 +1,6 @@
 //! Reads and writes of a file where the system moves a part, is interrupted or fails.
 
-use ferry_disk::StoreFault;
-use ferry_layout::{read_file_at, write_all};
+use ferry_layout::{parent_of_path, read_file_at, write_all};
 use std::io;
 use std::io::{Cursor, Error, ErrorKind, Read, Seek, SeekFrom, Write};
 
@@ -47,12 +46,13 @@ impl Seek for SlowFile {
 fn short_reads_are_joined_and_a_failed_one_is_told(rt: HostRuntime) {
     let cases = [
         (0, 3, Ok(5), b"34567"),
-        (4, 3, Err(StoreFault::Failed), b"3456."),
+        (4, 3, Err(ErrorKind::Other), b"3456."),
         (0, 8, Ok(2), b"89..."),
     ];
     for (fails_at, at, want, bytes) in cases {
         let mut into = *b".....";
         let got = read_file_at(&mut SlowFile::new(fails_at), at, &mut into);
+        let got = got.map_err(|error| error.kind());
         assert!(rt; got == want && &into == bytes, "{fails_at} {at}");
     }
 }
@@ -109,5 +109,21 @@ fn a_piece_is_written_whole_or_the_write_fails(rt: HostRuntime) {
     ];
     for (stops_at, want, taken) in cases {
         assert!(rt; refusal(stops_at) == (want, taken), "{stops_at}");
+    }
+}
+
+#[test]
+fn a_paths_parent_is_what_lies_in_front_of_its_last_name(rt: HostRuntime) {
+    let cases = [
+        ("a/b/c/T", "a/b/c"),
+        ("a/b//T//", "a/b"),
+        ("~/T", "~"),
+        ("T", "."),
+        ("T/", "."),
+        ("/T", "/"),
+        ("//T", "/"),
+    ];
+    for (path, want) in cases {
+        assert!(rt; parent_of_path(path) == want, "{path}");
     }
 }

@@ -13,7 +13,7 @@ pub fn new_place(rt: &HostRuntime, test: &str) -> io::Result<String> {
 }
 
 /// The path of a file or a folder below the place.
-fn path_in(rt: &HostRuntime, place: &str, path: &str) -> io::Result<String> {
+pub fn path_in(rt: &HostRuntime, place: &str, path: &str) -> io::Result<String> {
     let path = format!(in rt.alloc(); "{place}/{path}")?;
     Ok(path)
 }
@@ -83,8 +83,25 @@ pub fn add_sparse(rt: &HostRuntime, place: &str, path: &str, length: u64) -> io:
     file.set_len(length)
 }
 
-/// Makes a link at a path below the place.
+/// Makes a link at a path below the place to another below it.
 pub fn add_link(rt: &HostRuntime, place: &str, to: &str, path: &str) -> io::Result<()> {
+    let to = path_in(rt, place, to)?;
     let path = path_in(rt, place, path)?;
-    symlink(rt, to, path.as_str())
+    symlink(rt, to.as_str(), path.as_str())
+}
+
+/// Whether links lie at all these paths below the place.
+pub fn are_links(rt: &HostRuntime, place: &str, links: &[(&str, &str)]) -> io::Result<bool> {
+    for (_, path) in links {
+        if !is_link(rt, place, path)? {
+            return Ok(false);
+        }
+    }
+    Ok(true)
+}
+
+/// Whether a link lies at a path below the place.
+fn is_link(rt: &HostRuntime, place: &str, path: &str) -> io::Result<bool> {
+    let path = path_in(rt, place, path)?;
+    Ok(fs::symlink_metadata(rt, path.as_str())?.is_symlink())
 }

@@ -1,6 +1,6 @@
 //! The devices over the system: which files of a folder are read, what is written and where, and what the system's answers come to.
 
-use crate::place::{add_all, add_folder, add_link, add_sparse, have_files, new_place, take_file};
+use crate::place::{add_all, add_folder, add_sparse, have_files, new_place, take_file};
 use ferry_disk::{Depot, Entropy, Name, Shelf, Sink, StoreFault};
 use ferry_real::{FolderDepot, FolderShelf, Progress, StdSink, SystemEntropy, Terminals};
 use std::alloc::AllocError;
@@ -26,7 +26,7 @@ fn shelf_at(rt: &HostRuntime, place: &str) -> Result<FolderShelf<HostRuntime>, A
 }
 
 /// A depot over the folder at this path.
-fn depot_at(rt: &HostRuntime, place: &str) -> Result<FolderDepot<HostRuntime>, AllocError> {
+pub fn depot_at(rt: &HostRuntime, place: &str) -> Result<FolderDepot<HostRuntime>, AllocError> {
     let progress = silent(rt)?;
     FolderDepot::new(rt.clone()?, rt.alloc(), place, progress)
 }
@@ -242,39 +242,33 @@ fn goes_on(rt: &HostRuntime, place: &str) -> io::Result<bool> {
 
 const TWO_FOLDERS: [&str; 2] = ["data/0", "data/5"];
 
-/// Files of which one lies outside, and two have one number.
+/// Files of which two have one number.
 const FOUR_FILES: [(&str, &str); 4] = [
     ("data/0/1", "data/0/1"),
     ("data/0/2", "data/0/2"),
     ("data/5/2", "data/5/2"),
-    ("outside", "outside"),
+    ("data/0/3", "data/0/3"),
 ];
 
-/// Whether a depot fails at a link, and appends to a file that is there.
-fn fails_at_a_link(depot: &mut FolderDepot<HostRuntime>) -> bool {
-    answers(depot, &[Step::Append(3, "x")], FAILED)
-        && answers(depot, &[Step::Append(1, "+")], Ok(()))
-}
-
-/// Whether a depot fails at a file that was taken away and where there is no file at all, both files of one number go, and the link stays.
+/// Whether a depot fails at a file that was taken away and where there is no file at all, both files of one
+/// number go, and the last file stays.
 fn keeps_the_rest(rt: &HostRuntime, depot: &mut FolderDepot<HostRuntime>) -> bool {
     answers(depot, &[Step::Append(1, "+"), Step::Sync(1)], FAILED)
         && answers(depot, &[Step::Remove(2)], Ok(()))
         && are_listed(rt, depot, &[3])
-        && is_read(depot, Name::Segment(3), "outside")
+        && is_read(depot, Name::Segment(3), "data/0/3")
 }
 
-/// Whether a depot does both, where a file is taken away between.
+/// Whether a depot appends to a file that is there, and does so where that is taken away then.
 fn fails(rt: &HostRuntime, place: &str, depot: &mut FolderDepot<HostRuntime>) -> io::Result<bool> {
-    let is_refused = fails_at_a_link(depot);
+    let is_there = answers(depot, &[Step::Append(1, "+")], Ok(()));
     take_file(rt, place, "data/0/1")?;
-    Ok(is_refused && keeps_the_rest(rt, depot))
+    Ok(is_there && keeps_the_rest(rt, depot))
 }
 
-/// Whether a new depot does so over those files and a link out of their folders.
+/// Whether a new depot does so over those files.
 fn is_refused(rt: &HostRuntime, place: &str) -> io::Result<bool> {
     add_all(rt, place, &TWO_FOLDERS, &FOUR_FILES)?;
-    add_link(rt, place, "../../outside", "data/0/3")?;
     let mut depot = depot_at(rt, place)?;
     fails(rt, place, &mut depot)
 }

@@ -15,6 +15,6 @@ mod write;
 pub use count::{count_entropy, count_sink, count_store, sink_fault, store_fault};
 pub use listing::{Listing, Places, note, numbers};
 pub use names::{Location, number_of, own_folder};
-pub use place::{Place, file_name, folder_of_path};
+pub use place::{Place, file_name, folder_of_path, parent_of_path};
 pub use read::{fill, read_file_at};
 pub use write::write_all;

@@ -87,6 +87,15 @@ pub fn folder_of_path(path: &str) -> &str {
     }
 }
 
+/// The folder that lies in front of a path of a user, whose last name may have slashes behind it.
+pub fn parent_of_path(path: &str) -> &str {
+    match path.trim_end_matches('/').rsplit_once('/') {
+        Some((folder, _)) if folder.trim_end_matches('/').is_empty() => "/",
+        Some((folder, _)) => folder.trim_end_matches('/'),
+        None => ".",
+    }
+}
+
 /// A path that was put together, for which memory may have been refused.
 fn path_of<E: Drop>(path: Result<String, E>) -> Result<String, StoreFault> {
     match path {

@@ -2,19 +2,14 @@
 ghost use Rattle.std.specs.Prelude.{◌≤◌, ◌<◌, length, take, IfOk};
 ghost use Rattle.std.specs.Io.KnownBytes.{Consumes, IsAtEnd};
 
-use crate::count::store_fault;
-use ferry_disk::StoreFault;
-use std::io::{ErrorKind, Read, Seek, SeekFrom};
+use std::io;
+use std::io::{Error, ErrorKind, Read, Seek, SeekFrom};
 
 /// The greatest place in a file of the system.
 const LAST_PLACE: u64 = i64::MAX as u64;
 
 /// Fills the front of `into` with an open file's bytes from byte `at` on, and answers how many.
-pub fn read_file_at<F: Read + Seek>(
-    file: &mut F,
-    at: u64,
-    into: &mut [u8],
-) -> Result<usize, StoreFault>
+pub fn read_file_at<F: Read + Seek>(file: &mut F, at: u64, into: &mut [u8]) -> io::Result<usize>
     ensures within { IfOk result (λ count. count ≤ length into.old) }
 {
     if at > LAST_PLACE {
@@ -22,13 +17,13 @@ pub fn read_file_at<F: Read + Seek>(
     }
     match file.seek(SeekFrom::Start(at)) {
         Ok(_) => fill(file, into),
-        Err(error) => Err(store_fault(&error)),
+        Err(error) => Err(error),
     }
 }
 
 /// Fills the front of `into` with the bytes that a file has next, and answers how many: less than there is room for only at the
 /// file's end. A read that a signal interrupts is done again.
-pub fn fill<F: Read>(file: &mut F, into: &mut [u8]) -> Result<usize, StoreFault>
+pub fn fill<F: Read>(file: &mut F, into: &mut [u8]) -> io::Result<usize>
     ensures within { IfOk result (λ count. count ≤ length into.old) }
     ensures bytes { IfOk result (λ count. Consumes (F.remaining file.old) (F.remaining file.new) (take count into.new)) }
     ensures full { IfOk result (λ count. count < length into.old → IsAtEnd (F.remaining file.new)) }
@@ -42,8 +37,8 @@ pub fn fill<F: Read>(file: &mut F, into: &mut [u8]) -> Result<usize, StoreFault>
             Ok(0) => return Ok(count),
             Ok(more) => count += more,
             Err(error) if error.kind() == ErrorKind::Interrupted => {}
-            Err(error) => return Err(store_fault(&error)),
+            Err(error) => return Err(error),
         }
     }
-    Err(StoreFault::Failed)
+    Err(Error::from(ErrorKind::Other))
 }

@@ -3,7 +3,10 @@ ghost use Rattle.std.specs.Prelude.{◌≡◌, None};
 ghost use Rattle.ferry_disk.specs.Device.{HasCause, store_failed};
 ghost use Rattle.ferry_layout.specs.Count.{count_after};
 
+use crate::copied::Copied;
+use crate::failure::Failure;
 use crate::progress::Progress;
+use crate::scan::Scan;
 use crate::writer::Writer;
 use ferry_disk::{Depot, Name, Shelf, StoreFault};
 use ferry_layout::count_store;
@@ -16,6 +19,10 @@ use std::rt::Runtime;
 pub struct FolderDepot<R: Runtime> {
     writer: Writer<R>,
     progress: Rc<Progress<R>>,
+    scan: Scan,
+    copied: Copied,
+    /// Whether a file was written or removed.
+    has_changed: bool,
     faults: u64,
 }
 
@@ -33,8 +40,27 @@ impl<R: Runtime> FolderDepot<R> {
         Ok(FolderDepot {
             writer,
             progress,
+            scan: Scan::new(),
+            copied: Copied::new(alloc),
+            has_changed: false,
             faults: 0,
         })
+    }
+
+    /// What failed first, and why. `None` where nothing has, the word stands for no folder, or memory was
+    /// refused for it.
+    pub fn failure(&self) -> Option<&Failure> {
+        self.writer.folder.system.failure()
+    }
+
+    /// Which archives the lines have told of as copied.
+    pub fn copied(&self) -> &Copied {
+        &self.copied
+    }
+
+    /// Whether a call was made that writes to a file or removes one, also one that failed.
+    pub fn has_changed(&self) -> bool {
+        self.has_changed
     }
 
     /// Counts what a call that writes has answered. After one that failed the files are looked at anew.
@@ -61,6 +87,7 @@ impl<R: Runtime> Shelf for FolderDepot<R> {
     }
 
     fn size(&mut self, name: Name) -> Result<Option<u64>, StoreFault> {
+        self.scan.begin(name);
         let outcome = self.writer.folder.size(name);
         count_store(&mut self.faults, outcome)
     }
@@ -68,7 +95,8 @@ impl<R: Runtime> Shelf for FolderDepot<R> {
     fn read_at(&mut self, name: Name, at: u64, into: &mut [u8]) -> Result<usize, StoreFault> {
         let outcome = self.writer.folder.read_at(name, at, into);
         if let Ok(count) = &outcome {
-            self.progress.add_read(*count);
+            let is_log = self.scan.takes(name, at, *count);
+            self.progress.add_read(*count, is_log);
         }
         count_store(&mut self.faults, outcome)
     }
@@ -76,6 +104,7 @@ impl<R: Runtime> Shelf for FolderDepot<R> {
 
 impl<R: Runtime> Depot for FolderDepot<R> {
     fn append(&mut self, segment: u64, bytes: &[u8]) -> Result<(), StoreFault> {
+        self.has_changed = true;
         let outcome = self.writer.append(segment, bytes);
         if outcome.is_ok() {
             self.progress.add_written(bytes.len());
@@ -89,11 +118,13 @@ impl<R: Runtime> Depot for FolderDepot<R> {
     }
 
     fn remove(&mut self, segment: u64) -> Result<(), StoreFault> {
+        self.has_changed = true;
         let outcome = self.writer.remove(segment);
         self.count(outcome)
     }
 
     fn replace(&mut self, name: Name, bytes: &[u8]) -> Result<(), StoreFault> {
+        self.has_changed = true;
         let outcome = self.writer.replace(name, bytes);
         if outcome.is_ok() {
             self.progress.add_written(bytes.len());
@@ -108,7 +139,11 @@ impl<R: Runtime> Depot for FolderDepot<R> {
 
     fn tell(&mut self, line: &[u8]) -> Result<(), StoreFault> {
         self.progress.before_line();
+        self.progress.count_archive(line);
         let outcome = self.writer.tell(line);
+        if outcome.is_ok() {
+            self.copied.take(line);
+        }
         self.count(outcome)
     }
 }

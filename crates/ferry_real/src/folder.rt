@@ -2,10 +2,14 @@
 ghost use Rattle.std.specs.Prelude.{◌≤◌, length, IfOk};
 ghost use Rattle.std.specs.List.Sorted.{IsStrictlyIncreasing};
 
+use crate::failure::Word;
+use crate::opened::{Opened, make_room, place_of};
+use crate::small::{SmallFault, read_small};
+use crate::system::{System, length_of};
 use crate::walk::walk;
 use ferry_config::{ConfigFault, read_config};
 use ferry_disk::{Name, StoreFault};
-use ferry_layout::{Listing, Place, file_name, numbers, read_file_at, store_fault};
+use ferry_layout::{Listing, Place, file_name, numbers, read_file_at};
 use std::alloc::{AllocError, Global};
 use std::fs;
 use std::fs::File;
@@ -16,6 +20,12 @@ use std::rt::Runtime;
 /// How many segments a folder of `data` holds, where the repository's settings don't read.
 /// Source: BorgBackup 1.2, Internals, Repository.
 const SEGMENTS_PER_FOLDER: u64 = 1000;
+
+/// How many bytes `config` may have, which is read as a whole, and without a key. Borg's has less than 1000.
+const CONFIG_LIMIT: u64 = 1 << 20;
+
+/// What is in the way where it has more.
+const TOO_LARGE: Word = Word::Text("is larger than 1 MiB");
 
 /// Whether there is anything at a repository's place.
 #[derive(Clone, Copy, Debug, PartialEq, Eq)]
@@ -31,33 +41,29 @@ pub enum Presence {
 /// A repository's folder.
 #[derive(Drop)]
 pub struct Folder<R: Runtime> {
-    pub rt: R,
-    pub alloc: Global,
+    pub system: System<R>,
     /// The folder's place, `None` where the word stands for no folder.
     pub place: Option<Place>,
     /// What lies below `data`, `None` before it was listed.
     pub found: Option<Listing>,
-    /// The file that was read last, which stays open.
-    opened: Option<Opened<R>>,
-}
-
-/// An open file.
-#[derive(Drop)]
-struct Opened<R: Runtime> {
-    name: Name,
-    file: R::File,
+    /// The files that were read, which stay open until others are.
+    opened: Vec<Opened<R>>,
 }
 
 impl<R: Runtime> Folder<R> {
     /// The folder at this path; nothing is looked at yet. The word `-` and an empty path name no folder.
-    pub fn new(rt: R, alloc: Global, path: &str) -> Result<Folder<R>, AllocError> {
+    pub fn new(
+        rt: R,
+        alloc: Global,
+        path: &str,
+        follows_links: bool,
+    ) -> Result<Folder<R>, AllocError> {
         let place = Place::named(alloc, path)?;
         Ok(Folder {
-            rt,
-            alloc,
+            system: System::new(rt, alloc, follows_links),
             place,
             found: None,
-            opened: None,
+            opened: Vec::new(alloc),
         })
     }
 
@@ -66,7 +72,7 @@ impl<R: Runtime> Folder<R> {
         let Some(place) = &self.place else {
             return Presence::Unnamed;
         };
-        match fs::metadata(&self.rt, place.path()) {
+        match fs::metadata(&self.system.rt, place.path()) {
             Err(error) if error.kind() == ErrorKind::NotFound => Presence::Absent,
             _ => Presence::There,
         }
@@ -76,7 +82,7 @@ impl<R: Runtime> Folder<R> {
     pub fn segments(&mut self, alloc: Global) -> Result<Vec<u64>, StoreFault>
         ensures increasing { IfOk result (λ numbers. IsStrictlyIncreasing numbers.items) }
     {
-        self.opened = None;
+        self.close();
         let found = self.list()?;
         let listed = numbers(alloc, &found.places);
         self.found = Some(found);
@@ -89,7 +95,7 @@ impl<R: Runtime> Folder<R> {
     /// A file's length in bytes, `None` where it is absent.
     pub fn size(&mut self, name: Name) -> Result<Option<u64>, StoreFault> {
         match self.path_of(name)? {
-            Some(path) => length_of(&self.rt, path.as_str()),
+            Some(path) => bounded_length(&self.system, name, path.as_str()),
             None => Ok(None),
         }
     }
@@ -98,42 +104,47 @@ impl<R: Runtime> Folder<R> {
     pub fn read_at(&mut self, name: Name, at: u64, into: &mut [u8]) -> Result<usize, StoreFault>
         ensures within { IfOk result (λ count. count ≤ length into.old) }
     {
-        self.open(name)?;
-        match &mut self.opened {
-            Some(opened) => read_file_at(&mut opened.file, at, into),
+        let place = self.open(name)?;
+        match self.opened.get_mut(place) {
+            Some(opened) => read_opened(&self.system, opened, at, into),
             None => Ok(0),
         }
     }
 
-    /// Opens a file, where it isn't open. Nothing is open afterwards where the file is absent.
-    fn open(&mut self, name: Name) -> Result<(), StoreFault> {
-        if let Some(opened) = &self.opened
-            && opened.name == name
-        {
-            return Ok(());
+    /// Opens a file, where it isn't open, and answers its place among those that are open: one behind all of
+    /// them where the file is absent.
+    fn open(&mut self, name: Name) -> Result<usize, StoreFault> {
+        let place = place_of(&self.opened, name);
+        if place < self.opened.len() {
+            return Ok(place);
         }
-        self.opened = None;
         match self.path_of(name)? {
-            Some(path) => self.open_at(name, path.as_str()),
-            None => Ok(()),
+            Some(path) => self.open_at(name, path),
+            None => Ok(self.opened.len()),
         }
     }
 
     /// Opens a file at its path, where it is there.
-    fn open_at(&mut self, name: Name, path: &str) -> Result<(), StoreFault> {
-        match open_to_read(&self.rt, path) {
-            Ok(Some(file)) => {
-                self.opened = Some(Opened { name, file });
-                Ok(())
-            }
-            Ok(None) => Ok(()),
+    fn open_at(&mut self, name: Name, path: String) -> Result<usize, StoreFault> {
+        match open_to_read(&self.system, name, path.as_str()) {
+            Ok(Some(file)) => self.keep(Opened { name, path, file }),
+            Ok(None) => Ok(self.opened.len()),
             Err(fault) => Err(fault),
         }
     }
 
-    /// Closes the file that was read last, which may be another one from now on.
+    /// Keeps a file open, and answers its place.
+    fn keep(&mut self, opened: Opened<R>) -> Result<usize, StoreFault> {
+        make_room(&mut self.opened);
+        match self.opened.push(opened) {
+            Ok(()) => Ok(self.opened.len().saturating_sub(1)),
+            Err(_) => Err(StoreFault::Memory),
+        }
+    }
+
+    /// Closes the files that were read, which may be others from now on.
     pub fn close(&mut self) {
-        self.opened = None;
+        self.opened.clear();
     }
 
     /// Where a file lies. `None` where there is no folder, or no segment of that number in it.
@@ -177,9 +188,9 @@ impl<R: Runtime> Folder<R> {
 
     /// Finds the segments that are there.
     pub fn list(&self) -> Result<Listing, StoreFault> {
-        let mut found = Listing::new(self.alloc, self.per_folder()?);
+        let mut found = Listing::new(self.system.alloc, self.per_folder()?);
         if let Some(place) = &self.place {
-            walk(&self.rt, place, &mut found)?;
+            walk(&self.system, place, &mut found)?;
         }
         Ok(found)
     }
@@ -196,28 +207,27 @@ impl<R: Runtime> Folder<R> {
             return Ok(None);
         };
         let path = place.path_to("config")?;
-        self.per_folder_in(path.as_str())
-    }
-
-    /// The same as the file at a path says it, `None` where it isn't there or doesn't read as `config`.
-    fn per_folder_in(&self, path: &str) -> Result<Option<u64>, StoreFault> {
-        match length_of(&self.rt, path)? {
-            Some(_) => read_per_folder(&self.rt, self.alloc, path),
-            None => Ok(None),
-        }
+        per_folder_in(&self.system, path.as_str())
     }
 }
 
-/// How many segments a folder holds by the file at a path, `None` where it isn't there or doesn't read as `config`.
-fn read_per_folder<R: Runtime>(
-    rt: &R,
-    alloc: Global,
-    path: &str,
-) -> Result<Option<u64>, StoreFault> {
-    match fs::read(rt, path) {
-        Ok(text) => per_folder_of(alloc, text.as_slice()),
-        Err(error) if error.kind() == ErrorKind::NotFound => Ok(None),
-        Err(error) => Err(store_fault(&error)),
+/// How many segments a folder holds by the file at a path, `None` where it isn't there or doesn't read as
+/// `config`.
+fn per_folder_in<R: Runtime>(system: &System<R>, path: &str) -> Result<Option<u64>, StoreFault> {
+    match length_of(system, path)? {
+        Some(_) => read_per_folder(system, path),
+        None => Ok(None),
+    }
+}
+
+/// The same of a file that is there.
+fn read_per_folder<R: Runtime>(system: &System<R>, path: &str) -> Result<Option<u64>, StoreFault> {
+    match read_small(&system.rt, system.alloc, path, CONFIG_LIMIT) {
+        Ok(text) => per_folder_of(system.alloc, text.as_slice()),
+        Err(SmallFault::Absent) | Err(SmallFault::NotFile) => Ok(None),
+        Err(SmallFault::TooLarge) => Err(system.refused(path, TOO_LARGE)),
+        Err(SmallFault::Unreadable(word)) => Err(system.refused(path, word)),
+        Err(SmallFault::Memory) => Err(StoreFault::Memory),
     }
 }
 
@@ -230,24 +240,47 @@ fn per_folder_of(alloc: Global, text: &[u8]) -> Result<Option<u64>, StoreFault> 
     }
 }
 
-/// Opens the file at a path to read it, where a regular file is there.
-fn open_to_read<R: Runtime>(rt: &R, path: &str) -> Result<Option<R::File>, StoreFault> {
-    if length_of(rt, path)?.is_none() {
-        return Ok(None);
-    }
-    match File::open(rt, path) {
-        Ok(file) => Ok(Some(file)),
-        Err(error) if error.kind() == ErrorKind::NotFound => Ok(None),
-        Err(error) => Err(store_fault(&error)),
+/// The length of the file of this name at a path, which for `config` has a bound.
+fn bounded_length<R: Runtime>(
+    system: &System<R>,
+    name: Name,
+    path: &str,
+) -> Result<Option<u64>, StoreFault> {
+    match length_of(system, path)? {
+        Some(length) if name == Name::Config && length > CONFIG_LIMIT => {
+            Err(system.refused(path, TOO_LARGE))
+        }
+        length => Ok(length),
     }
 }
 
-/// The length of the file at a path. Only a regular file is one: a pipe, say, would be waited for.
-pub fn length_of<R: Runtime>(rt: &R, path: &str) -> Result<Option<u64>, StoreFault> {
-    match fs::metadata(rt, path) {
-        Ok(metadata) if metadata.is_file() => Ok(Some(metadata.len())),
-        Ok(_) => Ok(None),
+/// Opens the file of this name at a path to read it, where a regular file is there.
+fn open_to_read<R: Runtime>(
+    system: &System<R>,
+    name: Name,
+    path: &str,
+) -> Result<Option<R::File>, StoreFault> {
+    if bounded_length(system, name, path)?.is_none() {
+        return Ok(None);
+    }
+    match File::open(&system.rt, path) {
+        Ok(file) => Ok(Some(file)),
         Err(error) if error.kind() == ErrorKind::NotFound => Ok(None),
-        Err(error) => Err(store_fault(&error)),
+        Err(error) => Err(system.unread(path, &error)),
+    }
+}
+
+/// Fills the front of `into` from byte `at` of an open file on, and answers how many bytes it got.
+fn read_opened<R: Runtime>(
+    system: &System<R>,
+    opened: &mut Opened<R>,
+    at: u64,
+    into: &mut [u8],
+) -> Result<usize, StoreFault>
+    ensures within { IfOk result (λ count. count ≤ length into.old) }
+{
+    match read_file_at(&mut opened.file, at, into) {
+        Ok(count) => Ok(count),
+        Err(error) => Err(system.unread(opened.path.as_str(), &error)),
     }
 }

@@ -1,7 +1,8 @@
 //! The line on a terminal that says how far a run is.
 
+use crate::archives::Archives;
 use std::alloc::{AllocError, Global};
-use std::cell::Cell;
+use std::cell::{Cell, OnceCell};
 use std::rc::Rc;
 use std::rt::Runtime;
 use std::time::{Duration, Instant};
@@ -24,19 +25,32 @@ pub struct Terminals {
     pub error: bool,
 }
 
-/// How much the devices of one run have read and written. Where standard error is a terminal, a run of half a second or more shows it
-/// there in one line, which is written again about five times a second; elsewhere no clock is looked at and no byte is written.
+/// The columns that the line has at most.
+const COLUMNS: usize = 79;
+
+/// How much the devices of one run have read and written, and which archive is on its way. Where standard
+/// error is a terminal, a run of half a second or more shows it there in one line, which is written again
+/// about five times a second; elsewhere no clock is looked at and no byte is written.
 ///
 /// The devices of a run share it and count into it. No contract knows of it, and a line that isn't taken is no failure.
 #[derive(Drop)]
 pub struct Progress<R: Runtime> {
     rt: R,
+    alloc: Global,
     /// When the run began; `None` where no line is shown, or none any more.
     began: Cell<Option<Instant>>,
     /// Whether standard output leads to a terminal too, where the line would stand among what it says.
     is_shared: bool,
     /// The bytes read from both repositories.
     read: Cell<u64>,
+    /// Those of them that were read to open a repository, whose log is read to its end.
+    log: Cell<u64>,
+    /// Whether such bytes were read last.
+    is_opening: Cell<bool>,
+    /// The archives that the command takes, where they are known; no contract knows what is in it.
+    expected: OnceCell<Archives>,
+    /// How many archives were told.
+    ended: Cell<usize>,
     /// The bytes written to the target and to standard output.
     written: Cell<u64>,
     /// How long after the beginning the line is written next.
@@ -55,9 +69,14 @@ impl<R: Runtime> Progress<R> {
         };
         let progress = Progress {
             rt,
+            alloc,
             began: Cell::new(began),
             is_shared: terminals.output,
             read: Cell::new(0),
+            log: Cell::new(0),
+            is_opening: Cell::new(false),
+            expected: OnceCell::new(),
+            ended: Cell::new(0),
             written: Cell::new(0),
             due: Cell::new(Duration::from_millis(FIRST)),
             is_shown: Cell::new(false),
@@ -65,10 +84,32 @@ impl<R: Runtime> Progress<R> {
         Ok(Rc::new(alloc, progress)?)
     }
 
-    /// Counts bytes that were read, and writes the line where it is due.
-    pub fn add_read(&self, count: usize) {
+    /// Takes the names of the archives that the command takes, in their order. Where memory is refused for
+    /// them, the line has none.
+    pub fn expect(&self, names: &[String]) {
+        if self.began.get().is_some()
+            && let Ok(archives) = Archives::new(self.alloc, names)
+        {
+            let _ = self.expected.set(archives);
+        }
+    }
+
+    /// Counts bytes that were read, and writes the line where it is due. `is_log` says whether they were read
+    /// to open a repository.
+    pub fn add_read(&self, count: usize, is_log: bool) {
         add(&self.read, count);
+        if is_log {
+            add(&self.log, count);
+        }
+        self.is_opening.set(is_log);
         self.look();
+    }
+
+    /// Counts an archive whose end a line tells.
+    pub fn count_archive(&self, line: &[u8]) {
+        if line.starts_with(b"transferred ") || line.starts_with(b"present ") {
+            self.ended.set(self.ended.get().saturating_add(1));
+        }
     }
 
     /// Counts bytes that were written, and writes the line where it is due.
@@ -118,11 +159,39 @@ impl<R: Runtime> Progress<R> {
         }
     }
 
-    /// Writes the line, in one call of the system, over the one that stands there.
+    /// Writes the line, in one call of the system, over the one that stands there. Where memory is refused
+    /// for it, it isn't written.
     fn show(&self, seconds: u64) {
+        if let Ok(line) = self.line(seconds) {
+            let _ = eprint!(self.rt; "\r{line}\x1b[K");
+        }
+    }
+
+    /// The line, which has no control character.
+    fn line(&self, seconds: u64) -> Result<String, AllocError> {
+        if self.is_opening.get() {
+            let log = self.log.get() / MEGABYTE;
+            return Ok(format!(in self.alloc; "reading the log: {log} MB, {seconds} s")?);
+        }
         let read = self.read.get() / MEGABYTE;
         let written = self.written.get() / MEGABYTE;
-        let _ = eprint!(self.rt; "\rread {read} MB, written {written} MB, {seconds} s\x1b[K");
+        let counts = format!(in self.alloc; "read {read} MB, written {written} MB, {seconds} s")?;
+        self.behind_archive(counts)
+    }
+
+    /// A line, with the archive in front that is on its way, where it is known.
+    fn behind_archive(&self, counts: String) -> Result<String, AllocError> {
+        let ended = self.ended.get();
+        if let Some(archives) = self.expected.get()
+            && archives.has(ended)
+        {
+            return archives.in_front(self.alloc, ended, counts.as_str(), COLUMNS);
+        }
+        match ended {
+            0 => Ok(counts),
+            1 => Ok(format!(in self.alloc; "1 archive done: {counts}")?),
+            _ => Ok(format!(in self.alloc; "{ended} archives done: {counts}")?),
+        }
     }
 }
 

@@ -1,6 +1,7 @@
 //! The paths of a segment's files, and their removal.
 
-use crate::stable::{failed, sync_folder};
+use crate::stable::sync_folder;
+use crate::system::System;
 use ferry_disk::StoreFault;
 use ferry_layout::{Listing, Place, folder_of_path};
 use std::fs;
@@ -36,15 +37,17 @@ pub fn add_path(
 }
 
 /// Removes files in this order, each for good.
-pub fn remove_files<R: Runtime>(rt: &R, paths: &[String]) -> Result<(), StoreFault> {
+pub fn remove_files<R: Runtime>(system: &System<R>, paths: &[String]) -> Result<(), StoreFault> {
     for path in paths {
-        remove_file(rt, path.as_str())?;
+        remove_file(system, path.as_str())?;
     }
     Ok(())
 }
 
 /// Removes a file from the folder that it lies in, for good.
-fn remove_file<R: Runtime>(rt: &R, path: &str) -> Result<(), StoreFault> {
-    fs::remove_file(rt, path).map_err(failed)?;
-    sync_folder(rt, folder_of_path(path))
+fn remove_file<R: Runtime>(system: &System<R>, path: &str) -> Result<(), StoreFault> {
+    match fs::remove_file(&system.rt, path) {
+        Ok(()) => sync_folder(system, folder_of_path(path)),
+        Err(error) => Err(system.failed(path, &error)),
+    }
 }

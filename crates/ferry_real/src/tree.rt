@@ -3,18 +3,20 @@ ghost use Rattle.std.specs.Prelude.{◌≡◌, None};
 ghost use Rattle.ferry_disk.specs.Device.{HasCause};
 ghost use Rattle.ferry_tree.specs.Nodes.{tree_failed};
 
+use crate::failure::Failure;
 use crate::progress::Progress;
-use crate::stable::{FOLDER_MODE, make_file, make_folder};
+use crate::stable::{FOLDER_MODE, make_file, make_place};
+use crate::system::System;
 use ferry_disk::StoreFault;
 use ferry_layout::write_all;
 use ferry_tree::{Tree, TreeFault};
 use std::alloc::{AllocError, Global};
-use std::fs;
 use std::fs::{DirBuilder, OpenFile};
 use std::io::Error;
 use std::os::unix::fs::{DirBuilderExt, symlink};
 use std::rc::Rc;
 use std::rt::Runtime;
+use std::{fs, io};
 
 /// A folder in which files, folders and links are made, which their owner alone may read. It tells nothing of them, and counts its faults.
 ///
@@ -38,8 +40,7 @@ impl<R: Runtime> FolderTree<R> {
     ) -> Result<FolderTree<R>, AllocError> {
         let place = place_of(alloc, place)?;
         let maker = Maker {
-            rt,
-            alloc,
+            system: System::new(rt, alloc, true),
             place,
             current: None,
             foreign: None,
@@ -49,6 +50,12 @@ impl<R: Runtime> FolderTree<R> {
             progress,
             faults: 0,
         })
+    }
+
+    /// What failed first, and why. `None` where nothing has, the word stands for no folder, a path isn't
+    /// UTF-8, or memory was refused for it.
+    pub fn failure(&self) -> Option<&Failure> {
+        self.maker.system.failure()
     }
 
     /// The path that couldn't be made since it, or the target of the symbolic link there, isn't UTF-8: the last one, `None` where there was none, or memory was
@@ -62,8 +69,7 @@ impl<R: Runtime> FolderTree<R> {
 /// What makes files, folders and links in a folder. No fault is counted here.
 #[derive(Drop)]
 struct Maker<R: Runtime> {
-    rt: R,
-    alloc: Global,
+    system: System<R>,
     /// The path of the folder with a slash behind, empty where the word stands for no folder.
     place: String,
     /// The file that was made last, which stays open until the next call that makes something.
@@ -75,6 +81,7 @@ struct Maker<R: Runtime> {
 /// An open file, and how many bytes it has.
 #[derive(Drop)]
 struct Current<R: Runtime> {
+    path: String,
     file: R::File,
     length: u64,
 }
@@ -85,7 +92,7 @@ impl<R: Runtime> Maker<R> {
         if self.place.is_empty() {
             return Err(TreeFault::Failed);
         }
-        match make_folder(&self.rt, self.place.as_str()) {
+        match make_place(&self.system, self.place.as_str()) {
             Ok(true) => Ok(true),
             Ok(false) => self.has_nothing(),
             Err(fault) => Err(of_store(fault)),
@@ -94,9 +101,9 @@ impl<R: Runtime> Maker<R> {
 
     /// Whether nothing is in the folder.
     fn has_nothing(&self) -> Result<bool, TreeFault> {
-        match fs::read_dir(&self.rt, self.place.as_str()) {
+        match fs::read_dir(&self.system.rt, self.place.as_str()) {
             Ok(mut entries) => Ok(entries.next().is_none()),
-            Err(error) => Err(failed(error)),
+            Err(error) => Err(self.failed(self.place.as_str(), &error)),
         }
     }
 
@@ -108,14 +115,14 @@ impl<R: Runtime> Maker<R> {
         let Ok(text) = str::from_utf8(path) else {
             return Err(self.not_text(path));
         };
-        let mut whole = String::from_str(self.alloc, self.place.as_str())?;
+        let mut whole = String::from_str(self.system.alloc, self.place.as_str())?;
         whole.push_str(text)?;
         Ok(whole)
     }
 
     /// The fault of a path that isn't UTF-8, or that of a link whose target isn't, which is kept.
     fn not_text(&mut self, path: &[u8]) -> TreeFault {
-        self.foreign = Vec::from_slice(self.alloc, path).ok();
+        self.foreign = Vec::from_slice(self.system.alloc, path).ok();
         TreeFault::Failed
     }
 
@@ -123,19 +130,23 @@ impl<R: Runtime> Maker<R> {
     fn make_folder(&mut self, path: &[u8]) -> Result<(), TreeFault> {
         self.current = None;
         let path = self.path_of(path)?;
-        DirBuilder::new()
+        let made = DirBuilder::new()
             .mode(FOLDER_MODE)
-            .create(&self.rt, path.as_str())
-            .map_err(failed)
+            .create(&self.system.rt, path.as_str());
+        self.made(path.as_str(), made)
     }
 
     /// Makes a file of no bytes, which stays open.
     fn make_file(&mut self, path: &[u8]) -> Result<(), TreeFault> {
         self.current = None;
         let path = self.path_of(path)?;
-        match make_file(&self.rt, path.as_str()) {
+        match make_file(&self.system, path.as_str()) {
             Ok(file) => {
-                self.current = Some(Current { file, length: 0 });
+                self.current = Some(Current {
+                    path,
+                    file,
+                    length: 0,
+                });
                 Ok(())
             }
             Err(fault) => Err(of_store(fault)),
@@ -147,7 +158,7 @@ impl<R: Runtime> Maker<R> {
         self.current = None;
         let whole = self.path_of(path)?;
         match str::from_utf8(target) {
-            Ok(target) => symlink(&self.rt, target, whole.as_str()).map_err(failed),
+            Ok(target) => self.make_link(target, whole.as_str()),
             Err(_) => Err(self.not_text(path)),
         }
     }
@@ -157,7 +168,28 @@ impl<R: Runtime> Maker<R> {
         self.current = None;
         let path = self.path_of(path)?;
         let first = self.path_of(first)?;
-        fs::hard_link(&self.rt, first.as_str(), path.as_str()).map_err(failed)
+        let made = fs::hard_link(&self.system.rt, first.as_str(), path.as_str());
+        self.made(path.as_str(), made)
+    }
+
+    /// Makes a symbolic link to this target at a path.
+    fn make_link(&self, target: &str, path: &str) -> Result<(), TreeFault> {
+        let made = symlink(&self.system.rt, target, path);
+        self.made(path, made)
+    }
+
+    /// What the answer of the system to a call that makes something at a path is to a tree.
+    fn made(&self, path: &str, made: io::Result<()>) -> Result<(), TreeFault> {
+        match made {
+            Ok(()) => Ok(()),
+            Err(error) => Err(self.failed(path, &error)),
+        }
+    }
+
+    /// What an error of the system is to a tree: each is a fault, want of memory too, as to a call that
+    /// writes a repository.
+    fn failed(&self, path: &str, error: &Error) -> TreeFault {
+        of_store(self.system.failed(path, error))
     }
 
     /// Appends bytes to the open file.
@@ -166,7 +198,7 @@ impl<R: Runtime> Maker<R> {
             return Err(TreeFault::Failed);
         };
         current.length = longer(current.length, bytes.len() as u64)?;
-        write_all(&mut current.file, bytes).map_err(failed)
+        append_to(&self.system, current, bytes)
     }
 
     /// Moves the end of the open file, so that the zero bytes behind its old end take no space.
@@ -175,7 +207,27 @@ impl<R: Runtime> Maker<R> {
             return Err(TreeFault::Failed);
         };
         current.length = longer(current.length, zeros)?;
-        current.file.set_len(current.length).map_err(failed)
+        extend_to(&self.system, current)
+    }
+}
+
+/// Writes bytes at the end of the open file.
+fn append_to<R: Runtime>(
+    system: &System<R>,
+    current: &mut Current<R>,
+    bytes: &[u8],
+) -> Result<(), TreeFault> {
+    match write_all(&mut current.file, bytes) {
+        Ok(()) => Ok(()),
+        Err(error) => Err(of_store(system.failed(current.path.as_str(), &error))),
+    }
+}
+
+/// Moves the end of the open file to its length.
+fn extend_to<R: Runtime>(system: &System<R>, current: &Current<R>) -> Result<(), TreeFault> {
+    match current.file.set_len(current.length) {
+        Ok(()) => Ok(()),
+        Err(error) => Err(of_store(system.failed(current.path.as_str(), &error))),
     }
 }
 
@@ -195,11 +247,6 @@ fn longer(length: u64, more: u64) -> Result<u64, TreeFault> {
         Some(length) => Ok(length),
         None => Err(TreeFault::Failed),
     }
-}
-
-/// What an error of the system is to a tree: each is a fault, want of memory too, as to a call that writes a repository.
-fn failed(_error: Error) -> TreeFault {
-    TreeFault::Failed
 }
 
 /// What a fault of a repository's folder is to a tree.

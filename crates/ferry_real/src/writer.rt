@@ -3,14 +3,15 @@
 //! Paths are put together, and lists grow, before the first change of a call, so that a call that answers want of memory has changed
 //! nothing.
 
-use crate::folder::{Folder, Presence, length_of};
+use crate::appending::{Appending, append_to, is_absent, sync_at, sync_regular};
+use crate::folder::Folder;
 use crate::removing::{add_path, add_spare, remove_files};
 use crate::replacing::replace_file;
 use crate::settling::{sync_files, sync_folders};
 use crate::stable::{
-    failed, make_file, make_folder, open_to_append, stays_at, sync_file, sync_folder,
-    sync_folder_unless,
+    make_file, make_folder, make_place, open_to_append, sync_folder, sync_folder_unless,
 };
+use crate::system::{look_through, of_look};
 use ferry_disk::{Name, StoreFault};
 use ferry_layout::{Place, file_name, folder_of_path, write_all};
 use std::alloc::{AllocError, Global};
@@ -33,18 +34,10 @@ pub struct Writer<R: Runtime> {
     made_place: bool,
 }
 
-/// A segment's file that is open.
-#[derive(Drop)]
-struct Appending<R: Runtime> {
-    segment: u64,
-    path: String,
-    file: R::File,
-}
-
 impl<R: Runtime> Writer<R> {
-    /// The folder at this path; nothing is looked at yet.
+    /// The folder at this path; nothing is looked at yet. It may be a link, and no link in it is followed.
     pub fn new(rt: R, alloc: Global, path: &str) -> Result<Writer<R>, AllocError> {
-        let folder = Folder::new(rt, alloc, path)?;
+        let folder = Folder::new(rt, alloc, path, false)?;
         Ok(Writer {
             folder,
             appending: None,
@@ -67,8 +60,7 @@ impl<R: Runtime> Writer<R> {
         let Some(open) = &mut self.appending else {
             return Err(StoreFault::Failed);
         };
-        stays_at(&self.folder.rt, &open.file, open.path.as_str())?;
-        write_all(&mut open.file, bytes).map_err(failed)
+        append_to(&self.folder.system, open, bytes)
     }
 
     /// Opens a segment to append to it, where it isn't the open one, and makes it where it is absent.
@@ -87,7 +79,7 @@ impl<R: Runtime> Writer<R> {
 
     /// Opens the file of a segment at its path.
     fn open_at(&mut self, segment: u64, path: String) -> Result<(), StoreFault> {
-        match open_to_append(&self.folder.rt, path.as_str()) {
+        match open_to_append(&self.folder.system, path.as_str()) {
             Ok(file) => {
                 self.appending = Some(Appending {
                     segment,
@@ -143,22 +135,28 @@ impl<R: Runtime> Writer<R> {
 
     /// Makes the repository's folder, where it isn't there.
     fn make_place(&mut self) -> Result<(), StoreFault> {
-        let Some(place) = &self.folder.place else {
-            return Err(StoreFault::Failed);
-        };
-        self.made_place |= make_folder(&self.folder.rt, place.path())?;
+        let is_made = self.makes_place()?;
+        self.made_place |= is_made;
         Ok(())
+    }
+
+    /// Makes the repository's folder, where it isn't there, and answers whether it did.
+    fn makes_place(&self) -> Result<bool, StoreFault> {
+        match &self.folder.place {
+            Some(place) => make_place(&self.folder.system, place.path()),
+            None => Err(StoreFault::Failed),
+        }
     }
 
     /// Makes `data` or a folder in it, where it isn't there.
     fn make_folder(&mut self, path: &str) -> Result<(), StoreFault> {
-        self.made_folders |= make_folder(&self.folder.rt, path)?;
+        self.made_folders |= make_folder(&self.folder.system, path)?;
         Ok(())
     }
 
     /// Makes the file of a segment at its path.
     fn make_at(&mut self, segment: u64, path: String) -> Result<(), StoreFault> {
-        match make_file(&self.folder.rt, path.as_str()) {
+        match make_file(&self.folder.system, path.as_str()) {
             Ok(file) => {
                 self.appending = Some(Appending {
                     segment,
@@ -183,8 +181,7 @@ impl<R: Runtime> Writer<R> {
     fn sync_open(&self, segment: u64) -> Result<bool, StoreFault> {
         match &self.appending {
             Some(open) if open.segment == segment => {
-                open.file.sync_all().map_err(failed)?;
-                stays_at(&self.folder.rt, &open.file, open.path.as_str())?;
+                sync_at(&self.folder.system, open)?;
                 Ok(true)
             }
             _ => Ok(false),
@@ -194,8 +191,8 @@ impl<R: Runtime> Writer<R> {
     /// Makes the bytes of a segment stable whose file isn't open.
     fn sync_file_of(&mut self, segment: u64) -> Result<(), StoreFault> {
         match self.folder.path_of_segment(segment)? {
-            Some(path) => sync_regular(&self.folder.rt, path.as_str()),
-            None => Err(StoreFault::Failed),
+            Some(path) => sync_regular(&self.folder.system, path.as_str()),
+            None => Err(self.absent(segment)),
         }
     }
 
@@ -215,8 +212,16 @@ impl<R: Runtime> Writer<R> {
     /// Makes the names in the folder stable that a segment lies in.
     fn sync_folder_of(&mut self, segment: u64) -> Result<(), StoreFault> {
         match self.folder.path_of_segment(segment)? {
-            Some(path) => sync_folder(&self.folder.rt, folder_of_path(path.as_str())),
-            None => Err(StoreFault::Failed),
+            Some(path) => sync_folder(&self.folder.system, folder_of_path(path.as_str())),
+            None => Err(self.absent(segment)),
+        }
+    }
+
+    /// The failure where there is no file of a segment, at whose own place one should be.
+    fn absent(&self, segment: u64) -> StoreFault {
+        match self.own_path(segment) {
+            Ok(path) => is_absent(&self.folder.system, path.as_str()),
+            Err(_) => StoreFault::Failed,
         }
     }
 
@@ -225,19 +230,25 @@ impl<R: Runtime> Writer<R> {
         let Some(place) = &self.folder.place else {
             return Ok(());
         };
-        sync_folder(&self.folder.rt, place.data()?.as_str())?;
-        sync_folder(&self.folder.rt, place.path())
+        sync_folder(&self.folder.system, place.data()?.as_str())?;
+        sync_folder(&self.folder.system, place.path())
     }
 
     /// Makes the name of the repository's folder stable, where it was made here.
     fn sync_place(&mut self) -> Result<(), StoreFault> {
-        if self.made_place
-            && let Some(place) = &self.folder.place
-        {
-            sync_folder(&self.folder.rt, place.parent())?;
+        if self.made_place {
+            self.sync_made_place()?;
             self.made_place = false;
         }
         Ok(())
+    }
+
+    /// Makes the name of the repository's folder stable in the one that it lies in.
+    fn sync_made_place(&self) -> Result<(), StoreFault> {
+        match &self.folder.place {
+            Some(place) => sync_folder(&self.folder.system, place.parent()),
+            None => Ok(()),
+        }
     }
 
     /// Removes a segment for good: first its files that don't count, so that none of them comes to count, then the one that does.
@@ -250,7 +261,7 @@ impl<R: Runtime> Writer<R> {
     /// Removes a segment's files, the one that counts last.
     fn remove_files_of(&mut self, segment: u64) -> Result<(), StoreFault> {
         let paths = self.paths_of(segment)?;
-        remove_files(&self.folder.rt, paths.as_slice())
+        remove_files(&self.folder.system, paths.as_slice())
     }
 
     /// Closes what is open, and forgets a segment that was removed.
@@ -266,9 +277,9 @@ impl<R: Runtime> Writer<R> {
     /// The paths of a segment's files, the one that counts last. That there is none is a failure.
     fn paths_of(&mut self, segment: u64) -> Result<Vec<String>, StoreFault> {
         let Some(folder) = self.folder.folder_of(segment)? else {
-            return Err(StoreFault::Failed);
+            return Err(self.absent(segment));
         };
-        let mut paths = Vec::new(self.folder.alloc);
+        let mut paths = Vec::new(self.folder.system.alloc);
         self.add_paths(segment, folder, &mut paths)?;
         Ok(paths)
     }
@@ -303,39 +314,55 @@ impl<R: Runtime> Writer<R> {
             return Err(StoreFault::Failed);
         };
         let path = place.path_to(word)?;
-        self.replace_at(path.as_str(), word, bytes)
+        self.replace_at(name, path.as_str(), word, bytes)
     }
 
     /// Replaces the file at a path, which has this name in the folder.
-    fn replace_at(&mut self, path: &str, word: &str, bytes: &[u8]) -> Result<(), StoreFault> {
+    fn replace_at(
+        &mut self,
+        name: Name,
+        path: &str,
+        word: &str,
+        bytes: &[u8],
+    ) -> Result<(), StoreFault> {
         let Some(place) = &self.folder.place else {
             return Err(StoreFault::Failed);
         };
         let beside = place.beside(word)?;
-        self.replace_by(path, beside.as_str(), bytes)
+        self.replace_by(name, path, beside.as_str(), bytes)
     }
 
     /// The same by a file at the path beside it.
-    fn replace_by(&mut self, path: &str, beside: &str, bytes: &[u8]) -> Result<(), StoreFault> {
+    fn replace_by(
+        &mut self,
+        name: Name,
+        path: &str,
+        beside: &str,
+        bytes: &[u8],
+    ) -> Result<(), StoreFault> {
         self.make_place()?;
-        replace_file(&self.folder.rt, path, beside, bytes)?;
+        replace_file(&self.folder.system, name, path, beside, bytes)?;
         self.sync_names()
     }
 
     /// Makes the names in the repository's folder stable, and its own, where it was made here.
     fn sync_names(&mut self) -> Result<(), StoreFault> {
-        if let Some(place) = &self.folder.place {
-            sync_folder(&self.folder.rt, place.path())?;
-        }
+        self.sync_names_inside()?;
         self.sync_place()
+    }
+
+    /// Makes the names in the repository's folder stable.
+    fn sync_names_inside(&self) -> Result<(), StoreFault> {
+        match &self.folder.place {
+            Some(place) => sync_folder(&self.folder.system, place.path()),
+            None => Ok(()),
+        }
     }
 
     /// Makes all stable that a read gives: the bytes of files, then the names in folders. Where the folder isn't there, there is nothing.
     pub fn settle(&mut self) -> Result<(), StoreFault> {
-        match self.folder.presence() {
-            Presence::Unnamed => return Err(StoreFault::Failed),
-            Presence::Absent => return Ok(()),
-            Presence::There => {}
+        if !self.has_place()? {
+            return Ok(());
         }
         self.folder.found = Some(self.folder.list()?);
         self.sync_found()?;
@@ -345,13 +372,24 @@ impl<R: Runtime> Writer<R> {
         Ok(())
     }
 
+    /// Whether the repository's folder is there. That it can't be told is a failure.
+    fn has_place(&self) -> Result<bool, StoreFault> {
+        let Some(place) = &self.folder.place else {
+            return Err(StoreFault::Failed);
+        };
+        match look_through(&self.folder.system, place.path()) {
+            Ok(looked) => Ok(looked.is_some()),
+            Err(fault) => Err(of_look(fault)),
+        }
+    }
+
     /// Makes all stable that was listed.
     fn sync_found(&self) -> Result<(), StoreFault> {
         let (Some(place), Some(found)) = (&self.folder.place, &self.folder.found) else {
             return Ok(());
         };
-        sync_files(&self.folder.rt, place, found)?;
-        sync_folders(&self.folder.rt, place, found)?;
+        sync_files(&self.folder.system, place, found)?;
+        sync_folders(&self.folder.system, place, found)?;
         self.sync_parent(place)
     }
 
@@ -359,23 +397,18 @@ impl<R: Runtime> Writer<R> {
     /// all home folders: that is passed over, where it wasn't this run that made the repository's folder.
     fn sync_parent(&self, place: &Place) -> Result<(), StoreFault> {
         if self.made_place {
-            sync_folder(&self.folder.rt, place.parent())
+            sync_folder(&self.folder.system, place.parent())
         } else {
             let reason = ErrorKind::PermissionDenied;
-            sync_folder_unless(&self.folder.rt, place.parent(), reason)
+            sync_folder_unless(&self.folder.system, place.parent(), reason)
         }
     }
 
     /// Writes a line to standard output.
     pub fn tell(&mut self, line: &[u8]) -> Result<(), StoreFault> {
-        write_all(&mut io::writer(&self.folder.rt), line).map_err(failed)
-    }
-}
-
-/// Makes the bytes of the regular file at a path stable. That there is none is a failure.
-fn sync_regular<R: Runtime>(rt: &R, path: &str) -> Result<(), StoreFault> {
-    match length_of(rt, path)? {
-        Some(_) => sync_file(rt, path),
-        None => Err(StoreFault::Failed),
+        match write_all(&mut io::writer(&self.folder.system.rt), line) {
+            Ok(()) => Ok(()),
+            Err(error) => Err(self.folder.system.failed_output(&error)),
+        }
     }
 }
