@@ -137,10 +137,10 @@ BUGS = [
         "devices behind_links",
     ),
     bug(
-        "hidden files are none", TREE, "Ok(mut entries) => Ok(entries.next().is_none()),",
-        "Ok(mut entries) => {\n    if BUG(&self.system.rt) {\n        for entry in entries {\n            if let Ok(entry) = entry\n                && !entry.file_name().starts_with(\".\")\n            {\n"
-        "                return Ok(false);\n            }\n        }\n        return Ok(true);\n    }\n    Ok(entries.next().is_none())\n}", "devices hidden",
+        "hidden files are none", TREE, "        Some(Ok(_)) => Ok(true),",
+        "        Some(Ok(entry)) if BUG(rt) && entry.file_name().starts_with(\".\") => Ok(false),\n        Some(Ok(_)) => Ok(true),", "devices hidden",
     ),
+    bug("a folder that can't be listed to its end has something", TREE, "        Some(Err(error)) => Err(error),", "        Some(Err(_)) if BUG(rt) => Ok(true),\n        Some(Err(error)) => Err(error),", "devices refused_entries"),
     bug(
         "a hole is written", TREE, "extend_to(&self.system, current)\n",
         "if BUG(&self.system.rt) {\n            return match write_zeros(&mut current.file, zeros) {\n                Ok(()) => Ok(()),\n                Err(_) => Err(TreeFault::Failed),\n            };\n        }\n        extend_to(&self.system, current)\n",

@@ -65,6 +65,8 @@ BUGS = [
     bug("what lies in a numbered folder passes", OTHER_FILES, "    for entry in entries {\n        let other = other_segment(", "    for entry in entries {\n        if BUG(rt) { return Ok(None); }\n        let other = other_segment(", "program other_files"),
     bug("a segment that a stop has cut doesn't pass", OTHER_FILES, "Ok(begins_segment(bytes.as_slice())", "Ok(begins_segment(bytes.as_slice()) && !(bytes.len() < MAGIC.len() && BUG(rt))", "program other_files"),
     # keys and numbers of the cipher
+    bug("init writes over a key whose segments aren't there", OTHER_FILES, "if !has_key(rt, alloc, place)? || ", "if BUG(rt) || !has_key(rt, alloc, place)? || ", "program lone_key"),
+    bug("init doesn't go on over its own README and key", OTHER_FILES, "|| has_own_readme(rt, alloc, place)? {", "|| has_own_readme(rt, alloc, place)? && !BUG(rt) {", "program lone_key"),
     passed_over("init takes the key of the source", BEFORE, "withhold_key_of_source(rt, task)?;", "rt", "program one_key"),
     passed_over("transfer takes the key of the source", BEFORE, "withhold_one_key(rt, task)?;", "rt", "program one_key"),
     Bug(

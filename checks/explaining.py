@@ -35,6 +35,7 @@ KEY_ROW = "none", "behind `init` without a key file"
 KEY_FILE_ROW = "none", "behind `init` with a key file"
 PRINTED_ROW = "none", "behind `make-key`"
 OUTPUT_ROW = "none", "standard output failed, status 7"
+TOLD_ROW = "target device failed", "standard output failed"
 FOREIGN_ROW = "tree failed", "the path PATH isn't UTF-8, or the target of the symbolic link there"
 UNREAD_ROWS = {of: ("target refused: REASON", f"an archive, the command {of}") for of in ("delete", "tag-archives")}
 FAULT_LINE = re.compile(
@@ -120,6 +121,7 @@ def where_of(line, kinds, words, cwd, place, out, err):
         "a program": b"PASSCOMMAND" in err,
         "a stream": b"PASSPHRASE_FD" in err,
         "the last numbers": b"the last numbers" in err,
+        "a key alone": b"TARGET/config has the key" in err,
     }.items():
         if is_so and where in kinds:
             return where

@@ -31,7 +31,7 @@ import segments
 import tracing
 import trees
 from counting import finish, skip
-from explaining import OUTPUT_ROW, PLAIN, explained, filled, met, untried
+from explaining import OUTPUT_ROW, PLAIN, TOLD_ROW, explained, filled, met, untried
 from repositories import Archive, Item, Keys, fields, pack, repository
 from segments import COMMIT, COMMIT_SEGMENT, MAGIC, delete, put, sealed, segment
 
@@ -878,6 +878,11 @@ def restores():
     restored("zeros in one chunk", [item(b"z", [bytes(8193)])])
     restored("zeros behind a byte", [item(b"z", [b"x" + bytes(4095), bytes(4096) + b"y"])])
     restored("no items", [])
+    keys = Keys()
+    with tempfile.TemporaryDirectory() as root:
+        make(root, {**inside("source", repository(keys, PASSPHRASE, keys.blob(keys.tagged(fields())))), "folder": None})
+        os.chmod(os.path.join(root, "folder"), 0o777)
+        judge("restore in a folder that others may write", run(("source", "folder", "restore", "a"), root, OPEN), withheld(b"folder"))
     restored("no folders above", [item(b"a/b/c", [b"x"]), item(b"a", mode=folder), item(b"a/b/d", mode=link, source=b"c")])
     restored("a path twice", [item(b"f", [b"1"]), item(b"f", [b"2"]), item(b"f", mode=folder), item(b"s", mode=link, source=b"f"), item(b"s", [b"3"])])
     restored("the root", [item(b".", mode=pipe), item(b".", [b"x"]), item(b".", mode=folder), item(b"f", [b"1"])])
@@ -1478,6 +1483,25 @@ def other_files():
             holds(state(place) == before, f"init in a repository of {name}: it has changed")
 
 
+def lone_key():
+    """`init` writes over no key whose segments aren't there, as where `data` isn't mounted; what a stop of `init` itself leaves has its own README."""
+    says = b"TARGET/config has the key of a repository whose segments aren't in TARGET/data"
+    config, keyless = repository(Keys(), PASSPHRASE, None)["config"], b"[repository]\nversion = 1\nkey = \n"
+    own = BORG_README.splitlines(keepends=True)[0]
+    for readme in (BORG_README, b"This is a Borg repository\n", None):
+        for data in ({}, {"data": None}):
+            files = {"config": config, **({"README": readme} if readme else {}), **data}
+            case(f"init over a key beside {readme} and {len(data)} folders", None, withheld(b"other files"), INIT, beside=inside("target", files), says=says)
+    with tempfile.TemporaryDirectory() as root:
+        left = [
+            {"config": config, "README": own}, {"config": config, "README": own, "data": None}, {"config": config, "README": BORG_README, "data/0/0": b"BORG"}, {"config": keyless, "README": BORG_README},
+        ]
+        for number, files in enumerate(left):
+            make(root, inside(f"target{number}", files))
+            status, out = run(("-", f"target{number}", *INIT[2:]), root, says=b"")
+            holds(status == 0, f"init over a config beside {files['README']} and {sorted(files)}: {status} {out!r}")
+
+
 def one_key():
     """Where both repositories have one key nothing is made or copied."""
     keys, others = Keys(), Keys(b"other")
@@ -1681,6 +1705,14 @@ def outputs():
             os.close(write)
             holds(given == status and re.fullmatch(says, err) and (status != 7 or b"(EPIPE)" in err), f"a pipe that nobody reads: {words}: {given} {err!r}")
         met.add((OUTPUT_ROW, "source"))
+        keys, others = Keys(), Keys(b"other")
+        copied = Archive(keys, b"a", [Item(b"f", [b"hello"])])
+        make(root, inside("whole", repository(keys, PASSPHRASE, keys.blob(keys.tagged(fields(copied.named(b"a")))), *copied.chunks())))
+        make(root, inside("target", {"nonce": b"00000000000003e8", **repository(others, PASSPHRASE, others.blob(others.tagged(fields())))}))
+        with open("/dev/full", "wb") as full:
+            given, _, err = start(("whole", "target", "transfer"), root, {**OPEN, b"BORG_PASSPHRASE": PASSPHRASE}, stdout=full)
+        holds(given == 5 and re.fullmatch(filled(TOLD_ROW, "target"), err) and b"(ENOSPC)" in err, f"a full output: transfer: {given} {err!r}")
+        met.add((TOLD_ROW, "target"))
         for words in (("-", "-", "keys"), ("source", "-", "nothing"), ("source",)):
             want = run(words, root)
             with open("/dev/full", "wb") as full:
@@ -1724,7 +1756,8 @@ def pieces(reads):
         return
 
 
-PROGRESS = re.compile(rb"\rread (\d+) MB, written (\d+) MB, (\d+) s\x1b\[K")
+# A log that is read to its end has a line of its own.
+PROGRESS = re.compile(rb"\r(?:reading the log: (\d+) MB|read (\d+) MB, written (\d+) MB), (\d+) s\x1b\[K")
 
 
 def iterations_of(seconds, root, files, keys):
@@ -1743,10 +1776,11 @@ def progress():
     """The line of a long run: its form, how often it is written, that it is gone behind the run, and that a terminal alone has it."""
 
     def shows(name, got, status, behind, least=(0, 0)):
-        """The terminal has lines of progress, at most ten a second, whose numbers grow, the last at least to these; the line is erased; then `behind` comes."""
+        """The terminal has lines of progress, at most ten a second, whose numbers grow, the last at least to these; the line is erased; then a text of the form `behind` comes."""
         ended, _, shown, seconds = got
-        lines = [tuple(map(int, numbers)) for numbers in PROGRESS.findall(shown)]
-        judge(f"progress: {name}", (ended, PROGRESS.sub(b"", shown)), (status, b"\r\x1b[K" + behind))
+        lines = [(int(log or read), int(written or 0), int(lasted)) for log, read, written, lasted in PROGRESS.findall(shown)]
+        left = PROGRESS.sub(b"", shown)
+        holds(ended == status and re.fullmatch(re.escape(b"\r\x1b[K") + behind, left), f"progress: {name}: {ended} {left!r}")
         holds(PROGRESS.match(shown), f"progress: {name}: {shown[:200]!r} is shown first")
         holds(1 <= len(lines) <= 10 * seconds, f"progress: {name}: {len(lines)} lines in {seconds:.1f} s")
         grows = all(left <= right for one, after in zip(lines, lines[1:]) for left, right in zip(one, after))
@@ -1770,11 +1804,12 @@ def progress():
         ]
         slow, ends, piped, both, neither = [one.result() for one in runs]
         judge("progress: standard output", slow[:2], want)
-        shows("a slow output", slow, 0, b"", (4, 1))
+        shows("a slow output", slow, 0, b"", (4, 0))
         shows("an output that ends", ends, 7, filled(OUTPUT_ROW, "source"))
-        shows("a terminal for both", both, 1, bad + filled(("bad REASON", ""), "source"))
+        of_archive = re.escape(bad) + filled(("bad REASON", ""), "source").removesuffix(b"\n") + re.escape(b"; what doesn't read is of the archive a\n")
+        shows("a terminal for both", both, 1, of_archive)
         judge("progress: standard error is a pipe", piped[:3], (*want, b""))
-        judge("progress: a pipe for both", (neither[0], neither[2]), (1, bad + filled(("bad REASON", ""), "source")))
+        holds(neither[0] == 1 and re.fullmatch(of_archive, neither[2]), f"progress: a pipe for both: {neither[0]} {neither[2]!r}")
         holds(min(piped[3], neither[3]) >= 0.6, f"progress: the runs in pipes lasted {piped[3]:.1f} and {neither[3]:.1f} s")
         short = lasting(("small", "-", "keys"), root, is_shared=True)
         judge("progress: a short run", (short[0], short[2]), line((K, 3)))
@@ -1805,7 +1840,8 @@ def limits():
         manifest = keys.tagged({**fields(archive.named(b"a")), b"item_keys": list(item_keys)})
         return inside("source", repository(keys, PASSPHRASE, keys.blob(manifest), *archive.chunks()))
 
-    def target_of(nonce=b"00000000000003e8", item_keys=(b"path",), commit="data/0/1"):
+    # The number lies above the blocks of a manifest that is as large as one may be.
+    def target_of(nonce=b"0000000010000001", item_keys=(b"path",), commit="data/0/1"):
         made = repository(others, PASSPHRASE, others.blob(others.tagged({**fields(), b"item_keys": list(item_keys)})))
         return inside("target", {"nonce": nonce, commit: made.pop("data/0/1"), **made})
 
@@ -1837,11 +1873,11 @@ def rows():
     for row in PLAIN:
         sides = sorted(side for of, side in met if of == row)
         if row not in untried:
-            holds(sides == ["source", "target"] if row[0].startswith("refused: ") else len(sides) == 1, f"plain words: {row} is met for {sides}")
+            holds(sides == ["source", "target"] if row[0].startswith("refused: ") or "{place}" in row[1] else len(sides) == 1, f"plain words: {row} is met for {sides}")
 
 
 READING = (folders, logs, damage, memory, names, words, keys_of_configs, listings, archives, checked, every_byte)
-CASES = (*READING, key_files, targets, refused_targets, transfers, foreseen, plans, restores, deletions, taggings, compactions, locks, written, drills, limits, entropy, variables, of_borg, other_files, one_key, rolled_back, streams, large_files, told_before, parents, named_archives, outputs, progress)
+CASES = (*READING, key_files, targets, refused_targets, transfers, foreseen, plans, restores, deletions, taggings, compactions, locks, written, drills, limits, entropy, variables, of_borg, other_files, lone_key, one_key, rolled_back, streams, large_files, told_before, parents, named_archives, outputs, progress)
 
 
 def main(chosen):

@@ -7,7 +7,7 @@ use crate::after::advise_of;
 use crate::command::{Places, Task};
 use crate::fault::StartFault;
 use crate::numbers::{UNSEEN, withhold_old_nonce};
-use crate::other_files::other_file;
+use crate::other_files::{has_lone_key, other_file};
 use crate::places::{is_locked, is_unnamed};
 use crate::settings::{id_at, is_append_only};
 use crate::side::{Cause, Side};
@@ -156,8 +156,16 @@ fn withhold_other_files<R: Runtime + AllocGlobal>(rt: &R, task: &Task) -> Result
     }
     match other_file(rt, rt.alloc(), task.places.target)? {
         Some(path) => Err(StartFault::Withheld(Withheld::OtherFiles(path))),
-        None => Ok(()),
+        None => withhold_lone_key(rt, task.places.target),
     }
+}
+
+/// Withholds `init` where the target's folder has the key of a repository whose segments aren't there.
+fn withhold_lone_key<R: Runtime + AllocGlobal>(rt: &R, place: &str) -> Result<(), StartFault> {
+    if has_lone_key(rt, rt.alloc(), place)? {
+        return Err(StartFault::Withheld(Withheld::LoneKey));
+    }
+    Ok(())
 }
 
 /// Withholds `transfer` where both repositories have one id, and so one key.

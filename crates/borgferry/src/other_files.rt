@@ -3,6 +3,7 @@
 //! Source: BorgBackup 1.2, Internals, Repository.
 
 use crate::fault::StartFault;
+use crate::settings::has_key;
 use crate::side::{Cause, Side};
 use ferry_layout::{fill, number_of};
 use ferry_real::Word;
@@ -24,10 +25,12 @@ const NAMES: [&str; 4] = [
 /// What the names of Borg's own files in a repository's folder begin with.
 const BEGINNINGS: [&str; 4] = ["lock.", "index.", "hints.", "integrity."];
 
-/// The texts of README that Borg and this program write.
-const READMES: [&[u8]; 3] = [
+/// The text of README that this program writes.
+const OWN_README: &[u8] = b"This is a Borg Backup repository.\n";
+
+/// The texts of README that Borg writes.
+const READMES: [&[u8]; 2] = [
     b"This is a Borg Backup repository.\nSee https://borgbackup.readthedocs.io/\n",
-    b"This is a Borg Backup repository.\n",
     b"This is a Borg repository\n",
 ];
 
@@ -68,6 +71,30 @@ pub fn other_file<R: Runtime>(
         }
     }
     Ok(None)
+}
+
+/// Whether a folder has a `config` with a key, and nothing in `data`, where it isn't this program that began the repository: what the key opens lies
+/// elsewhere then, as where `data` isn't mounted. `init` writes its own README before its `config`.
+pub fn has_lone_key<R: Runtime>(rt: &R, alloc: Global, place: &str) -> Result<bool, StartFault> {
+    if !has_key(rt, alloc, place)? || has_own_readme(rt, alloc, place)? {
+        return Ok(false);
+    }
+    has_no_data(rt, alloc, place)
+}
+
+/// Whether README in a folder is this program's.
+fn has_own_readme<R: Runtime>(rt: &R, alloc: Global, place: &str) -> Result<bool, AllocError> {
+    let path = format!(in alloc; "{place}/README")?;
+    Ok(front(rt, alloc, path.as_str())?.as_slice() == OWN_README)
+}
+
+/// Whether `data` in a folder isn't there, or has nothing in it.
+fn has_no_data<R: Runtime>(rt: &R, alloc: Global, place: &str) -> Result<bool, StartFault> {
+    let path = format!(in alloc; "{place}/data")?;
+    match entries_of(rt, alloc, path.as_str())? {
+        Some(mut entries) => Ok(entries.next().is_none()),
+        None => Ok(true),
+    }
 }
 
 /// The path of an entry of the folder, or of the first thing in `data`, that isn't a repository's.
@@ -122,6 +149,9 @@ fn is_of_borg(name: &str) -> bool {
 
 /// Whether a text is that of a repository's README.
 fn is_readme(text: &[u8]) -> bool {
+    if text == OWN_README {
+        return true;
+    }
     for readme in READMES {
         if text == readme {
             return true;

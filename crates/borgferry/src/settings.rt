@@ -89,3 +89,30 @@ fn is_yes(alloc: Global, line: &str) -> Result<bool, AllocError> {
         _ => Ok(false),
     }
 }
+
+/// Whether the `config` of the target at a place has a key.
+pub fn has_key<R: Runtime>(rt: &R, alloc: Global, place: &str) -> Result<bool, StartFault> {
+    let text = text_at(rt, alloc, place, Side::Target)?;
+    match str::from_utf8(text.as_slice()) {
+        Ok(text) => Ok(says_key(text)),
+        Err(_) => Ok(false),
+    }
+}
+
+/// Whether a text of `config` has a line with a key.
+fn says_key(text: &str) -> bool {
+    for line in text.lines() {
+        if is_key(line) {
+            return true;
+        }
+    }
+    false
+}
+
+/// Whether a line has a key.
+fn is_key(line: &str) -> bool {
+    match line.split_once('=') {
+        Some((name, value)) => name.trim() == "key" && !value.trim().is_empty(),
+        None => false,
+    }
+}

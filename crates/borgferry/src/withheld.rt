@@ -7,6 +7,8 @@ use std::alloc::{AllocError, Global};
 pub enum Withheld {
     /// The target's folder has something that no repository of Borg has: its path in the folder.
     OtherFiles(String),
+    /// The target's folder has the key of a repository whose segments aren't there.
+    LoneKey,
     /// The target has, or would get, the key of the source.
     OneKey,
     /// The passphrase is to come from a program, which the variable of this name has.
@@ -28,7 +30,7 @@ impl Withheld {
     /// The word for the cause.
     pub fn cause(&self) -> &'static str {
         match self {
-            Withheld::OtherFiles(_) => "other files",
+            Withheld::OtherFiles(_) | Withheld::LoneKey => "other files",
             Withheld::OneKey => "one key",
             Withheld::Command(_) | Withheld::Stream(_) => "passphrase",
             Withheld::Nonce { .. } => "nonce",
@@ -40,6 +42,7 @@ impl Withheld {
     pub fn line(&self, alloc: Global) -> Result<String, AllocError> {
         match self {
             Withheld::OtherFiles(path) => of_file(alloc, path.as_str()),
+            Withheld::LoneKey => String::from_str(alloc, LONE_KEY),
             Withheld::OneKey => String::from_str(alloc, ONE_KEY),
             Withheld::Command(name) => of_command(alloc, name),
             Withheld::Stream(name) => of_stream(alloc, name),
@@ -48,6 +51,9 @@ impl Withheld {
         }
     }
 }
+
+const LONE_KEY: &str =
+    "TARGET/config has the key of a repository whose segments aren't in TARGET/data, and init would write another key over it: see that data is mounted there, or name another folder";
 
 const ONE_KEY: &str =
     "TARGET has the id of SOURCE, or would get its key by BORG_KEY_FILE, so both would give the same numbers of the cipher out: make TARGET elsewhere with a key of its own, without BORG_KEY_FILE or with what make-key prints";

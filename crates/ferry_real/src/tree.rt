@@ -12,7 +12,7 @@ use ferry_layout::write_all;
 use ferry_tree::{Tree, TreeFault};
 use std::alloc::{AllocError, Global};
 use std::fs::{DirBuilder, OpenFile};
-use std::io::Error;
+use std::io::{Error, ErrorKind};
 use std::os::unix::fs::{DirBuilderExt, symlink};
 use std::rc::Rc;
 use std::rt::Runtime;
@@ -99,10 +99,11 @@ impl<R: Runtime> Maker<R> {
         }
     }
 
-    /// Whether nothing is in the folder.
+    /// Whether nothing is in the folder. A name that isn't UTF-8 is something.
     fn has_nothing(&self) -> Result<bool, TreeFault> {
-        match fs::read_dir(&self.system.rt, self.place.as_str()) {
-            Ok(mut entries) => Ok(entries.next().is_none()),
+        match has_entry(&self.system.rt, self.place.as_str()) {
+            Ok(is_there) => Ok(!is_there),
+            Err(error) if error.kind() == ErrorKind::InvalidFilename => Ok(false),
             Err(error) => Err(self.failed(self.place.as_str(), &error)),
         }
     }
@@ -208,6 +209,16 @@ impl<R: Runtime> Maker<R> {
         };
         current.length = longer(current.length, zeros)?;
         extend_to(&self.system, current)
+    }
+}
+
+/// Whether the folder at a path has an entry.
+fn has_entry<R: Runtime>(rt: &R, path: &str) -> io::Result<bool> {
+    let mut entries = fs::read_dir(rt, path)?;
+    match entries.next() {
+        Some(Ok(_)) => Ok(true),
+        Some(Err(error)) => Err(error),
+        None => Ok(false),
     }
 }
 
