@@ -89,7 +89,7 @@ BUGS = [
     one_arm_more("a folder that others may write is restored in", RESTORING, "Ownership::Foreign | Ownership::Shared => Err(", "Ownership::Shared if BUG(rt) => Ok(()),", "system restored"),
     bug("append_only isn't told", BEFORE, "if !is_unnamed(task.places.target) && is_append_only(", "if !BUG(rt) && !is_unnamed(task.places.target) && is_append_only(", "program told_before"),
     bug("a timestamp of another form isn't told", BEFORE, "&& !is_of_form(text.as_slice())", "&& !is_of_form(text.as_slice())\n        && !BUG(rt)", "program told_before"),
-    bug("a timestamp before the manifest's isn't told", BEFORE, "&& text.as_slice() < last.as_slice()", "&& text.as_slice() < last.as_slice()\n        && !BUG(rt)", "program told_before"),
+    bug("a timestamp before the manifest's isn't told", BEFORE, "&task.secrets.target, text) {", "&task.secrets.target, text) && !BUG(rt) {", "program told_before"),
     guarded("an empty passphrase isn't told", BEFORE, "task.secrets.target.passphrase.as_slice().is_empty()", "rt", "program variables"),
     bug("Borg's files are told where nothing was written", AFTER, "if has_changed && ", "if (has_changed || BUG(rt)) && ", "program told_before"),
     bug("the archive that doesn't read isn't named", AFTER, "let Some(name) = archive_of_status(", "if BUG(rt) {\n        return Ok(());\n    }\n    let Some(name) = archive_of_status(", "program named_archives"),
