@@ -2,7 +2,7 @@
 """Commands to which memory is refused: memory.py PROGRAM [STEP [COMMAND ..]]
 
 A person starts it; no part of the gate does. Each command runs on an input of four chunks of 1 MiB again and again, each time with a limit of its address space that is STEP KiB larger than before (64 where it
-isn't given), from the least in which the program can say its version up to that in which the command ends well. Each run ends with status 3 and the line `memory`, or as it ends without a
+isn't given), from 128 KiB above the least in which the program can say its version, for its stack, up to that in which the command ends well. Each run ends with status 3 and the line `memory`, or as it ends without a
 limit. After each, what was there is looked at: a source is as it was, the target opens and has its archives as before the command or as after it, and the same words run again without a
 limit end well. A program with a sanitizer, as `rt try` builds it, takes so much address space that nothing can be told of it: that is said, and nothing is tried. A line for each
 command says how many runs ended in which way. One line for each thing that differs, and at the end 'N passed, M failed, K skipped'; status 1 where M isn't 0.
@@ -21,6 +21,8 @@ from running import ITEM, make_archive, run, state, write
 
 STEP = int(sys.argv[2]) if len(sys.argv) > 2 else 64
 CHOSEN = sys.argv[3:]
+# How many KiB the stack of a command grows by beyond that of `--version`.
+STACK = 128
 # The bytes of a chunk: what a command takes for some of them has to be more than what the program takes to start, or nothing is refused to it.
 SIZE = 1 << 20
 # The most address space that is tried, in KiB. A program with a sanitizer takes far more.
@@ -139,6 +141,8 @@ def main():
         sys.exit(f"memory.py: no command {' '.join(sorted(unknown))}; there are {', '.join(names)}")
     with tempfile.TemporaryDirectory() as root:
         floor = least(lambda kib: run(root, "--version", preexec_fn=limited_to(kib)).returncode == 0)
+        # The stack grows, which the limit counts too: where it can't, the system ends a program by a signal.
+        floor = floor and floor + STACK
         if floor is None:
             skip(f"all: the program doesn't start in {MOST} KiB, as one that is built with a sanitizer doesn't")
         else:
